@@ -1,0 +1,19 @@
+-- The laws of the arithmetic, beside the functions' own proofs. Assumes nothing.
+pub mod Casts
+pub mod Exactness
+pub mod ExtremesOrder
+pub mod Numbers
+pub mod Order
+pub mod RootCases
+pub mod RootForm
+pub mod RootHalves
+pub mod RootLaws
+pub mod RootNearest
+pub mod RootPatterns
+pub mod RootScaled
+pub mod RootWhole
+pub mod SignedOrder
+pub mod Signs
+pub mod Steps
+pub mod TotalOrder
+pub mod WholeNumbers

@@ -1,0 +1,171 @@
+-- A square by the halves of its root, of 27 digits each, and how it compares with a multiple of a power of two. Assumes nothing.
+use mathlib.Core.Path.{_≡_, refl, sym, ap, _∙_, subst}
+use mathlib.Core.Logic.{inl, inr}
+use Prim.Native.Nat.{ℕ, _+_, _-_, _*_, _/_, _%_, _^_, _≤_, _<_, zero-le}
+use native.Mathlib.Nat.{add-mul, mul-add, mul-comm, mul-right-comm, mul-mul-mul-comm, mul-le-mul, mod-eq-of-lt, le-of-lt, le-refl, add-zero, add-assoc, eq-zero-or-pos}
+use native.Mathlib.Omega.{arith}
+use mathlib.Core.Bool.{Bool, true, false}
+use lib.Dec.{leb, ltb}
+use mir.Val.{boolByte}
+use Rattle.arithmetic.specs.Root.{NearestRoot}
+use borrow.Author.Tests.{leb-true, leb-false, ltb-true, ltb-false}
+
+pub product-le : (a b : ℕ) → a ≤ 2 ^ 27 → b ≤ 2 ^ 27 → a * b ≤ 2 ^ 54
+product-le a b h k = mul-le-mul h k
+
+-- (p + b)² and (a * c)²
+square-sum : (p b : ℕ) → (p + b) * (p + b) ≡ p * p + 2 * (p * b) + b * b
+square-sum p b =
+    let e : (p + b) * (p + b) ≡ p * (p + b) + b * (p + b) = add-mul p b (p + b) in
+    let f : p * (p + b) ≡ p * p + p * b = mul-add p p b in
+    let g : b * (p + b) ≡ b * p + b * b = mul-add b p b in
+    let h : b * p ≡ p * b = mul-comm b p in
+    omega arith
+
+pub square-halves : (a b : ℕ) → (a * 2 ^ 27 + b) * (a * 2 ^ 27 + b) ≡ a * a * 2 ^ 54 + a * b * 2 ^ 28 + b * b
+square-halves a b =
+    let e : (a * 2 ^ 27 + b) * (a * 2 ^ 27 + b) ≡ a * 2 ^ 27 * (a * 2 ^ 27) + 2 * (a * 2 ^ 27 * b) + b * b = square-sum (a * 2 ^ 27) b in
+    let f : a * 2 ^ 27 * (a * 2 ^ 27) ≡ a * a * (2 ^ 27 * 2 ^ 27) = mul-mul-mul-comm a (2 ^ 27) a (2 ^ 27) in
+    let g : a * 2 ^ 27 * b ≡ a * b * 2 ^ 27 = mul-right-comm a (2 ^ 27) b in
+    omega arith
+
+pub square-of-parts : (t : ℕ) → t * t ≡ t / 2 ^ 27 * (t / 2 ^ 27) * 2 ^ 54 + t / 2 ^ 27 * (t % 2 ^ 27) * 2 ^ 28 + t % 2 ^ 27 * (t % 2 ^ 27)
+square-of-parts t =
+    let e : t ≡ t / 2 ^ 27 * 2 ^ 27 + t % 2 ^ 27 = omega arith in
+    ap (λ (z : ℕ). z * z) e ∙ square-halves (t / 2 ^ 27) (t % 2 ^ 27)
+
+-- a square is at most m * 2 ^ 54 exactly where the number of 2 ^ 54 that cover it is at most m
+same-test : (x y : Bool) → (x ≡ true → y ≡ false → ⊥) → (x ≡ false → y ≡ true → ⊥) → x ≡ y
+same-test true true p q = refl
+same-test true false p q = absurd (p refl refl)
+same-test false true p q = absurd (q refl refl)
+same-test false false p q = refl
+
+abbrev pub cover : ℕ → ℕ → ℕ → ℕ
+cover aa ab bb = aa + ab / 2 ^ 26 + (ab % 2 ^ 26 * 2 ^ 28 + bb + (2 ^ 54 - 1)) / 2 ^ 54
+
+pub cover-at-most : (t m aa ab bb : ℕ) → t ≡ aa * 2 ^ 54 + ab * 2 ^ 28 + bb → leb (cover aa ab bb) m ≡ leb t (m * 2 ^ 54)
+cover-at-most t m aa ab bb e =
+    same-test (leb (cover aa ab bb) m) (leb t (m * 2 ^ 54))
+    (λ p q. let h : cover aa ab bb ≤ m = leb-true (cover aa ab bb) m p in omega (arith, leb-false t (m * 2 ^ 54) q))
+    (λ p q. let h : t ≤ m * 2 ^ 54 = leb-true t (m * 2 ^ 54) q in omega (arith, leb-false (cover aa ab bb) m p))
+
+pub record PartsSmall (t : ℕ) : Type 0 where
+  pub high : t / 2 ^ 27 * (t / 2 ^ 27) ≤ 2 ^ 54
+  pub cross : t / 2 ^ 27 * (t % 2 ^ 27) ≤ 2 ^ 54
+  pub low : t % 2 ^ 27 * (t % 2 ^ 27) ≤ 2 ^ 54
+
+pub parts-small : (t : ℕ) → t ≤ 2 ^ 54 → PartsSmall t
+parts-small t h =
+    let a : t / 2 ^ 27 ≤ 2 ^ 27 = omega arith in
+    let b : t % 2 ^ 27 ≤ 2 ^ 27 = omega arith in
+    record { high = product-le (t / 2 ^ 27) (t / 2 ^ 27) a a; cross = product-le (t / 2 ^ 27) (t % 2 ^ 27) a b; low = product-le (t % 2 ^ 27) (t % 2 ^ 27) b b }
+
+-- ---- half of the whole root of 4 * n, rounded up, is the number nearest to the root of n
+pub half-nearest : (n t : ℕ) → 0 < t → t * t ≤ 4 * n → 4 * n < (t + 1) * (t + 1) → NearestRoot n ((t + 1) / 2)
+half-nearest n t T lo hi = go (t % 2) refl
+  where
+    s : (t + 1) * (t + 1) ≡ t * t + 2 * (t * 1) + 1 * 1
+    s = square-sum t 1
+
+    even : (r : ℕ) → t ≡ 2 * r → NearestRoot n r
+    even r e =
+        let q : t * t ≡ 2 * 2 * (r * r) = ap (λ (z : ℕ). z * z) e ∙ mul-mul-mul-comm 2 r 2 r in
+        record { above = omega (arith, s); below = omega (arith, s) }
+
+    uneven : (r : ℕ) → t + 1 ≡ 2 * r → NearestRoot n r
+    uneven r e =
+        let q : (t + 1) * (t + 1) ≡ 2 * 2 * (r * r) = ap (λ (z : ℕ). z * z) e ∙ mul-mul-mul-comm 2 r 2 r in
+        record { above = omega (arith, s); below = omega (arith, s) }
+
+    go : (p : ℕ) → t % 2 ≡ p → NearestRoot n ((t + 1) / 2)
+    go p e = elim (eq-zero-or-pos p) [ inl z ↦ even ((t + 1) / 2) (omega arith) | inr z ↦ uneven ((t + 1) / 2) (omega arith) ]
+
+-- ---- the interval that `halved_root` halves: it holds the root of m * 2 ^ 54
+pub record Between (m low high : ℕ) : Type 0 where
+  pub order : low < high
+  pub start : 2 ^ 53 ≤ low
+  pub stop : high ≤ 2 ^ 54
+  pub lower : low * low ≤ m * 2 ^ 54
+  pub upper : m * 2 ^ 54 < high * high
+
+pub between-at-first : (m : ℕ) → 2 ^ 52 ≤ m → m < 2 ^ 54 → Between m (2 ^ 53) (2 ^ 54)
+between-at-first m h k = record { order = omega arith; start = omega arith; stop = omega arith; lower = omega arith; upper = omega arith }
+
+pub between-raised : (m low high : ℕ) → Between m low high → 1 < high - low → leb ((low + (high - low) / 2) * (low + (high - low) / 2)) (m * 2 ^ 54) ≡ true → Between m (low + (high - low) / 2) high
+between-raised m low high b w t = record { order = omega (arith, b); start = omega (arith, b); stop = b .stop; lower = leb-true ((low + (high - low) / 2) * (low + (high - low) / 2)) (m * 2 ^ 54) t; upper = b .upper }
+
+pub between-lowered : (m low high : ℕ) → Between m low high → 1 < high - low → leb ((low + (high - low) / 2) * (low + (high - low) / 2)) (m * 2 ^ 54) ≡ false → Between m low (low + (high - low) / 2)
+between-lowered m low high b w t = record { order = omega (arith, b); start = b .start; stop = omega (arith, b); lower = b .lower; upper = leb-false ((low + (high - low) / 2) * (low + (high - low) / 2)) (m * 2 ^ 54) t }
+
+pub between-nearest : (m low high : ℕ) → Between m low high → high - low ≤ 1 → NearestRoot (m * 2 ^ 52) ((low + 1) / 2)
+between-nearest m low high b w =
+    let e : high ≡ low + 1 = omega (arith, b) in
+    half-nearest (m * 2 ^ 52) low (omega (arith, b)) (omega (arith, b)) (let u : m * 2 ^ 54 < (low + 1) * (low + 1) = subst (λ (z : ℕ). m * 2 ^ 54 < z * z) e (b .upper) in omega arith)
+
+-- ---- the rest that `nearest_root` finds of a guess q, step by step and modulo 2 ^ 64, is m * 2 ^ 52 - q * q
+plain : (x y : ℕ) → x < 2 ^ 64 → x % 2 ^ 64 ≡ y → x ≡ y
+plain x y h e = sym (mod-eq-of-lt h) ∙ e
+
+put-together : (m d g rest aa ab bb s : ℕ) → s ≡ aa * 2 ^ 54 + ab * 2 ^ 28 + bb → d + aa * 4 ≡ m → g + ab ≡ d * 2 ^ 24 → rest + bb ≡ g * 2 ^ 28 → m * 2 ^ 52 ≡ s + rest
+put-together m d g rest aa ab bb s e p q r = omega arith
+
+pub rest-is : (m q high middle rest : ℕ) → q < 2 ^ 54
+    → (high + q / 2 ^ 27 * (q / 2 ^ 27) * 4) % 2 ^ 64 ≡ m → high < 2 ^ 39
+    → (middle + q / 2 ^ 27 * (q % 2 ^ 27)) % 2 ^ 64 ≡ high * 2 ^ 24 → middle < 2 ^ 35
+    → (rest + q % 2 ^ 27 * (q % 2 ^ 27)) % 2 ^ 64 ≡ middle * 2 ^ 28 → rest ≤ 5 * q + 6
+    → m * 2 ^ 52 ≡ q * q + rest
+rest-is m q high middle rest Q p hp r hr s hs =
+    let b : PartsSmall q = parts-small q (le-of-lt Q) in
+    let aa = q / 2 ^ 27 * (q / 2 ^ 27) in
+    let ab = q / 2 ^ 27 * (q % 2 ^ 27) in
+    let bb = q % 2 ^ 27 * (q % 2 ^ 27) in
+    put-together m high middle rest aa ab bb (q * q) (square-of-parts q)
+    (plain (high + aa * 4) m (first high aa hp (b .high)) p)
+    (plain (middle + ab) (high * 2 ^ 24) (second middle ab hr (b .cross)) r)
+    (plain (rest + bb) (middle * 2 ^ 28) (third rest bb hs (b .low)) s)
+  where
+    first : (d aa : ℕ) → d < 2 ^ 39 → aa ≤ 2 ^ 54 → d + aa * 4 < 2 ^ 64
+    first d aa x y = omega arith
+
+    second : (g ab : ℕ) → g < 2 ^ 35 → ab ≤ 2 ^ 54 → g + ab < 2 ^ 64
+    second g ab x y = omega arith
+
+    third : (rest bb : ℕ) → rest ≤ 5 * q + 6 → bb ≤ 2 ^ 54 → rest + bb < 2 ^ 64
+    third rest bb x y = omega arith
+
+-- ---- by the rest, the nearest root is the guess or one of the two numbers above it
+pub guess-nearest : (n q rest : ℕ) → 0 < n → n ≡ q * q + rest → rest ≤ q → NearestRoot n q
+guess-nearest n q rest N e h = record { above = at (q * q) e; below = omega arith }
+  where
+    zero-square : (z : ℕ) → z ≡ 0 → z * z ≡ 0
+    zero-square z f = ap (λ (k : ℕ). k * k) f
+
+    at : (s : ℕ) → n ≡ s + rest → s < n + q
+    at s f = elim (eq-zero-or-pos q) [ inl z ↦ (let r : rest ≡ 0 = omega arith in let y : q * q ≡ 0 = zero-square q z in omega arith) | inr z ↦ omega arith ]
+
+pub one-up-nearest : (n q rest : ℕ) → n ≡ q * q + rest → q < rest → rest ≤ 3 * q + 2 → NearestRoot n (q + 1)
+one-up-nearest n q rest e h k =
+    let s : (q + 1) * (q + 1) ≡ q * q + 2 * (q * 1) + 1 = square-sum q 1 in
+    record { above = omega arith; below = omega arith }
+
+pub two-up-nearest : (n q rest : ℕ) → n ≡ q * q + rest → 3 * q + 2 < rest → rest ≤ 5 * q + 6 → NearestRoot n (q + 2)
+two-up-nearest n q rest e h k =
+    let s : (q + 2) * (q + 2) ≡ q * q + 2 * (q * 2) + 4 = square-sum q 2 in
+    record { above = omega arith; below = omega arith }
+
+pub corrected-nearest : (n q rest : ℕ) → 0 < n → n ≡ q * q + rest → rest ≤ 5 * q + 6 → NearestRoot n (q + boolByte (ltb q rest) + boolByte (ltb (3 * q + 2) rest))
+corrected-nearest n q rest N e h = go (ltb q rest) (ltb (3 * q + 2) rest) (ltb-true q rest) (ltb-false q rest) (ltb-true (3 * q + 2) rest) (ltb-false (3 * q + 2) rest)
+  where
+    clash : rest ≤ q → 3 * q + 2 < rest → ⊥
+    clash x y = omega arith
+
+    go : (a b : Bool) → (a ≡ true → q < rest) → (a ≡ false → rest ≤ q) → (b ≡ true → 3 * q + 2 < rest) → (b ≡ false → rest ≤ 3 * q + 2) → NearestRoot n (q + boolByte a + boolByte b)
+    go false false p p' r r' = subst (NearestRoot n) (sym (add-zero (q + 0) ∙ add-zero q)) (guess-nearest n q rest N e (p' refl))
+    go false true p p' r r' = absurd (clash (p' refl) (r refl))
+    go true false p p' r r' = subst (NearestRoot n) (sym (add-zero (q + 1))) (one-up-nearest n q rest e (p refl) (r' refl))
+    go true true p p' r r' = subst (NearestRoot n) (sym (add-assoc q 1 1)) (two-up-nearest n q rest e (r refl) h)
+
+pub bit-small : (a : Bool) → boolByte a ≤ 1
+bit-small true = le-refl 1
+bit-small false = zero-le

@@ -1,0 +1,28 @@
+ghost use mathlib.Core.Path.{_≡_};
+ghost use Rattle.arithmetic.specs.Extremes.{minimumOf, maximumOf};
+
+// The lesser operand, the first if they are equal, the other if one is NaN.
+pub fn minimum(x: f64, y: f64) -> f64
+    ensures { λ r. ⌜ r ≡ minimumOf x y ⌝ }
+{
+    if y < x {
+        return y;
+    }
+    if x != x {
+        return y;
+    }
+    x
+}
+
+// The greater operand, the first if they are equal, the other if one is NaN.
+pub fn maximum(x: f64, y: f64) -> f64
+    ensures { λ r. ⌜ r ≡ maximumOf x y ⌝ }
+{
+    if x < y {
+        return y;
+    }
+    if x != x {
+        return y;
+    }
+    x
+}

@@ -1,0 +1,12 @@
+// The arithmetic below all geometry, after IEEE 754 (document 01, 'Arithmetic under the geometry').
+
+// Finite, absolute value, sign, clamp.
+pub mod basic;
+// Minimum and maximum.
+pub mod extremes;
+// The square root.
+pub mod square_root;
+// Floor, round, and a whole number from a float.
+pub mod rounding;
+// totalOrder.
+pub mod ordering;
