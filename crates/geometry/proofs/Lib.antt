@@ -1,0 +1,3 @@
+-- Laws about the geometry's definitions. Assumes nothing.
+pub mod JoinedTests
+pub mod BoxLaws

@@ -1,0 +1,5 @@
+-- What vectors, boxes and rays mean, after document 01's 'Arithmetic under the geometry'. Definitions only. Assumes nothing.
+pub mod Numbers
+pub mod Vector
+pub mod Box
+pub mod Segment

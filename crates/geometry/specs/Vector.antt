@@ -1,0 +1,84 @@
+-- Vectors: what is done on one axis is done on each. Definitions only. Assumes nothing.
+use Prim.Native.Nat.{ℕ}
+use mathlib.Core.Bool.{Bool, _&&_, not, cond}
+use lib.Dec.{eqb}
+use lib.Ieee.{Float, lt, neg}
+use Rattle.arithmetic.specs.Extremes.{minimumOf, maximumOf}
+use Rattle.arithmetic.specs.Basic.{isFinite, absolute}
+use Rattle.arithmetic.specs.Root.{rootOf}
+use Rattle.geometry.specs.Numbers.{_+ᶠ_, _-ᶠ_, _*ᶠ_, _/ᶠ_, minPositive}
+use Rattle.geometry.specs.declared.vec3.Vec3.{Vec3}
+use Rattle.geometry.specs.declared.vec3.Checked.{Checked}
+use Rattle.geometry.specs.declared.vec3.Checked.the-variants.{Value, Overflow}
+use Rattle.geometry.specs.declared.vec3.Normalized.{Normalized}
+use Rattle.geometry.specs.declared.vec3.Normalized.the-variants.{Unit as UnitOf, Degenerate}
+
+-- ---- axes
+
+-- 0 is x, 1 is y, any other number z
+unfoldable pub component : ℕ → Vec3 → Float
+component k v = cond (eqb k 0) (v .x) (cond (eqb k 1) (v .y) (v .z))
+
+-- a test on every axis
+abbrev pub everyAxis : (ℕ → Bool) → Bool
+everyAxis p = p 0 && (p 1 && p 2)
+
+-- an operation on each axis by itself
+abbrev pub each : (Float → Float) → Vec3 → Vec3
+each f v = record { x = f (v .x); y = f (v .y); z = f (v .z) }
+
+abbrev pub eachOf : (Float → Float → Float) → Vec3 → Vec3 → Vec3
+eachOf f v w = record { x = f (v .x) (w .x); y = f (v .y) (w .y); z = f (v .z) (w .z) }
+
+-- ---- the operations
+
+unfoldable pub finiteVec : Vec3 → Bool
+finiteVec v = isFinite (v .x) && (isFinite (v .y) && isFinite (v .z))
+
+unfoldable pub addOf : Vec3 → Vec3 → Vec3
+addOf = eachOf _+ᶠ_
+
+unfoldable pub subOf : Vec3 → Vec3 → Vec3
+subOf = eachOf _-ᶠ_
+
+unfoldable pub negOf : Vec3 → Vec3
+negOf = each neg
+
+unfoldable pub scaleOf : Vec3 → Float → Vec3
+scaleOf v factor = each (λ (c : Float). c *ᶠ factor) v
+
+unfoldable pub minOf : Vec3 → Vec3 → Vec3
+minOf = eachOf minimumOf
+
+unfoldable pub maxOf : Vec3 → Vec3 → Vec3
+maxOf = eachOf maximumOf
+
+unfoldable pub absOf : Vec3 → Vec3
+absOf = each absolute
+
+unfoldable pub maxElement : Vec3 → Float
+maxElement v = maximumOf (maximumOf (v .x) (v .y)) (v .z)
+
+-- "Dot is x, y, z products added left to right"
+unfoldable pub dotOf : Vec3 → Vec3 → Float
+dotOf v w = ((v .x *ᶠ w .x) +ᶠ (v .y *ᶠ w .y)) +ᶠ (v .z *ᶠ w .z)
+
+-- "checked dot refuses unless finite"
+unfoldable pub checkedDot : Vec3 → Vec3 → Checked
+checkedDot v w = cond (isFinite (dotOf v w)) (Value (dotOf v w)) Overflow
+
+-- "Cross is (y·z'-z·y', z·x'-x·z', x·y'-y·x')"
+unfoldable pub crossOf : Vec3 → Vec3 → Vec3
+crossOf v w = record {
+  x = (v .y *ᶠ w .z) -ᶠ (v .z *ᶠ w .y);
+  y = (v .z *ᶠ w .x) -ᶠ (v .x *ᶠ w .z);
+  z = (v .x *ᶠ w .y) -ᶠ (v .y *ᶠ w .x);
+}
+
+-- "Length is the root of dot"
+unfoldable pub lengthOf : Vec3 → Float
+lengthOf v = rootOf (dotOf v v)
+
+-- "Normalising divides each component by the length, and fails unless dot is finite and at least 2^-1022"
+unfoldable pub tryNormalize : Vec3 → Normalized
+tryNormalize v = cond (isFinite (dotOf v v)) (cond (lt (dotOf v v) minPositive) Degenerate (UnitOf (each (λ (c : Float). c /ᶠ lengthOf v) v))) Degenerate

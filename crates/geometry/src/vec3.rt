@@ -1,0 +1,177 @@
+use arithmetic::basic;
+use arithmetic::extremes;
+use arithmetic::square_root;
+ghost use mathlib.Core.Path.{_≡_};
+ghost use Rattle.geometry.specs.Vector.{component, finiteVec, addOf, subOf, negOf, scaleOf, minOf, maxOf, absOf, maxElement, dotOf, checkedDot, crossOf, lengthOf, tryNormalize};
+
+pub struct Vec3 {
+    pub x: f64,
+    pub y: f64,
+    pub z: f64,
+}
+
+// A number, or that it is not finite.
+pub enum Checked {
+    Value(f64),
+    Overflow,
+}
+
+// A vector divided by its length, or that it has no direction that can be told.
+pub enum Normalized {
+    Unit(Vec3),
+    Degenerate,
+}
+
+impl Vec3 {
+    // The component of an axis: 0 is x, 1 is y, any other number z.
+    pub fn component(self, axis: usize) -> f64
+        ensures { λ r. ⌜ r ≡ component axis self ⌝ }
+    {
+        if axis == 0 {
+            return self.x;
+        }
+        if axis == 1 {
+            return self.y;
+        }
+        self.z
+    }
+
+    pub fn is_finite(self) -> bool
+        ensures { λ r. ⌜ r ≡ finiteVec self ⌝ }
+    {
+        if !basic::is_finite(self.x) {
+            return false;
+        }
+        if !basic::is_finite(self.y) {
+            return false;
+        }
+        basic::is_finite(self.z)
+    }
+
+    pub fn add(self, other: Vec3) -> Vec3
+        ensures { λ r. ⌜ r ≡ addOf self other ⌝ }
+    {
+        Vec3 {
+            x: self.x + other.x,
+            y: self.y + other.y,
+            z: self.z + other.z,
+        }
+    }
+
+    pub fn sub(self, other: Vec3) -> Vec3
+        ensures { λ r. ⌜ r ≡ subOf self other ⌝ }
+    {
+        Vec3 {
+            x: self.x - other.x,
+            y: self.y - other.y,
+            z: self.z - other.z,
+        }
+    }
+
+    pub fn neg(self) -> Vec3
+        ensures { λ r. ⌜ r ≡ negOf self ⌝ }
+    {
+        Vec3 {
+            x: -self.x,
+            y: -self.y,
+            z: -self.z,
+        }
+    }
+
+    pub fn scale(self, factor: f64) -> Vec3
+        ensures { λ r. ⌜ r ≡ scaleOf self factor ⌝ }
+    {
+        Vec3 {
+            x: self.x * factor,
+            y: self.y * factor,
+            z: self.z * factor,
+        }
+    }
+
+    pub fn min(self, other: Vec3) -> Vec3
+        ensures { λ r. ⌜ r ≡ minOf self other ⌝ }
+    {
+        Vec3 {
+            x: extremes::minimum(self.x, other.x),
+            y: extremes::minimum(self.y, other.y),
+            z: extremes::minimum(self.z, other.z),
+        }
+    }
+
+    pub fn max(self, other: Vec3) -> Vec3
+        ensures { λ r. ⌜ r ≡ maxOf self other ⌝ }
+    {
+        Vec3 {
+            x: extremes::maximum(self.x, other.x),
+            y: extremes::maximum(self.y, other.y),
+            z: extremes::maximum(self.z, other.z),
+        }
+    }
+
+    pub fn abs(self) -> Vec3
+        ensures { λ r. ⌜ r ≡ absOf self ⌝ }
+    {
+        Vec3 {
+            x: basic::abs(self.x),
+            y: basic::abs(self.y),
+            z: basic::abs(self.z),
+        }
+    }
+
+    pub fn max_element(self) -> f64
+        ensures { λ r. ⌜ r ≡ maxElement self ⌝ }
+    {
+        extremes::maximum(extremes::maximum(self.x, self.y), self.z)
+    }
+
+    pub fn dot(self, other: Vec3) -> f64
+        ensures { λ r. ⌜ r ≡ dotOf self other ⌝ }
+    {
+        self.x * other.x + self.y * other.y + self.z * other.z
+    }
+
+    pub fn checked_dot(self, other: Vec3) -> Checked
+        ensures { λ r. ⌜ r ≡ checkedDot self other ⌝ }
+    {
+        let value = self.dot(other);
+        if basic::is_finite(value) {
+            return Checked::Value(value);
+        }
+        Checked::Overflow
+    }
+
+    pub fn cross(self, other: Vec3) -> Vec3
+        ensures { λ r. ⌜ r ≡ crossOf self other ⌝ }
+    {
+        Vec3 {
+            x: self.y * other.z - self.z * other.y,
+            y: self.z * other.x - self.x * other.z,
+            z: self.x * other.y - self.y * other.x,
+        }
+    }
+
+    pub fn length(self) -> f64
+        ensures { λ r. ⌜ r ≡ lengthOf self ⌝ }
+    {
+        square_root::root(self.dot(self))
+    }
+
+    pub fn try_normalize(self) -> Normalized
+        ensures { λ r. ⌜ r ≡ tryNormalize self ⌝ }
+    {
+        let dot = self.dot(self);
+        if !basic::is_finite(dot) {
+            return Normalized::Degenerate;
+        }
+        // 2^-1022
+        if dot < 2.2250738585072014e-308 {
+            return Normalized::Degenerate;
+        }
+        let length = square_root::root(dot);
+        Normalized::Unit(Vec3 {
+            x: self.x / length,
+            y: self.y / length,
+            z: self.z / length,
+        })
+    }
+}
