@@ -1,0 +1,72 @@
+-- What a list of indices holds, by the answers of its members, and that the cases of an answer tell each other apart. Assumes nothing.
+use Prim.Native.Nat.{ℕ, _<_}
+use mathlib.Core.Path.{_≡_}
+use mathlib.Core.Logic.{⊎-elim}
+use mathlib.Core.Bool.{true, false}
+use mathlib.Core.List.{List, [], _∷_, List·Memᴰ, List·Memᴰ·tail, List·Memᴰ·cases-cons}
+use native.Mathlib.Omega.{arith}
+use lib.Ieee.{Float, lt, le, isNan}
+use Rattle.geometry.specs.declared.vec3.Vec3.{Vec3}
+use Rattle.casts.specs.Answer.{Answer, hit, none, refused}
+use Rattle.casts.specs.Nearest.{hitAt, noHit, stopped}
+
+-- ---- what a list holds
+
+-- every one that stands in a list
+abbrev pub Each : (ℕ → Type 0) → List ℕ → Type 0
+Each P l = (j : ℕ) → List·Memᴰ j l → P j
+
+abbrev pub AnswersNone : (ℕ → Answer) → ℕ → Type 0
+AnswersNone answer j = answer j ≡ none
+
+abbrev pub NotRefused : (ℕ → Answer) → ℕ → Type 0
+NotRefused answer j = (number : ℕ) → answer j ≡ refused number → ⊥
+
+-- if it is hit, the distance is such
+abbrev pub HitSuch : (Float → Type 0) → (ℕ → Answer) → ℕ → Type 0
+HitSuch P answer j = (normal : Vec3) (distance : Float) → answer j ≡ hit normal distance → P distance
+
+abbrev pub IsNumber : Float → Type 0
+IsNumber distance = isNan distance ≡ false
+
+abbrev pub AtLeast : Float → Float → Type 0
+AtLeast d distance = le d distance ≡ true
+
+abbrev pub Farther : Float → Float → Type 0
+Farther d distance = lt d distance ≡ true
+
+-- ascending
+abbrev pub Ascending : List ℕ → Type 0
+Ascending [] = Unit
+Ascending (x ∷ xs) = Each (λ (y : ℕ). x < y) xs × Ascending xs
+
+pub each-cons : (P : ℕ → Type 0) (x : ℕ) (xs : List ℕ) → ((j : ℕ) → j ≡ x → P j) → Each P xs → Each P (x ∷ xs)
+each-cons P x xs p ps j m = ⊎-elim (λ e. p j e) (λ n. ps j n) (List·Memᴰ·cases-cons m)
+
+pub each-rest : (P : ℕ → Type 0) (x : ℕ) (xs : List ℕ) → Each P (x ∷ xs) → Each P xs
+each-rest P x xs h j m = h j (List·Memᴰ·tail m)
+
+-- ---- the cases of an answer tell each other apart
+pub stopped-not-none : (number : ℕ) → stopped number ≡ noHit → ⊥
+stopped-not-none number h = let z : _≡_ {A = ℕ} 0 1 = cc in omega arith
+
+pub hit-not-none : (n : Vec3) (d : Float) (i : ℕ) → hitAt n d i ≡ noHit → ⊥
+hit-not-none n d i h = let z : _≡_ {A = ℕ} 0 1 = cc in omega arith
+
+pub hit-not-stopped : (n : Vec3) (d : Float) (i number : ℕ) → hitAt n d i ≡ stopped number → ⊥
+hit-not-stopped n d i number h = let z : _≡_ {A = ℕ} 0 1 = cc in omega arith
+
+pub none-not-refused : (a : Answer) (number : ℕ) → a ≡ none → a ≡ refused number → ⊥
+none-not-refused a number h k = let z : _≡_ {A = ℕ} 0 1 = cc in omega arith
+
+pub hit-not-refused : (a : Answer) (n : Vec3) (d : Float) (number : ℕ) → a ≡ hit n d → a ≡ refused number → ⊥
+hit-not-refused a n d number h k = let z : _≡_ {A = ℕ} 0 1 = cc in omega arith
+
+pub none-not-hit : (a : Answer) (n : Vec3) (d : Float) → a ≡ none → a ≡ hit n d → ⊥
+none-not-hit a n d h k = let z : _≡_ {A = ℕ} 0 1 = cc in omega arith
+
+pub same-distance : (a : Answer) (n n' : Vec3) (d d' : Float) → a ≡ hit n d → a ≡ hit n' d' → d ≡ d'
+same-distance a n n' d d' h k = cc
+
+pub same-number : (k number : ℕ) → stopped k ≡ stopped number → k ≡ number
+same-number k number h = cc

@@ -1,0 +1,15 @@
+-- What the casts share: the range of a distance and the side that a normal faces. Definitions only. Assumes nothing.
+use mathlib.Core.Bool.{Bool, _||_, cond}
+use lib.Ieee.{Float, lt}
+use Rattle.geometry.specs.Numbers.{zeroᶠ}
+use Rattle.geometry.specs.Vector.{negOf}
+use Rattle.geometry.specs.declared.vec3.Vec3.{Vec3}
+use Rattle.geometry.specs.declared.ray.Ray.{Ray}
+
+-- "below 0 or above the maximum"; NaN is neither: it "passes both comparisons"
+unfoldable pub outOfRange : Ray → Float → Bool
+outOfRange r distance = lt distance zeroᶠ || lt (r .«max_distance») distance
+
+-- "The normal faces the ray": `along` is its dot with the direction
+unfoldable pub facing : Vec3 → Float → Vec3
+facing normal along = cond (lt zeroᶠ along) (negOf normal) normal

@@ -1,0 +1,12 @@
+// The answer of a cast, and the casts at a plane and at a triangle.
+
+// Cast, the answer, and the numbers of the refusals.
+pub mod answer;
+// What the casts share: the range of a distance, and the side that a normal faces.
+pub mod surface;
+// The cast at a plane.
+pub mod plane;
+// The cast at a triangle.
+pub mod triangle;
+// The nearest of many triangles.
+pub mod nearest;

@@ -1,0 +1,117 @@
+use crate::answer::Cast;
+use geometry::vec3::Vec3;
+ghost use mathlib.Core.Path.{_≡_};
+ghost use Rattle.casts.specs.Answer.{says};
+ghost use Rattle.casts.specs.Nearest.{noHit, hitAt, saysIndexed, nextOf, withoutIndex};
+
+// The answer of a cast at many triangles: the hit adds the triangle's index.
+pub enum IndexedCast {
+    Hit {
+        normal: Vec3,
+        distance: f64,
+        index: u32,
+    },
+    None,
+    Refused(u32),
+}
+
+// The first triangle's answer, with its index.
+fn indexed(index: u32, cast: Cast) -> IndexedCast
+    ensures { λ r. ⌜ saysIndexed r ≡ nextOf noHit index (says cast) ⌝ }
+{
+    match cast {
+        Cast::Hit { normal, distance } => {
+            return IndexedCast::Hit {
+                normal: normal,
+                distance: distance,
+                index: index,
+            };
+        }
+        Cast::None => {
+            return IndexedCast::None;
+        }
+        Cast::Refused(number) => {
+            return IndexedCast::Refused(number);
+        }
+    }
+}
+
+// One more triangle's answer after a hit, which it replaces only where it is strictly nearer.
+fn nearer(normal: Vec3, distance: f64, at: u32, index: u32, cast: Cast) -> IndexedCast
+    ensures { λ r. ⌜ saysIndexed r ≡ nextOf (hitAt normal distance at) index (says cast) ⌝ }
+{
+    match cast {
+        Cast::Hit {
+            normal: other,
+            distance: reach,
+        } => {
+            if reach < distance {
+                return IndexedCast::Hit {
+                    normal: other,
+                    distance: reach,
+                    index: index,
+                };
+            }
+            return IndexedCast::Hit {
+                normal: normal,
+                distance: distance,
+                index: at,
+            };
+        }
+        Cast::None => {
+            return IndexedCast::Hit {
+                normal: normal,
+                distance: distance,
+                index: at,
+            };
+        }
+        Cast::Refused(number) => {
+            return IndexedCast::Refused(number);
+        }
+    }
+}
+
+// What was found so far and one more triangle's answer; the first refusal stays.
+pub fn next(best: IndexedCast, index: u32, cast: Cast) -> IndexedCast
+    ensures { λ r. ⌜ saysIndexed r ≡ nextOf (saysIndexed best) index (says cast) ⌝ }
+{
+    match best {
+        IndexedCast::Hit {
+            normal,
+            distance,
+            index: at,
+        } => {
+            return nearer(normal, distance, at, index, cast);
+        }
+        IndexedCast::None => {
+            return indexed(index, cast);
+        }
+        IndexedCast::Refused(number) => {
+            return IndexedCast::Refused(number);
+        }
+    }
+}
+
+// The answer without the index.
+pub fn without_index(best: IndexedCast) -> Cast
+    ensures { λ r. ⌜ says r ≡ withoutIndex (saysIndexed best) ⌝ }
+{
+    match best {
+        IndexedCast::Hit {
+            normal,
+            distance,
+            index: _,
+        } => {
+            return Cast::Hit {
+                normal: normal,
+                distance: distance,
+            };
+        }
+        IndexedCast::None => {
+            return Cast::None;
+        }
+        IndexedCast::Refused(number) => {
+            return Cast::Refused(number);
+        }
+    }
+}
