@@ -1,0 +1,27 @@
+-- `pass::pass_triangle` meets its contract. Assumes nothing.
+use Rattle.height_field.specs.Pass.{passTriangle}
+use mathlib.Core.Path.{sym}
+use borrow.Author.Needs.{needs}
+use Rattle.height_field.proofs.pass.pass_triangle.Statement.{statement}
+use Rattle.height_field.proofs.pass.pass_triangle.Tie as tie
+
+touches-requires : tie.Need-touches-requires
+touches-requires c κs = search needs
+
+triangle-cast-requires : tie.Need-triangle-cast-requires
+triangle-cast-requires c κs = search needs
+
+next-requires : tie.Need-next-requires
+next-requires c κs = search needs
+
+returns : tie.Need-returns
+unfolding passTriangle
+returns c = simp (sym (c .before .before .before .touches .ensures), c .before .before .if1 .taken, sym (c .before .triangle-cast .ensures), sym (c .next .ensures))
+
+returns-2 : tie.Need-returns-2
+unfolding passTriangle
+returns-2 c = simp (sym (c .before .touches .ensures), c .if1 .left)
+
+pub pass-triangle-spec : {M : Type 1} → statement M
+pass-triangle-spec =
+    tie.close (tie.spec touches-requires triangle-cast-requires next-requires returns returns-2)

@@ -1,0 +1,10 @@
+// The cast at a height grid (document 01, 'Grid hits').
+
+// Field, the grid without its heights: which are admitted, and the vertices.
+pub mod field;
+// The range of cells that a box covers on one axis.
+pub mod cells;
+// The pass over the cells: what is listed, and the nearest hit so far.
+pub mod pass;
+// The public call.
+pub mod cast;

@@ -1,0 +1,167 @@
+use crate::field;
+use crate::field::Field;
+use casts::answer;
+use casts::nearest;
+use casts::nearest::IndexedCast;
+use casts::triangle;
+use geometry::aabb::Aabb;
+use geometry::ray::Ray;
+use geometry::vec3::Vec3;
+ghost use mathlib.Core.Path.{_≡_};
+ghost use mathlib.Core.List.{map};
+ghost use Prim.Native.Nat.{_+_, _-_, _^_, _<_};
+ghost use Rattle.casts.specs.Nearest.{noHit, saysIndexed};
+ghost use Rattle.height_field.specs.Grid.{Sized, cellAt};
+ghost use Rattle.height_field.specs.Cells.{run, gridCells};
+ghost use Rattle.height_field.specs.Listing.{allFinite, listCell, listAll};
+ghost use Rattle.height_field.specs.Cast.{answerOf};
+ghost use Rattle.height_field.specs.Pass.{saysPass, passFrom, passTriangle, passTriangles};
+
+// What the cells so far came to: the nearest hit, none or a triangle's refusal, which later cells may still override;
+// or the refusal of the listing, which ends the cast.
+pub enum Pass {
+    Going(IndexedCast),
+    Ended(u32),
+}
+
+// Whether the four vertices of a cell are finite.
+fn all_finite(v00: Vec3, v10: Vec3, v01: Vec3, v11: Vec3) -> bool
+    ensures { λ r. ⌜ r ≡ allFinite v00 v10 v01 v11 ⌝ }
+{
+    if !v00.is_finite() {
+        return false;
+    }
+    if !v10.is_finite() {
+        return false;
+    }
+    if !v01.is_finite() {
+        return false;
+    }
+    v11.is_finite()
+}
+
+// One triangle and its box: it counts where the box touches the segment's box.
+fn pass_triangle(
+    ray: Ray,
+    bounds: Aabb,
+    corners: [Vec3; 3],
+    around: Aabb,
+    feature: u32,
+    best: IndexedCast,
+) -> IndexedCast
+    ensures { λ r. ⌜ saysIndexed r ≡ passTriangle ray bounds corners around feature (saysIndexed best) ⌝ }
+{
+    if around.touches(bounds) {
+        return nearest::next(best, feature, triangle::triangle_cast(ray, corners));
+    }
+    best
+}
+
+// The two triangles of a cell, whose boxes must both be valid before either is cast at. Callers show that the feature is small.
+fn pass_triangles(
+    ray: Ray,
+    bounds: Aabb,
+    lower: [Vec3; 3],
+    upper: [Vec3; 3],
+    feature: u32,
+    best: IndexedCast,
+) -> Pass
+    requires { ⌜ feature + 1 < 2 ^ 32 ⌝ }
+    ensures { λ r. ⌜ saysPass r ≡ passTriangles ray bounds lower upper feature (saysIndexed best) ⌝ }
+{
+    let first = Aabb::of_corners(lower);
+    if !first.is_valid() {
+        return Pass::Ended(answer::OUT_OF_BOUNDS);
+    }
+    let second = Aabb::of_corners(upper);
+    if !second.is_valid() {
+        return Pass::Ended(answer::OUT_OF_BOUNDS);
+    }
+    let after = pass_triangle(ray, bounds, lower, first, feature, best);
+    Pass::Going(pass_triangle(ray, bounds, upper, second, feature + 1, after))
+}
+
+// One cell. Callers show that it is in the grid.
+fn pass_cell(
+    ray: Ray,
+    bounds: Aabb,
+    field: Field,
+    heights: &[f64],
+    row: usize,
+    column: usize,
+    best: IndexedCast,
+) -> Pass
+    requires { ⌜ Sized field (now heights) ⌝ ∗ ⌜ row + 1 < field .rows ⌝ ∗ ⌜ column + 1 < field .columns ⌝ }
+    ensures { λ r. ⌜ saysPass r ≡ passFrom (answerOf ray field (now (heights .entry))) (saysIndexed best) (listCell field (now (heights .entry)) bounds (cellAt field row column)) ⌝ }
+{
+    let v00 = field::field_vertex(field, heights, row, column);
+    let v10 = field::field_vertex(field, heights, row, column + 1);
+    let v01 = field::field_vertex(field, heights, row + 1, column);
+    let v11 = field::field_vertex(field, heights, row + 1, column + 1);
+    if !all_finite(v00, v10, v01, v11) {
+        return Pass::Ended(answer::OVERFLOW);
+    }
+    let cell = row * (field.columns - 1) + column;
+    pass_triangles(
+        ray,
+        bounds,
+        [v00, v10, v11],
+        [v00, v11, v01],
+        (cell * 2) as u32,
+        best,
+    )
+}
+
+// The cells of one row from the first column to the last. Callers show that they are in the grid.
+fn pass_row(
+    ray: Ray,
+    bounds: Aabb,
+    field: Field,
+    heights: &[f64],
+    row: usize,
+    first: usize,
+    last: usize,
+    start: IndexedCast,
+) -> Pass
+    requires { ⌜ Sized field (now heights) ⌝ ∗ ⌜ row + 1 < field .rows ⌝ ∗ ⌜ last + 1 < field .columns ⌝ }
+    ensures { λ r. ⌜ saysPass r ≡ passFrom (answerOf ray field (now (heights .entry))) (saysIndexed start) (listAll (listCell field (now (heights .entry)) bounds) (map (cellAt field row) (run first (last + 1 - first)))) ⌝ }
+{
+    let mut best = start;
+    let mut column = first;
+    while column <= last {
+        let cell = pass_cell(ray, bounds, field, heights, row, column, best);
+        let Pass::Going(found) = cell else {
+            return cell;
+        };
+        best = found;
+        column += 1;
+    }
+    Pass::Going(best)
+}
+
+// The cells of the rows from the first to the last, each from column left to right. Callers show that they are in the grid.
+pub fn pass_rows(
+    ray: Ray,
+    bounds: Aabb,
+    field: Field,
+    heights: &[f64],
+    first: usize,
+    last: usize,
+    left: usize,
+    right: usize,
+) -> Pass
+    requires { ⌜ Sized field (now heights) ⌝ ∗ ⌜ last + 1 < field .rows ⌝ ∗ ⌜ right + 1 < field .columns ⌝ }
+    ensures { λ r. ⌜ saysPass r ≡ passFrom (answerOf ray field (now (heights .entry))) noHit (listAll (listCell field (now (heights .entry)) bounds) (gridCells field (run first (last + 1 - first)) (run left (right + 1 - left)))) ⌝ }
+{
+    let mut best = IndexedCast::None;
+    let mut row = first;
+    while row <= last {
+        let cells = pass_row(ray, bounds, field, heights, row, left, right, best);
+        let Pass::Going(found) = cells else {
+            return cells;
+        };
+        best = found;
+        row += 1;
+    }
+    Pass::Going(best)
+}
