@@ -1,0 +1,96 @@
+-- Cells and nodes: a whole number above zero is at least one, a cell that was found lies below the last node, and a node's place lies among the values. Assumes nothing.
+use mathlib.Core.Path.{_≡_, refl, sym, subst}
+use mathlib.Core.Bool.{Bool, true, false, cond, false≢true}
+use mathlib.Core.List.{List}
+use Prim.Native.Nat.{ℕ, zero, suc, _+_, _-_, _*_, _≤_, _<_}
+use native.Mathlib.Nat.{mul-le-mul-right, add-mul, lt-of-lt-of-le}
+use native.Mathlib.Omega.{arith}
+use lib.Dec.{T, ltb}
+use lib.Ieee.{Float, nan, inf, fin, binary64, ofBits, fits, up, down, lt, toUnsigned}
+use lib.Ieee.Exact.{HasValue}
+use lib.ListN.{length}
+use borrow.Author.Tests.{ltb-true}
+use Rattle.arithmetic.specs.Basic.{isFinite, clampTo}
+use Rattle.arithmetic.specs.Rounding.{roundOf, wholeBy, tiesAway, wholeOf}
+use Rattle.arithmetic.proofs.Casts.{cast-of-value, none}
+use Rattle.arithmetic.proofs.WholeNumbers.{roundOf-value}
+use Rattle.geometry.specs.Numbers.{_-ᶠ_, _/ᶠ_, zeroᶠ}
+use Rattle.level_set.specs.Grid.{nodes, whole, Stands}
+use Rattle.level_set.specs.Cells.{upTo}
+use Rattle.level_set.specs.Sampling.{cellBelow, placeOf, placeAt, locateAxis}
+use Rattle.level_set.specs.declared.grid.Grid.{Grid}
+use Rattle.level_set.proofs.GridLaws.{plane-small, nodes-small}
+use Rattle.level_set.specs.declared.sampling.Place.the-variants.{At as PlaceAt, Overflow as NoPlace}
+
+-- ---- a whole number above zero
+positive-cast : (y : Float) (s : Bool) (n : ℕ) → HasValue y s n 1 → lt none y ≡ true → 0 < wholeOf y
+unfolding lt
+positive-cast nan s n v h = absurd v
+positive-cast (inf t) s n v h = absurd v
+positive-cast (fin true m e) s n v h = absurd (false≢true h)
+positive-cast (fin false m e) true n v h = absurd (false≢true (v .0))
+positive-cast (fin false m e) false zero v h = let g = ltb-true (0 * down e) (m * up e * 1) h in absurd (omega (arith, v .1))
+positive-cast (fin false m e) false (suc n) v h = let q = cast-of-value (fin false m e) false (suc n) v in omega arith
+
+zero-is-none : zeroᶠ ≡ none
+unfolding ofBits
+zero-is-none = refl
+
+rounded-positive : (x : Float) → T (fits binary64 x) → lt none (roundOf x) ≡ true → 0 < wholeOf (roundOf x)
+rounded-positive nan f h = absurd (false≢true (unfold roundOf wholeBy lt in h))
+rounded-positive (inf true) f h = absurd (false≢true (unfold roundOf wholeBy lt in h))
+rounded-positive (inf false) f h = unfold roundOf wholeBy toUnsigned in omega arith
+rounded-positive (fin s m e) f h = positive-cast (roundOf (fin s m e)) s (tiesAway s (m * up e) (down e)) (roundOf-value s m e f) h
+
+-- where `nearest` is above 0, `nearest as usize - 1` does not go below 0
+pub nearest-above-zero : (x : Float) → T (fits binary64 x) → lt zeroᶠ (roundOf x) ≡ true → 0 < wholeOf (roundOf x)
+nearest-above-zero x f h = rounded-positive x f (subst (λ (z : Float). lt z (roundOf x) ≡ true) zero-is-none h)
+
+-- ---- a cell that was found
+pub upTo-least : (last n : ℕ) → upTo last n ≤ last
+unfolding upTo
+upTo-least last n = go (ltb n last) (ltb-true n last)
+  where
+    go : (b : Bool) → (b ≡ true → n < last) → cond b n last ≤ last
+    go true h = let g = h refl in omega arith
+    go false h = omega arith
+
+located-below : (raw : Float) (side cell : ℕ) (fraction : Float) → 2 ≤ side → placeAt raw side ≡ PlaceAt cell fraction → cell + 1 < side
+unfolding placeAt placeOf
+located-below raw side cell fraction p e = go (isFinite raw) e
+  where
+    coordinate : Float
+    coordinate = clampTo raw zeroᶠ (whole (side - 1))
+
+    go : (b : Bool) → cond b (placeOf coordinate side) NoPlace ≡ PlaceAt cell fraction → cell + 1 < side
+    go true h = let q : cellBelow coordinate side ≡ cell = cc in let l : cellBelow coordinate side ≤ side - 2 = unfold cellBelow in upTo-least (side - 2) _ in omega arith
+    go false h = let z : _≡_ {A = ℕ} 0 1 = cc in absurd (omega arith)
+
+pub locateAxis-below : (point origin spacing : Float) (side cell : ℕ) (fraction : Float) → 2 ≤ side → locateAxis point origin spacing side ≡ PlaceAt cell fraction → cell + 1 < side
+unfolding locateAxis
+locateAxis-below point origin spacing side cell fraction p e = located-below ((point -ᶠ origin) /ᶠ spacing) side cell fraction p e
+
+-- ---- a node's place
+-- k in the p-th of n rows of m
+row-below : (p n k m : ℕ) → p < n → k < m → p * m + k < n * m
+row-below p n k m h g =
+    let r : (p + 1) * m ≤ n * m = mul-le-mul-right m (omega arith) in
+    let s : (p + 1) * m ≡ p * m + 1 * m = add-mul p 1 m in
+    omega arith
+
+-- a node of the grid has its place among the values, and no step to it is large
+pub record Placed (g : Grid) (values : List Float) (x y z : ℕ) : Type 0 where
+  pub line : z * g .sides .y + y < 256 * 256
+  pub place : (z * g .sides .y + y) * g .sides .x + x < 256 * 256 * 256
+  pub inside : (z * g .sides .y + y) * g .sides .x + x < length values
+
+pub node-placed : (g : Grid) (values : List Float) (x y z : ℕ)
+    → Stands g values × ((x < g .sides .x) × ((y < g .sides .y) × (z < g .sides .z))) → Placed g values x y z
+node-placed g values x y z p =
+    let line-below : z * g .sides .y + y < g .sides .z * g .sides .y = row-below z (g .sides .z) y (g .sides .y) (p .1 .1 .1) (p .1 .1 .0) in
+    let place-below : (z * g .sides .y + y) * g .sides .x + x < nodes (g .sides) = row-below (z * g .sides .y + y) (g .sides .z * g .sides .y) x (g .sides .x) line-below (p .1 .0) in
+    record {
+      line = lt-of-lt-of-le line-below (plane-small (g .sides) (p .0 .sides-stand));
+      place = lt-of-lt-of-le place-below (nodes-small (g .sides) (p .0 .sides-stand));
+      inside = subst (λ (n : ℕ). (z * g .sides .y + y) * g .sides .x + x < n) (sym (p .0 .count)) place-below;
+    }

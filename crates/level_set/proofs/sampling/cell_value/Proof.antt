@@ -1,0 +1,21 @@
+-- `level_set::sampling::cell_value` meets its contract. Assumes nothing.
+use Rattle.level_set.specs.Sampling.{cellValue}
+use mathlib.Core.Path.{sym}
+use Rattle.level_set.proofs.sampling.cell_value.Statement.{statement}
+use Rattle.level_set.proofs.sampling.cell_value.Tie as tie
+
+across-requires : tie.Need-across-requires
+across-requires c κs = tt
+
+across-requires-2 : tie.Need-across-requires-2
+across-requires-2 c κs = tt
+
+lerp-requires : tie.Need-lerp-requires
+lerp-requires c κs = tt
+
+returns : tie.Need-returns
+unfolding cellValue
+returns c = simp (sym (c .before .before .across .ensures), sym (c .before .across2 .ensures), sym (c .lerp .ensures))
+
+pub cell-value-spec : {M : Type 1} → statement M
+cell-value-spec = tie.close (tie.spec across-requires across-requires-2 lerp-requires returns)

@@ -1,0 +1,27 @@
+-- `level_set::walk::goes_to` meets its contract. Assumes nothing.
+use Rattle.level_set.specs.Walk.{goesTo}
+use mathlib.Core.Path.{sym}
+use borrow.Author.Needs.{needs}
+use Rattle.level_set.proofs.walk.goes_to.Statement.{statement}
+use Rattle.level_set.proofs.walk.goes_to.Tie as tie
+
+touch-at-requires : tie.Need-touch-at-requires
+touch-at-requires c κs = search needs
+
+returns : tie.Need-returns
+unfolding goesTo
+returns c = simp (c .before .if1 .taken, sym (c .touch-at .ensures))
+
+minimum-requires : tie.Need-minimum-requires
+minimum-requires c κs = tt
+
+cell-cast-requires : tie.Need-cell-cast-requires
+cell-cast-requires c κs = search needs
+
+returns-2 : tie.Need-returns-2
+unfolding goesTo
+returns-2 c = simp (c .before .before .if1 .left, sym (c .before .minimum .ensures), sym (c .cell-cast .ensures))
+
+pub goes-to-spec : {M : Type 1} → statement M
+goes-to-spec =
+    tie.close (tie.spec touch-at-requires returns minimum-requires cell-cast-requires returns-2)

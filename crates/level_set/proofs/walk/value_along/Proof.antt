@@ -1,0 +1,37 @@
+-- `level_set::walk::value_along` meets its contract. Assumes nothing.
+use Rattle.level_set.specs.Walk.{valueAlong}
+use mathlib.Core.Path.{sym}
+use borrow.Author.Needs.{needs}
+use Rattle.level_set.proofs.walk.value_along.Statement.{statement}
+use Rattle.level_set.proofs.walk.value_along.Tie as tie
+
+point-at-requires : tie.Need-point-at-requires
+point-at-requires c κs = tt
+
+sample-requires : tie.Need-sample-requires
+sample-requires c κs = search needs
+
+enum-known-found : tie.Need-enum-known-found
+enum-known-found c = search needs
+
+enum-known-found-2 : tie.Need-enum-known-found-2
+enum-known-found-2 c = search needs
+
+returns : tie.Need-returns
+unfolding valueAlong
+returns c = simp (sym (c .before .before .before .before .point-at .ensures), sym (c .before .before .before .sample .ensures), c .before .found .given .1)
+
+returns-2 : tie.Need-returns-2
+unfolding valueAlong
+returns-2 c = simp (sym (c .before .before .before .before .point-at .ensures), sym (c .before .before .before .sample .ensures), c .before .found2 .given .1)
+
+pub value-along-spec : {M : Type 1} → statement M
+value-along-spec =
+    tie.close
+    (tie.spec
+    point-at-requires
+    sample-requires
+    enum-known-found
+    enum-known-found-2
+    returns
+    returns-2)

@@ -1,0 +1,168 @@
+-- The cast at a distance grid: the walk over its cells, and its refusals. Definitions only. Assumes nothing.
+use Prim.Native.Nat.{ℕ, zero, suc, _+_}
+use mathlib.Core.Bool.{cond}
+use mathlib.Core.List.{List, [], _∷_}
+use lib.Ieee.{Float, binary64, ofBits, lt, le, eq}
+use lib.ListN.{length}
+use Rattle.arithmetic.specs.Extremes.{minimumOf}
+use Rattle.geometry.specs.Numbers.{_+ᶠ_, _-ᶠ_, _*ᶠ_, zeroᶠ, oneᶠ}
+use Rattle.geometry.specs.Vector.{addOf, scaleOf, tryNormalize}
+use Rattle.geometry.specs.Box.{validBox}
+use Rattle.geometry.specs.Segment.{rayAdmitted}
+use Rattle.geometry.specs.declared.vec3.Vec3.{Vec3}
+use Rattle.geometry.specs.declared.ray.Ray.{Ray}
+use Rattle.casts.specs.Answer.{Answer, hit, none, refused, says, withNormal, invalidInput, badShape, outOfBounds, overflow, notConvergent}
+use Rattle.level_set.specs.Grid.{gridAdmitted, gridBox}
+use Rattle.level_set.specs.Slab.{rayAabbInterval}
+use Rattle.level_set.specs.Cells.{rayCellIndices, nextCellBoundary}
+use Rattle.level_set.specs.Sampling.{sample}
+use Rattle.level_set.specs.Cubic.{firstCubicRoot}
+use Rattle.level_set.specs.declared.grid.Grid.{Grid}
+use Rattle.level_set.specs.declared.interval.Interval.{Interval}
+use Rattle.level_set.specs.declared.interval.Interval.the-variants.{Within, Miss}
+use Rattle.level_set.specs.declared.cells.Cells.{Cells}
+use Rattle.level_set.specs.declared.cells.Cells.the-variants.{At as CellsAt, Overflow as NoCells}
+use Rattle.level_set.specs.declared.cells.Boundary.{Boundary}
+use Rattle.level_set.specs.declared.cells.Boundary.the-variants.{At as BoundaryAt, Overflow as NoBoundary}
+use Rattle.level_set.specs.declared.sampling.Sampled.{Sampled}
+use Rattle.level_set.specs.declared.sampling.Sampled.the-variants.{At as SampledAt, Refused as SampleRefused}
+use Rattle.level_set.specs.declared.cubic.Root.{Root}
+use Rattle.level_set.specs.declared.cubic.Root.the-variants.{At as RootAt, None as NoRoot, Overflow as RootOverflow}
+use Rattle.level_set.specs.declared.walk.Height.{Height}
+use Rattle.level_set.specs.declared.walk.Height.the-variants.{At as HeightAt, Refused as HeightRefused}
+use Rattle.level_set.specs.declared.walk.Step.{Step}
+use Rattle.level_set.specs.declared.walk.Step.the-variants.{Done, On}
+
+-- 1/3 and 2/3, rounded
+abbrev pub third : Float
+third = ofBits binary64 0x3fd5_5555_5555_5555
+
+abbrev pub twoThirds : Float
+twoThirds = ofBits binary64 0x3fe5_5555_5555_5555
+
+-- what a cell gives: the answer, or the distance from which the walk goes on
+pub data Turn : Type 0 where
+  done : Answer → Turn
+  on : Float → Turn
+
+abbrev pub tells : Step → Turn
+tells (Done cast) = done (says cast)
+tells (On distance) = on distance
+
+-- ---- samples along the ray
+
+unfoldable pub pointAt : Ray → Float → Vec3
+pointAt r distance = addOf (r .origin) (scaleOf (r .direction) distance)
+
+-- from `current` a part of the way to `end`
+unfoldable pub along : Float → Float → Float → Float
+along current end fraction = current +ᶠ (end -ᶠ current) *ᶠ fraction
+
+abbrev pub withSample : Sampled → (Float → Vec3 → Answer) → Answer
+withSample (SampledAt value gradient) next = next value gradient
+withSample (SampleRefused number) next = refused number
+
+-- "A gradient at the hit that cannot be normalised is 8." The normal is not turned to face the ray.
+unfoldable pub hitWith : Vec3 → Float → Answer
+hitWith gradient distance = withNormal (tryNormalize gradient) notConvergent (λ (normal : Vec3). hit normal distance)
+
+unfoldable pub hitAlong : Ray → Grid → List Float → Float → Answer
+hitAlong r g values distance =
+    withSample (sample g values (pointAt r distance)) (λ (value : Float) (gradient : Vec3). hitWith gradient distance)
+
+-- where a cell has no length, its value is tested against zero exactly
+unfoldable pub touchAt : Ray → Grid → List Float → Float → Answer
+touchAt r g values distance =
+    withSample (sample g values (pointAt r distance))
+    (λ (value : Float) (gradient : Vec3). cond (eq value zeroᶠ) (hitWith gradient distance) none)
+
+abbrev pub heightOf : Sampled → Height
+heightOf (SampledAt value gradient) = HeightAt value
+heightOf (SampleRefused number) = HeightRefused number
+
+unfoldable pub valueAlong : Ray → Grid → List Float → Float → Height
+valueAlong r g values distance = heightOf (sample g values (pointAt r distance))
+
+-- ---- one cell
+
+unfoldable pub goesOn : Float → Float → Turn
+goesOn end exit = cond (le exit end) (done none) (on end)
+
+abbrev pub rootTurn : Root → Ray → Grid → List Float → Float → Float → Float → Turn
+rootTurn (RootAt fraction) r g values current end exit = done (hitAlong r g values (along current end fraction))
+rootTurn NoRoot r g values current end exit = goesOn end exit
+rootTurn RootOverflow r g values current end exit = done (refused overflow)
+
+unfoldable pub cellBy : Ray → Grid → List Float → Float → Float → Float → List Float → Turn
+cellBy r g values current end exit ys = rootTurn (firstCubicRoot ys) r g values current end exit
+
+abbrev pub withHeight : Height → (Float → Turn) → Turn
+withHeight (HeightAt value) next = next value
+withHeight (HeightRefused number) next = done (refused number)
+
+-- "Four samples per cell at 0, 1/3, 2/3, 1", of which the first that refuses counts
+unfoldable pub cellRest : Ray → Grid → List Float → Float → Float → Float → Float → Float → Turn
+cellRest r g values current end exit y0 y1 =
+    withHeight (valueAlong r g values (along current end twoThirds))
+    (λ (y2 : Float).
+    withHeight (valueAlong r g values (along current end oneᶠ))
+    (λ (y3 : Float). cellBy r g values current end exit (y0 ∷ y1 ∷ y2 ∷ y3 ∷ [])))
+
+unfoldable pub cellCast : Ray → Grid → List Float → Float → Float → Float → Turn
+cellCast r g values current end exit =
+    withHeight (valueAlong r g values (along current end zeroᶠ))
+    (λ (y0 : Float).
+    withHeight (valueAlong r g values (along current end third))
+    (λ (y1 : Float). cellRest r g values current end exit y0 y1))
+
+unfoldable pub goesTo : Ray → Grid → List Float → Float → Float → Float → Turn
+goesTo r g values current exit next =
+    cond (le next current) (done (touchAt r g values current)) (cellCast r g values current (minimumOf next exit) exit)
+
+abbrev pub withBoundary : Boundary → (Float → Turn) → Turn
+withBoundary (BoundaryAt next) k = k next
+withBoundary NoBoundary k = done (refused overflow)
+
+abbrev pub withCells : Cells → (ℕ → ℕ → ℕ → Turn) → Turn
+withCells (CellsAt x y z) k = k x y z
+withCells NoCells k = done (refused overflow)
+
+unfoldable pub walkStep : Ray → Grid → List Float → Float → Float → Turn
+walkStep r g values current exit =
+    cond (lt exit current) (done none)
+    (withCells (rayCellIndices g (pointAt r current) (r .direction))
+    (λ (x y z : ℕ).
+    withBoundary (nextCellBoundary g current (pointAt r current) (r .direction) x y z exit)
+    (λ (next : Float). goesTo r g values current exit next)))
+
+-- ---- the walk
+
+abbrev pub follow : Turn → (Float → Answer) → Answer
+follow (done answer) k = answer
+follow (on distance) k = k distance
+
+-- "at most the sum of sides + 4 cells, else 8"
+unfoldable pub cellLimit : Grid → ℕ
+cellLimit g = g .sides .x + g .sides .y + g .sides .z + 4
+
+unfoldable pub walkFrom : Ray → Grid → List Float → Float → ℕ → Float → Answer
+walkFrom r g values exit zero current = refused notConvergent
+walkFrom r g values exit (suc n) current = follow (walkStep r g values current exit) (λ (next : Float). walkFrom r g values exit n next)
+
+-- ---- the cast
+
+abbrev pub withInterval : Interval → (Float → Float → Answer) → Answer
+withInterval (Within entry exit) k = k entry exit
+withInterval Miss k = none
+
+-- "the box runs from the origin to the last node; slab interval, then at most the sum of sides + 4 cells"
+unfoldable pub levelSetCast : Ray → Grid → List Float → Answer
+levelSetCast r g values =
+    cond (validBox (gridBox g))
+    (withInterval (rayAabbInterval r (gridBox g)) (λ (entry exit : Float). walkFrom r g values exit (cellLimit g) entry))
+    (refused outOfBounds)
+
+-- refusal 1 before 2, then the cast
+unfoldable pub rayLevelSet : Ray → Grid → List Float → Answer
+rayLevelSet r g values =
+    cond (rayAdmitted r) (cond (gridAdmitted g (length values)) (levelSetCast r g values) (refused badShape)) (refused invalidInput)
