@@ -1,0 +1,52 @@
+-- Casts at a mesh through a tree that no builder of ours would write, computed from the definitions alone. Assumes nothing.
+use Prim.Native.Nat.{ℕ}
+use mathlib.Core.Path.{_≡_, refl}
+use mathlib.Core.List.{List, [], _∷_}
+use lib.Ieee.{Float, binary64, span, climb, size, odd, units, round, neg, sum, add, sub, mul, div, lt, eq, le, ne, isNan, ofFields, ofBits}
+use Rattle.arithmetic.specs.Basic.{isFinite, absolute}
+use Rattle.arithmetic.specs.Extremes.{minimumOf, maximumOf}
+use Rattle.arithmetic.specs.Root.{rootDigits, wholeRoot, rootRound, rootOf}
+use Rattle.geometry.specs.Vector.{component, finiteVec, addOf, subOf, negOf, scaleOf, minOf, maxOf, absOf, maxElement, dotOf, checkedDot, crossOf, lengthOf, tryNormalize}
+use Rattle.geometry.specs.Box.{validSide, validBox, touchSide, touches}
+use Rattle.geometry.specs.Segment.{unitLength, rayAdmitted, segmentEnd, segmentBox}
+use Rattle.geometry.specs.declared.ray.Ray.{Ray}
+use Rattle.casts.specs.Surface.{outOfRange, facing}
+use Rattle.casts.specs.Triangle.{flat, triangleNormal, triangleAbove, triangleAt, triangleOf}
+use Rattle.casts.specs.Nearest.{Indexed, hitAt, noHit, stopped, nextOf, foldFrom}
+use Rattle.tree.specs.Lists.{range, insertBy, sortBy}
+use Rattle.tree.specs.Layout.{vectorAt, boxAt}
+use Rattle.tree.specs.Mesh.{Mesh, lengthsAdmitted, cornersInside, cornerAt, triangleAnswer}
+use Rattle.tree_query.specs.Walk.{times, takePlace, takePlaces, atLeaf, childFits, atBranch, atNode, takeNode, start, ended, walkOf}
+use Rattle.tree_query.proofs.QueryExamples.{o, i, quarter, ten, eleven, lower, oddTree}
+use Rattle.mesh.specs.MeshCast.{shapeAdmitted, treeFits, roomFor, overWalk, meshCast, rayMesh}
+
+-- the three triangles of that tree: one at height 0, one beside it, one below it
+abbrev vertices : List Float
+vertices =
+    o ∷ (o ∷ (o ∷ (i ∷ (o ∷ (o ∷ (o ∷ (i ∷ (o ∷ (ten ∷ (o ∷ (o ∷ (eleven ∷ (o ∷ (o ∷ (ten ∷ (i ∷ (o ∷ (o ∷ (o ∷ (lower ∷ (i ∷ (o ∷ (lower ∷ (o ∷ (i ∷ (lower ∷ []))))))))))))))))))))))))))
+
+abbrev mesh : Mesh
+mesh = record { vertices = vertices; triangles = 0 ∷ (1 ∷ (2 ∷ (3 ∷ (4 ∷ (5 ∷ (6 ∷ (7 ∷ (8 ∷ [])))))))) }
+
+abbrev two : Float
+two = ofBits binary64 0x4000_0000_0000_0000
+
+abbrev minusZero : Float
+minusZero = ofBits binary64 0x8000_0000_0000_0000
+
+abbrev three : Float
+three = ofBits binary64 0x4008_0000_0000_0000
+
+-- a ray along the third axis over the column of two triangles
+abbrev along : Float → Float → Float → Ray
+along height direction maximum = record { origin = record { x = quarter; y = quarter; z = height }; direction = record { x = o; y = o; z = direction }; «max_distance» = maximum }
+
+abbrev cast : Ray → Indexed
+cast r = rayMesh r mesh vertices oddTree 3 4
+
+-- from above the upper triangle is hit, though it is listed first of two; from below the lower one, though it is listed last
+pub casts-answered :
+    cast (along i lower three) ∷ (cast (along (ofBits binary64 0xc008_0000_0000_0000) i three) ∷ (cast (along i lower quarter) ∷ (cast (along i two three) ∷ [])))
+    ≡ hitAt (record { x = o; y = o; z = i }) i 0 ∷ (hitAt (record { x = minusZero; y = minusZero; z = lower }) two 2 ∷ (noHit ∷ (stopped 1 ∷ [])))
+unfolding rayMesh meshCast overWalk roomFor treeFits shapeAdmitted walkOf ended start takeNode atNode atBranch childFits atLeaf takePlaces takePlace times triangleAnswer cornerAt cornersInside lengthsAdmitted boxAt vectorAt sortBy insertBy range foldFrom nextOf triangleOf triangleAt triangleAbove triangleNormal flat facing outOfRange segmentBox segmentEnd rayAdmitted unitLength touches touchSide validBox validSide tryNormalize lengthOf crossOf checkedDot dotOf maxElement absOf maxOf minOf scaleOf negOf subOf addOf finiteVec component rootOf rootRound wholeRoot rootDigits maximumOf minimumOf absolute isFinite ofBits ofFields isNan ne le eq lt div mul sub add sum neg round units odd size climb span
+casts-answered = refl

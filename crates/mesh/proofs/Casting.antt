@@ -1,0 +1,123 @@
+-- The mesh cast's answers: each refusal, and the fold over the walk's list. Assumes nothing.
+use Prim.Native.Nat.{ℕ, _+_, _*_, _%_, _/_, _≤_}
+use mathlib.Core.Path.{_≡_, refl, sym, ap, subst, _∙_}
+use mathlib.Core.Bool.{Bool, true, false, _&&_, cond, true≢false}
+use mathlib.Core.List.{List, []}
+use native.Mathlib.Omega.{arith}
+use borrow.Author.Tests.{leb-true, eq-eqb, ne-eqb}
+use lib.Dec.{leb, eqb}
+use lib.Ieee.{Float}
+use lib.ListN.{length, take}
+use Rattle.geometry.specs.Vector.{finiteVec}
+use Rattle.geometry.specs.Box.{validBox}
+use Rattle.geometry.specs.Segment.{rayAdmitted, segmentEnd, segmentBox}
+use Rattle.geometry.specs.declared.vec3.Vec3.{Vec3}
+use Rattle.geometry.specs.declared.aabb.Aabb.{Aabb}
+use Rattle.geometry.specs.declared.ray.Ray.{Ray}
+use Rattle.casts.specs.Answer.{invalidInput, badShape, noRoom, wrongPose, outOfBounds, overflow}
+use Rattle.casts.specs.Nearest.{Indexed, stopped, nearestOf}
+use Rattle.tree.specs.Layout.{Tree}
+use Rattle.tree.specs.Mesh.{Mesh, thirds, lengthsAdmitted, triangleAnswer}
+use Rattle.tree.proofs.Corners.{and-first, and-second}
+use Rattle.tree_query.specs.Walk.{Walking, walking, broken, walkOf}
+use Rattle.tree_query.specs.Areas.{allBelow, listed, Grown, GrownTo, WalkRoom}
+use Rattle.tree_query.specs.declared.step.Filled.{Filled}
+use Rattle.tree_query.specs.declared.step.Filled.the-variants.{Count, Broken}
+use Rattle.tree_query.specs.Query.{walkFits}
+use Rattle.mesh.specs.MeshCast.{shapeAdmitted, roomFor, testsPass, overWalk, meshCast, rayMesh}
+
+-- what admitted lengths say of the counts
+module _ (vertices triangles pose nodes : ℕ) (h : (lengthsAdmitted vertices triangles && (lengthsAdmitted pose triangles && leb nodes (2 * thirds triangles))) ≡ true) where
+  pub triangles-few : thirds triangles ≤ 65536
+  unfolding lengthsAdmitted
+  triangles-few =
+      let a : lengthsAdmitted vertices triangles ≡ true = and-first (lengthsAdmitted vertices triangles) (lengthsAdmitted pose triangles && leb nodes (2 * thirds triangles)) h in
+      let b = and-second (leb vertices 196608) (eqb (triangles % 3) 0 && leb triangles 196608)
+      (and-second (eqb (vertices % 3) 0) (leb vertices 196608 && (eqb (triangles % 3) 0 && leb triangles 196608)) a) in
+      let k : triangles ≤ 196608 = leb-true triangles 196608 (and-second (eqb (triangles % 3) 0) (leb triangles 196608) b) in
+      omega arith
+
+  pub nodes-few : leb nodes (2 * thirds triangles) ≡ true
+  nodes-few =
+      and-second (lengthsAdmitted pose triangles) (leb nodes (2 * thirds triangles))
+      (and-second (lengthsAdmitted vertices triangles) (lengthsAdmitted pose triangles && leb nodes (2 * thirds triangles)) h)
+
+-- what a test of the segment's end says of it
+pub end-is : (x : Bool) (v : Vec3) (r : Ray) → x ≡ finiteVec v → v ≡ segmentEnd r → (b : Bool) → x ≡ b → finiteVec (segmentEnd r) ≡ b
+end-is x v r e f b g = cc
+
+-- the cast past refusals 1 to 4
+module _ (r : Ray) (m : Mesh) (pose : List Float) (t : Tree) where
+  abbrev n : ℕ
+  n = thirds (length (m .triangles))
+
+  pub cast-overflow : finiteVec (segmentEnd r) ≡ false → stopped overflow ≡ meshCast r m pose t
+  unfolding meshCast
+  cast-overflow h = simp h
+
+  module _ (f : finiteVec (segmentEnd r) ≡ true) (box : Aabb) (b : box ≡ segmentBox r) where
+    pub cast-unboxed : validBox box ≡ false → stopped outOfBounds ≡ meshCast r m pose t
+    unfolding meshCast
+    cast-unboxed h = simp (f, sym b, h)
+
+    module _ (v : validBox box ≡ true) (x : Filled) (exit : List ℕ) (w : listed [] x exit ≡ walkOf t n box) where
+      over : overWalk r pose (m .triangles) (walkOf t n box) ≡ meshCast r m pose t
+      unfolding meshCast
+      over = simp (f, sym b, v)
+
+      pub cast-broken : x ≡ Broken → stopped outOfBounds ≡ meshCast r m pose t
+      unfolding overWalk
+      cast-broken e =
+          let w' : broken ≡ walkOf t n box = subst (λ (y : Filled). listed [] y exit ≡ walkOf t n box) e w in
+          ap (overWalk r pose (m .triangles)) w' ∙ over
+
+      pub cast-nearest : (k : ℕ) (answer : Indexed) → x ≡ Count k → answer ≡ nearestOf (triangleAnswer r pose (m .triangles)) (take k exit) → answer ≡ meshCast r m pose t
+      unfolding overWalk
+      cast-nearest k answer e a =
+          let w' : walking [] (take k exit) ≡ walkOf t n box = subst (λ (y : Filled). listed [] y exit ≡ walkOf t n box) e w in
+          a ∙ ap (overWalk r pose (m .triangles)) w' ∙ over
+
+-- the walk's list is within its area and below the triangle count
+pub list-inside : (n k : ℕ) (entry exit : List ℕ) (x : Filled) → GrownTo n entry 0 x exit → x ≡ Count k → (k ≤ length exit) × (allBelow n (take k exit) ≡ true)
+list-inside n k entry exit x g e =
+    let g' : Grown n entry exit 0 k = subst (λ (y : Filled). GrownTo n entry 0 y exit) e g in
+    (g' .inside, g' .below)
+
+-- refusals 1 to 4, in their order
+module _ (r : Ray) (m : Mesh) (pose : List Float) (t : Tree) (list stack : ℕ) where
+  pub mesh-invalid : rayAdmitted r ≡ false → stopped invalidInput ≡ rayMesh r m pose t list stack
+  unfolding rayMesh
+  mesh-invalid h = simp h
+
+  abbrev admitted : Bool
+  admitted =
+      lengthsAdmitted (length (m .vertices)) (length (m .triangles))
+      && (lengthsAdmitted (length pose) (length (m .triangles)) && leb (t .nodeCount) (2 * thirds (length (m .triangles))))
+
+  module _ (v : rayAdmitted r ≡ true) where
+    pub mesh-bad : admitted ≡ false → stopped badShape ≡ rayMesh r m pose t list stack
+    unfolding rayMesh shapeAdmitted
+    mesh-bad h = simp (v, h)
+
+    module _ (s : admitted ≡ true) where
+      pub mesh-short : walkFits (thirds (length (m .triangles))) t list stack ≡ false → stopped noRoom ≡ rayMesh r m pose t list stack
+      unfolding rayMesh shapeAdmitted roomFor walkFits
+      mesh-short h = simp (v, s, h)
+
+      module _ (f : walkFits (thirds (length (m .triangles))) t list stack ≡ true) where
+        pub mesh-posed : (length pose ≡ length (m .vertices) → ⊥) → stopped wrongPose ≡ rayMesh r m pose t list stack
+        unfolding rayMesh shapeAdmitted roomFor walkFits
+        mesh-posed h = simp (v, s, f, ne-eqb (length pose) (length (m .vertices)) h)
+
+        -- past them, the mesh's own vertices do not matter
+        pub mesh-passed : length pose ≡ length (m .vertices) → (other : List Float) (answer : Indexed)
+            → answer ≡ meshCast r (record { vertices = other; triangles = m .triangles }) pose t → answer ≡ rayMesh r m pose t list stack
+        unfolding rayMesh shapeAdmitted roomFor walkFits meshCast
+        mesh-passed h other answer a = a ∙ simp (v, s, f, eq-eqb (length pose) (length (m .vertices)) h)
+
+        -- and the areas may change
+        pub tests-passed : length pose ≡ length (m .vertices) → testsPass r m pose t list stack ≡ false → ⊥
+        unfolding testsPass shapeAdmitted roomFor walkFits
+        tests-passed h failed =
+            let yes : (rayAdmitted r && (admitted && (walkFits (thirds (length (m .triangles))) t list stack && eqb (length pose) (length (m .vertices))))) ≡ true = simp (v, s, f, eq-eqb (length pose) (length (m .vertices)) h) in
+            true≢false (sym yes ∙ failed)

@@ -1,0 +1,76 @@
+-- Demand 3 as one statement: what the mesh cast answers at the mesh's own vertices with any tree that passes the check. Definitions only. Assumes nothing.
+use Prim.Native.Nat.{ℕ, _<_, _≤_}
+use mathlib.Core.Path.{_≡_}
+use mathlib.Core.Bool.{true, false}
+use lib.Ieee.{Float, isNan, le, lt}
+use lib.ListN.{length}
+use Rattle.geometry.specs.Vector.{finiteVec}
+use Rattle.geometry.specs.Box.{touches}
+use Rattle.geometry.specs.Segment.{rayAdmitted, segmentEnd, segmentBox}
+use Rattle.geometry.specs.declared.vec3.Vec3.{Vec3}
+use Rattle.geometry.specs.declared.ray.Ray.{Ray}
+use Rattle.casts.specs.Answer.{Answer, hit, none, refused}
+use Rattle.casts.specs.Triangle.{rayTriangle}
+use Rattle.casts.specs.Nearest.{Indexed, hitAt, noHit, stopped}
+use Rattle.tree.specs.Layout.{Tree}
+use Rattle.tree.specs.Mesh.{Mesh, thirds, lengthsAdmitted, cornersOf, triangleBox}
+use Rattle.tree_check.specs.Check.{treePasses}
+use Rattle.mesh.specs.MeshCast.{roomFor, rayMesh}
+
+-- "Take any admitted mesh and ray with a finite segment end, any tree that passes the tree check for that mesh, .. and areas long enough"
+pub record Admitted (r : Ray) (m : Mesh) (t : Tree) (list stack : ℕ) : Type 0 where
+  pub mesh : lengthsAdmitted (length (m .vertices)) (length (m .triangles)) ≡ true
+  pub ray : rayAdmitted r ≡ true
+  pub end : finiteVec (segmentEnd r) ≡ true
+  pub tree : treePasses m t ≡ true
+  pub areas : roomFor m t list stack ≡ true
+
+module _ (r : Ray) (m : Mesh) where
+  -- "The candidates are the triangles whose box touches the segment's box"; "a candidate's box is that of its three vertices in the mesh, whatever the tree says"
+  pub record Candidate (i : ℕ) : Type 0 where
+    pub triangle : i < thirds (length (m .triangles))
+    pub near : touches (triangleBox (m .vertices) (m .triangles) i) (segmentBox r) ≡ true
+
+  -- "Its answer is the triangle cast's for the same ray and its three corners"
+  unfoldable pub answerOf : ℕ → Answer
+  answerOf i = rayTriangle r (cornersOf (m .vertices) (m .triangles) i)
+
+  pub record Refuses (i number : ℕ) : Type 0 where
+    pub candidate : Candidate i
+    pub answers : answerOf i ≡ refused number
+
+  pub record IsHit (i : ℕ) (normal : Vec3) (distance : Float) : Type 0 where
+    pub candidate : Candidate i
+    pub answers : answerOf i ≡ hit normal distance
+
+  -- "Let no candidate give a distance that is not a number."
+  abbrev pub DistancesAreNumbers : Type 0
+  DistancesAreNumbers = (i : ℕ) (normal : Vec3) (distance : Float) → IsHit i normal distance → isNan distance ≡ false
+
+  -- "the lowest-indexed one that does"
+  pub record LowestRefuses (number : ℕ) : Type 0 where
+    pub index : ℕ
+    pub refuses : Refuses index number
+    pub lowest : (j other : ℕ) → Refuses j other → index ≤ j
+
+  -- "one candidate's distance, normal and index: every other candidate that is hit lies at least as far, and farther if its index is lower"
+  pub record NearestHit (i : ℕ) (normal : Vec3) (distance : Float) : Type 0 where
+    pub is-hit : IsHit i normal distance
+    pub as-far : (j : ℕ) (normal' : Vec3) (distance' : Float) → IsHit j normal' distance' → le distance distance' ≡ true
+    pub farther : (j : ℕ) (normal' : Vec3) (distance' : Float) → IsHit j normal' distance' → j < i → lt distance distance' ≡ true
+
+  -- "Then the mesh cast at the mesh's own vertices .."
+  pub record MeetsDemand (answer : Indexed) : Type 0 where
+    -- ".. refuses exactly when a candidate refuses, with the refusal number of the lowest-indexed one that does."
+    pub refuses-if : (i number : ℕ) → Refuses i number → (k : ℕ) × (answer ≡ stopped k)
+    pub refuses-only-if : (k : ℕ) → answer ≡ stopped k → LowestRefuses k
+    -- "Where it does not refuse, it answers none exactly when every candidate answers none, .."
+    pub none-if : ((i : ℕ) → Candidate i → answerOf i ≡ none) → answer ≡ noHit
+    pub none-only-if : answer ≡ noHit → (i : ℕ) → Candidate i → answerOf i ≡ none
+    -- ".. and else a hit with one candidate's distance, normal and index: .."
+    pub hit-only-if : (normal : Vec3) (distance : Float) (i : ℕ) → answer ≡ hitAt normal distance i → NearestHit i normal distance
+
+-- the demand, but for its last sentence, on the builder, which is Builder.antt
+abbrev pub Demand3 : Type 0
+Demand3 =
+    (r : Ray) (m : Mesh) (t : Tree) (list stack : ℕ) → Admitted r m t list stack → DistancesAreNumbers r m → MeetsDemand r m (rayMesh r m (m .vertices) t list stack)

@@ -1,0 +1,64 @@
+-- The triangles' boxes written one after another, while every one so far fits. Assumes nothing.
+use mathlib.Core.Path.{_≡_, refl, sym, ap, _∙_}
+use mathlib.Core.Bool.{Bool, true, false, _&&_}
+use mathlib.Core.List.{List, [], _∷_, _++_, append-nil, append-assoc}
+use Prim.Native.Nat.{ℕ, zero, suc, _+_, _-_, _*_, _<_, _≤_}
+use native.Mathlib.Nat.{zero-add}
+use native.Mathlib.Numerals.{add-one}
+use native.Mathlib.Omega.{arith}
+use lib.Ieee.{Float}
+use lib.ListN.{length, drop, length-append}
+use lib.Seq.{sets}
+use Rattle.geometry.specs.declared.aabb.Aabb.{Aabb}
+use Rattle.tree.specs.Lists.{range, every}
+use Rattle.tree_build.specs.Ranges.{boxNumbers}
+use Rattle.tree_build.specs.Build.{eachBox}
+use Rattle.tree_build.proofs.Runs.{sets-append, range-next, length-range}
+
+-- ---- a test of a range, one after another
+rest-is : (i n : ℕ) → i < n → range i (n - i) ≡ i ∷ range (i + 1) (n - (i + 1))
+rest-is i n h =
+    let e : n - i ≡ suc (n - (i + 1)) = omega arith in
+    ap (range i) e ∙ step i (n - (i + 1)) ∙ ap (λ (k : ℕ). i ∷ range k (n - (i + 1))) (sym (add-one i))
+  where
+    step : (i k : ℕ) → range i (suc k) ≡ i ∷ range (suc i) k
+    step i k = unfold range in refl
+
+module _ (p : ℕ → Bool) (i n : ℕ) where
+  pub every-next : i < n → p i ≡ true → every p (range (i + 1) (n - (i + 1))) ≡ every p (range i (n - i))
+  unfolding every
+  every-next h e = rw (rest-is i n h, e)
+
+  pub every-fails : i < n → p i ≡ false → every p (range i (n - i)) ≡ false
+  unfolding every
+  every-fails h e = rw (rest-is i n h, e)
+
+  pub every-passed : n ≤ i → every p (range i (n - i)) ≡ true
+  unfolding every range
+  every-passed h = let e : n - i ≡ 0 = omega arith in rw e
+
+-- ---- boxes one after another
+module _ (box : ℕ → Aabb) where
+  eachBox-append : (xs ys : List ℕ) → eachBox box (xs ++ ys) ≡ eachBox box xs ++ eachBox box ys
+  unfolding eachBox
+  eachBox-append [] ys = refl
+  eachBox-append (x ∷ xs) ys = ap (λ (z : List Float). boxNumbers (box x) ++ z) (eachBox-append xs ys) ∙ sym (append-assoc (boxNumbers (box x)) (eachBox box xs) (eachBox box ys))
+
+  eachBox-one : (t : ℕ) → eachBox box (t ∷ []) ≡ boxNumbers (box t)
+  unfolding eachBox
+  eachBox-one t = append-nil (boxNumbers (box t))
+
+  pub length-eachBox : (ts : List ℕ) → length (eachBox box ts) ≡ 6 * length ts
+  unfolding eachBox boxNumbers
+  length-eachBox [] = refl
+  length-eachBox (t ∷ ts) = omega (arith, length-eachBox ts)
+
+  pub box-stored : (area : List Float) (i : ℕ) → sets (sets area 0 (eachBox box (range 0 i))) (6 * i) (boxNumbers (box i)) ≡ sets area 0 (eachBox box (range 0 (i + 1)))
+  box-stored area i =
+      let so-far = eachBox box (range 0 i) in
+      let e : 6 * i ≡ 0 + length so-far = omega (arith, length-eachBox (range 0 i), length-range 0 i) in
+      ap (λ (k : ℕ). sets (sets area 0 so-far) k (boxNumbers (box i))) e
+      ∙ sym (sets-append area 0 so-far (boxNumbers (box i)))
+      ∙ ap (λ (z : List Float). sets area 0 (so-far ++ z)) (sym (eachBox-one i))
+      ∙ ap (sets area 0) (sym (eachBox-append (range 0 i) (i ∷ [])))
+      ∙ ap (λ (z : List ℕ). sets area 0 (eachBox box z)) (ap (λ (k : ℕ). range 0 i ++ (k ∷ [])) (sym (zero-add i)) ∙ range-next 0 i)

@@ -1,0 +1,72 @@
+-- `tree_build::writing::number` meets its contract. Assumes nothing.
+use mathlib.Core.Path.{_≡_, refl, sym, ap, _∙_}
+use mathlib.Core.List.{List, _∷_, [], _++_}
+use Prim.Native.Nat.{ℕ, _+_, _-_, _≤_}
+use native.Mathlib.Nat.{zero-add}
+use native.Mathlib.Omega.{arith}
+use lib.ListN.{length, drop, set, length-set}
+use Rattle.tree.specs.Lists.{range}
+use Rattle.tree_build.proofs.Runs.{stored-after, stored-all, range-next, length-range}
+use borrow.Author.Needs.{needs}
+use Rattle.tree_build.proofs.writing.number.Statement.{statement}
+use Rattle.tree_build.proofs.writing.number.Tie as tie
+
+abbrev Inv-loop : tie.InvT-loop
+Inv-loop area₀ i₀ area i = (area ≡ range 0 i ++ drop i area₀) × ((length area ≡ length area₀) × (i ≤ length area₀))
+
+abbrev μ-loop : tie.MeasureT-loop
+μ-loop area₀ i₀ area i = length area₀ - i
+
+loop-holds : tie.Need-loop-holds Inv-loop μ-loop
+unfolding range
+loop-holds c = (refl, (refl, omega arith))
+
+cast-area : tie.Need-cast-area Inv-loop μ-loop
+cast-area c = omega (arith, c .before .before .pre)
+
+mul-area : tie.Need-mul-area Inv-loop μ-loop
+mul-area c = search needs
+
+slice-write-area : tie.Need-slice-write-area Inv-loop μ-loop
+slice-write-area c = search needs
+
+add-i : tie.Need-add-i Inv-loop μ-loop
+add-i c = search needs
+
+loop-less : tie.Need-loop-less Inv-loop μ-loop
+loop-less c = search needs
+
+loop-again : tie.Need-loop-again Inv-loop μ-loop
+loop-again c =
+    let l = c .before .loop in
+    let a = c .before .before .args in (
+      ap (λ (z : List ℕ). set z (l .i) (l .i)) (l .inv .0) ∙ stored-after (range 0 (l .i)) (a .area .now) (l .i) (l .i) 0 (length-range 0 (l .i)) (omega arith)
+          ∙ ap (λ (z : List ℕ). z ++ drop (l .i + 1) (a .area .now)) (ap (λ (k : ℕ). range 0 (l .i) ++ (k ∷ [])) (sym (zero-add (l .i))) ∙ range-next 0 (l .i)),
+      (length-set (l .area) (l .i) (l .i) ∙ l .inv .1 .0, omega arith),
+    )
+
+same-length : tie.Need-same-length Inv-loop μ-loop
+same-length c = c .before .loop .inv .1 .0
+
+returns : tie.Need-returns Inv-loop μ-loop
+returns c =
+    let l = c .before .loop in
+    let a = c .before .before .args in
+    let e : l .i ≡ length (a .area .now) = omega arith in
+    l .inv .0 ∙ stored-all (range 0 (l .i)) (a .area .now) (l .i) (omega arith) ∙ ap (range 0) e
+
+pub number-spec : {M : Type 1} → statement M
+number-spec =
+    tie.close
+    (tie.spec
+    Inv-loop
+    μ-loop
+    loop-holds
+    cast-area
+    mul-area
+    slice-write-area
+    add-i
+    loop-less
+    loop-again
+    same-length
+    returns)

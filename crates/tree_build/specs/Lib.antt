@@ -1,0 +1,6 @@
+-- The build of a tree. Definitions only. Assumes nothing.
+pub mod Shape
+pub mod Ranges
+pub mod Build
+pub mod Node
+pub mod Merge

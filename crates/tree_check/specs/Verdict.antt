@@ -1,0 +1,44 @@
+-- The answer of the tree check: "A tree passes the check if the check, with a mark area long enough, says yes". Definitions only. Assumes nothing.
+use Prim.Native.Nat.{ℕ, _*_}
+use mathlib.Core.Bool.{Bool, _&&_, cond}
+use mathlib.Core.List.{List}
+use lib.Dec.{leb}
+use lib.ListN.{length}
+use Rattle.casts.specs.Answer.{badShape, noRoom}
+use Rattle.tree.specs.Layout.{Tree}
+use Rattle.tree.specs.Mesh.{Mesh, thirds, lengthsAdmitted}
+use Rattle.tree_check.specs.Check.{treePasses}
+use Rattle.tree_check.specs.declared.check.Verdict.{Verdict}
+use Rattle.tree_check.specs.declared.check.Verdict.the-variants.{Yes, No, Refused}
+
+-- an answer in document 01's words
+pub data Ruling : Type 0 where
+  yes : Ruling
+  no : Ruling
+  refused : ℕ → Ruling
+
+-- what each case of the code's answer says
+abbrev pub says : Verdict → Ruling
+says Yes = yes
+says No = no
+says (Refused number) = refused number
+
+-- "f64 node boxes 12n and triangle boxes 6n, u32 node words 6n .., order n"; "Its mark area is u32, 3n"
+unfoldable pub roomFor : ℕ → ℕ → ℕ → ℕ → ℕ → ℕ → Bool
+roomFor n nodeBoxes triangleBoxes nodeWords order marks =
+    leb (12 * n) nodeBoxes && (leb (6 * n) triangleBoxes && (leb (6 * n) nodeWords && (leb n order && leb (3 * n) marks)))
+
+-- a bad shape is 2, a slice or a mark area shorter than stated 3; else yes exactly when the tree passes
+unfoldable pub checkOf : Mesh → Tree → ℕ → Ruling
+checkOf m t marks =
+    cond (lengthsAdmitted (length (m .vertices)) (length (m .triangles)))
+    (cond (roomFor (thirds (length (m .triangles))) (length (t .nodeBoxes)) (length (t .triangleBoxes)) (length (t .nodeWords)) (length (t .order)) marks)
+    (cond (treePasses m t) yes no)
+    (refused noRoom))
+    (refused badShape)
+
+-- the marks after it: after 2 and 3 "unchanged"; "after a call that did not refuse" they "may hold anything"
+abbrev pub marksAfter : Ruling → List ℕ → List ℕ → List ℕ
+marksAfter yes before after = after
+marksAfter no before after = after
+marksAfter (refused number) before after = before

@@ -1,0 +1,92 @@
+-- `tree_query::walk::take_nodes` meets its contract: what is left of the walk gives the whole. The measure is the number of nodes that may still be taken. Assumes nothing.
+use Rattle.tree_query.proofs.Walks.{room-after, Walks, walks-begin, walks-room, walks-go, walks-stop, walks-past, walks-end}
+use Rattle.tree_query.specs.Areas.{treeOf}
+use mathlib.Core.Path.{_∙_}
+use Prim.Native.Nat.{_-_}
+use native.Mathlib.Omega.{arith}
+use borrow.Author.Needs.{needs}
+use Rattle.tree_query.proofs.walk.take_nodes.Statement.{statement}
+use Rattle.tree_query.proofs.walk.take_nodes.Tie as tie
+
+abbrev Inv-loop : tie.InvT-loop
+Inv-loop bounds count nodes node-boxes triangle-boxes node-words order list₀ stack₀ top₀ found₀ taken₀ list stack top found taken =
+    Walks (treeOf nodes node-boxes triangle-boxes node-words order) count bounds list₀ stack₀ list stack top found taken
+
+abbrev μ-loop : tie.MeasureT-loop
+μ-loop bounds count nodes node-boxes triangle-boxes node-words order list₀ stack₀ top₀ found₀ taken₀ list stack top found taken =
+    nodes - taken
+
+begin-requires : tie.Need-begin-requires Inv-loop μ-loop
+begin-requires c κs = omega (arith, c .before .before .before .before .before .before .before .pre .high)
+
+loop-holds : tie.Need-loop-holds Inv-loop μ-loop
+loop-holds c = walks-begin _ _ _ _ _ _ (c .before .before .begin .ensures)
+
+same-length : tie.Need-same-length Inv-loop μ-loop
+same-length c = c .before .before .loop .inv .long
+
+same-length-2 : tie.Need-same-length-2 Inv-loop μ-loop
+same-length-2 c = c .before .before .loop .inv .high ∙ c .before .before .before .before .before .begin .kept .1 .0
+
+returns : tie.Need-returns Inv-loop μ-loop
+returns c = (walks-past _ _ _ _ _ _ _ _ _ _ (c .before .before .loop .inv) (c .before .loop-test .taken) (c .if1 .taken), tt)
+
+take-node-requires : tie.Need-take-node-requires Inv-loop μ-loop
+take-node-requires c κs = walks-room _ _ (c .before .before .before .before .before .before .before .before .before .before .before .before .before .before .before .args .bounds) _ _ _ _ _ _ _ (c .before .before .before .before .loop .inv) (room-after _ _ _ _ _ (c .before .before .before .before .before .before .before .before .before .before .before .before .before .before .before .pre) (c .before .before .before .before .before .before .before .begin .kept .1 .0)) (c .before .before .before .loop-test .taken) (c .before .before .if1 .left)
+
+enum-known-step : tie.Need-enum-known-step Inv-loop μ-loop
+enum-known-step c = search needs
+
+enum-told : tie.Need-enum-told Inv-loop μ-loop
+enum-told c = search needs
+
+same-length-3 : tie.Need-same-length-3 Inv-loop μ-loop
+same-length-3 c = c .before .before .before .before .before .before .take-node .kept .1 .1 .1 .1 .1 .1 .1 .0 ∙ c .before .before .before .before .before .before .before .before .before .before .before .loop .inv .long
+
+same-length-4 : tie.Need-same-length-4 Inv-loop μ-loop
+same-length-4 c = c .before .before .before .before .before .before .take-node .kept .1 .1 .1 .1 .1 .1 .1 .1 .1 .0 ∙ c .before .before .before .before .before .before .before .before .before .before .before .loop .inv .high ∙ c .before .before .before .before .before .before .before .before .before .before .before .before .before .before .begin .kept .1 .0
+
+returns-2 : tie.Need-returns-2 Inv-loop μ-loop
+returns-2 c = (walks-stop _ _ _ _ _ _ _ _ _ _ (c .before .before .before .before .before .before .before .before .before .before .before .loop .inv) (c .before .before .before .before .before .before .before .before .before .if1 .left) _ _ _ (c .before .before .before .before .before .before .take-node .ensures) (c .enum-told .given .1), tt)
+
+add-taken : tie.Need-add-taken Inv-loop μ-loop
+add-taken c = search needs
+
+loop-less : tie.Need-loop-less Inv-loop μ-loop
+loop-less c = search needs
+
+loop-again : tie.Need-loop-again Inv-loop μ-loop
+loop-again c = walks-go _ _ _ _ _ _ _ _ _ _ (c .before .before .before .before .before .before .before .before .before .before .before .before .loop .inv) (c .before .before .before .before .before .before .before .before .before .before .if1 .left) _ _ _ _ _ (c .before .before .before .before .before .before .before .take-node .ensures) (c .before .step .given .1) (c .before .before .before .before .before .before .before .take-node .kept .1 .1 .1 .1 .1 .1 .1 .0) (c .before .before .before .before .before .before .before .take-node .kept .1 .1 .1 .1 .1 .1 .1 .1 .1 .0)
+
+same-length-5 : tie.Need-same-length-5 Inv-loop μ-loop
+same-length-5 c = c .before .loop .inv .long
+
+same-length-6 : tie.Need-same-length-6 Inv-loop μ-loop
+same-length-6 c = c .before .loop .inv .high ∙ c .before .before .before .before .begin .kept .1 .0
+
+returns-3 : tie.Need-returns-3 Inv-loop μ-loop
+returns-3 c = (walks-end _ _ _ _ _ _ _ _ _ _ (c .before .loop .inv) (c .loop-test .left), c .before .loop .inv .grown)
+
+pub take-nodes-spec : {M : Type 1} → statement M
+take-nodes-spec =
+    tie.close
+    (tie.spec
+    Inv-loop
+    μ-loop
+    begin-requires
+    loop-holds
+    same-length
+    same-length-2
+    returns
+    take-node-requires
+    enum-known-step
+    enum-told
+    same-length-3
+    same-length-4
+    returns-2
+    add-taken
+    loop-less
+    loop-again
+    same-length-5
+    same-length-6
+    returns-3)
