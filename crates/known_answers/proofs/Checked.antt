@@ -1,0 +1,57 @@
+-- The definitions give what document 01 says of every entry of the table: computed once, and the rule at each entry from it. Assumes nothing.
+use mathlib.Core.Path.{_≡_, refl}
+use mathlib.Core.Bool.{Bool, true, false, _&&_}
+use mathlib.Core.List.{List, [], _∷_}
+use lib.Ieee.{span, climb, size, odd, units, round, neg, sum, add, sub, mul, div, lt, eq, le, ne, ofInt, toUnsigned, isNan, ofFields, ofBits, toBits}
+use Rattle.geometry.proofs.JoinedTests.{and-first, and-second}
+use Rattle.arithmetic.specs.Basic.{isFinite, absolute, negative, signPositive, clampTo}
+use Rattle.arithmetic.specs.Extremes.{minimumOf, maximumOf}
+use Rattle.arithmetic.specs.Root.{rootDigits, wholeRoot, rootRound, rootOf}
+use Rattle.arithmetic.specs.Rounding.{wholeBy, floorOf, roundOf}
+use Rattle.arithmetic.specs.Ordering.{totalOrder}
+use Rattle.geometry.specs.Vector.{component, finiteVec, addOf, subOf, negOf, scaleOf, minOf, maxOf, absOf, maxElement, dotOf, checkedDot, crossOf, lengthOf, tryNormalize}
+use Rattle.geometry.specs.Box.{validSide, validBox, touchSide, touches, withinSide, encloses, sameSide, sameBox, unionOf, centre, cornersBox}
+use Rattle.geometry.specs.Segment.{unitLength, rayAdmitted, segmentEnd, segmentBox}
+use Rattle.casts.specs.Surface.{outOfRange, facing}
+use Rattle.casts.specs.Plane.{planeAdmitted, planeAt, planeCast, rayPlane}
+use Rattle.casts.specs.Triangle.{flat, triangleNormal, triangleAbove, triangleAt, triangleOf, rayTriangle}
+use Rattle.casts.specs.Nearest.{nextOf, foldFrom, withoutIndex}
+use Rattle.height_field.specs.Grid.{sideAdmitted, spacingAdmitted, fieldAdmitted, floatOf, vertexAt, cellAt, cellRow, cellColumn, cornersAt, featureCorners}
+use Rattle.height_field.specs.Cells.{scaledRange, spanOf, cellRange, run, rangeCells, gridCells, columnRange, rowRange, visitedCells}
+use Rattle.height_field.specs.Listing.{both, listAll, keep, allFinite, cellFinite, featureBox, listCell, gridListing}
+use Rattle.height_field.specs.Cast.{answerOf, castListed, spanFinite, heightCast, rayHeightField}
+use Rattle.level_set.specs.Grid.{sideAdmitted as levelset-sideAdmitted, spacingAdmitted as levelset-spacingAdmitted, sidesAdmitted, gridAdmitted, lastNode, lastCorner, gridBox}
+use Rattle.level_set.specs.Slab.{kept, cut, slabFrom, slab, started, rayAabbInterval}
+use Rattle.level_set.specs.Cells.{upTo, slack, floorCell, leavesNode, wholeCell, cellAt as levelset-cellAt, cellOnAxis, rayCellIndices, nodeAhead, boundaryDistance, boundaryBy, axisBoundary, nextCellBoundary}
+use Rattle.level_set.specs.Sampling.{outsideSide, outside, cellBelow, placeOf, placeAt, locateAxis, valueAt, faceAt, checked, blend, lerp, checkedDifference, over, lerpFace, valueOn, slopeOn, sampleFaces, across, slope, cellValue, cellGradient, sampleCell, sampleInside, sample}
+use Rattle.level_set.specs.Cubic.{cubicBy, cubicOf, finiteCubic, evaluate, rootTolerance, betweenEnds, keptPoint, keptPoints, vertex, turningBy, turningPoints, extrema, insert, sorted, points, middleOf, halveAt, halve, halvings, settled, rootBetween, searchOn, searchFrom, searchList, rootOfCubic, firstCubicRoot}
+use Rattle.level_set.specs.Walk.{pointAt, along, hitWith, hitAlong, touchAt, valueAlong, goesOn, cellBy, cellRest, cellCast, goesTo, walkStep, cellLimit, walkFrom, levelSetCast, rayLevelSet}
+use Rattle.tree.specs.Lists.{range, count, keep as tree-keep, every, gather, insertBy, sortBy}
+use Rattle.tree.specs.Layout.{vectorAt, boxAt}
+use Rattle.tree.specs.Mesh.{lengthsAdmitted, cornersInside, cornerAt, cornersOf, triangleBox, triangleAnswer, candidates}
+use Rattle.tree_build.specs.Shape.{shapeWithin, shapeOf, sizeOf, nodesOf, wordsOf}
+use Rattle.tree_build.specs.Ranges.{boxNumbers, folded, longestAxis, laneOf, hullOf, centreOf, extentOf, keyOf, standsBefore, sortedRange, leftRange, rightRange, extentsFinite, orderBelow, boxesBelow}
+use Rattle.tree_build.specs.Build.{zeroed, roomFor, eachBox, triangleFits, trianglesFit, boxesWritten, treeWritten, builtOf, buildOf}
+use Rattle.tree_query.specs.Walk.{times, takePlace, takePlaces, atLeaf, childFits, atBranch, atNode, takeNode, start, ended, walkOf}
+use Rattle.tree_query.specs.Query.{treeFits, walkFits}
+use Rattle.mesh.specs.MeshCast.{shapeAdmitted, roomFor as mesh-roomFor, overWalk, meshCast, rayMesh}
+use Rattle.known_answers.specs.Cases.{outcome, areasFor, built, throughTree, ofBuilt}
+use Rattle.known_answers.specs.Table.{Entry, table, right, allRight, repeated}
+
+pub known-answers-hold : allRight table ≡ true
+unfolding table right allRight repeated outcome areasFor built throughTree ofBuilt span climb size odd units round neg sum add sub mul div lt eq le ne ofInt toUnsigned isNan ofFields ofBits toBits isFinite absolute negative signPositive clampTo minimumOf maximumOf rootDigits wholeRoot rootRound rootOf wholeBy floorOf roundOf totalOrder component finiteVec addOf subOf negOf scaleOf minOf maxOf absOf maxElement dotOf checkedDot crossOf lengthOf tryNormalize validSide validBox touchSide touches withinSide encloses sameSide sameBox unionOf centre cornersBox unitLength rayAdmitted segmentEnd segmentBox outOfRange facing planeAdmitted planeAt planeCast rayPlane flat triangleNormal triangleAbove triangleAt triangleOf rayTriangle nextOf foldFrom withoutIndex sideAdmitted spacingAdmitted fieldAdmitted floatOf vertexAt cellAt cellRow cellColumn cornersAt featureCorners scaledRange spanOf cellRange run rangeCells gridCells columnRange rowRange visitedCells both listAll keep allFinite cellFinite featureBox listCell gridListing answerOf castListed spanFinite heightCast rayHeightField levelset-sideAdmitted levelset-spacingAdmitted sidesAdmitted gridAdmitted lastNode lastCorner gridBox kept cut slabFrom slab started rayAabbInterval upTo slack floorCell leavesNode wholeCell levelset-cellAt cellOnAxis rayCellIndices nodeAhead boundaryDistance boundaryBy axisBoundary nextCellBoundary outsideSide outside cellBelow placeOf placeAt locateAxis valueAt faceAt checked blend lerp checkedDifference over lerpFace valueOn slopeOn sampleFaces across slope cellValue cellGradient sampleCell sampleInside sample cubicBy cubicOf finiteCubic evaluate rootTolerance betweenEnds keptPoint keptPoints vertex turningBy turningPoints extrema insert sorted points middleOf halveAt halve halvings settled rootBetween searchOn searchFrom searchList rootOfCubic firstCubicRoot pointAt along hitWith hitAlong touchAt valueAlong goesOn cellBy cellRest cellCast goesTo walkStep cellLimit walkFrom levelSetCast rayLevelSet range count tree-keep every gather insertBy sortBy vectorAt boxAt lengthsAdmitted cornersInside cornerAt cornersOf triangleBox triangleAnswer candidates shapeWithin shapeOf sizeOf nodesOf wordsOf boxNumbers folded longestAxis laneOf hullOf centreOf extentOf keyOf standsBefore sortedRange leftRange rightRange extentsFinite orderBelow boxesBelow zeroed roomFor eachBox triangleFits trianglesFit boxesWritten treeWritten builtOf buildOf times takePlace takePlaces atLeaf childFits atBranch atNode takeNode start ended walkOf treeFits walkFits shapeAdmitted mesh-roomFor overWalk meshCast rayMesh
+known-answers-hold = refl
+
+-- e stands in a table
+pub data In : Entry → List Entry → Type 0 where
+  here : {e : Entry} {rest : List Entry} → In e (e ∷ rest)
+  there : {e d : Entry} {rest : List Entry} → In e rest → In e (d ∷ rest)
+
+each-right : {e : Entry} {entries : List Entry} → In e entries → allRight entries ≡ true → right e ≡ true
+unfolding allRight
+each-right (here {e} {rest}) h = and-first (right e) (allRight rest) h
+each-right (there {e} {d} {rest} i) h = each-right i (and-second (right d) (allRight rest) h)
+
+-- the rule at each entry
+pub known-answer : (e : Entry) → In e table → right e ≡ true
+known-answer e i = each-right i known-answers-hold

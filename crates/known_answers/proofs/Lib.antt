@@ -1,0 +1,2 @@
+-- The one check of the table. Assumes nothing.
+pub mod Checked
