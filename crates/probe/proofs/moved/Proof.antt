@@ -1,0 +1,60 @@
+-- `probe::moved` meets its contract. Assumes nothing.
+use Rattle.probe.proofs.Moving.{Moved, moved-none, moved-length, moved-one, moved-all}
+use mathlib.Core.Path.{refl}
+use Prim.Native.Nat.{_-_, _≤_}
+use native.Mathlib.Omega.{arith}
+use Rattle.probe.proofs.moved.Statement.{statement}
+use Rattle.probe.proofs.moved.Tie as tie
+
+abbrev Inv-loop : tie.InvT-loop
+Inv-loop input₀ from to count i₀ input i = (i ≤ count) × Moved input₀ input from i
+
+abbrev μ-loop : tie.MeasureT-loop
+μ-loop input₀ from to count i₀ input i = count - i
+
+sub-count : tie.Need-sub-count Inv-loop μ-loop
+sub-count c = omega arith
+
+loop-holds : tie.Need-loop-holds Inv-loop μ-loop
+loop-holds c = (omega arith, moved-none _ _)
+
+add-input : tie.Need-add-input Inv-loop μ-loop
+add-input c = omega arith
+
+slice-read-input : tie.Need-slice-read-input Inv-loop μ-loop
+slice-read-input c = omega (arith, moved-length (c .before .before .before .args .input .now) (c .before .before .loop .input) (c .before .before .before .args .from) (c .before .before .loop .i) (c .before .before .loop .inv .1) (omega arith))
+
+slice-write-input : tie.Need-slice-write-input Inv-loop μ-loop
+slice-write-input c = omega (arith, moved-length (c .before .before .before .args .input .now) (c .before .before .loop .input) (c .before .before .before .args .from) (c .before .before .loop .i) (c .before .before .loop .inv .1) (omega arith))
+
+add-i : tie.Need-add-i Inv-loop μ-loop
+add-i c = omega arith
+
+loop-less : tie.Need-loop-less Inv-loop μ-loop
+loop-less c = omega arith
+
+loop-again : tie.Need-loop-again Inv-loop μ-loop
+loop-again c = (omega arith, moved-one (c .before .before .before .args .input .now) (c .before .before .loop .input) (c .before .before .before .args .from) (c .before .before .loop .i) (c .before .before .loop .inv .1) (omega arith))
+
+same-length : tie.Need-same-length Inv-loop μ-loop
+same-length c = moved-length (c .before .before .args .input .now) (c .before .loop .input) (c .before .before .args .from) (c .before .loop .i) (c .before .loop .inv .1) (omega arith)
+
+returns : tie.Need-returns Inv-loop μ-loop
+returns c = (refl, moved-all (c .before .before .args .input .now) (c .before .loop .input) (c .before .before .args .from) (c .before .loop .i) (c .before .loop .inv .1) (c .before .before .args .to - c .before .before .args .from) (c .before .loop .inv .0) (c .loop-test .left))
+
+pub moved-spec : {M : Type 1} → statement M
+moved-spec =
+    tie.close
+    (tie.spec
+    Inv-loop
+    μ-loop
+    sub-count
+    loop-holds
+    add-input
+    slice-read-input
+    slice-write-input
+    add-i
+    loop-less
+    loop-again
+    same-length
+    returns)

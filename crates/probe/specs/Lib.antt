@@ -1,0 +1,2 @@
+-- What holds of a run of `probe` between two records. Definitions only. Assumes nothing.
+pub mod Runs

@@ -1,0 +1,108 @@
+-- The parts of a line, stored one behind another, are its text. Assumes nothing.
+use Prim.Native.Nat.{ℕ, _+_, _≤_}
+use mathlib.Core.Path.{_≡_, refl, sym, ap, _∙_}
+use mathlib.Core.Bool.{Bool, true, false}
+use mathlib.Core.List.{List, [], _∷_, _++_}
+use native.Mathlib.Omega.{arith}
+use borrow.Author.Tests.{eq-eqb, ne-eqb}
+use lib.Ieee.{Float}
+use lib.ListN.{length}
+use Rattle.geometry.specs.declared.vec3.Vec3.{Vec3}
+use Rattle.geometry.specs.declared.ray.Ray.{Ray}
+use Rattle.casts.specs.Answer.{Answer, hit, none, refused}
+use Rattle.casts.specs.Plane.{rayPlane}
+use Rattle.casts.specs.Triangle.{rayTriangle}
+use Rattle.height_field.specs.Cast.{rayHeightField}
+use Rattle.level_set.specs.Walk.{rayLevelSet}
+use Rattle.height_field.specs.declared.field.Field.{Field}
+use Rattle.level_set.specs.declared.grid.Grid.{Grid}
+use Rattle.records.specs.Bytes.{floatsAt}
+use Rattle.records.specs.Fields.{kindOf, rayOf, planeOf, cornersOf, fieldOf, heightCount, heightsOf, gridOf, valueCount, valuesOf}
+use Rattle.records.specs.Parse.{wellFormed, shapeOf, parse}
+use Rattle.records.specs.Text.{decimal, hexadecimal, printedBits, Put, Written}
+use Rattle.records.specs.Lines.{hitWord, noneWord, refusedWord, badWord, floatText, hitText, answerText, shapeAnswer, parsedText, recordText, lineWith}
+use Rattle.records.proofs.Storing.{put-then, put-front}
+use Rattle.records.proofs.Lengths.{longest-line}
+
+-- the same text under another name
+pub put-as : {area after : List ℕ} {at next : ℕ} {text : List ℕ} (other : List ℕ) → text ≡ other → Put area at text after next → Put area at other after next
+put-as other e p = rw e at p
+
+pub put-space : {area after last : List ℕ} {at next end bits : ℕ} (x : Float) → bits ≡ printedBits x
+    → Put area at (32 ∷ []) after next → Put after next (hexadecimal bits) last end → Put area at (floatText x) last end
+unfolding floatText
+put-space x e p q = put-then (32 ∷ []) (hexadecimal (printedBits x)) p (put-as (hexadecimal (printedBits x)) (ap hexadecimal e) q)
+
+pub put-four : {a b c d e f : List ℕ} {i j k l m n : ℕ} (normal : Vec3) (distance : Float)
+    → Put a i hitWord b j → Put b j (floatText (normal .x)) c k → Put c k (floatText (normal .y)) d l
+    → Put d l (floatText (normal .z)) e m → Put e m (floatText distance) f n → Put a i (hitText normal distance) f n
+unfolding hitText
+put-four normal distance p q r s t = put-then _ _ (put-then _ _ (put-then _ _ (put-then _ _ p q) r) s) t
+
+-- the answer's cases
+pub hit-case : (a : Answer) (normal : Vec3) (distance : Float) → a ≡ hit normal distance → hitText normal distance ≡ answerText a
+unfolding answerText
+hit-case a normal distance e = rw e
+
+pub none-case : (a : Answer) → a ≡ none → noneWord ≡ answerText a
+unfolding answerText
+none-case a e = rw e
+
+pub refused-case : (a : Answer) (number : ℕ) → a ≡ refused number → refusedWord ++ decimal number ≡ answerText a
+unfolding answerText
+refused-case a number e = rw e
+
+-- the kinds
+module _ (body : List ℕ) (a : Answer) where
+  pub plane-answer : kindOf body ≡ 1 → a ≡ rayPlane (planeOf body) (rayOf body) → a ≡ shapeAnswer (rayOf body) (shapeOf (kindOf body) body)
+  unfolding shapeOf shapeAnswer
+  plane-answer k e = simp (eq-eqb (kindOf body) 1 k, e)
+
+  pub triangle-answer : (kindOf body ≡ 1 → ⊥) → kindOf body ≡ 2 → a ≡ rayTriangle (rayOf body) (cornersOf body)
+      → a ≡ shapeAnswer (rayOf body) (shapeOf (kindOf body) body)
+  unfolding shapeOf shapeAnswer cornersOf
+  triangle-answer j k e = simp (ne-eqb (kindOf body) 1 j, eq-eqb (kindOf body) 2 k, e)
+
+  pub heights-answer : (kindOf body ≡ 1 → ⊥) → (kindOf body ≡ 2 → ⊥) → kindOf body ≡ 4 → a ≡ rayHeightField (rayOf body) (fieldOf body) (heightsOf body)
+      → a ≡ shapeAnswer (rayOf body) (shapeOf (kindOf body) body)
+  unfolding shapeOf shapeAnswer
+  heights-answer i j k e = simp (ne-eqb (kindOf body) 1 i, ne-eqb (kindOf body) 2 j, eq-eqb (kindOf body) 4 k, e)
+
+  pub values-answer : (kindOf body ≡ 1 → ⊥) → (kindOf body ≡ 2 → ⊥) → (kindOf body ≡ 4 → ⊥) → a ≡ rayLevelSet (rayOf body) (gridOf body) (valuesOf body)
+      → a ≡ shapeAnswer (rayOf body) (shapeOf (kindOf body) body)
+  unfolding shapeOf shapeAnswer
+  values-answer i j k e = simp (ne-eqb (kindOf body) 1 i, ne-eqb (kindOf body) 2 j, ne-eqb (kindOf body) 4 k, e)
+
+-- the numbers of a grid, decoded
+pub heights-cast : (body : List ℕ) (ray : Ray) (field : Field) (numbers : List Float) (count : ℕ) (a : Answer) → a ≡ rayHeightField ray field numbers
+    → field ≡ fieldOf body → numbers ≡ floatsAt body 82 count → count ≡ heightCount body → a ≡ rayHeightField ray (fieldOf body) (heightsOf body)
+unfolding heightsOf
+heights-cast body ray field numbers count a e f n k = cc
+
+pub values-cast : (body : List ℕ) (ray : Ray) (grid : Grid) (numbers : List Float) (count : ℕ) (a : Answer) → a ≡ rayLevelSet ray grid numbers
+    → grid ≡ gridOf body → numbers ≡ floatsAt body 118 count → count ≡ valueCount body → a ≡ rayLevelSet ray (gridOf body) (valuesOf body)
+unfolding valuesOf
+values-cast body ray grid numbers count a e f n k = cc
+
+pub good-text : (body : List ℕ) (a : Answer) → wellFormed body ≡ true → a ≡ shapeAnswer (rayOf body) (shapeOf (kindOf body) body) → answerText a ≡ recordText body
+unfolding parse parsedText
+good-text body a h e = simp (h, e)
+
+pub bad-text : (body : List ℕ) → wellFormed body ≡ false → badWord ≡ recordText body
+unfolding parse parsedText
+bad-text body h = simp h
+
+-- the line
+module _ {area numbered answered last : List ℕ} {start end next : ℕ} (number : ℕ) (text : List ℕ)
+    (p : Put area 0 (decimal number ++ (32 ∷ [])) numbered start)
+    (q : Put numbered start text answered end)
+    (r : Put answered end (10 ∷ []) last next) where
+  whole : Put area 0 (lineWith number text) last next
+  unfolding lineWith
+  whole = put-then ((decimal number ++ (32 ∷ [])) ++ text) (10 ∷ []) (put-then (decimal number ++ (32 ∷ [])) text p q) r
+
+  pub line-written : 104 ≤ length area → length text ≤ 71 → Written (lineWith number text) area last next
+  line-written room short = record {
+    bytes = put-front whole (omega (arith, longest-line number text short));
+    counted = let b : next ≡ 0 + length (lineWith number text) = whole .behind in omega arith;
+  }

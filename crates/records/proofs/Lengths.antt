@@ -1,0 +1,55 @@
+-- How long the texts of a line are. Assumes nothing.
+use Prim.Native.Nat.{ℕ, _+_, _≤_}
+use mathlib.Core.Path.{_≡_, refl}
+use mathlib.Core.List.{List, [], _∷_, _++_}
+use native.Mathlib.Omega.{arith}
+use lib.Ieee.{Float}
+use lib.ListN.{length, length-append}
+use Rattle.geometry.specs.declared.vec3.Vec3.{Vec3}
+use Rattle.casts.specs.Answer.{Answer, hit, none, refused}
+use Rattle.records.specs.Parse.{Parsed, says, malformed, parse}
+use Rattle.records.specs.Text.{decimal, hexadecimal, printedBits, placesOf}
+use Rattle.records.specs.Lines.{hitWord, refusedWord, floatText, hitText, answerText, shapeAnswer, parsedText, badWord, recordText, lineWith, lineOf, badLine}
+use Rattle.records.proofs.Places.{length-digits, places-at-most}
+
+pub length-decimal : (n : ℕ) → length (decimal n) ≤ 20
+unfolding decimal
+length-decimal n = omega (arith, length-digits 10 (placesOf 20 n) n, places-at-most 20 n)
+
+pub length-hexadecimal : (n : ℕ) → length (hexadecimal n) ≡ 16
+unfolding hexadecimal
+length-hexadecimal n = length-digits 16 16 n
+
+pub length-float : (x : Float) → length (floatText x) ≡ 17
+unfolding floatText
+length-float x = omega (arith, length-append (32 ∷ []) (hexadecimal (printedBits x)), length-hexadecimal (printedBits x))
+
+pub length-hit : (normal : Vec3) (distance : Float) → length (hitText normal distance) ≡ 71
+unfolding hitText
+length-hit normal distance = simp (length-append, length-float)
+
+pub length-answer : (a : Answer) → length (answerText a) ≤ 71
+unfolding answerText
+length-answer (hit normal distance) = omega (arith, length-hit normal distance)
+length-answer none = omega arith
+length-answer (refused number) = omega (arith, length-append refusedWord (decimal number), length-decimal number)
+
+pub length-parsed : (p : Parsed) → length (parsedText p) ≤ 71
+unfolding parsedText
+length-parsed (says r s) = length-answer (shapeAnswer r s)
+length-parsed malformed = omega arith
+
+pub length-number : (n : ℕ) → length (decimal n ++ (32 ∷ [])) ≤ 21
+length-number n = omega (arith, length-append (decimal n) (32 ∷ []), length-decimal n)
+
+-- the longest line
+pub longest-line : (number : ℕ) (text : List ℕ) → length text ≤ 71 → length (lineWith number text) ≤ 104
+unfolding lineWith
+longest-line number text short =
+    omega (arith, length-append ((decimal number ++ (32 ∷ [])) ++ text) (10 ∷ []), length-append (decimal number ++ (32 ∷ [])) text, length-number number)
+
+pub length-line : (number : ℕ) (body : List ℕ) → length (lineOf number body) ≤ 104
+length-line number body = longest-line number (recordText body) (length-parsed (parse body))
+
+pub length-bad-line : (number : ℕ) → length (badLine number) ≤ 104
+length-bad-line number = longest-line number badWord (omega arith)

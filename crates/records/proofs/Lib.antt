@@ -1,0 +1,11 @@
+-- Laws about records and lines. Assumes nothing.
+pub mod Storing
+pub mod Patterns
+pub mod Places
+pub mod Lengths
+pub mod WellFormed
+pub mod Counts
+pub mod Decoding
+pub mod Answers
+pub mod Frames
+pub mod RoundTrip

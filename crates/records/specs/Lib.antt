@@ -1,0 +1,8 @@
+-- What a record of `probe` says and the line that answers it, after document 01's 'Printed result'. Definitions only. Assumes nothing.
+pub mod Bytes
+pub mod Fields
+pub mod Parse
+pub mod Encode
+pub mod Text
+pub mod Lines
+pub mod Stream

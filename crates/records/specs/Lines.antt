@@ -1,0 +1,69 @@
+-- The line that answers a record. Definitions only. Assumes nothing.
+use Prim.Native.Nat.{ℕ}
+use mathlib.Core.List.{List, [], _∷_, _++_}
+use lib.Ieee.{Float}
+use Rattle.geometry.specs.declared.vec3.Vec3.{Vec3}
+use Rattle.geometry.specs.declared.ray.Ray.{Ray}
+use Rattle.casts.specs.Answer.{Answer, hit, none, refused}
+use Rattle.casts.specs.Plane.{rayPlane}
+use Rattle.casts.specs.Triangle.{rayTriangle}
+use Rattle.height_field.specs.Cast.{rayHeightField}
+use Rattle.level_set.specs.Walk.{rayLevelSet}
+use Rattle.records.specs.Parse.{Shape, plane, triangle, heights, distances, Parsed, says, malformed, parse}
+use Rattle.records.specs.Text.{decimal, hexadecimal, printedBits}
+
+-- `hit`, `none`, `refused ` and `bad`
+abbrev pub hitWord : List ℕ
+hitWord = 104 ∷ (105 ∷ (116 ∷ []))
+
+abbrev pub noneWord : List ℕ
+noneWord = 110 ∷ (111 ∷ (110 ∷ (101 ∷ [])))
+
+abbrev pub refusedWord : List ℕ
+refusedWord = 114 ∷ (101 ∷ (102 ∷ (117 ∷ (115 ∷ (101 ∷ (100 ∷ (32 ∷ [])))))))
+
+abbrev pub badWord : List ℕ
+badWord = 98 ∷ (97 ∷ (100 ∷ []))
+
+-- a space, then the bits
+unfoldable pub floatText : Float → List ℕ
+floatText x = (32 ∷ []) ++ hexadecimal (printedBits x)
+
+-- "`hit` with normal and distance as hexadecimal bits"
+unfoldable pub hitText : Vec3 → Float → List ℕ
+hitText normal distance =
+    (((hitWord ++ floatText (normal .x)) ++ floatText (normal .y)) ++ floatText (normal .z)) ++ floatText distance
+
+-- "`none`, or `refused` and the number"
+unfoldable pub answerText : Answer → List ℕ
+answerText (hit normal distance) = hitText normal distance
+answerText none = noneWord
+answerText (refused number) = refusedWord ++ decimal number
+
+-- the cast at each shape
+unfoldable pub shapeAnswer : Ray → Shape → Answer
+shapeAnswer ray (plane p) = rayPlane p ray
+shapeAnswer ray (triangle v w u) = rayTriangle ray (v ∷ (w ∷ (u ∷ [])))
+shapeAnswer ray (heights field numbers) = rayHeightField ray field numbers
+shapeAnswer ray (distances grid numbers) = rayLevelSet ray grid numbers
+
+-- malformed comes before every refusal
+unfoldable pub parsedText : Parsed → List ℕ
+parsedText (says ray shape) = answerText (shapeAnswer ray shape)
+parsedText malformed = badWord
+
+-- the answer to a record's body
+abbrev pub recordText : List ℕ → List ℕ
+recordText body = parsedText (parse body)
+
+-- the record number, a space, the answer, the end of the line
+unfoldable pub lineWith : ℕ → List ℕ → List ℕ
+lineWith number text = ((decimal number ++ (32 ∷ [])) ++ text) ++ (10 ∷ [])
+
+-- the line of a record's body
+abbrev pub lineOf : ℕ → List ℕ → List ℕ
+lineOf number body = lineWith number (recordText body)
+
+-- "it prints the record number and `bad`"
+abbrev pub badLine : ℕ → List ℕ
+badLine number = lineWith number badWord

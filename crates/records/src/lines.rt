@@ -1,0 +1,142 @@
+use crate::bytes;
+use crate::fields;
+use crate::parse;
+use crate::text;
+use casts::answer::Cast;
+use casts::plane;
+use casts::triangle;
+use geometry::ray::Ray;
+use geometry::vec3::Vec3;
+use height_field::cast;
+use level_set::walk;
+ghost use mathlib.Core.Path.{_≡_};
+ghost use mathlib.Core.Bool.{true};
+ghost use mathlib.Core.List.{[], _∷_, _++_};
+ghost use Prim.Native.Nat.{_+_, _*_, _≤_};
+ghost use lib.ListN.{length};
+ghost use Rattle.casts.specs.Answer.{says};
+ghost use Rattle.height_field.specs.Cast.{rayHeightField};
+ghost use Rattle.level_set.specs.Walk.{rayLevelSet};
+ghost use Rattle.records.specs.Parse.{wellFormed, shapeOf};
+ghost use Rattle.records.specs.Fields.{rayOf, kindOf, fieldOf, heightCount, heightsOf, gridOf, valueCount, valuesOf};
+ghost use Rattle.records.specs.Text.{Put, Written, decimal};
+ghost use Rattle.records.specs.Lines.{floatText, hitText, answerText, shapeAnswer, recordText, lineOf, badLine};
+
+// A line has at most 104 bytes: a number of 20 digits, a space, `hit` with four floats of 17 bytes, a triangle's index of 10 digits after a space, and its end.
+
+fn put_float(out: &mut [u8], at: usize, x: f64) -> usize
+    requires { ⌜ at + 17 ≤ length (now out) ⌝ }
+    ensures { λ r. ⌜ Put (now (out .entry)) at (floatText x) (now (out .exit)) r ⌝ }
+{
+    let next = text::put_byte(out, at, b' ');
+    text::put_hexadecimal(out, next, text::printed_bits(x))
+}
+
+fn put_hit(out: &mut [u8], at: usize, normal: Vec3, distance: f64) -> usize
+    requires { ⌜ at + 71 ≤ length (now out) ⌝ }
+    ensures { λ r. ⌜ Put (now (out .entry)) at (hitText normal distance) (now (out .exit)) r ⌝ }
+{
+    let word = text::put_text(out, at, b"hit");
+    let x = put_float(out, word, normal.x);
+    let y = put_float(out, x, normal.y);
+    let z = put_float(out, y, normal.z);
+    put_float(out, z, distance)
+}
+
+fn put_answer(out: &mut [u8], at: usize, cast: Cast) -> usize
+    requires { ⌜ at + 71 ≤ length (now out) ⌝ }
+    ensures { λ r. ⌜ Put (now (out .entry)) at (answerText (says cast)) (now (out .exit)) r ⌝ }
+{
+    match cast {
+        Cast::Hit { normal, distance } => {
+            return put_hit(out, at, normal, distance);
+        }
+        Cast::None => {
+            return text::put_text(out, at, b"none");
+        }
+        Cast::Refused(number) => {
+            let word = text::put_text(out, at, b"refused ");
+            return text::put_decimal(out, word, number as u64);
+        }
+    }
+}
+
+// The cast at a well-formed body of kind 4; its heights are decoded into the work area.
+fn heights_answer(body: &[u8], ray: Ray, work: &mut [f64]) -> Cast
+    requires { ⌜ (82 + 8 * heightCount (now body) ≡ length (now body)) × ((length (now body) ≤ 8192) × (1024 ≤ length (now work))) ⌝ }
+    ensures { λ r. ⌜ says r ≡ rayHeightField ray (fieldOf (now (body .entry))) (heightsOf (now (body .entry))) ⌝ }
+{
+    let field = fields::field_of(body);
+    let count = (body.len() - 82) / 8;
+    bytes::floats_at(body, 82, count, work);
+    cast::ray_height_field(ray, field, &work[..count])
+}
+
+// The cast at a well-formed body of kind 5, in the same way.
+fn values_answer(body: &[u8], ray: Ray, work: &mut [f64]) -> Cast
+    requires { ⌜ (118 + 8 * valueCount (now body) ≡ length (now body)) × ((length (now body) ≤ 8192) × (1024 ≤ length (now work))) ⌝ }
+    ensures { λ r. ⌜ says r ≡ rayLevelSet ray (gridOf (now (body .entry))) (valuesOf (now (body .entry))) ⌝ }
+{
+    let grid = fields::grid_of(body);
+    let count = (body.len() - 118) / 8;
+    bytes::floats_at(body, 118, count, work);
+    walk::ray_level_set(ray, grid, &work[..count])
+}
+
+// The cast at a well-formed body: one call for each kind of shape.
+fn shape_answer(body: &[u8], work: &mut [f64]) -> Cast
+    requires { ⌜ (wellFormed (now body) ≡ true) × (1024 ≤ length (now work)) ⌝ }
+    ensures { λ r. ⌜ says r ≡ shapeAnswer (rayOf (now (body .entry))) (shapeOf (kindOf (now (body .entry))) (now (body .entry))) ⌝ }
+{
+    let ray = fields::ray_of(body);
+    let kind = fields::kind_of(body);
+    if kind == 1 {
+        return plane::ray_plane(fields::plane_of(body), ray);
+    }
+    if kind == 2 {
+        return triangle::ray_triangle(ray, fields::corners_of(body));
+    }
+    if kind == 4 {
+        return heights_answer(body, ray, work);
+    }
+    values_answer(body, ray, work)
+}
+
+// The answer to any body.
+fn put_record(out: &mut [u8], at: usize, body: &[u8], work: &mut [f64]) -> usize
+    requires { ⌜ (at + 71 ≤ length (now out)) × (1024 ≤ length (now work)) ⌝ }
+    ensures { λ r. ⌜ Put (now (out .entry)) at (recordText (now (body .entry))) (now (out .exit)) r ⌝ }
+{
+    if !parse::is_well_formed(body) {
+        return text::put_text(out, at, b"bad");
+    }
+    let cast = shape_answer(body, work);
+    put_answer(out, at, cast)
+}
+
+// The record number and a space, at the front.
+fn put_number(out: &mut [u8], number: u64) -> usize
+    requires { ⌜ 21 ≤ length (now out) ⌝ }
+    ensures { λ r. ⌜ Put (now (out .entry)) 0 (decimal number ++ (32 ∷ [])) (now (out .exit)) r ⌝ }
+{
+    let end = text::put_decimal(out, 0, number);
+    text::put_byte(out, end, b' ')
+}
+
+// The line of a record, at the front of `out`; returns how many bytes it has. The work area may hold anything afterwards.
+pub fn line(number: u64, body: &[u8], work: &mut [f64; 1024], out: &mut [u8; 104]) -> usize
+    ensures { λ r. ⌜ Written (lineOf number (now (body .entry))) (now (out .entry)) (now (out .exit)) r ⌝ }
+{
+    let start = put_number(out, number);
+    let end = put_record(out, start, body, work);
+    text::put_byte(out, end, b'\n')
+}
+
+// The line of a record that is cut short or over length, in the same way.
+pub fn bad_line(number: u64, out: &mut [u8; 104]) -> usize
+    ensures { λ r. ⌜ Written (badLine number) (now (out .entry)) (now (out .exit)) r ⌝ }
+{
+    let start = put_number(out, number);
+    let end = text::put_text(out, start, b"bad");
+    text::put_byte(out, end, b'\n')
+}
