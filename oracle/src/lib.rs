@@ -1,0 +1,24 @@
+//! The published Rust of Kapitsa-Physics, unchanged, over the arithmetic that
+//! document 01 fixes, as the reference of the differential runs.
+
+// The carried files name this crate's vectors by the repository's crate name.
+extern crate self as kapitsa_math;
+pub(crate) use math::{Vec2, Vec3};
+
+pub mod aabb;
+pub mod agree;
+pub mod answer;
+pub mod cases;
+pub(crate) mod collision;
+pub mod generate;
+pub mod math;
+pub mod model;
+pub mod random;
+pub mod record;
+pub mod shape;
+pub mod shrink;
+pub(crate) mod stubs;
+pub mod tree;
+pub mod trees;
+
+pub(crate) use stubs::{collider, transform, world};

@@ -1,0 +1,376 @@
+//! Records and lines of the program `probe` (document 01, 'Printed result').
+
+use crate::answer::{self, Answer, Constructed, Ray};
+
+pub const LONGEST: usize = 8_192;
+
+#[derive(Clone, Debug, PartialEq)]
+pub enum Shape {
+    Plane {
+        normal: [f64; 3],
+        distance: f64,
+    },
+    Triangle {
+        corners: [[f64; 3]; 3],
+    },
+    Mesh {
+        vertices: Vec<f64>,
+        indices: Vec<u32>,
+    },
+    HeightField {
+        rows: u32,
+        columns: u32,
+        spacing: [f64; 2],
+        heights: Vec<f64>,
+    },
+    LevelSet {
+        sides: [u32; 3],
+        origin: [f64; 3],
+        spacing: [f64; 3],
+        values: Vec<f64>,
+    },
+}
+
+#[derive(Clone, Debug, PartialEq)]
+pub struct Record {
+    pub ray: Ray,
+    pub shape: Shape,
+}
+
+/// What stands next in a stream of records.
+pub enum Next<'a> {
+    End,
+    Bad,
+    Record(Record, &'a [u8]),
+}
+
+/// Takes fields from the front of a record; none if it is cut short.
+struct Fields<'a>(&'a [u8]);
+
+impl Fields<'_> {
+    fn bytes<const N: usize>(&mut self) -> Option<[u8; N]> {
+        let (head, rest) = self.0.split_first_chunk::<N>()?;
+        self.0 = rest;
+        Some(*head)
+    }
+
+    fn word(&mut self) -> Option<u32> {
+        self.bytes().map(u32::from_be_bytes)
+    }
+
+    fn float(&mut self) -> Option<f64> {
+        self.bytes().map(f64::from_be_bytes)
+    }
+
+    fn array<const N: usize>(&mut self) -> Option<[f64; N]> {
+        let mut array = [0.0; N];
+        for place in &mut array {
+            *place = self.float()?;
+        }
+        Some(array)
+    }
+
+    /// `count` values of `size` bytes, which must not pass the end of the record.
+    fn list<T>(
+        &mut self,
+        count: u128,
+        size: u128,
+        take: fn(&mut Self) -> Option<T>,
+    ) -> Option<Vec<T>> {
+        if count.checked_mul(size)? > self.0.len() as u128 {
+            return None;
+        }
+        (0..count).map(|_| take(self)).collect()
+    }
+}
+
+impl Record {
+    /// The record in a body without its length bytes; none if it is malformed.
+    pub fn parse(body: &[u8]) -> Option<Self> {
+        let mut fields = Fields(body);
+        let [version, kind] = fields.bytes()?;
+        if version != 1 {
+            return None;
+        }
+        let ray = Ray {
+            origin: fields.array()?,
+            direction: fields.array()?,
+            maximum: fields.float()?,
+        };
+        let shape = parse_shape(kind, &mut fields)?;
+        fields.0.is_empty().then_some(Self { ray, shape })
+    }
+
+    /// The record with its length bytes.
+    pub fn write(&self) -> Vec<u8> {
+        let mut body = vec![1, self.shape.kind()];
+        let ray = &self.ray;
+        write_floats(&mut body, &ray.origin);
+        write_floats(&mut body, &ray.direction);
+        write_floats(&mut body, &[ray.maximum]);
+        self.shape.write(&mut body);
+        let mut record = (body.len() as u32).to_be_bytes().to_vec();
+        record.append(&mut body);
+        record
+    }
+
+    pub fn fits(&self) -> bool {
+        self.write().len() <= LONGEST + 4
+    }
+
+    pub fn answer(&self) -> Answer {
+        let ray = &self.ray;
+        match &self.shape {
+            Shape::Plane { normal, distance } => answer::plane(ray, *normal, *distance),
+            Shape::Triangle { corners } => answer::triangle(ray, *corners),
+            Shape::Mesh { vertices, indices } => answer::mesh(ray, vertices, indices),
+            Shape::HeightField {
+                rows,
+                columns,
+                spacing,
+                heights,
+            } => answer::height_field(ray, *rows, *columns, *spacing, heights),
+            Shape::LevelSet {
+                sides,
+                origin,
+                spacing,
+                values,
+            } => answer::level_set(ray, *sides, *origin, *spacing, values),
+        }
+    }
+
+    /// All floats of the record, for damage and for shrinking.
+    pub fn floats_mut(&mut self) -> Vec<&mut f64> {
+        let ray = &mut self.ray;
+        let mut all: Vec<&mut f64> = ray.origin.iter_mut().collect();
+        all.extend(&mut ray.direction);
+        all.push(&mut ray.maximum);
+        all.extend(self.shape.floats_mut());
+        all
+    }
+}
+
+impl Shape {
+    pub fn kind(&self) -> u8 {
+        match self {
+            Shape::Plane { .. } => 1,
+            Shape::Triangle { .. } => 2,
+            Shape::Mesh { .. } => 3,
+            Shape::HeightField { .. } => 4,
+            Shape::LevelSet { .. } => 5,
+        }
+    }
+
+    /// What the Rust's own constructor makes of the shape.
+    pub fn constructed(&self) -> Constructed {
+        match self {
+            Shape::Plane { normal, distance } => answer::plane_constructed(*normal, *distance),
+            Shape::Triangle { corners } => answer::triangle_constructed(*corners),
+            Shape::Mesh { vertices, indices } => answer::mesh_constructed(vertices, indices),
+            Shape::HeightField {
+                rows,
+                columns,
+                spacing,
+                heights,
+            } => answer::height_field_constructed(*rows, *columns, *spacing, heights),
+            Shape::LevelSet {
+                sides,
+                origin,
+                spacing,
+                values,
+            } => answer::level_set_constructed(*sides, *origin, *spacing, values),
+        }
+    }
+
+    pub fn floats_mut(&mut self) -> Vec<&mut f64> {
+        match self {
+            Shape::Plane { normal, distance } => {
+                normal.iter_mut().chain(std::iter::once(distance)).collect()
+            }
+            Shape::Triangle { corners } => corners.iter_mut().flatten().collect(),
+            Shape::Mesh { vertices, .. } => vertices.iter_mut().collect(),
+            Shape::HeightField {
+                spacing, heights, ..
+            } => spacing.iter_mut().chain(heights).collect(),
+            Shape::LevelSet {
+                origin,
+                spacing,
+                values,
+                ..
+            } => origin.iter_mut().chain(spacing).chain(values).collect(),
+        }
+    }
+
+    fn write(&self, body: &mut Vec<u8>) {
+        match self {
+            Shape::Plane { normal, distance } => {
+                write_floats(body, normal);
+                write_floats(body, &[*distance]);
+            }
+            Shape::Triangle { corners } => write_floats(body, corners.as_flattened()),
+            Shape::Mesh { vertices, indices } => {
+                let counts = [vertices.len() as u32 / 3, indices.len() as u32 / 3];
+                write_words(body, &counts);
+                write_floats(body, vertices);
+                write_words(body, indices);
+            }
+            Shape::HeightField {
+                rows,
+                columns,
+                spacing,
+                heights,
+            } => {
+                write_words(body, &[*rows, *columns]);
+                write_floats(body, spacing);
+                write_floats(body, heights);
+            }
+            Shape::LevelSet {
+                sides,
+                origin,
+                spacing,
+                values,
+            } => {
+                write_words(body, sides);
+                write_floats(body, origin);
+                write_floats(body, spacing);
+                write_floats(body, values);
+            }
+        }
+    }
+}
+
+fn parse_shape(kind: u8, fields: &mut Fields) -> Option<Shape> {
+    match kind {
+        1 => Some(Shape::Plane {
+            normal: fields.array()?,
+            distance: fields.float()?,
+        }),
+        2 => Some(Shape::Triangle {
+            corners: [fields.array()?, fields.array()?, fields.array()?],
+        }),
+        3 => {
+            let counts = [fields.word()?, fields.word()?].map(u128::from);
+            Some(Shape::Mesh {
+                vertices: fields.list(3 * counts[0], 8, Fields::float)?,
+                indices: fields.list(3 * counts[1], 4, Fields::word)?,
+            })
+        }
+        4 => {
+            let [rows, columns] = [fields.word()?, fields.word()?];
+            Some(Shape::HeightField {
+                rows,
+                columns,
+                spacing: fields.array()?,
+                heights: fields.list(product(&[rows, columns]), 8, Fields::float)?,
+            })
+        }
+        5 => {
+            let sides = [fields.word()?, fields.word()?, fields.word()?];
+            Some(Shape::LevelSet {
+                sides,
+                origin: fields.array()?,
+                spacing: fields.array()?,
+                values: fields.list(product(&sides), 8, Fields::float)?,
+            })
+        }
+        _ => None,
+    }
+}
+
+/// Exact: three u32 stay below 2^96.
+fn product(sides: &[u32]) -> u128 {
+    sides.iter().map(|&side| u128::from(side)).product()
+}
+
+fn write_floats(body: &mut Vec<u8>, floats: &[f64]) {
+    floats.iter().for_each(|f| body.extend(f.to_be_bytes()));
+}
+
+fn write_words(body: &mut Vec<u8>, words: &[u32]) {
+    words.iter().for_each(|w| body.extend(w.to_be_bytes()));
+}
+
+/// Takes the next record from the front of a stream.
+pub fn next(stream: &[u8]) -> Next<'_> {
+    if stream.is_empty() {
+        return Next::End;
+    }
+    let Some((length, rest)) = stream.split_first_chunk::<4>() else {
+        return Next::Bad;
+    };
+    let length = u32::from_be_bytes(*length) as usize;
+    if length > LONGEST || length > rest.len() {
+        return Next::Bad;
+    }
+    let (body, rest) = rest.split_at(length);
+    match Record::parse(body) {
+        Some(record) => Next::Record(record, rest),
+        None => Next::Bad,
+    }
+}
+
+/// All records of a well-formed stream; none if one is malformed.
+pub fn read_all(mut stream: &[u8]) -> Option<Vec<Record>> {
+    let mut records = Vec::new();
+    loop {
+        match next(stream) {
+            Next::End => return Some(records),
+            Next::Bad => return None,
+            Next::Record(record, rest) => {
+                records.push(record);
+                stream = rest;
+            }
+        }
+    }
+}
+
+/// Zero as plus zero, NaN as 7ff8000000000000, else the bits.
+pub fn bits(value: f64) -> String {
+    let bits = if value.is_nan() {
+        0x7ff8_0000_0000_0000
+    } else if value == 0.0 {
+        0
+    } else {
+        value.to_bits()
+    };
+    format!("{bits:016x}")
+}
+
+pub fn line(number: u64, answer: &Answer) -> String {
+    match answer {
+        Answer::None => format!("{number} none"),
+        Answer::Refused(refusal) => format!("{number} refused {refusal}"),
+        Answer::Hit {
+            normal: [x, y, z],
+            distance,
+            index,
+        } => {
+            let mut line = format!("{number} hit");
+            for value in [x, y, z, distance] {
+                line.push(' ');
+                line.push_str(&bits(*value));
+            }
+            if let Some(index) = index {
+                line.push_str(&format!(" {index}"));
+            }
+            line
+        }
+    }
+}
+
+/// The whole output of `probe` for a stream.
+pub fn probe(mut stream: &[u8], mut out: impl FnMut(&str, Option<&Record>)) {
+    for number in 1.. {
+        match next(stream) {
+            Next::End => return,
+            Next::Bad => {
+                out(&format!("{number} bad"), None);
+                return;
+            }
+            Next::Record(record, rest) => {
+                out(&line(number, &record.answer()), Some(&record));
+                stream = rest;
+            }
+        }
+    }
+}

@@ -1,0 +1,31 @@
+#!/usr/bin/env bash
+# `probe` against the unchanged Rust: seeded records of the kinds that `probe` answers (all but meshes), every number compared under
+# document 01's agreement, and malformed streams, each kind of damage, compared byte for byte.
+# usage: tests/probe.sh [RECORDS [SEED]]   (default 100000 1)
+set -euo pipefail
+cd "$(dirname "$0")/.."
+records=${1:-100000}
+seed=${2:-1}
+rt check probe | tail -n 1
+( cd oracle && cargo build --offline --release --quiet )
+oracle=$PWD/oracle/target/release
+work=$(mktemp -d)
+trap 'rm -rf "$work"' EXIT
+
+target/bin/probe < examples/plane.records | cmp - examples/plane.lines
+
+"$oracle/oracle-gen" "$seed" "$records" --kinds 1,2,4,5 > "$work/records"
+target/bin/probe < "$work/records" > "$work/ours"
+"$oracle/oracle-probe" < "$work/records" > "$work/theirs"
+"$oracle/compare" "$work/ours" "$work/theirs"
+
+mkdir "$work/bad"
+"$oracle/oracle-gen" --bad "$work/bad"
+streams=0
+for stream in "$work"/bad/*; do
+  target/bin/probe < "$stream" > "$work/ours"
+  "$oracle/oracle-probe" < "$stream" > "$work/theirs"
+  cmp "$work/ours" "$work/theirs" || { echo "error: $(basename "$stream") differs" >&2; exit 1; }
+  streams=$((streams + 1))
+done
+echo "$streams malformed streams agree"
