@@ -13,6 +13,7 @@ work=$(mktemp -d)
 trap 'rm -rf "$work"' EXIT
 
 target/bin/probe < examples/plane.records | cmp - examples/plane.lines
+"$oracle/oracle-probe" < crates/probe/stdin | cmp - crates/probe/stdout
 
 "$oracle/oracle-gen" "$seed" "$records" --kinds 1,2,4,5 > "$work/records"
 target/bin/probe < "$work/records" > "$work/ours"
