@@ -1,10 +1,14 @@
 -- The laws of the arithmetic, beside the functions' own proofs. Assumes nothing.
 pub mod Casts
+pub mod Differences
+pub mod DistanceFromOne
 pub mod Exactness
 pub mod ExtremesOrder
+pub mod Neighbours
 pub mod Numbers
 pub mod Order
 pub mod RootCases
+pub mod RootClose
 pub mod RootForm
 pub mod RootHalves
 pub mod RootLaws
@@ -12,6 +16,8 @@ pub mod RootNearest
 pub mod RootPatterns
 pub mod RootScaled
 pub mod RootWhole
+pub mod RoundedSigns
+pub mod SignBit
 pub mod SignedOrder
 pub mod Signs
 pub mod Steps

@@ -1,13 +1,13 @@
 -- A square by the halves of its root, of 27 digits each, and how it compares with a multiple of a power of two. Assumes nothing.
 use mathlib.Core.Path.{_≡_, refl, sym, ap, _∙_, subst}
 use mathlib.Core.Logic.{inl, inr}
-use Prim.Native.Nat.{ℕ, _+_, _-_, _*_, _/_, _%_, _^_, _≤_, _<_, zero-le}
-use native.Mathlib.Nat.{add-mul, mul-add, mul-comm, mul-right-comm, mul-mul-mul-comm, mul-le-mul, mod-eq-of-lt, le-of-lt, le-refl, add-zero, add-assoc, eq-zero-or-pos}
+use Prim.Native.Nat.{ℕ, suc, _+_, _-_, _*_, _/_, _%_, _^_, _≤_, _<_, zero-le}
+use native.Mathlib.Nat.{le-of-suc-le-suc, lt-of-not-le, add-mul, mul-add, mul-comm, mul-right-comm, mul-mul-mul-comm, mul-le-mul, le-refl, add-zero, add-assoc, eq-zero-or-pos}
 use native.Mathlib.Omega.{arith}
 use mathlib.Core.Bool.{Bool, true, false}
 use lib.Dec.{leb, ltb}
 use mir.Val.{boolByte}
-use Rattle.arithmetic.specs.Root.{NearestRoot}
+use Rattle.arithmetic.specs.Root.{NearestRoot, CloseRoot}
 use borrow.Author.Tests.{leb-true, leb-false, ltb-true, ltb-false}
 
 pub product-le : (a b : ℕ) → a ≤ 2 ^ 27 → b ≤ 2 ^ 27 → a * b ≤ 2 ^ 54
@@ -22,17 +22,19 @@ square-sum p b =
     let h : b * p ≡ p * b = mul-comm b p in
     omega arith
 
-pub square-halves : (a b : ℕ) → (a * 2 ^ 27 + b) * (a * 2 ^ 27 + b) ≡ a * a * 2 ^ 54 + a * b * 2 ^ 28 + b * b
-square-halves a b =
-    let e : (a * 2 ^ 27 + b) * (a * 2 ^ 27 + b) ≡ a * 2 ^ 27 * (a * 2 ^ 27) + 2 * (a * 2 ^ 27 * b) + b * b = square-sum (a * 2 ^ 27) b in
-    let f : a * 2 ^ 27 * (a * 2 ^ 27) ≡ a * a * (2 ^ 27 * 2 ^ 27) = mul-mul-mul-comm a (2 ^ 27) a (2 ^ 27) in
-    let g : a * 2 ^ 27 * b ≡ a * b * 2 ^ 27 = mul-right-comm a (2 ^ 27) b in
+-- by the quotient a and the remainder b of a division by c
+square-halves : (c a b : ℕ) → (a * c + b) * (a * c + b) ≡ a * a * (c * c) + 2 * (a * b * c) + b * b
+square-halves c a b =
+    let e : (a * c + b) * (a * c + b) ≡ a * c * (a * c) + 2 * (a * c * b) + b * b = square-sum (a * c) b in
+    let f : a * c * (a * c) ≡ a * a * (c * c) = mul-mul-mul-comm a c a c in
+    let g : a * c * b ≡ a * b * c = mul-right-comm a c b in
     omega arith
 
 pub square-of-parts : (t : ℕ) → t * t ≡ t / 2 ^ 27 * (t / 2 ^ 27) * 2 ^ 54 + t / 2 ^ 27 * (t % 2 ^ 27) * 2 ^ 28 + t % 2 ^ 27 * (t % 2 ^ 27)
 square-of-parts t =
     let e : t ≡ t / 2 ^ 27 * 2 ^ 27 + t % 2 ^ 27 = omega arith in
-    ap (λ (z : ℕ). z * z) e ∙ square-halves (t / 2 ^ 27) (t % 2 ^ 27)
+    let s : t * t ≡ _ = ap (λ (z : ℕ). z * z) e ∙ square-halves (2 ^ 27) (t / 2 ^ 27) (t % 2 ^ 27) in
+    omega (arith, s)
 
 -- a square is at most m * 2 ^ 54 exactly where the number of 2 ^ 54 that cover it is at most m
 same-test : (x y : Bool) → (x ≡ true → y ≡ false → ⊥) → (x ≡ false → y ≡ true → ⊥) → x ≡ y
@@ -103,36 +105,53 @@ between-nearest m low high b w =
     let e : high ≡ low + 1 = omega (arith, b) in
     half-nearest (m * 2 ^ 52) low (omega (arith, b)) (omega (arith, b)) (let u : m * 2 ^ 54 < (low + 1) * (low + 1) = subst (λ (z : ℕ). m * 2 ^ 54 < z * z) e (b .upper) in omega arith)
 
--- ---- the rest that `nearest_root` finds of a guess q, step by step and modulo 2 ^ 64, is m * 2 ^ 52 - q * q
-plain : (x y : ℕ) → x < 2 ^ 64 → x % 2 ^ 64 ≡ y → x ≡ y
-plain x y h e = sym (mod-eq-of-lt h) ∙ e
+-- ---- by halves of 32 digits: the rest that `mended_root` finds of a close q, modulo 2 ^ 64, is m * 2 ^ 52 - q * q
+square-of-words : (t : ℕ) → t * t ≡ t / 2 ^ 32 * (t / 2 ^ 32) * 2 ^ 64 + t / 2 ^ 32 * (t % 2 ^ 32) * 2 ^ 33 + t % 2 ^ 32 * (t % 2 ^ 32)
+square-of-words t =
+    let e : t ≡ t / 2 ^ 32 * 2 ^ 32 + t % 2 ^ 32 = omega arith in
+    let s : t * t ≡ _ = ap (λ (z : ℕ). z * z) e ∙ square-halves (2 ^ 32) (t / 2 ^ 32) (t % 2 ^ 32) in
+    omega (arith, s)
 
-put-together : (m d g rest aa ab bb s : ℕ) → s ≡ aa * 2 ^ 54 + ab * 2 ^ 28 + bb → d + aa * 4 ≡ m → g + ab ≡ d * 2 ^ 24 → rest + bb ≡ g * 2 ^ 28 → m * 2 ^ 52 ≡ s + rest
-put-together m d g rest aa ab bb s e p q r = omega arith
+pub record WordsSmall (t : ℕ) : Type 0 where
+  pub cross : t / 2 ^ 32 * (t % 2 ^ 32) < 2 ^ 64
+  pub low : t % 2 ^ 32 * (t % 2 ^ 32) < 2 ^ 64
 
-pub rest-is : (m q high middle rest : ℕ) → q < 2 ^ 54
-    → (high + q / 2 ^ 27 * (q / 2 ^ 27) * 4) % 2 ^ 64 ≡ m → high < 2 ^ 39
-    → (middle + q / 2 ^ 27 * (q % 2 ^ 27)) % 2 ^ 64 ≡ high * 2 ^ 24 → middle < 2 ^ 35
-    → (rest + q % 2 ^ 27 * (q % 2 ^ 27)) % 2 ^ 64 ≡ middle * 2 ^ 28 → rest ≤ 5 * q + 6
-    → m * 2 ^ 52 ≡ q * q + rest
-rest-is m q high middle rest Q p hp r hr s hs =
-    let b : PartsSmall q = parts-small q (le-of-lt Q) in
-    let aa = q / 2 ^ 27 * (q / 2 ^ 27) in
-    let ab = q / 2 ^ 27 * (q % 2 ^ 27) in
-    let bb = q % 2 ^ 27 * (q % 2 ^ 27) in
-    put-together m high middle rest aa ab bb (q * q) (square-of-parts q)
-    (plain (high + aa * 4) m (first high aa hp (b .high)) p)
-    (plain (middle + ab) (high * 2 ^ 24) (second middle ab hr (b .cross)) r)
-    (plain (rest + bb) (middle * 2 ^ 28) (third rest bb hs (b .low)) s)
+pub words-small : (t : ℕ) → t < 2 ^ 53 → WordsSmall t
+words-small t h =
+    let a : t / 2 ^ 32 ≤ 2 ^ 21 = omega arith in
+    let b : t % 2 ^ 32 ≤ 2 ^ 32 - 1 = omega arith in
+    let c : t / 2 ^ 32 * (t % 2 ^ 32) ≤ 2 ^ 21 * (2 ^ 32 - 1) = mul-le-mul a b in
+    let d : t % 2 ^ 32 * (t % 2 ^ 32) ≤ (2 ^ 32 - 1) * (2 ^ 32 - 1) = mul-le-mul b b in
+    record { cross = omega arith; low = omega arith }
+
+-- two numbers that differ by a multiple of 2 ^ 64, and by less than that
+same-word : (x y w p : ℕ) → x + w * 2 ^ 64 ≡ y + p * 2 ^ 64 → x < y + 2 ^ 64 → y < x + 2 ^ 64 → x ≡ y
+same-word x y w p e h k =
+    let a : p ≤ w = le-of-suc-le-suc (lt-of-not-le more) in
+    let b : w ≤ p = le-of-suc-le-suc (lt-of-not-le fewer) in
+    omega arith
   where
-    first : (d aa : ℕ) → d < 2 ^ 39 → aa ≤ 2 ^ 54 → d + aa * 4 < 2 ^ 64
-    first d aa x y = omega arith
+    more : suc w ≤ p → ⊥
+    more l = omega arith
 
-    second : (g ab : ℕ) → g < 2 ^ 35 → ab ≤ 2 ^ 54 → g + ab < 2 ^ 64
-    second g ab x y = omega arith
+    fewer : suc p ≤ w → ⊥
+    fewer l = omega arith
 
-    third : (rest bb : ℕ) → rest ≤ 5 * q + 6 → bb ≤ 2 ^ 54 → rest + bb < 2 ^ 64
-    third rest bb x y = omega arith
+put-together : (m s aa ab bb square rest : ℕ) → s ≡ aa * 2 ^ 64 + ab * 2 ^ 33 + bb → m * 2 ^ 52 < s + 2 ^ 63 → s < m * 2 ^ 52 + 2 ^ 63
+    → square ≡ (ab % 2 ^ 31 * 2 ^ 33 + bb) % 2 ^ 64 → (rest + square) % 2 ^ 64 ≡ m % 2 ^ 12 * 2 ^ 52 → rest < 2 ^ 56 → m * 2 ^ 52 ≡ s + rest
+put-together m s aa ab bb square rest e l u p q h =
+    let a : ab ≡ ab / 2 ^ 31 * 2 ^ 31 + ab % 2 ^ 31 = omega arith in
+    let k = (ab % 2 ^ 31 * 2 ^ 33 + bb) / 2 ^ 64 in
+    let b : ab % 2 ^ 31 * 2 ^ 33 + bb ≡ k * 2 ^ 64 + square = omega arith in
+    let j = (rest + square) / 2 ^ 64 in
+    let c : rest + square ≡ j * 2 ^ 64 + m % 2 ^ 12 * 2 ^ 52 = omega arith in
+    let d : m ≡ m / 2 ^ 12 * 2 ^ 12 + m % 2 ^ 12 = omega arith in
+    same-word (m * 2 ^ 52) (s + rest) (aa + ab / 2 ^ 31 + k + j) (m / 2 ^ 12) (omega arith) (omega arith) (omega arith)
+
+pub rest-is : (m q square rest : ℕ) → CloseRoot m q → square ≡ (q / 2 ^ 32 * (q % 2 ^ 32) % 2 ^ 31 * 2 ^ 33 + q % 2 ^ 32 * (q % 2 ^ 32)) % 2 ^ 64
+    → (rest + square) % 2 ^ 64 ≡ m % 2 ^ 12 * 2 ^ 52 → rest ≤ 5 * q + 6 → m * 2 ^ 52 ≡ q * q + rest
+rest-is m q square rest c p r h =
+    put-together m (q * q) (q / 2 ^ 32 * (q / 2 ^ 32)) (q / 2 ^ 32 * (q % 2 ^ 32)) (q % 2 ^ 32 * (q % 2 ^ 32)) square rest (square-of-words q) (c .lower) (c .upper) p r (omega (arith, c .small))
 
 -- ---- by the rest, the nearest root is the guess or one of the two numbers above it
 pub guess-nearest : (n q rest : ℕ) → 0 < n → n ≡ q * q + rest → rest ≤ q → NearestRoot n q

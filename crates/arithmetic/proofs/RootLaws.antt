@@ -17,7 +17,8 @@ use borrow.Author.Tests.{leb-true, leb-false}
 use Rattle.arithmetic.specs.Root.{rootOf}
 use Rattle.arithmetic.proofs.RootCases.{none, infinite-root}
 use Rattle.arithmetic.proofs.RootForm.{root-form}
-use Rattle.arithmetic.proofs.RootNearest.{unsigned, sumOf, root-is-nearest}
+use Rattle.arithmetic.proofs.Neighbours.{unsigned}
+use Rattle.arithmetic.proofs.RootNearest.{sumOf, root-is-nearest}
 
 pub root-fits : (x : Float) → T (fits binary64 x) → T (fits binary64 (rootOf x))
 unfolding rootOf
@@ -55,7 +56,7 @@ root-not-negative (fin false (suc m) e) f h =
     zero-under (rootOf (fin false (suc m) e)) (R .2 * 2 ^ R .1) (2 ^ 1074) (pow-pos 1074) (R .3 .result)
 
 -- ---- growing with the argument
-positive-unsigned : (x : Float) → T (positive x) → T (unsigned x)
+pub positive-unsigned : (x : Float) → T (positive x) → T (unsigned x)
 positive-unsigned nan p = p
 positive-unsigned (inf s) p = p
 positive-unsigned (fin true m e) p = p
@@ -115,7 +116,7 @@ or-first : (a b : Bool) → T a → T (a || b)
 or-first true b t = tt
 or-first false b t = absurd t
 
-zero-below : (s : Bool) (e : ℤ) (z : Float) → T (positive z) → T (le (fin s zero e) z)
+pub zero-below : (s : Bool) (e : ℤ) (z : Float) → T (positive z) → T (le (fin s zero e) z)
 unfolding le
 zero-below s e nan p = absurd p
 zero-below s e (inf t) p = absurd p

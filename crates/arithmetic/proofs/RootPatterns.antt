@@ -1,11 +1,12 @@
 -- What the bit pattern of a float above zero says of its value: a subnormal number, a normal number, or the infinity. Assumes nothing.
 use mathlib.Core.Path.{_≡_, refl, sym, ap, _∙_, subst}
+use mathlib.Core.Logic.{inl, inr}
 use Prim.Native.Nat.{ℕ, zero, suc, _+_, _-_, _*_, _/_, _%_, _^_, _≤_, _<_}
-use native.Mathlib.Nat.{add-comm, mul-one, mod-eq-of-lt, mul-assoc, mul-right-comm, mul-mul-mul-comm, mul-le-mul-left, mul-le-mul-right, le-trans, le-of-eq, le-of-suc-le-suc, lt-irrefl, lt-of-lt-of-le, not-le-of-lt, not-suc-le-zero, zero-lt-suc, pow-succ'}
+use native.Mathlib.Nat.{eq-or-lt-of-le, add-comm, mul-comm, mul-one, eq-of-mul-eq-mul-right, mod-eq-of-lt, mul-assoc, mul-right-comm, mul-mul-mul-comm, mul-le-mul-left, mul-le-mul-right, le-trans, le-of-eq, le-of-suc-le-suc, lt-irrefl, lt-of-lt-of-le, not-le-of-lt, not-suc-le-zero, zero-lt-suc, pow-succ'}
 use native.Mathlib.Omega.{arith}
 use mathlib.Core.Bool.{Bool, false, cond}
 use lib.Dec.{leb, eqb, lit≤}
-use lib.Pow.{pow-add}
+use lib.Pow.{pow-add, pow-pos}
 use lib.Ieee.{Float, nan, inf, fin, binary64, up, down, odd, ofFields, ofBits}
 use lib.Ieee.Exact.{HasValue, odd-sign}
 use borrow.Author.Tests.{lt-leb, ne-eqb}
@@ -44,7 +45,7 @@ subnormal-value b h =
     (sym (positive-fields b (omega arith) ∙ ap (λ (z : ℕ). ofFields binary64 false z (b % 2 ^ 52)) e ∙ ap (ofFields binary64 false 0) t ∙ low-field b))
     (subst (λ (a : ℕ). HasValue (odd 53 false b 0 1074) false a (2 ^ 1074)) (mul-one b) (odd-sign 53 false b 0 1074))
 
-pub normal-value : (b x : ℕ) → b / 2 ^ 52 ≡ suc x → suc x < 2047 → HasValue (ofBits binary64 b) false ((2 ^ 52 + b % 2 ^ 52) * 2 ^ x) (2 ^ 1074)
+normal-value : (b x : ℕ) → b / 2 ^ 52 ≡ suc x → suc x < 2047 → HasValue (ofBits binary64 b) false ((2 ^ 52 + b % 2 ^ 52) * 2 ^ x) (2 ^ 1074)
 normal-value b x e h =
     subst (λ (v : Float). HasValue v false ((2 ^ 52 + b % 2 ^ 52) * 2 ^ x) (2 ^ 1074))
     (sym (positive-fields b (omega arith) ∙ ap (λ (z : ℕ). ofFields binary64 false z (b % 2 ^ 52)) e ∙ middle-field x (b % 2 ^ 52) h))
@@ -102,6 +103,10 @@ digits-twice c h k =
     let f : c + c ≡ (c % 2 ^ 52 + 2 ^ 52) * (1 + 1) = omega arith in
     f ∙ ap (λ (z : ℕ). (c % 2 ^ 52 + 2 ^ 52) * (1 + z)) (sym e)
 
+-- at 2 ^ 52 both are the same
+pub digits-plain : (c : ℕ) → c ≤ 2 ^ 52 → c + 2 ^ 52 ≡ (c % 2 ^ 52 + 2 ^ 52) * (1 + c / 2 ^ 52)
+digits-plain c h = elim (eq-or-lt-of-le h) [ inl e ↦ (let t : c + 2 ^ 52 ≡ c + c = omega arith in t ∙ digits-twice c (omega arith) (omega arith)) | inr l ↦ digits-once c l ]
+
 pub record EvenDigits (m : ℕ) : Type 0 where
   pub least : 2 ^ 52 ≤ m
   pub most : m ≤ 2 ^ 54 - 2
@@ -112,6 +117,24 @@ even-digits c m h e =
     let lo : q * 1 ≤ q * (1 + c / 2 ^ 52) = mul-le-mul-left q (omega arith) in
     let hi : q * (1 + c / 2 ^ 52) ≤ q * 2 = mul-le-mul-left q (omega arith) in
     record { least = omega arith; most = omega arith }
+
+-- ---- from 1 to 4, in units of 2 ^ -52
+coarse : (x : Float) (a c d : ℕ) → 0 < d → HasValue x false (a * d) (c * d) → HasValue x false a c
+coarse nan a c d D v = v
+coarse (inf s) a c d D v = v
+coarse (fin s m e) a c d D v = (v .0, eq-of-mul-eq-mul-right d D (m * up e * c) (a * down e) (mul-assoc (m * up e) c d ∙ v .1 ∙ mul-right-comm a d (down e)))
+
+-- the pattern that is c above the one of 1
+pub from-one-value : (c : ℕ) → c < 2 ^ 53 → HasValue (ofBits binary64 (c + 1023 * 2 ^ 52)) false ((c % 2 ^ 52 + 2 ^ 52) * (1 + c / 2 ^ 52)) (2 ^ 52)
+from-one-value c h =
+    let b = c + 1023 * 2 ^ 52 in
+    let x = 1022 + c / 2 ^ 52 in
+    let t : 2 ^ 52 + b % 2 ^ 52 ≡ c % 2 ^ 52 + 2 ^ 52 = omega arith in
+    let p : 2 ^ x ≡ (1 + c / 2 ^ 52) * 2 ^ 1022 = pow-add 2 1022 (c / 2 ^ 52) ∙ mul-comm (2 ^ 1022) (2 ^ (c / 2 ^ 52)) ∙ ap (λ (z : ℕ). z * 2 ^ 1022) (digit-power (c / 2 ^ 52) (omega arith)) in
+    coarse (ofBits binary64 b) ((c % 2 ^ 52 + 2 ^ 52) * (1 + c / 2 ^ 52)) (2 ^ 52) (2 ^ 1022) (pow-pos 1022)
+    (subst (λ (z : ℕ). HasValue (ofBits binary64 b) false z (2 ^ 1074))
+    (ap (λ (z : ℕ). z * 2 ^ x) t ∙ ap (λ (z : ℕ). (c % 2 ^ 52 + 2 ^ 52) * z) p ∙ sym (mul-assoc (c % 2 ^ 52 + 2 ^ 52) (1 + c / 2 ^ 52) (2 ^ 1022)))
+    (normal-value b x (omega arith) (omega arith)))
 
 -- ---- the subnormal number b, times 4 until it has 53 digits or more: the invariant of the loop in `subnormal_root`
 pub record Lifted (b m k : ℕ) : Type 0 where

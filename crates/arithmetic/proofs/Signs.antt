@@ -1,6 +1,6 @@
--- What a comparison with zero says of the absolute value and of the sign. Assumes nothing.
-use mathlib.Core.Path.{_≡_, refl, sym, ap, _∙_}
-use mathlib.Core.Bool.{Bool, true, false, not, _&&_, _||_, Bool·beq, true≢false, false≢true}
+-- What a comparison with zero says of the sign. Assumes nothing.
+use mathlib.Core.Path.{_≡_, refl, sym, _∙_}
+use mathlib.Core.Bool.{Bool, true, false, not, _&&_, _||_, Bool·beq, false≢true}
 use Prim.Native.Nat.{ℕ, zero, suc, _+_, _*_, _^_, _≤_, _<_}
 use native.Mathlib.Nat.{mul-pos, zero-lt-suc, pow-succ'}
 use native.Mathlib.Omega.{arith}
@@ -8,9 +8,9 @@ use borrow.Author.Tests.{ltb-true, ltb-false, eqb-true, eq-eqb}
 use lib.Dec.{T, ltb, eqb, eqb→eq}
 use lib.IntN.{ℤ, pos, negsuc}
 use lib.Pow.{pow-pos}
-use lib.Ieee.{Float, nan, inf, fin, binary64, up, down, lt, eq, neg, div, fits}
-use lib.Ieee.Fits.{up-pos, down-pos}
-use Rattle.arithmetic.specs.Basic.{absolute, negative, signPositive}
+use lib.Ieee.{Float, nan, inf, fin, binary64, up, down, lt, eq, div, fits}
+use lib.Ieee.Fits.{up-pos}
+use Rattle.arithmetic.specs.Basic.{negative, signPositive}
 
 abbrev pub plusZero : Float
 plusZero = fin false 0 (pos 0)
@@ -39,19 +39,11 @@ flat (pos zero) h = refl
 flat (pos (suc k)) h = let p : 0 < 2 ^ k = pow-pos k in absurd (omega (arith, simp (pow-succ' 2 k) at h))
 flat (negsuc k) h = let p : 0 < 2 ^ k = pow-pos k in absurd (omega (arith, simp (pow-succ' 2 k) at h))
 
-zero-exp : (s : Bool) (e : ℤ) → T (fits binary64 (fin s zero e)) → e ≡ pos 0
+pub zero-exp : (s : Bool) (e : ℤ) → T (fits binary64 (fin s zero e)) → e ≡ pos 0
 unfolding fits
 zero-exp s e t = flat e (eqb→eq (up e * down e) 1 t)
 
--- a value below zero: its absolute value is its negation, and its sign is not positive
-pub below-zero-absolute : (x : Float) → lt x plusZero ≡ true → neg x ≡ absolute x
-unfolding lt neg absolute
-below-zero-absolute nan h = refl
-below-zero-absolute (inf true) h = refl
-below-zero-absolute (inf false) h = absurd (false≢true h)
-below-zero-absolute (fin true m e) h = refl
-below-zero-absolute (fin false m e) h = absurd (not-below (m * up e * 1) (down e) h)
-
+-- a value below zero: its sign is not positive
 pub below-zero-negative : (x : Float) → lt x plusZero ≡ true → false ≡ signPositive x
 unfolding lt negative signPositive
 below-zero-negative nan h = h
@@ -60,14 +52,7 @@ below-zero-negative (inf false) h = h
 below-zero-negative (fin true m e) h = refl
 below-zero-negative (fin false m e) h = absurd (not-below (m * up e * 1) (down e) h)
 
--- a value that equals zero, of a format: one of the two zeros
-pub zero-absolute : (x : Float) → T (fits binary64 x) → eq x plusZero ≡ true → plusZero ≡ absolute x
-unfolding eq absolute
-zero-absolute nan f h = absurd (false≢true h)
-zero-absolute (inf s) f h = absurd (false≢true h)
-zero-absolute (fin s zero e) f h = ap (fin false 0) (sym (zero-exp s e f))
-zero-absolute (fin s (suc m) e) f h = absurd (not-level m e (Bool·beq s false || eqb (suc m * up e * 1) 0) h)
-
+-- one of the two zeros: its reciprocal has its sign
 pub zero-sign : (x : Float) → eq x plusZero ≡ true → lt plusZero (div binary64 one x) ≡ signPositive x
 unfolding eq lt div negative signPositive
 zero-sign nan h = h
@@ -83,14 +68,6 @@ not-negative m e h g =
     let a : eqb (m * up e * 1) (0 * down e) ≡ true = eq-eqb (m * up e * 1) (0 * down e) (omega arith) in
     let b : eqb (m * up e * 1) 0 ≡ true = eq-eqb (m * up e * 1) 0 (omega arith) in
     false≢true (sym (rw (a, b) at g))
-
-pub above-zero-absolute : (x : Float) → lt x plusZero ≡ false → eq x plusZero ≡ false → x ≡ absolute x
-unfolding lt eq absolute
-above-zero-absolute nan h g = refl
-above-zero-absolute (inf true) h g = absurd (true≢false h)
-above-zero-absolute (inf false) h g = refl
-above-zero-absolute (fin true m e) h g = absurd (not-negative m e h g)
-above-zero-absolute (fin false m e) h g = refl
 
 pub above-zero-positive : (x : Float) → lt x plusZero ≡ false → eq x plusZero ≡ false → true ≡ signPositive x
 unfolding lt eq negative signPositive

@@ -37,3 +37,9 @@ rootOf (fin false (suc m) e) = rootRound binary64 (suc m * up e) (down e)
 pub record NearestRoot (n r : ℕ) : Type 0 where
   pub above : r * r < n + r
   pub below : n ≤ r * r + r
+
+-- the square of q is not far from m * 2 ^ 52
+pub record CloseRoot (m q : ℕ) : Type 0 where
+  pub small : q < 2 ^ 53
+  pub lower : m * 2 ^ 52 < q * q + 2 ^ 63
+  pub upper : q * q < m * 2 ^ 52 + 2 ^ 63

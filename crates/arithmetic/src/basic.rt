@@ -16,13 +16,11 @@ pub fn is_finite(x: f64) -> bool
 pub fn abs(x: f64) -> f64
     ensures { λ r. ⌜ r ≡ absolute x ⌝ }
 {
-    if x < 0.0 {
-        return -x;
+    if x != x {
+        return x;
     }
-    if x == 0.0 {
-        return 0.0;
-    }
-    x
+    // without the highest bit, which is the sign's: no jump that depends on the sign
+    f64::from_bits(f64::to_bits(x) % 0x8000_0000_0000_0000)
 }
 
 // Whether the sign is positive; NaN counts as positive.

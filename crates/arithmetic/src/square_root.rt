@@ -1,10 +1,10 @@
 ghost use mathlib.Core.Path.{_≡_};
 ghost use mathlib.Core.Bool.{false};
-ghost use Prim.Native.Nat.{_+_, _-_, _*_, _/_, _%_, _^_, _≤_, _<_};
+ghost use Prim.Native.Nat.{ℕ, _+_, _-_, _*_, _/_, _%_, _^_, _≤_, _<_};
 ghost use lib.Dec.{leb};
 ghost use lib.Ieee.{Float, binary64, ofBits};
 ghost use lib.Ieee.Exact.{HasValue};
-ghost use Rattle.arithmetic.specs.Root.{rootOf, NearestRoot};
+ghost use Rattle.arithmetic.specs.Root.{rootOf, NearestRoot, CloseRoot};
 
 // Whether t * t is at most m * 2^54. The halves of t keep each product within 64 digits.
 fn square_at_most(t: u64, m: u64) -> bool
@@ -85,59 +85,99 @@ fn careful_root(b: u64) -> f64
     )
 }
 
-// A guess at the root of the float with the pattern b, by two steps of Halley's method from half of the pattern.
-// From 1 to 4 it is less than 2^-52 off. Nothing rests on that.
-fn guessed_root(b: u64) -> f64
-    requires { ⌜ b < 2 ^ 62 + 2 ^ 52 ⌝ }
-{
-    let x = f64::from_bits(b);
-    let near = f64::from_bits(b / 2 + 0x1ff8_0000_0000_0000);
-    let first = near * near;
-    let s = near * (first + x * 3.184050322087164)
-        / (first * 3.0909902576697315 + x * 1.093067039685925);
-    let square = s * s;
-    s + s * (x - square) / (square * 1.5 + x * 0.5)
+// a + b * x + c * x²
+struct Parabola(f64, f64, f64);
+
+// Near 1/sqrt(x) on a piece, of sixteen from 1 to 2 and sixteen from 2 to 4. A match is compiled to a table. An array would be copied at each call.
+fn near_parabola(piece: u64) -> Parabola {
+    match piece {
+        0 => Parabola(1.84676996, -1.19417993, 0.34740777),
+        1 => Parabola(1.7931861, -1.09324064, 0.29986794),
+        2 => Parabola(1.74401324, -1.00576382, 0.2609609),
+        3 => Parabola(1.69867737, -0.9293629, 0.22877095),
+        4 => Parabola(1.65670393, -0.86216907, 0.20187749),
+        5 => Parabola(1.61769669, -0.80270031, 0.17921054),
+        6 => Parabola(1.58132189, -0.74976785, 0.15995294),
+        7 => Parabola(1.54729607, -0.70240822, 0.14347264),
+        8 => Parabola(1.51537676, -0.65983317, 0.12927512),
+        9 => Parabola(1.48535518, -0.62139224, 0.11696936),
+        10 => Parabola(1.45705038, -0.58654442, 0.10624319),
+        11 => Parabola(1.43030472, -0.55483645, 0.09684518),
+        12 => Parabola(1.40498008, -0.52588602, 0.08857113),
+        13 => Parabola(1.38095492, -0.49936868, 0.08125394),
+        14 => Parabola(1.35812174, -0.47500744, 0.0747559),
+        15 => Parabola(1.33638513, -0.4525646, 0.06896277),
+        16 => Parabola(1.30586356, -0.42220636, 0.0614136),
+        17 => Parabola(1.26797405, -0.38651894, 0.05300966),
+        18 => Parabola(1.23320359, -0.35559121, 0.0461318),
+        19 => Parabola(1.20114629, -0.3285794, 0.04044137),
+        20 => Parabola(1.17146658, -0.3048228, 0.03568723),
+        21 => Parabola(1.1438843, -0.28379742, 0.03168025),
+        22 => Parabola(1.11816343, -0.26508297, 0.02827595),
+        23 => Parabola(1.09410354, -0.24833881, 0.02536262),
+        24 => Parabola(1.07153319, -0.23328625, 0.02285283),
+        25 => Parabola(1.05030472, -0.21969533, 0.02067746),
+        26 => Parabola(1.03029021, -0.20737477, 0.01878132),
+        27 => Parabola(1.01137816, -0.19616431, 0.01711997),
+        28 => Parabola(0.99347094, -0.18592879, 0.01565731),
+        29 => Parabola(0.97648259, -0.17655349, 0.0143638),
+        30 => Parabola(0.96033709, -0.16794049, 0.0132151),
+        _ => Parabola(0.94496699, -0.16000575, 0.01219101),
+    }
 }
 
-// The whole number nearest to the root of m * 2^52, if that is q or one of the two numbers above it; else 0. rest is m * 2^52 - q * q.
-// A difference that wraps is large, so that one test shows both that it did not and that the next product fits.
+// A guess at the root of the float x, from 1 to 4, with the pattern b: y is near 1/sqrt(x), and x * y is mended by two terms of the series in
+// 1 - x * y². It is less than 2^-52 off. Nothing rests on that.
+fn guessed_root(b: u64) -> f64
+    requires { ⌜ (0x3ff0_0000_0000_0000 ≤ b) × (b < 0x3ff0_0000_0000_0000 + 2 ^ 53) ⌝ }
+{
+    let x = f64::from_bits(b);
+    let near = near_parabola((b - 0x3ff0_0000_0000_0000) / 281474976710656);
+    let y = near.0 + near.1 * x + x * x * near.2;
+    let s = x * y;
+    let e = 1.0 - s * y;
+    s + s * e * (0.5 + 0.375 * e)
+}
+
+// The whole number nearest to the root of m * 2^52, if that is q or one of the two numbers above it; else 0. rest is m * 2^52 - q * q, of which
+// the lowest 64 digits are enough, since q is close. The halves of q keep each product within them.
 fn mended_root(m: u64, q: u64) -> u64
-    requires { ⌜ 0 < m ⌝ }
+    requires { ⌜ (0 < m) × CloseRoot m q ⌝ }
     ensures { λ r. ⌜ (0 < r → NearestRoot (m * 2 ^ 52) r) ⌝ }
 {
-    if q >= 18014398509481984 {
-        return 0;
-    }
-    let a = q / 134217728;
-    let b = q % 134217728;
-    let most = a * 9;
-    let high = std::num::wrapping_sub_u64(m, a * a * 4);
-    if high > most {
-        return 0;
-    }
-    let middle = std::num::wrapping_sub_u64(high * 16777216, a * b);
-    if middle > most {
-        return 0;
-    }
-    let rest = std::num::wrapping_sub_u64(middle * 268435456, b * b);
+    let a = q / 4294967296;
+    let b = q % 4294967296;
+    let square = std::num::wrapping_add_u64(a * b % 2147483648 * 8589934592, b * b);
+    let rest = std::num::wrapping_sub_u64(m % 4096 * 4503599627370496, square);
     if rest > 5 * q + 6 {
         return 0;
     }
     q + (rest > q) as u64 + (rest > 3 * q + 2) as u64
 }
 
+// The whole number nearest to the root of m * 2^52, or 0 where the guess is too far off. The guess has the pattern g. From 1 to 2 its digits are
+// the pattern less 1022 * 2^52, and one less is not above the exact root.
+fn close_root(m: u64, g: u64) -> u64
+    requires { ⌜ (0 < m) × ((q : ℕ) → g ≡ q + 0x3fe0_0000_0000_0001 → 2 ^ 52 ≤ q + 1 → q + 1 ≤ 2 ^ 53 → CloseRoot m q) ⌝ }
+    ensures { λ r. ⌜ (0 < r → NearestRoot (m * 2 ^ 52) r) ⌝ }
+{
+    let digits = std::num::wrapping_sub_u64(g, 0x3ff0_0000_0000_0000);
+    if digits > 4503599627370496 {
+        return 0;
+    }
+    mended_root(m, digits + 4503599627370495)
+}
+
 // The whole number nearest to the root of m * 2^52, or 0 where the guess is too far off. The guess is taken from the float with the pattern b,
-// which should be m * 2^-52: the pattern of its root less 1022 * 2^52 is that root in units of 2^-52, and one less is not above the exact one.
+// which is m * 2^-52. Its square, rounded, must be less than 2^-43 from that, which 2^-86 tells of the distance's square.
 fn quick_root(m: u64, b: u64) -> u64
-    requires { ⌜ (0 < m) × (b < 2 ^ 62 + 2 ^ 52) ⌝ }
+    requires { ⌜ (2 ^ 52 ≤ m) × (m < 2 ^ 54) × (0x3ff0_0000_0000_0000 ≤ b) × (b < 0x3ff0_0000_0000_0000 + 2 ^ 53) × HasValue (ofBits binary64 b) false m (2 ^ 52) ⌝ }
     ensures { λ r. ⌜ (0 < r → NearestRoot (m * 2 ^ 52) r) ⌝ }
 {
     let guess = guessed_root(b);
-    if guess > 0.0 {
-        return mended_root(
-            m,
-            std::num::wrapping_sub_u64(f64::to_bits(guess), 0x3fe0_0000_0000_0001),
-        );
+    let off = f64::from_bits(b) - guess * guess;
+    if off * off < 1.2924697071141057e-26 {
+        return close_root(m, f64::to_bits(guess));
     }
     0
 }

@@ -2,6 +2,10 @@ use crate::aabb::Aabb;
 use crate::vec3::Vec3;
 use arithmetic::basic;
 ghost use mathlib.Core.Path.{_≡_};
+ghost use lib.Ieee.{le};
+ghost use Rattle.arithmetic.specs.Basic.{absolute};
+ghost use Rattle.geometry.specs.Numbers.{_-ᶠ_, oneᶠ, tolerance};
+ghost use Rattle.geometry.specs.Vector.{lengthOf};
 ghost use Rattle.geometry.specs.Segment.{unitLength, rayAdmitted, segmentEnd, segmentBox};
 
 pub struct Ray {
@@ -10,11 +14,31 @@ pub struct Ray {
     pub max_distance: f64,
 }
 
-// Whether a direction's length is not more than 1e-12 from 1.
+// The least and the greatest square whose root is not more than 1e-12 from 1. The roots of the next floats outside are.
+const LEAST_SQUARE: f64 = 0.999999999998;
+
+const GREATEST_SQUARE: f64 = 1.000000000002;
+
+// Whether a direction's length is not more than 1e-12 from 1. The root grows with the square, so that the square tells.
 pub fn unit_length(direction: Vec3) -> bool
     ensures { λ r. ⌜ r ≡ unitLength direction ⌝ }
 {
-    !(basic::abs(direction.length() - 1.0) > 1.0e-12)
+    let square = direction.dot(direction);
+    if square < LEAST_SQUARE {
+        return false;
+    }
+    !(square > GREATEST_SQUARE)
+}
+
+// Whether a vector's length is within 1e-12 of 1; a NaN length is not.
+pub fn close_to_unit_length(vector: Vec3) -> bool
+    ensures { λ r. ⌜ r ≡ le (absolute (lengthOf vector -ᶠ oneᶠ)) tolerance ⌝ }
+{
+    let square = vector.dot(vector);
+    if square >= LEAST_SQUARE {
+        return square <= GREATEST_SQUARE;
+    }
+    false
 }
 
 impl Ray {

@@ -1,22 +1,27 @@
 -- `arithmetic::basic::abs` meets its contract. Assumes nothing.
-use Rattle.arithmetic.proofs.Signs.{below-zero-absolute, zero-absolute, above-zero-absolute}
-use mathlib.Core.Path.{sym, subst}
+use mathlib.Core.Path.{_≡_, sym, _∙_, subst}
+use mathlib.Core.Bool.{Bool, false, not}
 use lib.Dec.{T}
-use lib.Ieee.{ofBits}
+use lib.Ieee.{Float, isNan, ne}
+use Rattle.arithmetic.proofs.Order.{ne-self-is-nan}
+use Rattle.arithmetic.proofs.SignBit.{nan-absolute, cleared-is-number, absolute-of-bits}
 use Rattle.arithmetic.proofs.basic.abs.Statement.{statement}
 use Rattle.arithmetic.proofs.basic.abs.Tie as tie
 
+is-number : (x : Float) → ne x x ≡ false → isNan x ≡ false
+is-number x h = sym (ne-self-is-nan x) ∙ h
+
 returns : tie.Need-returns
-unfolding ofBits
-returns c = below-zero-absolute _ (c .if1 .taken)
+returns c = nan-absolute _ (sym (ne-self-is-nan _) ∙ c .if1 .taken)
+
+float-to-bits-result : tie.Need-float-to-bits-result
+float-to-bits-result c = subst (λ (b : Bool). T (not b)) (sym (is-number _ (c .if1 .left))) tt
+
+float-from-bits-result : tie.Need-float-from-bits-result
+float-from-bits-result c = cleared-is-number (c .before .args .x) (subst T (sym (c .before .good .0 .1)) tt) (is-number _ (c .if1 .left))
 
 returns-2 : tie.Need-returns-2
-unfolding ofBits
-returns-2 c = zero-absolute _ (subst T (sym (c .before .before .good .0 .1)) tt) (c .if2 .taken)
-
-returns-3 : tie.Need-returns-3
-unfolding ofBits
-returns-3 c = above-zero-absolute _ (c .before .if1 .left) (c .if2 .left)
+returns-2 c = absolute-of-bits (c .before .args .x) (subst T (sym (c .before .good .0 .1)) tt) (is-number _ (c .if1 .left))
 
 pub abs-spec : {M : Type 1} → statement M
-abs-spec = tie.close (tie.spec returns returns-2 returns-3)
+abs-spec = tie.close (tie.spec returns float-to-bits-result float-from-bits-result returns-2)

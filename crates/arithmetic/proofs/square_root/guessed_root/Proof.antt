@@ -1,5 +1,4 @@
--- `guessed_root` is safe: neither pattern that it makes is a NaN's. Assumes nothing.
-use Prim.Native.Nat.{_+_, _/_}
+-- `guessed_root` is safe: the pattern that it makes is no NaN's. Assumes nothing.
 use native.Mathlib.Omega.{arith}
 use borrow.Author.Needs.{needs}
 use Rattle.arithmetic.proofs.RootScaled.{no-nan}
@@ -7,16 +6,16 @@ use Rattle.arithmetic.proofs.square_root.guessed_root.Statement.{statem
 use Rattle.arithmetic.proofs.square_root.guessed_root.Tie as tie
 
 float-from-bits-x : tie.Need-float-from-bits-x
-float-from-bits-x c = no-nan (c .args .b) (omega arith)
+float-from-bits-x c = no-nan (c .args .b) (omega (arith, c .pre))
 
-add-near : tie.Need-add-near
-add-near c = search needs
+sub-near-parabola : tie.Need-sub-near-parabola
+sub-near-parabola c = search needs
 
-float-from-bits-near : tie.Need-float-from-bits-near
-float-from-bits-near c = no-nan (c .args .b / 2 + 0x1ff8_0000_0000_0000) (omega arith)
+near-parabola-requires : tie.Need-near-parabola-requires
+near-parabola-requires c κs = search needs
 
 returns : tie.Need-returns
 returns c = search needs
 
 pub guessed-root-spec : {M : Type 1} → statement M
-guessed-root-spec = tie.close (tie.spec float-from-bits-x add-near float-from-bits-near returns)
+guessed-root-spec = tie.close (tie.spec float-from-bits-x sub-near-parabola near-parabola-requires returns)

@@ -6,7 +6,7 @@ use native.Mathlib.Omega.{arith}
 use lib.Ieee.{binary64, ofBits}
 use lib.Ieee.Exact.{HasValue}
 use borrow.Author.Needs.{needs}
-use Rattle.arithmetic.proofs.RootPatterns.{normal-scaled, even-digits}
+use Rattle.arithmetic.proofs.RootPatterns.{normal-scaled, even-digits, from-one-value}
 use Rattle.arithmetic.proofs.RootScaled.{Assembled, assembled}
 use Rattle.arithmetic.proofs.square_root.normal_root.Statement.{statement}
 use Rattle.arithmetic.proofs.square_root.normal_root.Tie as tie
@@ -21,7 +21,15 @@ add-quick-root : tie.Need-add-quick-root
 add-quick-root c = search needs
 
 quick-root-requires : tie.Need-quick-root-requires
-quick-root-requires c κs = search needs
+quick-root-requires c κs =
+    let low = (c .before .args .b + 1021 * 2 ^ 52) % 2 ^ 53 in
+    let d = even-digits low (c .even-digits .result) (omega arith) (c .even-digits .ensures) in (
+      d .least,
+      omega (arith, d .most),
+      omega arith,
+      omega arith,
+      subst (λ (m : ℕ). HasValue (ofBits binary64 (low + 1023 * 2 ^ 52)) false m (2 ^ 52)) (sym (c .even-digits .ensures)) (from-one-value low (omega arith)),
+    )
 
 mul-result : tie.Need-mul-result
 mul-result c = search needs

@@ -1,20 +1,29 @@
--- `quick_root` meets its contract, by the guess's mending. Assumes nothing.
+-- `quick_root` meets its contract: a guess that passes the test is close. Assumes nothing.
+use mathlib.Core.Path.{sym, subst}
+use native.Mathlib.Omega.{arith}
+use lib.Dec.{T}
+use lib.Ieee.{binary64, ofBits}
 use borrow.Author.Needs.{needs}
-use Rattle.arithmetic.proofs.RootCases.{above-no-nan}
+use Rattle.arithmetic.proofs.RootScaled.{no-nan}
+use Rattle.arithmetic.proofs.RootClose.{passed-number, passed-close}
 use Rattle.arithmetic.proofs.square_root.quick_root.Statement.{statement}
 use Rattle.arithmetic.proofs.square_root.quick_root.Tie as tie
 
 guessed-root-requires : tie.Need-guessed-root-requires
 guessed-root-requires c κs = search needs
 
-float-to-bits-wrapping-sub-u64 : tie.Need-float-to-bits-wrapping-sub-u64
-float-to-bits-wrapping-sub-u64 c = above-no-nan (c .before .guessed-root .result) (c .if1 .taken)
+float-from-bits-off : tie.Need-float-from-bits-off
+float-from-bits-off c = no-nan (c .before .args .b) (omega (arith, c .before .pre))
 
-wrapping-sub-u64-requires : tie.Need-wrapping-sub-u64-requires
-wrapping-sub-u64-requires c κs = search needs
+float-to-bits-close-root : tie.Need-float-to-bits-close-root
+float-to-bits-close-root c = passed-number (ofBits binary64 (c .before .before .args .b)) (c .before .guessed-root .result) (c .if1 .taken)
 
-mended-root-requires : tie.Need-mended-root-requires
-mended-root-requires c κs = search needs
+close-root-requires : tie.Need-close-root-requires
+close-root-requires c κs =
+    let s = c .before .before in (
+      omega (arith, s .pre .0),
+      λ q e l u. passed-close (ofBits binary64 (s .args .b)) (c .before .guessed-root .result) (s .args .m) q (s .pre .4) (s .pre .0) (s .pre .1) (subst T (sym (c .before .guessed-root .ok)) tt) (c .if1 .taken) e l u,
+    )
 
 returns : tie.Need-returns
 returns c = search needs
@@ -27,8 +36,8 @@ quick-root-spec =
     tie.close
     (tie.spec
     guessed-root-requires
-    float-to-bits-wrapping-sub-u64
-    wrapping-sub-u64-requires
-    mended-root-requires
+    float-from-bits-off
+    float-to-bits-close-root
+    close-root-requires
     returns
     returns-2)
