@@ -1,5 +1,5 @@
 -- What a list of indices holds, by the answers of its members, and that the cases of an answer tell each other apart. Assumes nothing.
-use Prim.Native.Nat.{ℕ, _<_}
+use Prim.Native.Nat.{ℕ, _<_, _≤_}
 use mathlib.Core.Path.{_≡_}
 use mathlib.Core.Logic.{⊎-elim}
 use mathlib.Core.Bool.{true, false}
@@ -39,6 +39,11 @@ Farther d distance = lt d distance ≡ true
 abbrev pub Ascending : List ℕ → Type 0
 Ascending [] = Unit
 Ascending (x ∷ xs) = Each (λ (y : ℕ). x < y) xs × Ascending xs
+
+-- not falling
+abbrev pub Rising : List ℕ → Type 0
+Rising [] = Unit
+Rising (x ∷ xs) = Each (λ (y : ℕ). x ≤ y) xs × Rising xs
 
 pub each-cons : (P : ℕ → Type 0) (x : ℕ) (xs : List ℕ) → ((j : ℕ) → j ≡ x → P j) → Each P xs → Each P (x ∷ xs)
 each-cons P x xs p ps j m = ⊎-elim (λ e. p j e) (λ n. ps j n) (List·Memᴰ·cases-cons m)

@@ -3,3 +3,8 @@ pub mod AnswerLists
 pub mod NearestRefusals
 pub mod NearestHits
 pub mod NearestLaws
+pub mod KeptLaws
+pub mod ReachLaws
+pub mod SummaryOrder
+pub mod SummaryLaws
+pub mod SummaryMembers

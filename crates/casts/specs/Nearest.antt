@@ -1,6 +1,6 @@
 -- The fold of triangle answers over a list of indices: the mesh's and the height grid's. Definitions only. Assumes nothing.
 use Prim.Native.Nat.{ℕ}
-use mathlib.Core.Bool.{Bool, cond}
+use mathlib.Core.Bool.{Bool, true, false, cond}
 use mathlib.Core.List.{List, [], _∷_}
 use lib.Ieee.{Float, lt}
 use Rattle.geometry.specs.declared.vec3.Vec3.{Vec3}
@@ -29,6 +29,12 @@ nextOf noHit index (refused number) = stopped number
 nextOf (hitAt n d i) index (hit normal distance) = cond (lt distance d) (hitAt normal distance index) (hitAt n d i)
 nextOf (hitAt n d i) index none = hitAt n d i
 nextOf (hitAt n d i) index (refused number) = stopped number
+
+-- whether a hit at a distance takes the place of what was found before
+unfoldable pub givesWay : Indexed → Float → Bool
+givesWay (hitAt n d i) distance = lt distance d
+givesWay noHit distance = true
+givesWay (stopped number) distance = false
 
 -- the answers of the triangles of a list, in its order, on top of what was found before
 unfoldable pub foldFrom : (ℕ → Answer) → Indexed → List ℕ → Indexed

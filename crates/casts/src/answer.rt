@@ -7,6 +7,13 @@ pub enum Cast {
     Refused(u32),
 }
 
+// The same without the normal: a hit at a distance, a miss, or a refusal with its number.
+pub enum Reach {
+    At(f64),
+    Miss,
+    Refused(u32),
+}
+
 // Document 01's table of refusals.
 pub const INVALID_INPUT: u32 = 1;
 

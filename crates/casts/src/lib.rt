@@ -10,3 +10,5 @@ pub mod plane;
 pub mod triangle;
 // The nearest of many triangles.
 pub mod nearest;
+// The same in whatever order they come.
+pub mod summary;

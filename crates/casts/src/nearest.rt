@@ -1,8 +1,12 @@
 use crate::answer::Cast;
+use crate::answer::Reach;
+use crate::triangle;
+use geometry::ray::Ray;
 use geometry::vec3::Vec3;
 ghost use mathlib.Core.Path.{_≡_};
 ghost use Rattle.casts.specs.Answer.{says};
-ghost use Rattle.casts.specs.Nearest.{noHit, hitAt, saysIndexed, nextOf, withoutIndex};
+ghost use Rattle.casts.specs.Nearest.{noHit, hitAt, saysIndexed, nextOf, givesWay, withoutIndex};
+ghost use Rattle.casts.specs.Triangle.{triangleCast};
 
 // The answer of a cast at many triangles: the hit adds the triangle's index.
 pub enum IndexedCast {
@@ -88,6 +92,48 @@ pub fn next(best: IndexedCast, index: u32, cast: Cast) -> IndexedCast
         }
         IndexedCast::Refused(number) => {
             return IndexedCast::Refused(number);
+        }
+    }
+}
+
+// Whether a hit at a distance would take the place of what was found so far.
+fn gives_way(best: IndexedCast, distance: f64) -> bool
+    ensures { λ r. ⌜ r ≡ givesWay (saysIndexed best) distance ⌝ }
+{
+    match best {
+        IndexedCast::Hit {
+            normal: _,
+            distance: least,
+            index: _,
+        } => {
+            return distance < least;
+        }
+        IndexedCast::None => {
+            return true;
+        }
+        IndexedCast::Refused(_) => {
+            return false;
+        }
+    }
+}
+
+// What was found so far and one more triangle, whose normal is computed only where its hit takes the place.
+pub fn next_triangle(best: IndexedCast, index: u32, ray: Ray, corners: [Vec3; 3]) -> IndexedCast
+    ensures { λ r. ⌜ saysIndexed r ≡ nextOf (saysIndexed best) index (triangleCast ray corners) ⌝ }
+{
+    let reach = triangle::triangle_reach(ray, corners);
+    match reach {
+        Reach::At(distance) => {
+            if gives_way(best, distance) {
+                return next(best, index, triangle::hit_at(ray, corners, distance));
+            }
+            return best;
+        }
+        Reach::Miss => {
+            return best;
+        }
+        Reach::Refused(number) => {
+            return next(best, index, Cast::Refused(number));
         }
     }
 }

@@ -2,6 +2,7 @@ use crate::answer;
 use crate::answer::Cast;
 use crate::surface;
 use arithmetic::basic;
+use geometry::ray;
 use geometry::ray::Ray;
 use geometry::vec3::Checked;
 use geometry::vec3::Vec3;
@@ -19,7 +20,7 @@ pub struct Plane {
 pub fn is_admitted(plane: Plane) -> bool
     ensures { λ r. ⌜ r ≡ planeAdmitted plane ⌝ }
 {
-    if basic::abs(plane.normal.length() - 1.0) <= 1.0e-12 {
+    if ray::close_to_unit_length(plane.normal) {
         return basic::is_finite(plane.distance);
     }
     false

@@ -1,5 +1,6 @@
 use crate::answer;
 use crate::answer::Cast;
+use crate::answer::Reach;
 use crate::surface;
 use arithmetic::basic;
 use arithmetic::extremes;
@@ -8,8 +9,12 @@ use geometry::vec3::Checked;
 use geometry::vec3::Normalized;
 use geometry::vec3::Vec3;
 ghost use mathlib.Core.Path.{_≡_};
-ghost use Rattle.casts.specs.Answer.{says};
-ghost use Rattle.casts.specs.Triangle.{flat, triangleNormal, triangleAbove, triangleAt, triangleCast, rayTriangle};
+ghost use mathlib.Core.Bool.{cond};
+ghost use Rattle.casts.specs.Answer.{none, says};
+ghost use Rattle.geometry.specs.Vector.{subOf};
+ghost use Rattle.geometry.specs.Box.{corner};
+ghost use Rattle.casts.specs.Reach.{reachOf};
+ghost use Rattle.casts.specs.Triangle.{flat, triangleNormal, triangleFrom, hasNormal, triangleAbove, triangleAt, triangleCast, rayTriangle};
 
 // Whether the determinant is too small for the edges' scale.
 fn is_flat(determinant: f64, a: Vec3, b: Vec3) -> bool
@@ -36,42 +41,70 @@ fn triangle_normal(ray: Ray, a: Vec3, b: Vec3, distance: f64) -> Cast
     }
 }
 
-// The answer where u is in range: v, the sum of both, and the distance are tested.
-fn triangle_above(ray: Ray, offset: Vec3, a: Vec3, b: Vec3, inverse: f64, u: f64) -> Cast
-    ensures { λ r. ⌜ says r ≡ triangleAbove ray offset a b inverse u ⌝ }
+// Whether the edges' normal can be told: decided by a dot alone, without the root.
+fn has_normal(a: Vec3, b: Vec3) -> bool
+    ensures { λ r. ⌜ r ≡ hasNormal a b ⌝ }
+{
+    let normal = a.cross(b);
+    let dot = normal.dot(normal);
+    if !basic::is_finite(dot) {
+        return false;
+    }
+    // 2^-1022
+    if dot < 2.2250738585072014e-308 {
+        return false;
+    }
+    true
+}
+
+// The distance where u is in range: v, the sum of both, and the distance are tested; the normal is left.
+// A flat determinant is a miss like what is tested here, so the test for it, which takes longest, comes last.
+fn triangle_above(
+    ray: Ray,
+    offset: Vec3,
+    a: Vec3,
+    b: Vec3,
+    determinant: f64,
+    inverse: f64,
+    u: f64,
+) -> Reach
+    ensures { λ r. ⌜ triangleFrom ray a b r ≡ cond (flat determinant a b) none (triangleAbove ray offset a b inverse u) ⌝ }
 {
     let q = offset.cross(a);
     let v = ray.direction.dot(q) * inverse;
     if v < 0.0 {
-        return Cast::None;
+        return Reach::Miss;
     }
     if u + v > 1.0 {
-        return Cast::None;
+        return Reach::Miss;
     }
     let distance = b.dot(q) * inverse;
     if surface::out_of_range(ray, distance) {
-        return Cast::None;
+        return Reach::Miss;
     }
-    triangle_normal(ray, a, b, distance)
+    if is_flat(determinant, a, b) {
+        return Reach::Miss;
+    }
+    Reach::At(distance)
 }
 
-// The answer where the determinant is not flat; a NaN u is a miss.
-fn triangle_at(ray: Ray, offset: Vec3, a: Vec3, b: Vec3, p: Vec3, determinant: f64) -> Cast
-    ensures { λ r. ⌜ says r ≡ triangleAt ray offset a b p determinant ⌝ }
+// The distance where the determinant is finite; a NaN u is a miss.
+fn triangle_at(ray: Ray, offset: Vec3, a: Vec3, b: Vec3, p: Vec3, determinant: f64) -> Reach
+    ensures { λ r. ⌜ triangleFrom ray a b r ≡ cond (flat determinant a b) none (triangleAt ray offset a b p determinant) ⌝ }
 {
     let inverse = 1.0 / determinant;
     let u = offset.dot(p) * inverse;
     if 0.0 <= u {
         if u <= 1.0 {
-            return triangle_above(ray, offset, a, b, inverse, u);
+            return triangle_above(ray, offset, a, b, determinant, inverse, u);
         }
     }
-    Cast::None
+    Reach::Miss
 }
 
-// The Rust's ray_triangle, with nothing tested before it: what the mesh and the height grid call for each triangle.
-pub fn triangle_cast(ray: Ray, corners: [Vec3; 3]) -> Cast
-    ensures { λ r. ⌜ says r ≡ triangleCast ray corners ⌝ }
+// The distance at three corners, or what comes before it; the normal is left.
+fn triangle_distance(ray: Ray, corners: [Vec3; 3]) -> Reach
+    ensures { λ r. ⌜ triangleFrom ray (subOf (corner corners 1) (corner corners 0)) (subOf (corner corners 2) (corner corners 0)) r ≡ triangleCast ray corners ⌝ }
 {
     let first = corners[0];
     let second = corners[1];
@@ -81,12 +114,61 @@ pub fn triangle_cast(ray: Ray, corners: [Vec3; 3]) -> Cast
     let p = ray.direction.cross(b);
     let along = a.checked_dot(p);
     let Checked::Value(determinant) = along else {
-        return Cast::Refused(answer::OVERFLOW);
+        return Reach::Refused(answer::OVERFLOW);
     };
-    if is_flat(determinant, a, b) {
-        return Cast::None;
-    }
     triangle_at(ray, ray.origin.sub(first), a, b, p, determinant)
+}
+
+// The cast without its normal, and so without its root: what the mesh and the height grid ask first of each triangle.
+pub fn triangle_reach(ray: Ray, corners: [Vec3; 3]) -> Reach
+    ensures { λ r. ⌜ r ≡ reachOf (triangleCast ray corners) ⌝ }
+{
+    let reach = triangle_distance(ray, corners);
+    match reach {
+        Reach::At(distance) => {
+            let first = corners[0];
+            let second = corners[1];
+            let third = corners[2];
+            if has_normal(second.sub(first), third.sub(first)) {
+                return Reach::At(distance);
+            }
+            return Reach::Refused(answer::NO_NORMAL);
+        }
+        Reach::Miss => {
+            return Reach::Miss;
+        }
+        Reach::Refused(number) => {
+            return Reach::Refused(number);
+        }
+    }
+}
+
+// The hit at the distance that the corners are reached at.
+pub fn hit_at(ray: Ray, corners: [Vec3; 3], distance: f64) -> Cast
+    ensures { λ r. ⌜ says r ≡ triangleNormal ray (subOf (corner corners 1) (corner corners 0)) (subOf (corner corners 2) (corner corners 0)) distance ⌝ }
+{
+    let first = corners[0];
+    let second = corners[1];
+    let third = corners[2];
+    triangle_normal(ray, second.sub(first), third.sub(first), distance)
+}
+
+// The Rust's ray_triangle, with nothing tested before it.
+pub fn triangle_cast(ray: Ray, corners: [Vec3; 3]) -> Cast
+    ensures { λ r. ⌜ says r ≡ triangleCast ray corners ⌝ }
+{
+    let reach = triangle_reach(ray, corners);
+    match reach {
+        Reach::At(distance) => {
+            return hit_at(ray, corners, distance);
+        }
+        Reach::Miss => {
+            return Cast::None;
+        }
+        Reach::Refused(number) => {
+            return Cast::Refused(number);
+        }
+    }
 }
 
 // The cast of any ray at any three corners.

@@ -1,7 +1,7 @@
 -- The mesh cast's answers: each refusal, and the fold over the walk's list. Assumes nothing.
-use Prim.Native.Nat.{ℕ, _+_, _*_, _%_, _/_, _≤_}
-use mathlib.Core.Path.{_≡_, refl, sym, ap, subst, _∙_}
-use mathlib.Core.Bool.{Bool, true, false, _&&_, cond, true≢false}
+use Prim.Native.Nat.{ℕ, _*_, _%_, _≤_}
+use mathlib.Core.Path.{_≡_, sym, ap, subst, _∙_}
+use mathlib.Core.Bool.{Bool, true, false, _&&_, true≢false}
 use mathlib.Core.List.{List, []}
 use native.Mathlib.Omega.{arith}
 use borrow.Author.Tests.{leb-true, eq-eqb, ne-eqb}
@@ -16,11 +16,12 @@ use Rattle.geometry.specs.declared.aabb.Aabb.{Aabb}
 use Rattle.geometry.specs.declared.ray.Ray.{Ray}
 use Rattle.casts.specs.Answer.{invalidInput, badShape, noRoom, wrongPose, outOfBounds, overflow}
 use Rattle.casts.specs.Nearest.{Indexed, stopped, nearestOf}
+use Rattle.tree.specs.Lists.{sorted}
 use Rattle.tree.specs.Layout.{Tree}
 use Rattle.tree.specs.Mesh.{Mesh, thirds, lengthsAdmitted, triangleAnswer}
 use Rattle.tree.proofs.Corners.{and-first, and-second}
-use Rattle.tree_query.specs.Walk.{Walking, walking, broken, walkOf}
-use Rattle.tree_query.specs.Areas.{allBelow, listed, Grown, GrownTo, WalkRoom}
+use Rattle.tree_query.specs.Walk.{walking, broken, ended, walkOf}
+use Rattle.tree_query.specs.Areas.{allBelow, listed, Grown, GrownTo}
 use Rattle.tree_query.specs.declared.step.Filled.{Filled}
 use Rattle.tree_query.specs.declared.step.Filled.the-variants.{Count, Broken}
 use Rattle.tree_query.specs.Query.{walkFits}
@@ -60,21 +61,21 @@ module _ (r : Ray) (m : Mesh) (pose : List Float) (t : Tree) where
     unfolding meshCast
     cast-unboxed h = simp (f, sym b, h)
 
-    module _ (v : validBox box ≡ true) (x : Filled) (exit : List ℕ) (w : listed [] x exit ≡ walkOf t n box) where
+    module _ (v : validBox box ≡ true) (x : Filled) (exit : List ℕ) (w : ended t n box (listed [] x exit) ≡ walkOf t n box) where
       over : overWalk r pose (m .triangles) (walkOf t n box) ≡ meshCast r m pose t
       unfolding meshCast
       over = simp (f, sym b, v)
 
       pub cast-broken : x ≡ Broken → stopped outOfBounds ≡ meshCast r m pose t
-      unfolding overWalk
+      unfolding overWalk ended
       cast-broken e =
-          let w' : broken ≡ walkOf t n box = subst (λ (y : Filled). listed [] y exit ≡ walkOf t n box) e w in
+          let w' : broken ≡ walkOf t n box = subst (λ (y : Filled). ended t n box (listed [] y exit) ≡ walkOf t n box) e w in
           ap (overWalk r pose (m .triangles)) w' ∙ over
 
-      pub cast-nearest : (k : ℕ) (answer : Indexed) → x ≡ Count k → answer ≡ nearestOf (triangleAnswer r pose (m .triangles)) (take k exit) → answer ≡ meshCast r m pose t
-      unfolding overWalk
+      pub cast-nearest : (k : ℕ) (answer : Indexed) → x ≡ Count k → answer ≡ nearestOf (triangleAnswer r pose (m .triangles)) (sorted (take k exit)) → answer ≡ meshCast r m pose t
+      unfolding overWalk ended
       cast-nearest k answer e a =
-          let w' : walking [] (take k exit) ≡ walkOf t n box = subst (λ (y : Filled). listed [] y exit ≡ walkOf t n box) e w in
+          let w' : walking [] (sorted (take k exit)) ≡ walkOf t n box = subst (λ (y : Filled). ended t n box (listed [] y exit) ≡ walkOf t n box) e w in
           a ∙ ap (overWalk r pose (m .triangles)) w' ∙ over
 
 -- the walk's list is within its area and below the triangle count

@@ -1,20 +1,27 @@
--- The fold over the listed triangles: what is left of it gives the whole. Assumes nothing.
-use Prim.Native.Nat.{ℕ, zero, suc, _+_, _*_, _/_, _<_, _≤_}
-use mathlib.Core.Path.{_≡_, refl, sym, ap, _∙_}
-use mathlib.Core.Bool.{Bool, true, false, _&&_}
-use mathlib.Core.List.{List, [], _∷_}
+-- The notes of the listed triangles: what is left of them gives the whole, and the winner's answer is that of the fold over the same list ascending. Assumes nothing.
+use Prim.Native.Nat.{ℕ, zero, suc, _+_, _<_, _≤_}
+use mathlib.Core.Path.{_≡_, sym, ap, _∙_}
+use mathlib.Core.Bool.{Bool, true, false, cond}
+use mathlib.Core.List.{List, [], _∷_, List·Memᴰ·not-nil}
 use native.Mathlib.Omega.{arith}
 use native.Mathlib.Numerals.{add-one}
 use borrow.Author.Tests.{ltb-true}
-use lib.Dec.{ltb}
+use lib.Dec.{ltb, leb}
 use lib.ListN.{length, getD, take, drop, drop-of-length-le}
 use lib.Seq.{drop-cons, getD-take, length-take-le}
 use Rattle.casts.specs.Answer.{Answer}
-use Rattle.casts.specs.Nearest.{Indexed, hitAt, noHit, stopped, nextOf, foldFrom}
-use Rattle.tree.specs.Lists.{every}
+use Rattle.casts.specs.Nearest.{Indexed, noHit, nextOf, nearestOf}
+use Rattle.casts.specs.Reach.{reachOf}
+use Rattle.casts.specs.Summary.{Kept, nobody, kept, Summary, nothing, noteOf, summaryFrom, winner, answerAt}
+use Rattle.casts.specs.declared.answer.Reach.{Reach}
+use Rattle.casts.proofs.AnswerLists.{Each, each-cons}
+use Rattle.casts.proofs.SummaryOrder.{Reordered, unchanged, exchanged, behind, through}
+use Rattle.casts.proofs.SummaryLaws.{nearest-of-any-order}
+use Rattle.casts.proofs.SummaryMembers.{winner-of-list}
+use Rattle.tree.specs.Lists.{every, insertBy, sortBy, sorted}
 use Rattle.tree.proofs.Corners.{and-first, and-second}
+use Rattle.tree.proofs.SortLaws.{sorted-rises}
 use Rattle.tree_query.specs.Areas.{allBelow}
-use Rattle.mesh.specs.Settled.{isSettled}
 
 -- a number of a list whose numbers are all below a bound
 every-at : (n i : ℕ) (xs : List ℕ) → allBelow n xs ≡ true → i < length xs → getD xs i 0 < n
@@ -31,41 +38,67 @@ listed-below list found inside n i a h =
     let k : i < length (take found list) = omega arith in
     rw (getD-take found list i 0 h) at (every-at n i (take found list) a k)
 
-false-not-true : false ≡ true → ⊥
-false-not-true h = let z : _≡_ {A = ℕ} 0 1 = cc in omega arith
-
--- a settled answer stays
-settled-stays : (answer : ℕ → Answer) (best : Indexed) (xs : List ℕ) → isSettled best ≡ true → foldFrom answer best xs ≡ best
-unfolding foldFrom nextOf isSettled
-settled-stays answer best [] h = refl
-settled-stays answer (hitAt normal distance index) (x ∷ xs) h = absurd (false-not-true h)
-settled-stays answer noHit (x ∷ xs) h = absurd (false-not-true h)
-settled-stays answer (stopped number) (x ∷ xs) h = settled-stays answer (stopped number) xs h
+each-below : (n : ℕ) (l : List ℕ) → allBelow n l ≡ true → Each (λ (i : ℕ). i < n) l
+unfolding every
+each-below n [] a j m = absurd (List·Memᴰ·not-nil m)
+each-below n (x ∷ xs) a j m =
+    each-cons (λ (i : ℕ). i < n) x xs (λ k e. let h = ltb-true x n (and-first (ltb x n) (allBelow n xs) a) in omega arith) (each-below n xs (and-second (ltb x n) (allBelow n xs) a)) j m
 
 module _ (answer : ℕ → Answer) (list : List ℕ) (found : ℕ) where
-  pub record Folding (best : Indexed) (i : ℕ) : Type 0 where
+  pub record Folding (notes : Summary) (i : ℕ) : Type 0 where
     pub within : i ≤ found
-    pub gives : foldFrom answer best (drop i (take found list)) ≡ foldFrom answer noHit (take found list)
+    pub gives : summaryFrom answer notes (drop i (take found list)) ≡ summaryFrom answer nothing (take found list)
 
-  pub folding-begins : Folding noHit 0
-  folding-begins = record { within = omega arith; gives = refl }
+  pub folding-begins : (notes : Summary) → notes ≡ nothing → Folding notes 0
+  folding-begins notes e = record { within = omega arith; gives = ap (λ (s : Summary). summaryFrom answer s (take found list)) e }
 
   module _ (inside : found ≤ length list) where
-    pub folding-goes : (best next : Indexed) (a : Answer) (i : ℕ) → Folding best i → i < found → a ≡ answer (getD list i 0) → next ≡ nextOf best (getD list i 0) a → Folding next (i + 1)
-    unfolding foldFrom
-    folding-goes best next a i f h e g =
+    pub folding-goes : (notes next : Summary) (a : Reach) (i : ℕ) → Folding notes i → i < found → a ≡ reachOf (answer (getD list i 0)) → next ≡ noteOf notes (getD list i 0) a → Folding next (i + 1)
+    unfolding summaryFrom
+    folding-goes notes next a i f h e g =
         let l : length (take found list) ≡ found = length-take-le found list inside in
         let k : i < length (take found list) = omega arith in
         let c : drop i (take found list) ≡ getD list i 0 ∷ drop (suc i) (take found list) =
         drop-cons (take found list) i 0 k ∙ ap (λ (x : ℕ). x ∷ drop (suc i) (take found list)) (getD-take found list i 0 h) in
         record { within = omega arith; gives = rw (g, e, add-one i) (rw c at (f .gives)) }
 
-    pub folding-ends : (best : Indexed) (i : ℕ) → Folding best i → found ≤ i → best ≡ foldFrom answer noHit (take found list)
-    unfolding foldFrom
-    folding-ends best i f h =
+    pub folding-ends : (notes : Summary) (i : ℕ) → Folding notes i → found ≤ i → notes ≡ summaryFrom answer nothing (take found list)
+    unfolding summaryFrom
+    folding-ends notes i f h =
         let l : length (take found list) ≡ found = length-take-le found list inside in
         let k : length (take found list) ≤ i = omega arith in
         rw (drop-of-length-le (take found list) k) at (f .gives)
 
-  pub folding-settled : (best : Indexed) (i : ℕ) → Folding best i → isSettled best ≡ true → best ≡ foldFrom answer noHit (take found list)
-  folding-settled best i f h = sym (settled-stays answer best (drop i (take found list)) h) ∙ f .gives
+-- ---- the list of the walk and the same ascending
+insert-reorders : (x : ℕ) (l : List ℕ) → Reordered (x ∷ l) (insertBy leb x l)
+unfolding insertBy
+insert-reorders x [] = unchanged
+insert-reorders x (y ∷ l) = go (leb x y) (insert-reorders x l)
+  where
+    go : (b : Bool) → Reordered (x ∷ l) (insertBy leb x l) → Reordered (x ∷ (y ∷ l)) (cond b (x ∷ (y ∷ l)) (y ∷ insertBy leb x l))
+    go true rest = unchanged
+    go false rest = through (exchanged x y l) (behind y rest)
+
+sorted-reorders : (l : List ℕ) → Reordered l (sorted l)
+unfolding sortBy
+sorted-reorders [] = unchanged
+sorted-reorders (x ∷ l) = through (behind x (sorted-reorders l)) (insert-reorders x (sorted l))
+
+-- ---- the winner's answer
+module _ (answer : ℕ → Answer) (l : List ℕ) (notes : Summary) (h : notes ≡ summaryFrom answer nothing l) (chosen : Kept ℕ) (w : chosen ≡ winner notes) where
+  wins : chosen ≡ winner (summaryFrom answer nothing l)
+  wins = w ∙ ap winner h
+
+  nearest : answerAt answer chosen ≡ nearestOf answer (sorted l)
+  nearest = ap (answerAt answer) wins ∙ nearest-of-any-order answer (sorted-reorders l) (sorted-rises l)
+
+  pub nobody-wins : chosen ≡ nobody → noHit ≡ nearestOf answer (sorted l)
+  unfolding answerAt
+  nobody-wins e = ap (answerAt answer) (sym e) ∙ nearest
+
+  pub winner-answers : (index : ℕ) → chosen ≡ kept index → (a : Answer) → a ≡ answer index → (r : Indexed) → r ≡ nextOf noHit index a → r ≡ nearestOf answer (sorted l)
+  unfolding answerAt
+  winner-answers index e a f r g = g ∙ ap (nextOf noHit index) f ∙ ap (answerAt answer) (sym e) ∙ nearest
+
+  pub winner-below : (n index : ℕ) → allBelow n l ≡ true → chosen ≡ kept index → index < n
+  winner-below n index below e = rw (sym wins ∙ e) at (winner-of-list (λ (i : ℕ). i < n) answer l (each-below n l below))

@@ -1,5 +1,4 @@
 -- The mesh cast, and demand 3. Definitions only. Assumes nothing.
 pub mod MeshCast
-pub mod Settled
 pub mod Demand3
 pub mod Builder

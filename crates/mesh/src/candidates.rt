@@ -1,38 +1,52 @@
+use casts::answer;
+use casts::answer::Reach;
 use casts::nearest;
 use casts::nearest::IndexedCast;
+use casts::summary;
+use casts::summary::Chosen;
+use casts::summary::Notes;
+use casts::triangle;
 use geometry::ray::Ray;
 use tree::mesh;
 ghost use mathlib.Core.Path.{_≡_};
 ghost use mathlib.Core.Bool.{true};
-ghost use Prim.Native.Nat.{_≤_};
+ghost use Prim.Native.Nat.{_+_, _*_, _≤_};
 ghost use lib.ListN.{length, take};
+ghost use Rattle.casts.specs.Reach.{reachOf};
 ghost use Rattle.casts.specs.Nearest.{saysIndexed, nearestOf};
+ghost use Rattle.casts.specs.Summary.{nothing, summaryFrom, saysNotes};
+ghost use Rattle.tree.specs.Lists.{sorted};
 ghost use Rattle.tree.specs.Mesh.{thirds, triangleAnswer};
 ghost use Rattle.tree_query.specs.Areas.{allBelow};
-ghost use Rattle.mesh.specs.Settled.{isSettled};
 
-// Whether no further triangle changes the answer: a refusal stands, and a hit may still be replaced by a nearer one.
-fn settled(best: IndexedCast) -> bool
-    ensures { λ r. ⌜ r ≡ isSettled (saysIndexed best) ⌝ }
+// The answer of one triangle without its normal, for an admitted ray: an index past the vertices is 5.
+fn triangle_reach(ray: Ray, pose: &[f64], triangles: &[u32], index: usize) -> Reach
+    requires { ⌜ 3 * index + 3 ≤ length (now triangles) ⌝ }
+    ensures { λ r. ⌜ r ≡ reachOf (triangleAnswer ray (now (pose .entry)) (now (triangles .entry)) index) ⌝ }
 {
-    match best {
-        IndexedCast::Hit {
-            normal: _,
-            distance: _,
-            index: _,
-        } => {
-            return false;
-        }
-        IndexedCast::None => {
-            return false;
-        }
-        IndexedCast::Refused(_) => {
-            return true;
-        }
+    if !mesh::corners_inside(pose.len() / 3, triangles, index) {
+        return Reach::Refused(answer::OUT_OF_BOUNDS);
     }
+    triangle::triangle_reach(ray, mesh::corners_of(pose, triangles, index))
 }
 
-// The nearest hit of the triangles in the first places of a list, for an admitted ray; the first refusal in the list's order is the answer.
+// The notes of the triangles in the first places of a list, for an admitted ray. A refusal does not end them: one of a lower index may follow.
+fn note_all(ray: Ray, pose: &[f64], triangles: &[u32], list: &[u32], found: usize) -> Notes
+    requires { ⌜ (found ≤ length (now list)) × (allBelow (thirds (length (now triangles))) (take found (now list)) ≡ true) ⌝ }
+    ensures { λ r. ⌜ saysNotes r ≡ summaryFrom (triangleAnswer ray (now (pose .entry)) (now (triangles .entry))) nothing (take found (now (list .entry))) ⌝ }
+{
+    let mut notes = summary::empty();
+    let mut i: usize = 0;
+    while i < found {
+        let index = list[i];
+        let reach = triangle_reach(ray, pose, triangles, index as usize);
+        notes = summary::note(notes, index, reach);
+        i += 1;
+    }
+    notes
+}
+
+// The nearest hit of the triangles in the first places of a list, for an admitted ray: as if they stood there ascending, in whatever order they do. Only the winner's normal is computed.
 pub fn nearest_of(
     ray: Ray,
     pose: &[f64],
@@ -41,18 +55,13 @@ pub fn nearest_of(
     found: usize,
 ) -> IndexedCast
     requires { ⌜ (found ≤ length (now list)) × (allBelow (thirds (length (now triangles))) (take found (now list)) ≡ true) ⌝ }
-    ensures { λ r. ⌜ saysIndexed r ≡ nearestOf (triangleAnswer ray (now (pose .entry)) (now (triangles .entry))) (take found (now (list .entry))) ⌝ }
+    ensures { λ r. ⌜ saysIndexed r ≡ nearestOf (triangleAnswer ray (now (pose .entry)) (now (triangles .entry))) (sorted (take found (now (list .entry)))) ⌝ }
 {
-    let mut best = IndexedCast::None;
-    let mut i: usize = 0;
-    while i < found {
-        if settled(best) {
-            return best;
-        }
-        let index = list[i];
-        let answer = mesh::triangle_answer(ray, pose, triangles, index as usize);
-        best = nearest::next(best, index, answer);
-        i += 1;
-    }
-    best
+    let notes = note_all(ray, pose, triangles, list, found);
+    let winner = summary::winner(notes);
+    let Chosen::At(index) = winner else {
+        return IndexedCast::None;
+    };
+    let answer = mesh::triangle_answer(ray, pose, triangles, index as usize);
+    nearest::next(IndexedCast::None, index, answer)
 }

@@ -8,7 +8,7 @@ use tree_query::step::Filled;
 use tree_query::walk;
 ghost use mathlib.Core.Path.{_≡_};
 ghost use mathlib.Core.Bool.{false, _&&_};
-ghost use Prim.Native.Nat.{_*_, _≤_};
+ghost use Prim.Native.Nat.{_*_};
 ghost use lib.Dec.{leb};
 ghost use lib.ListN.{length};
 ghost use Rattle.casts.specs.Nearest.{saysIndexed};
@@ -43,7 +43,7 @@ fn mesh_cast(
     list: &mut [u32],
     stack: &mut [u32],
 ) -> IndexedCast
-    requires { ⌜ (thirds (length (now triangles)) ≤ 65536) × WalkRoom (thirds (length (now triangles))) (treeOf nodes (now «node_boxes») (now «triangle_boxes») (now «node_words») (now order)) (now list) (now stack) ⌝ }
+    requires { ⌜ WalkRoom (thirds (length (now triangles))) (treeOf nodes (now «node_boxes») (now «triangle_boxes») (now «node_words») (now order)) (now list) (now stack) ⌝ }
     ensures { λ r. ⌜ saysIndexed r ≡ meshCast ray (record { vertices = now (pose .entry); triangles = now (triangles .entry) }) (now (pose .entry)) (treeOf nodes (now («node_boxes» .entry)) (now («triangle_boxes» .entry)) (now («node_words» .entry)) (now (order .entry))) ⌝ }
 {
     if !ray.segment_end().is_finite() {
@@ -54,7 +54,7 @@ fn mesh_cast(
         return IndexedCast::Refused(answer::OUT_OF_BOUNDS);
     }
     let count = triangles.len() / 3;
-    let walked = walk::walk(
+    let walked = walk::gather(
         bounds,
         count,
         nodes,
@@ -71,8 +71,10 @@ fn mesh_cast(
     candidates::nearest_of(ray, pose, triangles, list, found)
 }
 
-// The refusals in their order, then the cast.
-fn cast_mesh(
+// The nearest triangle that a ray hits, of those that any tree lists for its segment's box.
+// The list and the stack are work areas: until refusals 1 to 4 have let the call pass they are unchanged, and then they may hold anything.
+// The third clause is demand 3: at the mesh's own vertices, with any tree that passes the check.
+pub fn ray_mesh(
     ray: Ray,
     vertices: &[f64],
     triangles: &[u32],
@@ -87,6 +89,7 @@ fn cast_mesh(
 ) -> IndexedCast
     ensures { λ r. ⌜ saysIndexed r ≡ rayMesh ray (mesh (now (vertices .entry)) (now (triangles .entry))) (now (pose .entry)) (treeOf nodes (now («node_boxes» .entry)) (now («triangle_boxes» .entry)) (now («node_words» .entry)) (now (order .entry))) (length (now (list .entry))) (length (now (stack .entry))) ⌝ }
     ensures { λ r. ⌜ (testsPass ray (mesh (now (vertices .entry)) (now (triangles .entry))) (now (pose .entry)) (treeOf nodes (now («node_boxes» .entry)) (now («triangle_boxes» .entry)) (now («node_words» .entry)) (now (order .entry))) (length (now (list .entry))) (length (now (stack .entry))) ≡ false → (now (list .exit) ≡ now (list .entry)) × (now (stack .exit) ≡ now (stack .entry))) ⌝ }
+    ensures { λ r. ⌜ (now (pose .entry) ≡ now (vertices .entry) → Admitted ray (mesh (now (vertices .entry)) (now (triangles .entry))) (treeOf nodes (now («node_boxes» .entry)) (now («triangle_boxes» .entry)) (now («node_words» .entry)) (now (order .entry))) (length (now (list .entry))) (length (now (stack .entry))) → DistancesAreNumbers ray (mesh (now (vertices .entry)) (now (triangles .entry))) → MeetsDemand ray (mesh (now (vertices .entry)) (now (triangles .entry))) (saysIndexed r)) ⌝ }
 {
     if !ray.validate() {
         return IndexedCast::Refused(answer::INVALID_INPUT);
@@ -112,41 +115,6 @@ fn cast_mesh(
     }
     mesh_cast(
         ray,
-        triangles,
-        pose,
-        nodes,
-        node_boxes,
-        triangle_boxes,
-        node_words,
-        order,
-        list,
-        stack,
-    )
-}
-
-// The nearest triangle that a ray hits, of those that any tree lists for its segment's box.
-// The list and the stack are work areas: until refusals 1 to 4 have let the call pass they are unchanged, and then they may hold anything.
-// The third clause is demand 3: at the mesh's own vertices, with any tree that passes the check.
-pub fn ray_mesh(
-    ray: Ray,
-    vertices: &[f64],
-    triangles: &[u32],
-    pose: &[f64],
-    nodes: usize,
-    node_boxes: &[f64],
-    triangle_boxes: &[f64],
-    node_words: &[u32],
-    order: &[u32],
-    list: &mut [u32],
-    stack: &mut [u32],
-) -> IndexedCast
-    ensures { λ r. ⌜ saysIndexed r ≡ rayMesh ray (mesh (now (vertices .entry)) (now (triangles .entry))) (now (pose .entry)) (treeOf nodes (now («node_boxes» .entry)) (now («triangle_boxes» .entry)) (now («node_words» .entry)) (now (order .entry))) (length (now (list .entry))) (length (now (stack .entry))) ⌝ }
-    ensures { λ r. ⌜ (testsPass ray (mesh (now (vertices .entry)) (now (triangles .entry))) (now (pose .entry)) (treeOf nodes (now («node_boxes» .entry)) (now («triangle_boxes» .entry)) (now («node_words» .entry)) (now (order .entry))) (length (now (list .entry))) (length (now (stack .entry))) ≡ false → (now (list .exit) ≡ now (list .entry)) × (now (stack .exit) ≡ now (stack .entry))) ⌝ }
-    ensures { λ r. ⌜ (now (pose .entry) ≡ now (vertices .entry) → Admitted ray (mesh (now (vertices .entry)) (now (triangles .entry))) (treeOf nodes (now («node_boxes» .entry)) (now («triangle_boxes» .entry)) (now («node_words» .entry)) (now (order .entry))) (length (now (list .entry))) (length (now (stack .entry))) → DistancesAreNumbers ray (mesh (now (vertices .entry)) (now (triangles .entry))) → MeetsDemand ray (mesh (now (vertices .entry)) (now (triangles .entry))) (saysIndexed r)) ⌝ }
-{
-    cast_mesh(
-        ray,
-        vertices,
         triangles,
         pose,
         nodes,

@@ -22,8 +22,9 @@ fn begin(nodes: usize, stack: &mut [u32]) -> usize
     1
 }
 
-// Takes nodes until the stack is empty; each is counted before its box is looked at, and a walk past the node count is 5.
-fn take_nodes(
+// The touching triangles in the walk's own order, in the first places of the list, whose rest is as it was; the stack may hold anything afterwards.
+// Nodes are taken until the stack is empty; each is counted before its box is looked at, and a walk past the node count is 5.
+pub fn gather(
     bounds: Aabb,
     count: usize,
     nodes: usize,
@@ -71,7 +72,7 @@ fn take_nodes(
     Filled::Count(found)
 }
 
-// The touching triangles, ascending, in the first places of the list, whose rest is as it was; the stack may hold anything afterwards.
+// The same triangles, ascending.
 pub fn walk(
     bounds: Aabb,
     count: usize,
@@ -86,7 +87,7 @@ pub fn walk(
     requires { ⌜ (count < 4294967296) × WalkRoom count (treeOf nodes (now «node_boxes») (now «triangle_boxes») (now «node_words») (now order)) (now list) (now stack) ⌝ }
     ensures { λ r. ⌜ (listed [] r (now (list .exit)) ≡ walkOf (treeOf nodes (now («node_boxes» .entry)) (now («triangle_boxes» .entry)) (now («node_words» .entry)) (now (order .entry))) count bounds) × GrownTo count (now (list .entry)) 0 r (now (list .exit)) ⌝ }
 {
-    let walked = take_nodes(
+    let walked = gather(
         bounds,
         count,
         nodes,

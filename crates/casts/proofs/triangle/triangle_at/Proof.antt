@@ -1,5 +1,6 @@
 -- `casts::triangle::triangle_at` meets its contract. Assumes nothing.
 use Rattle.casts.specs.Triangle.{triangleAt}
+use Rattle.casts.proofs.ReachLaws.{none-either-way}
 use mathlib.Core.Path.{sym}
 use borrow.Author.Needs.{needs}
 use Rattle.casts.proofs.triangle.triangle_at.Statement.{statement}
@@ -17,11 +18,11 @@ returns c = simp (sym (c .before .before .before .dot .ensures), c .before .befo
 
 returns-2 : tie.Need-returns-2
 unfolding triangleAt
-returns-2 c = simp (sym (c .before .before .dot .ensures), c .before .if1 .taken, c .if2 .left)
+returns-2 c = simp (sym (c .before .before .dot .ensures), c .before .if1 .taken, c .if2 .left, none-either-way)
 
 returns-3 : tie.Need-returns-3
 unfolding triangleAt
-returns-3 c = simp (sym (c .before .dot .ensures), c .if1 .left)
+returns-3 c = simp (sym (c .before .dot .ensures), c .if1 .left, none-either-way)
 
 pub triangle-at-spec : {M : Type 1} → statement M
 triangle-at-spec =

@@ -1,74 +1,43 @@
 -- `casts::triangle::triangle_cast` meets its contract. Assumes nothing.
-use Rattle.casts.specs.Triangle.{triangleOf}
-use mathlib.Core.Path.{sym}
+use mathlib.Core.Path.{sym, ap, _∙_}
+use Rattle.casts.proofs.ReachLaws.{missed, refused-by, told-by-distance}
 use borrow.Author.Needs.{needs}
 use Rattle.casts.proofs.triangle.triangle_cast.Statement.{statement}
 use Rattle.casts.proofs.triangle.triangle_cast.Tie as tie
 
-array-copy-out-first : tie.Need-array-copy-out-first
-array-copy-out-first c = search needs
+triangle-reach-requires : tie.Need-triangle-reach-requires
+triangle-reach-requires c κs = search needs
 
-array-copy-out-second : tie.Need-array-copy-out-second
-array-copy-out-second c = search needs
+enum-known-reach : tie.Need-enum-known-reach
+enum-known-reach c = search needs
 
-array-copy-out-third : tie.Need-array-copy-out-third
-array-copy-out-third c = search needs
+hit-at-requires : tie.Need-hit-at-requires
+hit-at-requires c κs = search needs
 
-sub-requires : tie.Need-sub-requires
-sub-requires c κs = search needs
-
-sub-requires-2 : tie.Need-sub-requires-2
-sub-requires-2 c κs = search needs
-
-cross-requires : tie.Need-cross-requires
-cross-requires c κs = search needs
-
-checked-dot-requires : tie.Need-checked-dot-requires
-checked-dot-requires c κs = search needs
-
-enum-known-along : tie.Need-enum-known-along
-enum-known-along c = search needs
+returns : tie.Need-returns
+returns c = c .hit-at .ensures ∙ told-by-distance _ _ _ _ _ (sym (c .before .before .before .before .triangle-reach .ensures) ∙ c .before .before .reach .given .1)
 
 enum-told : tie.Need-enum-told
 enum-told c = search needs
 
-returns : tie.Need-returns
-unfolding triangleOf
-returns c = simp (sym (c .before .before .before .before .before .sub .ensures), sym (c .before .before .before .before .sub2 .ensures), sym (c .before .before .before .cross .ensures), sym (c .before .before .checked-dot .ensures), c .enum-told .given .1)
-
-is-flat-requires : tie.Need-is-flat-requires
-is-flat-requires c κs = search needs
-
 returns-2 : tie.Need-returns-2
-unfolding triangleOf
-returns-2 c = simp (sym (c .before .before .before .before .before .before .before .before .sub .ensures), sym (c .before .before .before .before .before .before .before .sub2 .ensures), sym (c .before .before .before .before .before .before .cross .ensures), sym (c .before .before .before .before .before .checked-dot .ensures), c .before .before .before .along .given .1, sym (c .before .is-flat .ensures), c .if1 .taken)
+returns-2 c = missed _ (sym (c .before .before .triangle-reach .ensures) ∙ c .enum-told .given .1)
 
-sub-requires-3 : tie.Need-sub-requires-3
-sub-requires-3 c κs = search needs
-
-triangle-at-requires : tie.Need-triangle-at-requires
-triangle-at-requires c κs = search needs
+enum-known-reach-2 : tie.Need-enum-known-reach-2
+enum-known-reach-2 c = search needs
 
 returns-3 : tie.Need-returns-3
-unfolding triangleOf
-returns-3 c = simp (sym (c .before .before .before .before .before .before .before .before .before .before .sub .ensures), sym (c .before .before .before .before .before .before .before .before .before .sub2 .ensures), sym (c .before .before .before .before .before .before .before .before .cross .ensures), sym (c .before .before .before .before .before .before .before .checked-dot .ensures), c .before .before .before .before .before .along .given .1, sym (c .before .before .before .is-flat .ensures), c .before .before .if1 .left, sym (c .before .sub3 .ensures), sym (c .triangle-at .ensures))
+returns-3 c = refused-by _ _ (sym (c .before .before .before .triangle-reach .ensures) ∙ c .before .reach2 .given .1)
 
 pub triangle-cast-spec : {M : Type 1} → statement M
 triangle-cast-spec =
     tie.close
     (tie.spec
-    array-copy-out-first
-    array-copy-out-second
-    array-copy-out-third
-    sub-requires
-    sub-requires-2
-    cross-requires
-    checked-dot-requires
-    enum-known-along
-    enum-told
+    triangle-reach-requires
+    enum-known-reach
+    hit-at-requires
     returns
-    is-flat-requires
+    enum-told
     returns-2
-    sub-requires-3
-    triangle-at-requires
+    enum-known-reach-2
     returns-3)

@@ -1,71 +1,49 @@
--- `mesh::candidates::nearest_of` meets its contract: what is left of the fold gives the whole. Assumes nothing.
-use Rattle.mesh.proofs.Folding.{listed-below, Folding, folding-begins, folding-goes, folding-ends, folding-settled}
-use Rattle.tree.specs.Mesh.{triangleAnswer}
-use Rattle.casts.specs.Nearest.{saysIndexed}
+-- `mesh::candidates::nearest_of` meets its contract. Assumes nothing.
+use Rattle.mesh.proofs.Folding.{nobody-wins, winner-answers, winner-below}
+use Rattle.casts.specs.Summary.{saysChosen}
 use native.Mathlib.Omega.{arith}
-use mathlib.Core.Path.{sym, _∙_}
-use Prim.Native.Nat.{_-_}
+use mathlib.Core.Path.{ap}
 use borrow.Author.Needs.{needs}
 use Rattle.mesh.proofs.candidates.nearest_of.Statement.{statement}
 use Rattle.mesh.proofs.candidates.nearest_of.Tie as tie
 
-abbrev Inv-loop : tie.InvT-loop
-Inv-loop ray pose triangles list found best₀ i₀ best i = Folding (triangleAnswer ray pose triangles) list found (saysIndexed best) i
+note-all-requires : tie.Need-note-all-requires
+note-all-requires c κs = c .before .before .before .pre
 
-abbrev μ-loop : tie.MeasureT-loop
-μ-loop ray pose triangles list found best₀ i₀ best i = found - i
+winner-requires : tie.Need-winner-requires
+winner-requires c κs = search needs
 
-loop-holds : tie.Need-loop-holds Inv-loop μ-loop
-loop-holds c = folding-begins _ _ _
+enum-known-winner : tie.Need-enum-known-winner
+enum-known-winner c = search needs
 
-settled-requires : tie.Need-settled-requires Inv-loop μ-loop
-settled-requires c κs = search needs
+enum-told : tie.Need-enum-told
+enum-told c = search needs
 
-returns : tie.Need-returns Inv-loop μ-loop
-returns c = folding-settled _ _ _ _ _ (c .before .before .before .loop .inv) (sym (c .before .settled .ensures) ∙ c .if1 .taken)
+returns : tie.Need-returns
+returns c = nobody-wins _ _ _ (c .before .before .before .note-all .ensures) _ (c .before .before .winner .ensures) (ap saysChosen (c .enum-told .given .1))
 
-mul-index : tie.Need-mul-index Inv-loop μ-loop
-mul-index c = search needs
+cast-triangle-answer : tie.Need-cast-triangle-answer
+cast-triangle-answer c = search needs
 
-shared-slice-read-index : tie.Need-shared-slice-read-index Inv-loop μ-loop
-shared-slice-read-index c = search needs
+triangle-answer-requires : tie.Need-triangle-answer-requires
+triangle-answer-requires c κs = omega (arith, winner-below _ _ _ (c .before .before .before .before .note-all .ensures) _ (c .before .before .before .winner .ensures) _ _ (c .before .before .before .before .before .before .before .before .pre .1) (ap saysChosen (c .before .winner2 .given .1)))
 
-cast-triangle-answer : tie.Need-cast-triangle-answer Inv-loop μ-loop
-cast-triangle-answer c = omega (arith, c .shared-slice-known4 .given (c .before .before .before .before .loop .i))
-
-triangle-answer-requires : tie.Need-triangle-answer-requires Inv-loop μ-loop
-triangle-answer-requires c κs = omega (arith, listed-below _ _ (c .before .before .before .before .before .before .before .before .pre .0) _ _ (c .before .before .before .before .before .before .before .before .pre .1) (c .before .before .before .loop-test .taken))
-
-next-requires : tie.Need-next-requires Inv-loop μ-loop
+next-requires : tie.Need-next-requires
 next-requires c κs = search needs
 
-add-i : tie.Need-add-i Inv-loop μ-loop
-add-i c = search needs
-
-loop-less : tie.Need-loop-less Inv-loop μ-loop
-loop-less c = search needs
-
-loop-again : tie.Need-loop-again Inv-loop μ-loop
-loop-again c = folding-goes _ _ _ (c .before .before .before .before .before .before .before .before .before .before .pre .0) _ _ _ _ (c .before .before .before .before .before .before .loop .inv) (c .before .before .before .before .before .loop-test .taken) (c .before .triangle-answer .ensures) (c .next .ensures)
-
-returns-2 : tie.Need-returns-2 Inv-loop μ-loop
-returns-2 c = folding-ends _ _ _ (c .before .before .before .before .before .pre .0) _ _ (c .before .loop .inv) (c .loop-test .left)
+returns-2 : tie.Need-returns-2
+returns-2 c = winner-answers _ _ _ (c .before .before .before .before .before .before .note-all .ensures) _ (c .before .before .before .before .before .winner .ensures) _ (ap saysChosen (c .before .before .before .winner2 .given .1)) _ (c .before .triangle-answer .ensures) _ (c .next .ensures)
 
 pub nearest-of-spec : {M : Type 1} → statement M
 nearest-of-spec =
     tie.close
     (tie.spec
-    Inv-loop
-    μ-loop
-    loop-holds
-    settled-requires
+    note-all-requires
+    winner-requires
+    enum-known-winner
+    enum-told
     returns
-    mul-index
-    shared-slice-read-index
     cast-triangle-answer
     triangle-answer-requires
     next-requires
-    add-i
-    loop-less
-    loop-again
     returns-2)

@@ -1,7 +1,6 @@
 -- `mesh::cast::mesh_cast` meets its contract. Assumes nothing.
 use Rattle.mesh.proofs.Casting.{end-is, cast-overflow, cast-unboxed, cast-broken, cast-nearest, list-inside}
 use borrow.Author.Tests.{not-true, not-false}
-use native.Mathlib.Omega.{arith}
 use mathlib.Core.Path.{sym, _∙_}
 use borrow.Author.Needs.{needs}
 use Rattle.mesh.proofs.cast.mesh_cast.Statement.{statement}
@@ -25,8 +24,8 @@ is-valid-requires c κs = search needs
 returns-2 : tie.Need-returns-2
 returns-2 c = cast-unboxed _ _ _ _ (end-is _ _ _ (c .before .before .before .before .is-finite .ensures) (c .before .before .before .before .before .segment-end .ensures) _ (not-false (c .before .before .before .before .is-finite .result) (c .before .before .before .if1 .left))) _ (c .before .before .segment-box .ensures) (sym (c .before .is-valid .ensures) ∙ not-true (c .before .is-valid .result) (c .if2 .taken))
 
-walk-requires : tie.Need-walk-requires
-walk-requires c κs = (omega (arith, c .before .before .before .before .before .before .before .before .before .before .before .before .before .before .before .before .pre .0), c .before .before .before .before .before .before .before .before .before .before .before .before .before .before .before .before .pre .1)
+gather-requires : tie.Need-gather-requires
+gather-requires c κs = c .before .before .before .before .before .before .before .before .before .before .before .before .before .before .before .before .pre
 
 enum-known-walked : tie.Need-enum-known-walked
 enum-known-walked c = search needs
@@ -41,10 +40,10 @@ same-length-2 : tie.Need-same-length-2
 same-length-2 c = search needs
 
 returns-3 : tie.Need-returns-3
-returns-3 c = cast-broken _ _ _ _ (end-is _ _ _ (c .before .before .before .before .before .before .before .before .before .before .before .before .before .is-finite .ensures) (c .before .before .before .before .before .before .before .before .before .before .before .before .before .before .segment-end .ensures) _ (not-false (c .before .before .before .before .before .before .before .before .before .before .before .before .before .is-finite .result) (c .before .before .before .before .before .before .before .before .before .before .before .before .if1 .left))) _ (c .before .before .before .before .before .before .before .before .before .before .before .segment-box .ensures) (sym (c .before .before .before .before .before .before .before .before .before .before .is-valid .ensures) ∙ not-false (c .before .before .before .before .before .before .before .before .before .before .is-valid .result) (c .before .before .before .before .before .before .before .before .before .if2 .left)) _ _ (c .before .before .before .before .before .before .walk .ensures .0) (c .enum-told .given .1)
+returns-3 c = cast-broken _ _ _ _ (end-is _ _ _ (c .before .before .before .before .before .before .before .before .before .before .before .before .before .is-finite .ensures) (c .before .before .before .before .before .before .before .before .before .before .before .before .before .before .segment-end .ensures) _ (not-false (c .before .before .before .before .before .before .before .before .before .before .before .before .before .is-finite .result) (c .before .before .before .before .before .before .before .before .before .before .before .before .if1 .left))) _ (c .before .before .before .before .before .before .before .before .before .before .before .segment-box .ensures) (sym (c .before .before .before .before .before .before .before .before .before .before .is-valid .ensures) ∙ not-false (c .before .before .before .before .before .before .before .before .before .before .is-valid .result) (c .before .before .before .before .before .before .before .before .before .if2 .left)) _ _ (c .before .before .before .before .before .before .gather .ensures .0) (c .enum-told .given .1)
 
 nearest-of-requires : tie.Need-nearest-of-requires
-nearest-of-requires c κs = list-inside _ _ _ _ _ (c .before .before .before .before .before .before .before .before .walk .ensures .1) (c .before .before .walked .given .1)
+nearest-of-requires c κs = list-inside _ _ _ _ _ (c .before .before .before .before .before .before .before .before .gather .ensures .1) (c .before .before .walked .given .1)
 
 same-length-3 : tie.Need-same-length-3
 same-length-3 c = search needs
@@ -53,7 +52,7 @@ same-length-4 : tie.Need-same-length-4
 same-length-4 c = search needs
 
 returns-4 : tie.Need-returns-4
-returns-4 c = cast-nearest _ _ _ _ (end-is _ _ _ (c .before .before .before .before .before .before .before .before .before .before .before .before .before .before .before .before .is-finite .ensures) (c .before .before .before .before .before .before .before .before .before .before .before .before .before .before .before .before .before .segment-end .ensures) _ (not-false (c .before .before .before .before .before .before .before .before .before .before .before .before .before .before .before .before .is-finite .result) (c .before .before .before .before .before .before .before .before .before .before .before .before .before .before .before .if1 .left))) _ (c .before .before .before .before .before .before .before .before .before .before .before .before .before .before .segment-box .ensures) (sym (c .before .before .before .before .before .before .before .before .before .before .before .before .before .is-valid .ensures) ∙ not-false (c .before .before .before .before .before .before .before .before .before .before .before .before .before .is-valid .result) (c .before .before .before .before .before .before .before .before .before .before .before .before .if2 .left)) _ _ (c .before .before .before .before .before .before .before .before .before .walk .ensures .0) _ _ (c .before .before .before .walked .given .1) (c .nearest-of .ensures)
+returns-4 c = cast-nearest _ _ _ _ (end-is _ _ _ (c .before .before .before .before .before .before .before .before .before .before .before .before .before .before .before .before .is-finite .ensures) (c .before .before .before .before .before .before .before .before .before .before .before .before .before .before .before .before .before .segment-end .ensures) _ (not-false (c .before .before .before .before .before .before .before .before .before .before .before .before .before .before .before .before .is-finite .result) (c .before .before .before .before .before .before .before .before .before .before .before .before .before .before .before .if1 .left))) _ (c .before .before .before .before .before .before .before .before .before .before .before .before .before .before .segment-box .ensures) (sym (c .before .before .before .before .before .before .before .before .before .before .before .before .before .is-valid .ensures) ∙ not-false (c .before .before .before .before .before .before .before .before .before .before .before .before .before .is-valid .result) (c .before .before .before .before .before .before .before .before .before .before .before .before .if2 .left)) _ _ (c .before .before .before .before .before .before .before .before .before .gather .ensures .0) _ _ (c .before .before .before .walked .given .1) (c .nearest-of .ensures)
 
 pub mesh-cast-spec : {M : Type 1} → statement M
 mesh-cast-spec =
@@ -65,7 +64,7 @@ mesh-cast-spec =
     segment-box-requires
     is-valid-requires
     returns-2
-    walk-requires
+    gather-requires
     enum-known-walked
     enum-told
     same-length

@@ -1,12 +1,12 @@
--- `tree_query::walk::take_nodes` meets its contract: what is left of the walk gives the whole. The measure is the number of nodes that may still be taken. Assumes nothing.
+-- `tree_query::walk::gather` meets its contract: what is left of the walk gives the whole. The measure is the number of nodes that may still be taken. Assumes nothing.
 use Rattle.tree_query.proofs.Walks.{room-after, Walks, walks-begin, walks-room, walks-go, walks-stop, walks-past, walks-end}
 use Rattle.tree_query.specs.Areas.{treeOf}
 use mathlib.Core.Path.{_∙_}
 use Prim.Native.Nat.{_-_}
 use native.Mathlib.Omega.{arith}
 use borrow.Author.Needs.{needs}
-use Rattle.tree_query.proofs.walk.take_nodes.Statement.{statement}
-use Rattle.tree_query.proofs.walk.take_nodes.Tie as tie
+use Rattle.tree_query.proofs.walk.gather.Statement.{statement}
+use Rattle.tree_query.proofs.walk.gather.Tie as tie
 
 abbrev Inv-loop : tie.InvT-loop
 Inv-loop bounds count nodes node-boxes triangle-boxes node-words order list₀ stack₀ top₀ found₀ taken₀ list stack top found taken =
@@ -67,8 +67,8 @@ same-length-6 c = c .before .loop .inv .high ∙ c .before .before .before .befo
 returns-3 : tie.Need-returns-3 Inv-loop μ-loop
 returns-3 c = (walks-end _ _ _ _ _ _ _ _ _ _ (c .before .loop .inv) (c .loop-test .left), c .before .loop .inv .grown)
 
-pub take-nodes-spec : {M : Type 1} → statement M
-take-nodes-spec =
+pub gather-spec : {M : Type 1} → statement M
+gather-spec =
     tie.close
     (tie.spec
     Inv-loop

@@ -1,0 +1,50 @@
+-- `casts::summary::note` meets its contract. Assumes nothing.
+use Rattle.casts.specs.Summary.{noteOf}
+use mathlib.Core.Path.{sym}
+use borrow.Author.Needs.{needs}
+use Rattle.casts.proofs.summary.note.Statement.{statement}
+use Rattle.casts.proofs.summary.note.Tie as tie
+
+enum-told : tie.Need-enum-told
+enum-told c = search needs
+
+returns : tie.Need-returns
+unfolding noteOf
+returns c = simp (c .enum-told .given .1)
+
+enum-told-2 : tie.Need-enum-told-2
+enum-told-2 c = search needs
+
+lower-index-requires : tie.Need-lower-index-requires
+lower-index-requires c κs = search needs
+
+returns-2 : tie.Need-returns-2
+unfolding noteOf
+returns-2 c = simp (c .before .enum-told2 .given .1, sym (c .lower-index .ensures))
+
+enum-known-reach : tie.Need-enum-known-reach
+enum-known-reach c = search needs
+
+lower-hit-requires : tie.Need-lower-hit-requires
+lower-hit-requires c κs = search needs
+
+nearer-hit-requires : tie.Need-nearer-hit-requires
+nearer-hit-requires c κs = search needs
+
+returns-3 : tie.Need-returns-3
+unfolding noteOf
+returns-3 c = simp (c .before .before .before .reach .given .1, sym (c .before .lower-hit .ensures), sym (c .nearer-hit .ensures))
+
+pub note-spec : {M : Type 1} → statement M
+note-spec =
+    tie.close
+    (tie.spec
+    enum-told
+    returns
+    enum-told-2
+    lower-index-requires
+    returns-2
+    enum-known-reach
+    lower-hit-requires
+    nearer-hit-requires
+    returns-3)
