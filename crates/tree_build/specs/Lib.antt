@@ -4,3 +4,4 @@ pub mod Ranges
 pub mod Build
 pub mod Node
 pub mod Merge
+pub mod Plain
