@@ -3,7 +3,6 @@ use crate::field::Field;
 use casts::answer;
 use casts::nearest;
 use casts::nearest::IndexedCast;
-use casts::triangle;
 use geometry::aabb::Aabb;
 use geometry::ray::Ray;
 use geometry::vec3::Vec3;
@@ -52,7 +51,7 @@ fn pass_triangle(
     ensures { λ r. ⌜ saysIndexed r ≡ passTriangle ray bounds corners around feature (saysIndexed best) ⌝ }
 {
     if around.touches(bounds) {
-        return nearest::next(best, feature, triangle::triangle_cast(ray, corners));
+        return nearest::next_triangle(best, feature, ray, corners);
     }
     best
 }

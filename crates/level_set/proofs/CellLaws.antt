@@ -1,4 +1,4 @@
--- Cells and nodes: a whole number above zero is at least one, a cell that was found lies below the last node, and a node's place lies among the values. Assumes nothing.
+-- Cells and nodes: a whole number above zero is at least one, a cell is at most the last one, and a node's place lies among the values. Assumes nothing.
 use mathlib.Core.Path.{_≡_, refl, sym, subst}
 use mathlib.Core.Bool.{Bool, true, false, cond, false≢true}
 use mathlib.Core.List.{List}
@@ -10,17 +10,14 @@ use lib.Ieee.{Float, nan, inf, fin, binary64, ofBits, fits, up, down, lt, toUnsi
 use lib.Ieee.Exact.{HasValue}
 use lib.ListN.{length}
 use borrow.Author.Tests.{ltb-true}
-use Rattle.arithmetic.specs.Basic.{isFinite, clampTo}
 use Rattle.arithmetic.specs.Rounding.{roundOf, wholeBy, tiesAway, wholeOf}
 use Rattle.arithmetic.proofs.Casts.{cast-of-value, none}
 use Rattle.arithmetic.proofs.WholeNumbers.{roundOf-value}
-use Rattle.geometry.specs.Numbers.{_-ᶠ_, _/ᶠ_, zeroᶠ}
-use Rattle.level_set.specs.Grid.{nodes, whole, Stands}
+use Rattle.geometry.specs.Numbers.{zeroᶠ}
+use Rattle.level_set.specs.Grid.{nodes, Stands}
 use Rattle.level_set.specs.Cells.{upTo}
-use Rattle.level_set.specs.Sampling.{cellBelow, placeOf, placeAt, locateAxis}
 use Rattle.level_set.specs.declared.grid.Grid.{Grid}
 use Rattle.level_set.proofs.GridLaws.{plane-small, nodes-small}
-use Rattle.level_set.specs.declared.sampling.Place.the-variants.{At as PlaceAt, Overflow as NoPlace}
 
 -- ---- a whole number above zero
 positive-cast : (y : Float) (s : Bool) (n : ℕ) → HasValue y s n 1 → lt none y ≡ true → 0 < wholeOf y
@@ -46,7 +43,7 @@ rounded-positive (fin s m e) f h = positive-cast (roundOf (fin s m e)) s (tiesAw
 pub nearest-above-zero : (x : Float) → T (fits binary64 x) → lt zeroᶠ (roundOf x) ≡ true → 0 < wholeOf (roundOf x)
 nearest-above-zero x f h = rounded-positive x f (subst (λ (z : Float). lt z (roundOf x) ≡ true) zero-is-none h)
 
--- ---- a cell that was found
+-- ---- a cell is at most the last one
 pub upTo-least : (last n : ℕ) → upTo last n ≤ last
 unfolding upTo
 upTo-least last n = go (ltb n last) (ltb-true n last)
@@ -54,21 +51,6 @@ upTo-least last n = go (ltb n last) (ltb-true n last)
     go : (b : Bool) → (b ≡ true → n < last) → cond b n last ≤ last
     go true h = let g = h refl in omega arith
     go false h = omega arith
-
-located-below : (raw : Float) (side cell : ℕ) (fraction : Float) → 2 ≤ side → placeAt raw side ≡ PlaceAt cell fraction → cell + 1 < side
-unfolding placeAt placeOf
-located-below raw side cell fraction p e = go (isFinite raw) e
-  where
-    coordinate : Float
-    coordinate = clampTo raw zeroᶠ (whole (side - 1))
-
-    go : (b : Bool) → cond b (placeOf coordinate side) NoPlace ≡ PlaceAt cell fraction → cell + 1 < side
-    go true h = let q : cellBelow coordinate side ≡ cell = cc in let l : cellBelow coordinate side ≤ side - 2 = unfold cellBelow in upTo-least (side - 2) _ in omega arith
-    go false h = let z : _≡_ {A = ℕ} 0 1 = cc in absurd (omega arith)
-
-pub locateAxis-below : (point origin spacing : Float) (side cell : ℕ) (fraction : Float) → 2 ≤ side → locateAxis point origin spacing side ≡ PlaceAt cell fraction → cell + 1 < side
-unfolding locateAxis
-locateAxis-below point origin spacing side cell fraction p e = located-below ((point -ᶠ origin) /ᶠ spacing) side cell fraction p e
 
 -- ---- a node's place
 -- k in the p-th of n rows of m

@@ -16,9 +16,16 @@ use Rattle.casts.specs.Answer.{hit, refused, notConvergent}
 use Rattle.level_set.specs.Grid.{sideAdmitted, spacingAdmitted, sidesAdmitted, gridAdmitted, lastNode, lastCorner, gridBox}
 use Rattle.level_set.specs.Slab.{kept, cut, slabFrom, slab, started, rayAabbInterval}
 use Rattle.level_set.specs.Cells.{upTo, slack, floorCell, leavesNode, wholeCell, cellAt, cellOnAxis, rayCellIndices, nodeAhead, boundaryDistance, boundaryBy, axisBoundary, nextCellBoundary}
-use Rattle.level_set.specs.Sampling.{outsideSide, outside, cellBelow, placeOf, placeAt, locateAxis, valueAt, faceAt, checked, blend, lerp, checkedDifference, over, lerpFace, valueOn, slopeOn, sampleFaces, sampleCell, sampleInside, sample}
-use Rattle.level_set.specs.Cubic.{twoᶠ, threeᶠ, cubicBy, cubicOf, finiteCubic, evaluate, rootTolerance, betweenEnds, keptPoint, keptPoints, vertex, turningBy, turningPoints, extrema, insert, sorted, points, middleOf, halveAt, halve, halvings, settled, rootBetween, searchOn, searchFrom, searchList, rootOfCubic, firstCubicRoot}
-use Rattle.level_set.specs.Walk.{third, twoThirds, pointAt, along, hitWith, hitAlong, touchAt, valueAlong, goesOn, cellBy, cellRest, cellCast, goesTo, walkStep, cellLimit, walkFrom, levelSetCast, rayLevelSet}
+use Rattle.level_set.specs.Places.{outsideSide, outside, cellBelow, placeOf, placeAt, locateAxis, locateInside, locate}
+use Rattle.level_set.specs.Faces.{valueAt, faceAt}
+use Rattle.level_set.specs.Steps.{checked, blend, lerp, checkedDifference, over, lerpFace, valueOn, slopeOn}
+use Rattle.level_set.specs.Sampling.{gathered, sampleFaces, sampleCell, sample}
+use Rattle.cubic.specs.Polynomial.{twoᶠ, threeᶠ, cubicBy, cubicOf, finiteCubic, evaluate, rootTolerance}
+use Rattle.cubic.specs.Turns.{betweenEnds, keptPoint, keptPoints, vertex, turningBy, turningPoints, extrema}
+use Rattle.cubic.specs.Halving.{middleOf, halveAt, halve, halvings, settled}
+use Rattle.cubic.specs.Roots.{insert, sorted, points, rootBetween, searchOn, searchFrom, searchList, rootOfCubic, firstCubicRoot}
+use Rattle.level_set.specs.Hits.{third, twoThirds, pointAt, along, hitWith, hitAlong, touchAt, valueAlong, samplesOf, samplesAlong}
+use Rattle.level_set.specs.Walk.{goesOn, cellBy, cellCast, goesTo, walkStep, cellLimit, walkFrom, levelSetCast, rayLevelSet}
 use Rattle.level_set.specs.declared.grid.Grid.{Grid}
 
 pub third-is : third ≡ oneᶠ /ᶠ threeᶠ
@@ -51,7 +58,7 @@ zeros = zeroᶠ ∷ zeroᶠ ∷ zeroᶠ ∷ zeroᶠ ∷ zeroᶠ ∷ zeroᶠ ∷ 
 
 -- "K13 distances 2 by 2 by 2 of zero, grid origin 0, spacing 1, from (0.5,0.5,2), maximum 5: 8."
 pub zeros-have-no-gradient : rayLevelSet ray₁₃ grid₁₃ zeros ≡ refused notConvergent
-unfolding ofBits div neg add sub mul lt le eq ne isNan ofInt toUnsigned isFinite absolute signPositive clampTo minimumOf maximumOf totalOrder negative rootOf rootRound wholeRoot rootDigits wholeBy floorOf roundOf finiteVec addOf scaleOf minOf maxOf dotOf lengthOf tryNormalize validSide validBox unitLength rayAdmitted sideAdmitted spacingAdmitted sidesAdmitted gridAdmitted lastNode lastCorner gridBox kept cut slabFrom slab started rayAabbInterval upTo slack floorCell leavesNode wholeCell cellAt cellOnAxis rayCellIndices nodeAhead boundaryDistance boundaryBy axisBoundary nextCellBoundary outsideSide outside cellBelow placeOf placeAt locateAxis valueAt faceAt checked blend lerp checkedDifference over lerpFace valueOn slopeOn sampleFaces sampleCell sampleInside sample cubicBy cubicOf finiteCubic evaluate rootTolerance betweenEnds keptPoint keptPoints vertex turningBy turningPoints extrema insert sorted points middleOf halveAt halve halvings settled rootBetween searchOn searchFrom searchList rootOfCubic firstCubicRoot pointAt along hitWith hitAlong touchAt valueAlong goesOn cellBy cellRest cellCast goesTo walkStep cellLimit walkFrom levelSetCast rayLevelSet
+unfolding ofBits div neg add sub mul lt le eq ne isNan ofInt toUnsigned isFinite absolute signPositive clampTo minimumOf maximumOf totalOrder negative rootOf rootRound wholeRoot rootDigits wholeBy floorOf roundOf finiteVec addOf scaleOf minOf maxOf dotOf lengthOf tryNormalize validSide validBox unitLength rayAdmitted sideAdmitted spacingAdmitted sidesAdmitted gridAdmitted lastNode lastCorner gridBox kept cut slabFrom slab started rayAabbInterval upTo slack floorCell leavesNode wholeCell cellAt cellOnAxis rayCellIndices nodeAhead boundaryDistance boundaryBy axisBoundary nextCellBoundary outsideSide outside cellBelow placeOf placeAt locateAxis locateInside locate valueAt faceAt checked blend lerp checkedDifference over lerpFace valueOn slopeOn gathered sampleFaces sampleCell sample cubicBy cubicOf finiteCubic evaluate rootTolerance betweenEnds keptPoint keptPoints vertex turningBy turningPoints extrema insert sorted points middleOf halveAt halve halvings settled rootBetween searchOn searchFrom searchList rootOfCubic firstCubicRoot pointAt along hitWith hitAlong touchAt valueAlong samplesOf samplesAlong goesOn cellBy cellCast goesTo walkStep cellLimit walkFrom levelSetCast rayLevelSet
 zeros-have-no-gradient = refl
 
 -- distances to the plane z = 1/2: a hit from above at 3/2, the normal along z
@@ -62,5 +69,5 @@ heights =
     ∷ halfᶠ ∷ halfᶠ ∷ halfᶠ ∷ halfᶠ ∷ []
 
 pub plane-is-hit : rayLevelSet ray₁₃ grid₁₃ heights ≡ hit record { x = zeroᶠ; y = zeroᶠ; z = oneᶠ } (ofBits binary64 0x3ff8_0000_0000_0000)
-unfolding ofBits div neg add sub mul lt le eq ne isNan ofInt toUnsigned isFinite absolute signPositive clampTo minimumOf maximumOf totalOrder negative rootOf rootRound wholeRoot rootDigits wholeBy floorOf roundOf finiteVec addOf scaleOf minOf maxOf dotOf lengthOf tryNormalize validSide validBox unitLength rayAdmitted sideAdmitted spacingAdmitted sidesAdmitted gridAdmitted lastNode lastCorner gridBox kept cut slabFrom slab started rayAabbInterval upTo slack floorCell leavesNode wholeCell cellAt cellOnAxis rayCellIndices nodeAhead boundaryDistance boundaryBy axisBoundary nextCellBoundary outsideSide outside cellBelow placeOf placeAt locateAxis valueAt faceAt checked blend lerp checkedDifference over lerpFace valueOn slopeOn sampleFaces sampleCell sampleInside sample cubicBy cubicOf finiteCubic evaluate rootTolerance betweenEnds keptPoint keptPoints vertex turningBy turningPoints extrema insert sorted points middleOf halveAt halve halvings settled rootBetween searchOn searchFrom searchList rootOfCubic firstCubicRoot pointAt along hitWith hitAlong touchAt valueAlong goesOn cellBy cellRest cellCast goesTo walkStep cellLimit walkFrom levelSetCast rayLevelSet
+unfolding ofBits div neg add sub mul lt le eq ne isNan ofInt toUnsigned isFinite absolute signPositive clampTo minimumOf maximumOf totalOrder negative rootOf rootRound wholeRoot rootDigits wholeBy floorOf roundOf finiteVec addOf scaleOf minOf maxOf dotOf lengthOf tryNormalize validSide validBox unitLength rayAdmitted sideAdmitted spacingAdmitted sidesAdmitted gridAdmitted lastNode lastCorner gridBox kept cut slabFrom slab started rayAabbInterval upTo slack floorCell leavesNode wholeCell cellAt cellOnAxis rayCellIndices nodeAhead boundaryDistance boundaryBy axisBoundary nextCellBoundary outsideSide outside cellBelow placeOf placeAt locateAxis locateInside locate valueAt faceAt checked blend lerp checkedDifference over lerpFace valueOn slopeOn gathered sampleFaces sampleCell sample cubicBy cubicOf finiteCubic evaluate rootTolerance betweenEnds keptPoint keptPoints vertex turningBy turningPoints extrema insert sorted points middleOf halveAt halve halvings settled rootBetween searchOn searchFrom searchList rootOfCubic firstCubicRoot pointAt along hitWith hitAlong touchAt valueAlong samplesOf samplesAlong goesOn cellBy cellCast goesTo walkStep cellLimit walkFrom levelSetCast rayLevelSet
 plane-is-hit = refl

@@ -2,6 +2,10 @@
 pub mod Grid
 pub mod Slab
 pub mod Cells
+pub mod Places
+pub mod Faces
+pub mod Steps
 pub mod Sampling
-pub mod Cubic
+pub mod Heights
+pub mod Hits
 pub mod Walk

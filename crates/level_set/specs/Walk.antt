@@ -2,21 +2,18 @@
 use Prim.Native.Nat.{ℕ, zero, suc, _+_}
 use mathlib.Core.Bool.{cond}
 use mathlib.Core.List.{List, [], _∷_}
-use lib.Ieee.{Float, binary64, ofBits, lt, le, eq}
+use lib.Ieee.{Float, lt, le}
 use lib.ListN.{length}
 use Rattle.arithmetic.specs.Extremes.{minimumOf}
-use Rattle.geometry.specs.Numbers.{_+ᶠ_, _-ᶠ_, _*ᶠ_, zeroᶠ, oneᶠ}
-use Rattle.geometry.specs.Vector.{addOf, scaleOf, tryNormalize}
 use Rattle.geometry.specs.Box.{validBox}
 use Rattle.geometry.specs.Segment.{rayAdmitted}
-use Rattle.geometry.specs.declared.vec3.Vec3.{Vec3}
 use Rattle.geometry.specs.declared.ray.Ray.{Ray}
-use Rattle.casts.specs.Answer.{Answer, hit, none, refused, says, withNormal, invalidInput, badShape, outOfBounds, overflow, notConvergent}
+use Rattle.casts.specs.Answer.{Answer, none, refused, says, invalidInput, badShape, outOfBounds, overflow, notConvergent}
 use Rattle.level_set.specs.Grid.{gridAdmitted, gridBox}
 use Rattle.level_set.specs.Slab.{rayAabbInterval}
 use Rattle.level_set.specs.Cells.{rayCellIndices, nextCellBoundary}
-use Rattle.level_set.specs.Sampling.{sample}
-use Rattle.level_set.specs.Cubic.{firstCubicRoot}
+use Rattle.cubic.specs.Roots.{firstCubicRoot}
+use Rattle.level_set.specs.Hits.{pointAt, along, hitAlong, touchAt, samplesAlong}
 use Rattle.level_set.specs.declared.grid.Grid.{Grid}
 use Rattle.level_set.specs.declared.interval.Interval.{Interval}
 use Rattle.level_set.specs.declared.interval.Interval.the-variants.{Within, Miss}
@@ -24,21 +21,12 @@ use Rattle.level_set.specs.declared.cells.Cells.{Cells}
 use Rattle.level_set.specs.declared.cells.Cells.the-variants.{At as CellsAt, Overflow as NoCells}
 use Rattle.level_set.specs.declared.cells.Boundary.{Boundary}
 use Rattle.level_set.specs.declared.cells.Boundary.the-variants.{At as BoundaryAt, Overflow as NoBoundary}
-use Rattle.level_set.specs.declared.sampling.Sampled.{Sampled}
-use Rattle.level_set.specs.declared.sampling.Sampled.the-variants.{At as SampledAt, Refused as SampleRefused}
-use Rattle.level_set.specs.declared.cubic.Root.{Root}
-use Rattle.level_set.specs.declared.cubic.Root.the-variants.{At as RootAt, None as NoRoot, Overflow as RootOverflow}
-use Rattle.level_set.specs.declared.walk.Height.{Height}
-use Rattle.level_set.specs.declared.walk.Height.the-variants.{At as HeightAt, Refused as HeightRefused}
+use Rattle.cubic.specs.declared.roots.Root.{Root}
+use Rattle.cubic.specs.declared.roots.Root.the-variants.{At as RootAt, None as NoRoot, Overflow as RootOverflow}
+use Rattle.level_set.specs.declared.hits.Samples.{Samples}
+use Rattle.level_set.specs.declared.hits.Samples.the-variants.{All, Refused as SamplesRefused}
 use Rattle.level_set.specs.declared.walk.Step.{Step}
 use Rattle.level_set.specs.declared.walk.Step.the-variants.{Done, On}
-
--- 1/3 and 2/3, rounded
-abbrev pub third : Float
-third = ofBits binary64 0x3fd5_5555_5555_5555
-
-abbrev pub twoThirds : Float
-twoThirds = ofBits binary64 0x3fe5_5555_5555_5555
 
 -- what a cell gives: the answer, or the distance from which the walk goes on
 pub data Turn : Type 0 where
@@ -49,42 +37,7 @@ abbrev pub tells : Step → Turn
 tells (Done cast) = done (says cast)
 tells (On distance) = on distance
 
--- ---- samples along the ray
-
-unfoldable pub pointAt : Ray → Float → Vec3
-pointAt r distance = addOf (r .origin) (scaleOf (r .direction) distance)
-
--- from `current` a part of the way to `end`
-unfoldable pub along : Float → Float → Float → Float
-along current end fraction = current +ᶠ (end -ᶠ current) *ᶠ fraction
-
-abbrev pub withSample : Sampled → (Float → Vec3 → Answer) → Answer
-withSample (SampledAt value gradient) next = next value gradient
-withSample (SampleRefused number) next = refused number
-
--- "A gradient at the hit that cannot be normalised is 8." The normal is not turned to face the ray.
-unfoldable pub hitWith : Vec3 → Float → Answer
-hitWith gradient distance = withNormal (tryNormalize gradient) notConvergent (λ (normal : Vec3). hit normal distance)
-
-unfoldable pub hitAlong : Ray → Grid → List Float → Float → Answer
-hitAlong r g values distance =
-    withSample (sample g values (pointAt r distance)) (λ (value : Float) (gradient : Vec3). hitWith gradient distance)
-
--- where a cell has no length, its value is tested against zero exactly
-unfoldable pub touchAt : Ray → Grid → List Float → Float → Answer
-touchAt r g values distance =
-    withSample (sample g values (pointAt r distance))
-    (λ (value : Float) (gradient : Vec3). cond (eq value zeroᶠ) (hitWith gradient distance) none)
-
-abbrev pub heightOf : Sampled → Height
-heightOf (SampledAt value gradient) = HeightAt value
-heightOf (SampleRefused number) = HeightRefused number
-
-unfoldable pub valueAlong : Ray → Grid → List Float → Float → Height
-valueAlong r g values distance = heightOf (sample g values (pointAt r distance))
-
 -- ---- one cell
-
 unfoldable pub goesOn : Float → Float → Turn
 goesOn end exit = cond (le exit end) (done none) (on end)
 
@@ -96,24 +49,14 @@ rootTurn RootOverflow r g values current end exit = done (refused overflow)
 unfoldable pub cellBy : Ray → Grid → List Float → Float → Float → Float → List Float → Turn
 cellBy r g values current end exit ys = rootTurn (firstCubicRoot ys) r g values current end exit
 
-abbrev pub withHeight : Height → (Float → Turn) → Turn
-withHeight (HeightAt value) next = next value
-withHeight (HeightRefused number) next = done (refused number)
-
--- "Four samples per cell at 0, 1/3, 2/3, 1", of which the first that refuses counts
-unfoldable pub cellRest : Ray → Grid → List Float → Float → Float → Float → Float → Float → Turn
-cellRest r g values current end exit y0 y1 =
-    withHeight (valueAlong r g values (along current end twoThirds))
-    (λ (y2 : Float).
-    withHeight (valueAlong r g values (along current end oneᶠ))
-    (λ (y3 : Float). cellBy r g values current end exit (y0 ∷ y1 ∷ y2 ∷ y3 ∷ [])))
+abbrev pub withSamples : Samples → (Float → Float → Float → Float → Turn) → Turn
+withSamples (All y0 y1 y2 y3) next = next y0 y1 y2 y3
+withSamples (SamplesRefused number) next = done (refused number)
 
 unfoldable pub cellCast : Ray → Grid → List Float → Float → Float → Float → Turn
 cellCast r g values current end exit =
-    withHeight (valueAlong r g values (along current end zeroᶠ))
-    (λ (y0 : Float).
-    withHeight (valueAlong r g values (along current end third))
-    (λ (y1 : Float). cellRest r g values current end exit y0 y1))
+    withSamples (samplesAlong r g values current end)
+    (λ (y0 y1 y2 y3 : Float). cellBy r g values current end exit (y0 ∷ y1 ∷ y2 ∷ y3 ∷ []))
 
 unfoldable pub goesTo : Ray → Grid → List Float → Float → Float → Float → Turn
 goesTo r g values current exit next =

@@ -45,11 +45,11 @@ fn slack(size: f64) -> f64
     2.220446049250313e-16 * extremes::maximum(basic::abs(size), 1.0) * 16.0
 }
 
-// The cell that holds a coordinate.
+// The cell that holds a coordinate. The cast cuts the fraction off by itself, and what is below 0 gives 0 with or without a floor.
 pub fn floor_cell(coordinate: f64) -> u64
     ensures { λ r. ⌜ r ≡ floorCell coordinate ⌝ }
 {
-    rounding::to_u64(rounding::floor(coordinate))
+    rounding::to_u64(coordinate)
 }
 
 // The cell at a coordinate. At a node a ray that goes down is in the cell below it.

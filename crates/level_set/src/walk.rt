@@ -1,104 +1,28 @@
 use crate::cells;
 use crate::cells::Boundary;
 use crate::cells::Cells;
-use crate::cubic;
-use crate::cubic::Root;
 use crate::grid;
 use crate::grid::Grid;
+use crate::hits;
+use crate::hits::Samples;
 use crate::interval;
 use crate::interval::Interval;
-use crate::sampling;
-use crate::sampling::Sampled;
+use crate::places::Near;
 use arithmetic::extremes;
 use casts::answer;
 use casts::answer::Cast;
+use cubic::roots;
+use cubic::roots::Root;
 use geometry::ray::Ray;
-use geometry::vec3::Normalized;
-use geometry::vec3::Vec3;
 ghost use mathlib.Core.Path.{_≡_};
 ghost use Rattle.casts.specs.Answer.{says};
 ghost use Rattle.level_set.specs.Grid.{SidesStand, Stands};
-ghost use Rattle.level_set.specs.Walk.{tells, pointAt, hitWith, touchAt, along, valueAlong, hitAlong, goesOn, cellBy, cellRest, cellCast, goesTo, walkStep, walkFrom, cellLimit, levelSetCast, rayLevelSet};
-
-// What a sample along the ray gives: its value, or a refusal's number.
-pub enum Height {
-    At(f64),
-    Refused(u32),
-}
+ghost use Rattle.level_set.specs.Walk.{tells, goesOn, cellBy, cellCast, goesTo, walkStep, walkFrom, cellLimit, levelSetCast, rayLevelSet};
 
 // What a cell gives: the answer, or the distance from which the walk goes on.
 pub enum Step {
     Done(Cast),
     On(f64),
-}
-
-// The point of a ray at a distance.
-fn point_at(ray: Ray, distance: f64) -> Vec3
-    ensures { λ r. ⌜ r ≡ pointAt ray distance ⌝ }
-{
-    ray.origin.add(ray.direction.scale(distance))
-}
-
-// The hit at a distance: its normal is the gradient's direction.
-fn hit_with(gradient: Vec3, distance: f64) -> Cast
-    ensures { λ r. ⌜ says r ≡ hitWith gradient distance ⌝ }
-{
-    let unit = gradient.try_normalize();
-    let Normalized::Unit(normal) = unit else {
-        return Cast::Refused(answer::NOT_CONVERGENT);
-    };
-    Cast::Hit {
-        normal: normal,
-        distance: distance,
-    }
-}
-
-// The answer where the cell has no length: a hit only at a value of exactly zero.
-fn touch_at(ray: Ray, grid: Grid, values: &[f64], distance: f64) -> Cast
-    requires { ⌜ Stands grid (now values) ⌝ }
-    ensures { λ r. ⌜ says r ≡ touchAt ray grid (now (values .entry)) distance ⌝ }
-{
-    let found = sampling::sample(grid, values, point_at(ray, distance));
-    match found {
-        Sampled::Refused(number) => Cast::Refused(number),
-        Sampled::At { value, gradient } => {
-            if value == 0.0 {
-                return hit_with(gradient, distance);
-            }
-            Cast::None
-        }
-    }
-}
-
-// The distance at a part of the way from one distance to another.
-fn along(current: f64, end: f64, fraction: f64) -> f64
-    ensures { λ r. ⌜ r ≡ along current end fraction ⌝ }
-{
-    current + (end - current) * fraction
-}
-
-// The value at a distance. The gradient is refused with it.
-fn value_along(ray: Ray, grid: Grid, values: &[f64], distance: f64) -> Height
-    requires { ⌜ Stands grid (now values) ⌝ }
-    ensures { λ r. ⌜ r ≡ valueAlong ray grid (now (values .entry)) distance ⌝ }
-{
-    let found = sampling::sample(grid, values, point_at(ray, distance));
-    match found {
-        Sampled::Refused(number) => Height::Refused(number),
-        Sampled::At { value, gradient: _ } => Height::At(value),
-    }
-}
-
-// The hit at a distance, with the gradient there.
-fn hit_along(ray: Ray, grid: Grid, values: &[f64], distance: f64) -> Cast
-    requires { ⌜ Stands grid (now values) ⌝ }
-    ensures { λ r. ⌜ says r ≡ hitAlong ray grid (now (values .entry)) distance ⌝ }
-{
-    let found = sampling::sample(grid, values, point_at(ray, distance));
-    match found {
-        Sampled::Refused(number) => Cast::Refused(number),
-        Sampled::At { value: _, gradient } => hit_with(gradient, distance),
-    }
 }
 
 // After a cell without a root: the walk ends at the exit.
@@ -124,76 +48,68 @@ fn cell_by(
     requires { ⌜ Stands grid (now values) ⌝ }
     ensures { λ r. ⌜ tells r ≡ cellBy ray grid (now (values .entry)) current end exit samples ⌝ }
 {
-    let root = cubic::first_cubic_root(samples);
+    let root = roots::first_cubic_root(samples);
     match root {
         Root::Overflow => Step::Done(Cast::Refused(answer::OVERFLOW)),
         Root::None => goes_on(end, exit),
-        Root::At(fraction) => Step::Done(hit_along(
+        Root::At(fraction) => Step::Done(hits::hit_along(
             ray,
             grid,
             values,
-            along(current, end, fraction),
+            hits::along(current, end, fraction),
         )),
     }
 }
 
-// A cell with its first two samples taken: the other two.
-fn cell_rest(
+// A cell from one distance to another, by four samples.
+fn cell_cast(
     ray: Ray,
     grid: Grid,
     values: &[f64],
+    near: Near,
     current: f64,
     end: f64,
     exit: f64,
-    y0: f64,
-    y1: f64,
 ) -> Step
-    requires { ⌜ Stands grid (now values) ⌝ }
-    ensures { λ r. ⌜ tells r ≡ cellRest ray grid (now (values .entry)) current end exit y0 y1 ⌝ }
-{
-    let third = value_along(ray, grid, values, along(current, end, 0.6666666666666666));
-    match third {
-        Height::Refused(number) => Step::Done(Cast::Refused(number)),
-        Height::At(y2) => {
-            let fourth = value_along(ray, grid, values, along(current, end, 1.0));
-            match fourth {
-                Height::Refused(number) => Step::Done(Cast::Refused(number)),
-                Height::At(y3) => cell_by(ray, grid, values, current, end, exit, [y0, y1, y2, y3]),
-            }
-        }
-    }
-}
-
-// A cell from one distance to another: four samples, of which the first that refuses counts.
-fn cell_cast(ray: Ray, grid: Grid, values: &[f64], current: f64, end: f64, exit: f64) -> Step
     requires { ⌜ Stands grid (now values) ⌝ }
     ensures { λ r. ⌜ tells r ≡ cellCast ray grid (now (values .entry)) current end exit ⌝ }
 {
-    let first = value_along(ray, grid, values, along(current, end, 0.0));
-    match first {
-        Height::Refused(number) => Step::Done(Cast::Refused(number)),
-        Height::At(y0) => {
-            let second = value_along(ray, grid, values, along(current, end, 0.3333333333333333));
-            match second {
-                Height::Refused(number) => Step::Done(Cast::Refused(number)),
-                Height::At(y1) => cell_rest(ray, grid, values, current, end, exit, y0, y1),
-            }
-        }
+    let taken = hits::samples_along(ray, grid, values, near, current, end);
+    match taken {
+        Samples::Refused(number) => Step::Done(Cast::Refused(number)),
+        Samples::All { y0, y1, y2, y3 } => cell_by(
+            ray,
+            grid,
+            values,
+            current,
+            end,
+            exit,
+            [y0, y1, y2, y3],
+        ),
     }
 }
 
 // From a distance to the next boundary.
-fn goes_to(ray: Ray, grid: Grid, values: &[f64], current: f64, exit: f64, next: f64) -> Step
+fn goes_to(
+    ray: Ray,
+    grid: Grid,
+    values: &[f64],
+    near: Near,
+    current: f64,
+    exit: f64,
+    next: f64,
+) -> Step
     requires { ⌜ Stands grid (now values) ⌝ }
     ensures { λ r. ⌜ tells r ≡ goesTo ray grid (now (values .entry)) current exit next ⌝ }
 {
     if next <= current {
-        return Step::Done(touch_at(ray, grid, values, current));
+        return Step::Done(hits::touch_at(ray, grid, values, current));
     }
     cell_cast(
         ray,
         grid,
         values,
+        near,
         current,
         extremes::minimum(next, exit),
         exit,
@@ -208,7 +124,7 @@ fn walk_step(ray: Ray, grid: Grid, values: &[f64], current: f64, exit: f64) -> S
     if current > exit {
         return Step::Done(Cast::None);
     }
-    let point = point_at(ray, current);
+    let point = hits::point_at(ray, current);
     let cell = cells::ray_cell_indices(grid, point, ray.direction);
     let Cells::At { x, y, z } = cell else {
         return Step::Done(Cast::Refused(answer::OVERFLOW));
@@ -217,7 +133,15 @@ fn walk_step(ray: Ray, grid: Grid, values: &[f64], current: f64, exit: f64) -> S
     let Boundary::At(next) = reached else {
         return Step::Done(Cast::Refused(answer::OVERFLOW));
     };
-    goes_to(ray, grid, values, current, exit, next)
+    goes_to(
+        ray,
+        grid,
+        values,
+        Near { x: x, y: y, z: z },
+        current,
+        exit,
+        next,
+    )
 }
 
 // How many cells a walk may take.

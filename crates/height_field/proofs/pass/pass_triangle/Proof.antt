@@ -8,15 +8,12 @@ use Rattle.height_field.proofs.pass.pass_triangle.Tie as tie
 touches-requires : tie.Need-touches-requires
 touches-requires c κs = search needs
 
-triangle-cast-requires : tie.Need-triangle-cast-requires
-triangle-cast-requires c κs = search needs
-
-next-requires : tie.Need-next-requires
-next-requires c κs = search needs
+next-triangle-requires : tie.Need-next-triangle-requires
+next-triangle-requires c κs = search needs
 
 returns : tie.Need-returns
 unfolding passTriangle
-returns c = simp (sym (c .before .before .before .touches .ensures), c .before .before .if1 .taken, sym (c .before .triangle-cast .ensures), sym (c .next .ensures))
+returns c = simp (sym (c .before .before .touches .ensures), c .before .if1 .taken, sym (c .next-triangle .ensures))
 
 returns-2 : tie.Need-returns-2
 unfolding passTriangle
@@ -24,4 +21,4 @@ returns-2 c = simp (sym (c .before .touches .ensures), c .if1 .left)
 
 pub pass-triangle-spec : {M : Type 1} → statement M
 pass-triangle-spec =
-    tie.close (tie.spec touches-requires triangle-cast-requires next-requires returns returns-2)
+    tie.close (tie.spec touches-requires next-triangle-requires returns returns-2)

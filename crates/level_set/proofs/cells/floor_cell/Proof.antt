@@ -1,18 +1,17 @@
 -- `level_set::cells::floor_cell` meets its contract. Assumes nothing.
+use mathlib.Core.Path.{sym, subst, _∙_}
+use lib.Dec.{T}
+use Rattle.arithmetic.proofs.WholeNumbers.{cast-of-floor}
 use Rattle.level_set.specs.Cells.{floorCell}
-use mathlib.Core.Path.{sym}
 use Rattle.level_set.proofs.cells.floor_cell.Statement.{statement}
 use Rattle.level_set.proofs.cells.floor_cell.Tie as tie
-
-floor-requires : tie.Need-floor-requires
-floor-requires c κs = tt
 
 to-u64-requires : tie.Need-to-u64-requires
 to-u64-requires c κs = tt
 
 returns : tie.Need-returns
 unfolding floorCell
-returns c = simp (sym (c .before .floor .ensures), sym (c .to-u64 .ensures))
+returns c = c .to-u64 .ensures ∙ sym (cast-of-floor (c .before .args .coordinate) (subst T (sym (c .before .good .0 .1)) tt))
 
 pub floor-cell-spec : {M : Type 1} → statement M
-floor-cell-spec = tie.close (tie.spec floor-requires to-u64-requires returns)
+floor-cell-spec = tie.close (tie.spec to-u64-requires returns)

@@ -1,43 +1,41 @@
 -- `level_set::sampling::sample` meets its contract. Assumes nothing.
 use Rattle.level_set.specs.Sampling.{sample}
-use mathlib.Core.Path.{sym}
-use borrow.Author.Tests.{not-true, not-false}
+use mathlib.Core.Path.{sym, _∙_}
+use Rattle.level_set.proofs.PlaceLaws.{located-below}
 use borrow.Author.Needs.{needs}
 use Rattle.level_set.proofs.sampling.sample.Statement.{statement}
 use Rattle.level_set.proofs.sampling.sample.Tie as tie
 
-is-finite-requires : tie.Need-is-finite-requires
-is-finite-requires c κs = tt
+locate-requires : tie.Need-locate-requires
+locate-requires c κs = search needs
+
+enum-known-place : tie.Need-enum-known-place
+enum-known-place c = search needs
+
+enum-known-place-2 : tie.Need-enum-known-place-2
+enum-known-place-2 c = search needs
+
+sample-cell-requires : tie.Need-sample-cell-requires
+sample-cell-requires c κs =
+    let stands = c .before .before .before .before .before .pre in
+    let located = sym (c .before .before .before .locate .ensures) ∙ c .before .place2 .given .1 in
+    (stands, located-below (c .before .before .before .before .before .args .grid) (c .before .before .before .before .before .args .point) (stands .sides-stand) located)
 
 returns : tie.Need-returns
 unfolding sample
-returns c = simp (sym (c .before .is-finite .ensures), not-true (c .before .is-finite .result) (c .if1 .taken))
-
-last-corner-requires : tie.Need-last-corner-requires
-last-corner-requires c κs = search needs
-
-outside-requires : tie.Need-outside-requires
-outside-requires c κs = tt
+returns c = simp (sym (c .before .before .before .locate .ensures), c .before .place .given .1)
 
 returns-2 : tie.Need-returns-2
 unfolding sample
-returns-2 c = simp (sym (c .before .before .before .before .is-finite .ensures), not-false (c .before .before .before .before .is-finite .result) (c .before .before .before .if1 .left), sym (c .before .before .last-corner .ensures), sym (c .before .outside .ensures), c .if2 .taken)
-
-sample-inside-requires : tie.Need-sample-inside-requires
-sample-inside-requires c κs = search needs
-
-returns-3 : tie.Need-returns-3
-unfolding sample
-returns-3 c = simp (sym (c .before .before .before .before .before .is-finite .ensures), not-false (c .before .before .before .before .before .is-finite .result) (c .before .before .before .before .if1 .left), sym (c .before .before .before .last-corner .ensures), sym (c .before .before .outside .ensures), c .before .if2 .left, sym (c .sample-inside .ensures))
+returns-2 c = simp (sym (c .before .before .before .before .locate .ensures), c .before .before .place2 .given .1, sym (c .sample-cell .ensures))
 
 pub sample-spec : {M : Type 1} → statement M
 sample-spec =
     tie.close
     (tie.spec
-    is-finite-requires
+    locate-requires
+    enum-known-place
+    enum-known-place-2
+    sample-cell-requires
     returns
-    last-corner-requires
-    outside-requires
-    returns-2
-    sample-inside-requires
-    returns-3)
+    returns-2)

@@ -1,39 +1,59 @@
 -- `level_set::sampling::sample_faces` meets its contract. Assumes nothing.
-use Rattle.level_set.proofs.Late.{sample-tested}
+use Rattle.level_set.specs.Sampling.{sampleFaces}
 use mathlib.Core.Path.{sym}
-use borrow.Author.Tests.{not-true, not-false}
 use Rattle.level_set.proofs.sampling.sample_faces.Statement.{statement}
 use Rattle.level_set.proofs.sampling.sample_faces.Tie as tie
 
-cell-value-requires : tie.Need-cell-value-requires
-cell-value-requires c κs = tt
+value-on-requires : tie.Need-value-on-requires
+value-on-requires c κs = tt
 
-is-finite-requires : tie.Need-is-finite-requires
-is-finite-requires c κs = tt
+value-on-requires-2 : tie.Need-value-on-requires-2
+value-on-requires-2 c κs = tt
+
+lerp-requires : tie.Need-lerp-requires
+lerp-requires c κs = tt
+
+low-x-requires : tie.Need-low-x-requires
+low-x-requires c κs = tt
+
+high-x-requires : tie.Need-high-x-requires
+high-x-requires c κs = tt
+
+slope-on-requires : tie.Need-slope-on-requires
+slope-on-requires c κs = tt
+
+low-y-requires : tie.Need-low-y-requires
+low-y-requires c κs = tt
+
+high-y-requires : tie.Need-high-y-requires
+high-y-requires c κs = tt
+
+slope-on-requires-2 : tie.Need-slope-on-requires-2
+slope-on-requires-2 c κs = tt
+
+slope-on-requires-3 : tie.Need-slope-on-requires-3
+slope-on-requires-3 c κs = tt
+
+gathered-requires : tie.Need-gathered-requires
+gathered-requires c κs = tt
 
 returns : tie.Need-returns
-returns c = simp (sample-tested, sym (c .before .before .cell-value .ensures), sym (c .before .is-finite .ensures), not-true (c .before .is-finite .result) (c .if1 .taken))
-
-cell-gradient-requires : tie.Need-cell-gradient-requires
-cell-gradient-requires c κs = tt
-
-is-finite-requires-2 : tie.Need-is-finite-requires-2
-is-finite-requires-2 c κs = tt
-
-returns-2 : tie.Need-returns-2
-returns-2 c = simp (sample-tested, sym (c .before .before .before .before .before .cell-value .ensures), sym (c .before .before .before .before .is-finite .ensures), not-false (c .before .before .before .before .is-finite .result) (c .before .before .before .if1 .left), sym (c .before .before .cell-gradient .ensures), sym (c .before .is-finite2 .ensures), not-true (c .before .is-finite2 .result) (c .if2 .taken))
-
-returns-3 : tie.Need-returns-3
-returns-3 c = simp (sample-tested, sym (c .before .before .before .before .before .cell-value .ensures), sym (c .before .before .before .before .is-finite .ensures), not-false (c .before .before .before .before .is-finite .result) (c .before .before .before .if1 .left), sym (c .before .before .cell-gradient .ensures), sym (c .before .is-finite2 .ensures), not-false (c .before .is-finite2 .result) (c .if2 .left))
+unfolding sampleFaces
+returns c = simp (sym (c .before .before .before .before .before .before .before .before .before .before .value-on .ensures), sym (c .before .before .before .before .before .before .before .before .before .value-on2 .ensures), sym (c .before .before .before .before .before .before .before .before .lerp .ensures), sym (c .before .before .before .before .before .before .before .low-x .ensures), sym (c .before .before .before .before .before .before .high-x .ensures), sym (c .before .before .before .before .before .slope-on .ensures), sym (c .before .before .before .before .low-y .ensures), sym (c .before .before .before .high-y .ensures), sym (c .before .before .slope-on2 .ensures), sym (c .before .slope-on3 .ensures), sym (c .gathered .ensures))
 
 pub sample-faces-spec : {M : Type 1} → statement M
 sample-faces-spec =
     tie.close
     (tie.spec
-    cell-value-requires
-    is-finite-requires
-    returns
-    cell-gradient-requires
-    is-finite-requires-2
-    returns-2
-    returns-3)
+    value-on-requires
+    value-on-requires-2
+    lerp-requires
+    low-x-requires
+    high-x-requires
+    slope-on-requires
+    low-y-requires
+    high-y-requires
+    slope-on-requires-2
+    slope-on-requires-3
+    gathered-requires
+    returns)

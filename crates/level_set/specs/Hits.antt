@@ -1,0 +1,70 @@
+-- The value and the hit at a distance of the ray. Definitions only. Assumes nothing.
+use mathlib.Core.Bool.{cond}
+use mathlib.Core.List.{List}
+use lib.Ieee.{Float, binary64, ofBits, eq}
+use Rattle.geometry.specs.Numbers.{_+ᶠ_, _-ᶠ_, _*ᶠ_, zeroᶠ, oneᶠ}
+use Rattle.geometry.specs.Vector.{addOf, scaleOf, tryNormalize}
+use Rattle.geometry.specs.declared.vec3.Vec3.{Vec3}
+use Rattle.geometry.specs.declared.ray.Ray.{Ray}
+use Rattle.casts.specs.Answer.{Answer, hit, none, refused, withNormal, notConvergent}
+use Rattle.level_set.specs.Sampling.{sample}
+use Rattle.level_set.specs.Heights.{heightOf}
+use Rattle.level_set.specs.declared.grid.Grid.{Grid}
+use Rattle.level_set.specs.declared.sampling.Sampled.{Sampled}
+use Rattle.level_set.specs.declared.sampling.Sampled.the-variants.{At as SampledAt, Refused as SampleRefused}
+use Rattle.level_set.specs.declared.heights.Height.{Height}
+use Rattle.level_set.specs.declared.heights.Height.the-variants.{At as HeightAt, Refused as HeightRefused}
+use Rattle.level_set.specs.declared.hits.Samples.{Samples}
+use Rattle.level_set.specs.declared.hits.Samples.the-variants.{All, Refused}
+
+unfoldable pub pointAt : Ray → Float → Vec3
+pointAt r distance = addOf (r .origin) (scaleOf (r .direction) distance)
+
+-- from `current` a part of the way to `end`
+unfoldable pub along : Float → Float → Float → Float
+along current end fraction = current +ᶠ (end -ᶠ current) *ᶠ fraction
+
+abbrev pub withSample : Sampled → (Float → Vec3 → Answer) → Answer
+withSample (SampledAt value gradient) next = next value gradient
+withSample (SampleRefused number) next = refused number
+
+-- "A gradient at the hit that cannot be normalised is 8." The normal is not turned to face the ray.
+unfoldable pub hitWith : Vec3 → Float → Answer
+hitWith gradient distance = withNormal (tryNormalize gradient) notConvergent (λ (normal : Vec3). hit normal distance)
+
+unfoldable pub hitAlong : Ray → Grid → List Float → Float → Answer
+hitAlong r g values distance =
+    withSample (sample g values (pointAt r distance)) (λ (value : Float) (gradient : Vec3). hitWith gradient distance)
+
+-- where a cell has no length, its value is tested against zero exactly
+unfoldable pub touchAt : Ray → Grid → List Float → Float → Answer
+touchAt r g values distance =
+    withSample (sample g values (pointAt r distance))
+    (λ (value : Float) (gradient : Vec3). cond (eq value zeroᶠ) (hitWith gradient distance) none)
+
+unfoldable pub valueAlong : Ray → Grid → List Float → Float → Height
+valueAlong r g values distance = heightOf (sample g values (pointAt r distance))
+
+-- ---- four samples of a cell
+
+-- 1/3 and 2/3, rounded
+abbrev pub third : Float
+third = ofBits binary64 0x3fd5_5555_5555_5555
+
+abbrev pub twoThirds : Float
+twoThirds = ofBits binary64 0x3fe5_5555_5555_5555
+
+-- the first that refuses counts
+unfoldable pub samplesOf : Height → Height → Height → Height → Samples
+samplesOf (HeightAt y0) (HeightAt y1) (HeightAt y2) (HeightAt y3) = All y0 y1 y2 y3
+samplesOf (HeightAt y0) (HeightAt y1) (HeightAt y2) (HeightRefused number) = Refused number
+samplesOf (HeightAt y0) (HeightAt y1) (HeightRefused number) fourth = Refused number
+samplesOf (HeightAt y0) (HeightRefused number) third fourth = Refused number
+samplesOf (HeightRefused number) second third fourth = Refused number
+
+-- "Four samples per cell at 0, 1/3, 2/3, 1"
+unfoldable pub samplesAlong : Ray → Grid → List Float → Float → Float → Samples
+samplesAlong r g values current end =
+    samplesOf (valueAlong r g values (along current end zeroᶠ)) (valueAlong r g values (along current end third))
+    (valueAlong r g values (along current end twoThirds))
+    (valueAlong r g values (along current end oneᶠ))
