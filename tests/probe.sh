@@ -1,6 +1,6 @@
 #!/usr/bin/env bash
-# `probe` against the unchanged Rust: seeded records of the kinds that `probe` answers (all but meshes), every number compared under
-# document 01's agreement, and malformed streams, each kind of damage, compared byte for byte.
+# `probe` against the unchanged Rust: seeded records of all five kinds, every number compared under document 01's agreement, and malformed
+# streams, each kind of damage, compared byte for byte.
 # usage: tests/probe.sh [RECORDS [SEED]]   (default 100000 1)
 set -euo pipefail
 cd "$(dirname "$0")/.."
@@ -12,10 +12,13 @@ oracle=$PWD/oracle/target/release
 work=$(mktemp -d)
 trap 'rm -rf "$work"' EXIT
 
-target/bin/probe < examples/plane.records | cmp - examples/plane.lines
+for example in plane mesh; do
+  target/bin/probe < "examples/$example.records" | cmp - "examples/$example.lines"
+done
+tools/records.py write < examples/mesh.txt | cmp - examples/mesh.records
 "$oracle/oracle-probe" < crates/probe/stdin | cmp - crates/probe/stdout
 
-"$oracle/oracle-gen" "$seed" "$records" --kinds 1,2,4,5 > "$work/records"
+"$oracle/oracle-gen" "$seed" "$records" > "$work/records"
 target/bin/probe < "$work/records" > "$work/ours"
 "$oracle/oracle-probe" < "$work/records" > "$work/theirs"
 "$oracle/compare" "$work/ours" "$work/theirs"

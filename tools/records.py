@@ -3,25 +3,32 @@
 
   records.py write < TEXT > RECORDS     one record for each line of TEXT
   records.py show < LINES               the lines of `probe`, each float as a number
+  records.py count RECORDS LINES        how many records of each kind have which answer, and what the meshes are like
 
 A line of TEXT is fields by name; a number is written as Python reads a float (1e160, inf, nan) or as its bits (0x and 16 digits).
 An empty line, and what follows a #, is left out.
 
   plane     origin X Y Z direction X Y Z max D normal X Y Z distance D
   triangle  origin X Y Z direction X Y Z max D corners X Y Z X Y Z X Y Z
+  mesh      origin X Y Z direction X Y Z max D counts V T vertices X Y Z .. indices A B C ..
   heights   origin X Y Z direction X Y Z max D rows R columns C spacing X Y values ..
   distances origin X Y Z direction X Y Z max D sides X Y Z corner X Y Z spacing X Y Z values ..
 
-The values run to the end of the line; a record is written as it stands, so that counts may be wrong.
+Vertices, indices and values run to the next field or to the end of the line; a record is written as it stands, so that counts may be wrong.
 """
+import collections
 import struct
 import sys
 
-# the fields of each kind: a name, what each number is, and how many there are (0: to the end of the line)
+# the fields of each kind: a name, what each number is, and how many there are (0: to the next field or the end of the line)
 RAY = [("origin", "float", 3), ("direction", "float", 3), ("max", "float", 1)]
 KINDS = {
     "plane": (1, [("normal", "float", 3), ("distance", "float", 1)]),
     "triangle": (2, [("corners", "float", 9)]),
+    "mesh": (
+        3,
+        [("counts", "u32", 2), ("vertices", "float", 0), ("indices", "u32", 0)],
+    ),
     "heights": (
         4,
         [("rows", "u32", 1), ("columns", "u32", 1), ("spacing", "float", 2), ("values", "float", 0)],
@@ -46,16 +53,22 @@ def pattern(what, word):
     return struct.pack(">d", float(word))
 
 
+def run(words, names):
+    """How many words stand before the next field."""
+    return next((i for i, word in enumerate(words) if word in names), len(words))
+
+
 def body(number, words):
     if words[0] not in KINDS:
         fail(number, f"no kind of shape: {words[0]}")
     kind, shape = KINDS[words[0]]
     out = bytes([1, kind])
     at = 1
+    names = [name for name, _, _ in shape]
     for name, what, count in RAY + shape:
         if words[at : at + 1] != [name]:
             fail(number, f"'{name}' is to stand here: {' '.join(words[at:]) or 'the end'}")
-        count = count or len(words) - at - 1
+        count = count or run(words[at + 1 :], names)
         numbers = words[at + 1 : at + 1 + count]
         if len(numbers) < count:
             fail(number, f"'{name}' takes {count} numbers")
@@ -91,8 +104,40 @@ def show():
         print(" ".join(words))
 
 
+def bodies(data):
+    at = 0
+    while at < len(data):
+        (length,) = struct.unpack_from(">I", data, at)
+        yield data[at + 4 : at + 4 + length]
+        at += 4 + length
+
+
+def count(records, lines):
+    names = {kind: name for name, (kind, _) in KINDS.items()}
+    answers = collections.Counter()
+    meshes = collections.Counter()
+    triangles = set()
+    with open(records, "rb") as data, open(lines) as text:
+        for record, line in zip(bodies(data.read()), text, strict=True):
+            words = line.split()[1:]
+            answers[names[record[1]], " ".join(words[:2]) if words[0] == "refused" else words[0]] += 1
+            if words[0] == "hit" and words[4] == "7ff8000000000000":
+                answers[names[record[1]], "hit at NaN"] += 1
+            if record[1] == 3:
+                vertices, many = struct.unpack_from(">II", record, 58)
+                indices = struct.unpack_from(f">{3 * many}I", record, 66 + 24 * vertices)
+                triangles.add(many)
+                meshes["with an index that occurs again"] += len(set(indices)) < len(indices)
+                meshes["with an index past the vertices"] += any(index >= vertices for index in indices)
+    for (name, answer), times in sorted(answers.items()):
+        print(f"{name} {answer}: {times}")
+    for what, times in sorted(meshes.items()):
+        print(f"mesh {what}: {times}")
+    print("triangles of a mesh:", *sorted(triangles))
+
+
 if __name__ == "__main__":
-    commands = {"write": write, "show": show}
-    if len(sys.argv) != 2 or sys.argv[1] not in commands:
+    commands = {"write": (write, 2), "show": (show, 2), "count": (count, 4)}
+    if len(sys.argv) < 2 or sys.argv[1] not in commands or len(sys.argv) != commands[sys.argv[1]][1]:
         sys.exit(__doc__)
-    commands[sys.argv[1]]()
+    commands[sys.argv[1]][0](*sys.argv[2:])

@@ -62,7 +62,7 @@ fn refilled(run: Run, input: &mut [u8]) -> Run
 
 // Adds a line to the output, which is written first if it has no room.
 fn added(output: &mut [u8], filled: usize, line: &[u8]) -> usize
-    requires { ⌜ (filled ≤ 65536) × ((length (now line) ≤ 104) × (length (now output) ≡ 65536)) ⌝ }
+    requires { ⌜ (filled ≤ 65536) × ((length (now line) ≤ 114) × (length (now output) ≡ 65536)) ⌝ }
     ensures { λ r. ⌜ r ≤ 65536 ⌝ }
 {
     if 65536 - filled < line.len() {
@@ -79,6 +79,13 @@ fn answered(
     end: usize,
     input: &[u8],
     work: &mut [f64; 1024],
+    triangles: &mut [u32; 2031],
+    node_boxes: &mut [f64; 8124],
+    triangle_boxes: &mut [f64; 4062],
+    node_words: &mut [u32; 4062],
+    order: &mut [u32; 677],
+    list: &mut [u32; 677],
+    stack: &mut [u32; 1355],
     output: &mut [u8],
 ) -> Run
     requires { ⌜ (4 ≤ end) × (run .from + end ≤ run .to) ⌝ }
@@ -88,8 +95,20 @@ fn answered(
     let start = run.from + 4;
     let stop = run.from + end;
     let body = &input[start..stop];
-    let mut line = [0u8; 104];
-    let count = lines::line(number, body, work, &mut line);
+    let mut line = [0u8; 114];
+    let count = lines::line(
+        number,
+        body,
+        work,
+        triangles,
+        node_boxes,
+        triangle_boxes,
+        node_words,
+        order,
+        list,
+        stack,
+        &mut line,
+    );
     Run {
         from: stop,
         to: run.to,
@@ -104,7 +123,7 @@ fn cut(run: Run, number: u64, output: &mut [u8]) -> Run
     requires { ⌜ Sound run × (length (now output) ≡ 65536) ⌝ }
     ensures { λ r. ⌜ Sound r ⌝ }
 {
-    let mut line = [0u8; 104];
+    let mut line = [0u8; 114];
     let count = lines::bad_line(number, &mut line);
     Run {
         from: run.from,
@@ -116,7 +135,20 @@ fn cut(run: Run, number: u64, output: &mut [u8]) -> Run
 }
 
 // After the next record, whatever stands there.
-fn step(run: Run, number: u64, input: &mut [u8], work: &mut [f64; 1024], output: &mut [u8]) -> Run
+fn step(
+    run: Run,
+    number: u64,
+    input: &mut [u8],
+    work: &mut [f64; 1024],
+    triangles: &mut [u32; 2031],
+    node_boxes: &mut [f64; 8124],
+    triangle_boxes: &mut [f64; 4062],
+    node_words: &mut [u32; 4062],
+    order: &mut [u32; 677],
+    list: &mut [u32; 677],
+    stack: &mut [u32; 1355],
+    output: &mut [u8],
+) -> Run
     requires { ⌜ Sound run × ((length (now input) ≡ 65536) × (length (now output) ≡ 65536)) ⌝ }
     ensures { λ r. ⌜ Sound r ⌝ }
 {
@@ -126,7 +158,21 @@ fn step(run: Run, number: u64, input: &mut [u8], work: &mut [f64; 1024], output:
     let found = stream::next(&input[from..to]);
     match found {
         Found::Record(end) => {
-            return answered(ready, number, end, input, work, output);
+            return answered(
+                ready,
+                number,
+                end,
+                input,
+                work,
+                triangles,
+                node_boxes,
+                triangle_boxes,
+                node_words,
+                order,
+                list,
+                stack,
+                output,
+            );
         }
         Found::Cut => {
             return cut(ready, number, output);
@@ -146,6 +192,13 @@ fn step(run: Run, number: u64, input: &mut [u8], work: &mut [f64; 1024], output:
 fn main() {
     let mut input = io::large_buffer();
     let mut work = [0.0; 1024];
+    let mut triangles = [0u32; 2031];
+    let mut node_boxes = [0.0; 8124];
+    let mut triangle_boxes = [0.0; 4062];
+    let mut node_words = [0u32; 4062];
+    let mut order = [0u32; 677];
+    let mut list = [0u32; 677];
+    let mut stack = [0u32; 1355];
     let mut output = io::large_buffer();
     let mut run = Run {
         from: 0,
@@ -157,7 +210,20 @@ fn main() {
     // A proved loop ends: no run reaches the last number.
     let mut number = 1;
     while number < u64::MAX && !run.over {
-        run = step(run, number, &mut input, &mut work, &mut output);
+        run = step(
+            run,
+            number,
+            &mut input,
+            &mut work,
+            &mut triangles,
+            &mut node_boxes,
+            &mut triangle_boxes,
+            &mut node_words,
+            &mut order,
+            &mut list,
+            &mut stack,
+            &mut output,
+        );
         number += 1;
     }
     let filled = run.filled;

@@ -1,15 +1,16 @@
 -- The parts of a line, stored one behind another, are its text. Assumes nothing.
 use Prim.Native.Nat.{ℕ, _+_, _≤_}
-use mathlib.Core.Path.{_≡_, refl, sym, ap, _∙_}
-use mathlib.Core.Bool.{Bool, true, false}
+use mathlib.Core.Path.{_≡_, ap}
+use mathlib.Core.Bool.{true, false}
 use mathlib.Core.List.{List, [], _∷_, _++_}
 use native.Mathlib.Omega.{arith}
-use borrow.Author.Tests.{eq-eqb, ne-eqb}
+use borrow.Author.Tests.{ne-eqb}
 use lib.Ieee.{Float}
 use lib.ListN.{length}
 use Rattle.geometry.specs.declared.vec3.Vec3.{Vec3}
 use Rattle.geometry.specs.declared.ray.Ray.{Ray}
 use Rattle.casts.specs.Answer.{Answer, hit, none, refused}
+use Rattle.casts.specs.Nearest.{Indexed, hitAt, noHit, stopped, withoutIndex}
 use Rattle.casts.specs.Plane.{rayPlane}
 use Rattle.casts.specs.Triangle.{rayTriangle}
 use Rattle.height_field.specs.Cast.{rayHeightField}
@@ -17,10 +18,11 @@ use Rattle.level_set.specs.Walk.{rayLevelSet}
 use Rattle.height_field.specs.declared.field.Field.{Field}
 use Rattle.level_set.specs.declared.grid.Grid.{Grid}
 use Rattle.records.specs.Bytes.{floatsAt}
-use Rattle.records.specs.Fields.{kindOf, rayOf, planeOf, cornersOf, fieldOf, heightCount, heightsOf, gridOf, valueCount, valuesOf}
+use Rattle.records.specs.Fields.{kindOf, rayOf, planeOf, cornersOf, fieldOf, heightCount, heightsOf, gridOf, valueCount, valuesOf, meshOf}
+use Rattle.records.specs.MeshAnswer.{meshAnswer}
 use Rattle.records.specs.Parse.{wellFormed, shapeOf, parse}
 use Rattle.records.specs.Text.{decimal, hexadecimal, printedBits, Put, Written}
-use Rattle.records.specs.Lines.{hitWord, noneWord, refusedWord, badWord, floatText, hitText, answerText, shapeAnswer, parsedText, recordText, lineWith}
+use Rattle.records.specs.Lines.{hitWord, noneWord, refusedWord, badWord, floatText, hitText, answerText, indexText, indexedText, shapeText, parsedText, recordText, lineWith}
 use Rattle.records.proofs.Storing.{put-then, put-front}
 use Rattle.records.proofs.Lengths.{longest-line}
 
@@ -52,26 +54,47 @@ pub refused-case : (a : Answer) (number : ℕ) → a ≡ refused number → refu
 unfolding answerText
 refused-case a number e = rw e
 
+-- what a mesh adds, by the answer's cases
+pub index-hit : (a : Indexed) (normal : Vec3) (distance : Float) (index : ℕ) → a ≡ hitAt normal distance index → (32 ∷ []) ++ decimal index ≡ indexText a
+unfolding indexText
+index-hit a normal distance index e = rw e
+
+pub index-none : (a : Indexed) → a ≡ noHit → indexText a ≡ []
+unfolding indexText
+index-none a e = rw e
+
+pub index-stopped : (a : Indexed) (number : ℕ) → a ≡ stopped number → indexText a ≡ []
+unfolding indexText
+index-stopped a number e = rw e
+
+pub put-both : {area after last : List ℕ} {at next end : ℕ} (a : Indexed) (b : Answer) → b ≡ withoutIndex a
+    → Put area at (answerText b) after next → Put after next (indexText a) last end → Put area at (indexedText a) last end
+unfolding indexedText
+put-both a b e p q = put-then (answerText (withoutIndex a)) (indexText a) (rw e at p) q
+
 -- the kinds
+module _ (body : List ℕ) where
+  pub mesh-answer : (a : Indexed) → kindOf body ≡ 3 → a ≡ meshAnswer (rayOf body) (meshOf body) → indexedText a ≡ shapeText (rayOf body) (shapeOf (kindOf body) body)
+  unfolding shapeOf shapeText
+  mesh-answer a k e = rw (k, e)
+
 module _ (body : List ℕ) (a : Answer) where
-  pub plane-answer : kindOf body ≡ 1 → a ≡ rayPlane (planeOf body) (rayOf body) → a ≡ shapeAnswer (rayOf body) (shapeOf (kindOf body) body)
-  unfolding shapeOf shapeAnswer
-  plane-answer k e = simp (eq-eqb (kindOf body) 1 k, e)
+  pub plane-answer : kindOf body ≡ 1 → a ≡ rayPlane (planeOf body) (rayOf body) → answerText a ≡ shapeText (rayOf body) (shapeOf (kindOf body) body)
+  unfolding shapeOf shapeText
+  plane-answer k e = rw (k, e)
 
-  pub triangle-answer : (kindOf body ≡ 1 → ⊥) → kindOf body ≡ 2 → a ≡ rayTriangle (rayOf body) (cornersOf body)
-      → a ≡ shapeAnswer (rayOf body) (shapeOf (kindOf body) body)
-  unfolding shapeOf shapeAnswer cornersOf
-  triangle-answer j k e = simp (ne-eqb (kindOf body) 1 j, eq-eqb (kindOf body) 2 k, e)
+  pub triangle-answer : kindOf body ≡ 2 → a ≡ rayTriangle (rayOf body) (cornersOf body) → answerText a ≡ shapeText (rayOf body) (shapeOf (kindOf body) body)
+  unfolding shapeOf shapeText cornersOf
+  triangle-answer k e = rw (k, e)
 
-  pub heights-answer : (kindOf body ≡ 1 → ⊥) → (kindOf body ≡ 2 → ⊥) → kindOf body ≡ 4 → a ≡ rayHeightField (rayOf body) (fieldOf body) (heightsOf body)
-      → a ≡ shapeAnswer (rayOf body) (shapeOf (kindOf body) body)
-  unfolding shapeOf shapeAnswer
-  heights-answer i j k e = simp (ne-eqb (kindOf body) 1 i, ne-eqb (kindOf body) 2 j, eq-eqb (kindOf body) 4 k, e)
+  pub heights-answer : kindOf body ≡ 4 → a ≡ rayHeightField (rayOf body) (fieldOf body) (heightsOf body) → answerText a ≡ shapeText (rayOf body) (shapeOf (kindOf body) body)
+  unfolding shapeOf shapeText
+  heights-answer k e = rw (k, e)
 
-  pub values-answer : (kindOf body ≡ 1 → ⊥) → (kindOf body ≡ 2 → ⊥) → (kindOf body ≡ 4 → ⊥) → a ≡ rayLevelSet (rayOf body) (gridOf body) (valuesOf body)
-      → a ≡ shapeAnswer (rayOf body) (shapeOf (kindOf body) body)
-  unfolding shapeOf shapeAnswer
-  values-answer i j k e = simp (ne-eqb (kindOf body) 1 i, ne-eqb (kindOf body) 2 j, ne-eqb (kindOf body) 4 k, e)
+  pub values-answer : (kindOf body ≡ 1 → ⊥) → (kindOf body ≡ 2 → ⊥) → (kindOf body ≡ 3 → ⊥) → (kindOf body ≡ 4 → ⊥) → a ≡ rayLevelSet (rayOf body) (gridOf body) (valuesOf body)
+      → answerText a ≡ shapeText (rayOf body) (shapeOf (kindOf body) body)
+  unfolding shapeOf shapeText
+  values-answer i j l k e = simp (ne-eqb (kindOf body) 1 i, ne-eqb (kindOf body) 2 j, ne-eqb (kindOf body) 3 l, ne-eqb (kindOf body) 4 k, e)
 
 -- the numbers of a grid, decoded
 pub heights-cast : (body : List ℕ) (ray : Ray) (field : Field) (numbers : List Float) (count : ℕ) (a : Answer) → a ≡ rayHeightField ray field numbers
@@ -84,9 +107,9 @@ pub values-cast : (body : List ℕ) (ray : Ray) (grid : Grid) (numbers : List Fl
 unfolding valuesOf
 values-cast body ray grid numbers count a e f n k = cc
 
-pub good-text : (body : List ℕ) (a : Answer) → wellFormed body ≡ true → a ≡ shapeAnswer (rayOf body) (shapeOf (kindOf body) body) → answerText a ≡ recordText body
+pub good-text : (body text : List ℕ) → wellFormed body ≡ true → text ≡ shapeText (rayOf body) (shapeOf (kindOf body) body) → text ≡ recordText body
 unfolding parse parsedText
-good-text body a h e = simp (h, e)
+good-text body text h e = simp (h, e)
 
 pub bad-text : (body : List ℕ) → wellFormed body ≡ false → badWord ≡ recordText body
 unfolding parse parsedText
@@ -101,7 +124,7 @@ module _ {area numbered answered last : List ℕ} {start end next : ℕ} (number
   unfolding lineWith
   whole = put-then ((decimal number ++ (32 ∷ [])) ++ text) (10 ∷ []) (put-then (decimal number ++ (32 ∷ [])) text p q) r
 
-  pub line-written : 104 ≤ length area → length text ≤ 71 → Written (lineWith number text) area last next
+  pub line-written : 114 ≤ length area → length text ≤ 92 → Written (lineWith number text) area last next
   line-written room short = record {
     bytes = put-front whole (omega (arith, longest-line number text short));
     counted = let b : next ≡ 0 + length (lineWith number text) = whole .behind in omega arith;

@@ -9,8 +9,8 @@ use borrow.Author.Tests.{ltb-true, ltb-false, ne-eqb}
 use lib.Dec.{ltb, eqb}
 use lib.ListN.{length}
 use Rattle.records.specs.Bytes.{wordAt}
-use Rattle.records.specs.Fields.{heightCount, valueCount}
-use Rattle.records.specs.Parse.{heightsFill, valuesFill}
+use Rattle.records.specs.Fields.{vertexCount, triangleCount, heightCount, valueCount}
+use Rattle.records.specs.Parse.{meshFills, heightsFill, valuesFill}
 
 pub product-fits : (a b : ℕ) → a < 4294967296 → b < 4294967296 → a * b < 18446744073709551616
 product-fits a b h k = let m : a * b ≤ a * 4294967296 = mul-le-mul-left a (le-of-lt k) in omega arith
@@ -45,6 +45,17 @@ cap-large p z = go (ltb 4294967295 p) (ltb-true 4294967295 p)
     go : (b : Bool) → (b ≡ true → 4294967295 < p) → 1024 < cond b 4294967295 p * z → 1024 < p * z
     go true h k = let m : p * 1 ≤ p * z = mul-le-mul-left p (omega arith) in let l : 4294967295 < p = h refl in omega arith
     go false h k = k
+
+-- ---- kind 3
+
+pub mesh-short : (body : List ℕ) → length body < 66 → false ≡ meshFills body
+unfolding meshFills
+mesh-short body h = sym (ne-eqb (length body) (66 + 24 * vertexCount body + 12 * triangleCount body) (λ e. omega arith))
+
+pub mesh-tested : (body : List ℕ) (vertices triangles : ℕ) → vertices ≡ vertexCount body → triangles ≡ triangleCount body
+    → eqb (length body) (66 + 24 * vertices + 12 * triangles) ≡ meshFills body
+unfolding meshFills
+mesh-tested body vertices triangles first second = rw (first, second)
 
 -- ---- kind 4
 

@@ -6,6 +6,8 @@ pub mod Lengths
 pub mod WellFormed
 pub mod Counts
 pub mod Decoding
+pub mod MeshAnswers
 pub mod Answers
 pub mod Frames
 pub mod RoundTrip
+pub mod WorkedExample

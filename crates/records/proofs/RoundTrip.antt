@@ -1,14 +1,14 @@
 -- What is encoded is parsed back, and the frame around a body is found, whatever follows it. Assumes nothing.
 use Prim.Native.Nat.{ℕ, zero, suc, _+_, _-_, _*_, _/_, _%_, _<_, _≤_}
 use mathlib.Core.Path.{_≡_, refl, sym, ap, _∙_}
-use mathlib.Core.Bool.{Bool, true, false, _&&_, cond}
-use mathlib.Core.List.{List, [], _∷_, _++_, append-assoc}
-use native.Mathlib.Nat.{add-assoc}
+use mathlib.Core.Bool.{true}
+use mathlib.Core.List.{List, [], _∷_, _++_, append-assoc, append-nil}
+use native.Mathlib.Nat.{add-assoc, mul-zero, mul-suc}
 use native.Mathlib.Omega.{arith}
 use borrow.Author.Tests.{le-ltb, le-leb, eq-eqb, ne-eqb}
 use lib.Ieee.{Float, binary64, toBits, ofBits}
 use lib.Ieee.Bits.{ofBits-toBits, toBits-lt}
-use lib.ListN.{length, take, drop, length-append}
+use lib.ListN.{length, length-append}
 use lib.Seq.{take-at, getD-append-add}
 use Rattle.geometry.specs.declared.vec3.Vec3.{Vec3}
 use Rattle.geometry.specs.declared.ray.Ray.{Ray}
@@ -16,13 +16,13 @@ use Rattle.casts.specs.declared.plane.Plane.{Plane}
 use Rattle.height_field.specs.declared.field.Field.{Field}
 use Rattle.level_set.specs.declared.grid.Grid.{Grid}
 use Rattle.level_set.specs.declared.grid.Sides.{Sides}
-use Rattle.records.specs.Bytes.{wordAt, bitsAt, floatAt, vectorAt, floatsAt}
-use Rattle.records.specs.Fields.{versionOf, kindOf, rayOf, planeOf, fieldOf, heightCount, heightsOf, gridOf, valueCount, valuesOf}
-use Rattle.records.specs.Parse.{Shape, plane, triangle, heights, distances, Parsed, says, longest, heightsFill, valuesFill, filled, wellFormed, shapeOf, parse}
-use Rattle.records.specs.Encode.{wordBytes, bitsBytes, floatBytes, vectorBytes, floatsBytes, fieldBytes, gridBytes, rayBytes, kindByte, shapeBytes, bodyBytes, framed, FloatFits, VectorFits, RayFits, FloatsFit, FieldFits, GridFits, ShapeFits}
+use Rattle.tree.specs.Mesh.{Mesh, thirds}
+use Rattle.records.specs.Bytes.{wordAt, bitsAt, floatAt, vectorAt, eachAt, floatsAt, wordsAt}
+use Rattle.records.specs.Fields.{versionOf, kindOf, rayOf, planeOf, vertexCount, triangleCount, meshOf, fieldOf, heightCount, heightsOf, gridOf, valueCount, valuesOf}
+use Rattle.records.specs.Parse.{Shape, plane, triangle, mesh, heights, distances, says, longest, meshFills, heightsFill, valuesFill, filled, wellFormed, shapeOf, parse}
+use Rattle.records.specs.Encode.{wordBytes, bitsBytes, floatBytes, vectorBytes, eachBytes, floatsBytes, wordsBytes, countsBytes, fieldBytes, gridBytes, rayBytes, kindByte, shapeBytes, bodyBytes, framed, FloatFits, VectorFits, RayFits, WordFits, EachFits, FloatsFit, MeshFits, FieldFits, GridFits, ShapeFits}
 use Rattle.records.specs.Stream.{nextOf, bodyOf}
-use Rattle.records.specs.declared.stream.Found.{Found}
-use Rattle.records.specs.declared.stream.Found.the-variants.{Record, Cut, End}
+use Rattle.records.specs.declared.stream.Found.the-variants.{Record}
 
 -- ---- numbers
 
@@ -74,61 +74,149 @@ plane-of p q = cc
 triangle-of : {a b c v w u : Vec3} → a ≡ v → b ≡ w → c ≡ u → triangle a b c ≡ triangle v w u
 triangle-of p q r = cc
 
--- ---- lists of floats
+-- ---- lists of numbers
 
 word-shifted : (front bytes : List ℕ) (p : ℕ) → wordAt (front ++ bytes) (length front + p) ≡ wordAt bytes p
 unfolding wordAt
 word-shifted front bytes p = simp (add-assoc, getD-append-add)
 
-float-shifted : (front bytes : List ℕ) → floatAt (front ++ bytes) (length front) ≡ floatAt bytes 0
+word-behind : (front bytes : List ℕ) → wordAt (front ++ bytes) (length front) ≡ wordAt bytes 0
+word-behind front bytes = let e : length front ≡ length front + 0 = omega arith in ap (wordAt (front ++ bytes)) e ∙ word-shifted front bytes 0
+
+float-behind : (front bytes : List ℕ) → floatAt (front ++ bytes) (length front) ≡ floatAt bytes 0
 unfolding floatAt bitsAt
-float-shifted front bytes =
-    let e : length front ≡ length front + 0 = omega arith in
+float-behind front bytes =
     ap (ofBits binary64)
-    (ap (λ (k : ℕ). k * 0x1_0000_0000 + wordAt (front ++ bytes) (length front + 4)) (ap (wordAt (front ++ bytes)) e ∙ word-shifted front bytes 0)
+    (ap (λ (k : ℕ). k * 0x1_0000_0000 + wordAt (front ++ bytes) (length front + 4)) (word-behind front bytes)
     ∙ ap (λ (k : ℕ). wordAt bytes 0 * 0x1_0000_0000 + k) (word-shifted front bytes 4))
 
 float-front : (x : Float) (rest : List ℕ) → FloatFits x → floatAt (floatBytes x ++ rest) 0 ≡ x
 unfolding floatAt floatBytes bitsAt bitsBytes wordAt wordBytes
 float-front x rest h = float-back x h
 
-floats-none : (bytes : List ℕ) (place : ℕ) → floatsAt bytes place 0 ≡ []
-unfolding floatsAt
-floats-none bytes place = refl
-
-floats-split : (bytes : List ℕ) (place count : ℕ) → floatsAt bytes place (suc count) ≡ floatAt bytes place ∷ floatsAt bytes (place + 8) count
-unfolding floatsAt
-floats-split bytes place zero = let e : place + 8 * 0 ≡ place = omega arith in rw e
-floats-split bytes place (suc count) =
-    let e : place + 8 * suc count ≡ place + 8 + 8 * count = omega arith in
-    rw e (ap (λ (l : List Float). l ++ (floatAt bytes (place + 8 + 8 * count) ∷ [])) (floats-split bytes place count))
+length-word-bytes : (n : ℕ) → length (wordBytes n) ≡ 4
+unfolding wordBytes
+length-word-bytes n = refl
 
 length-float-bytes : (x : Float) → length (floatBytes x) ≡ 8
 unfolding floatBytes bitsBytes wordBytes
 length-float-bytes x = refl
 
-length-floats-bytes : (xs : List Float) → length (floatsBytes xs) ≡ 8 * length xs
-unfolding floatsBytes
-length-floats-bytes [] = refl
-length-floats-bytes (x ∷ xs) = omega (arith, length-append (floatBytes x) (floatsBytes xs), length-float-bytes x, length-floats-bytes xs)
-
-cons-of : {a b : Float} {xs ys : List Float} → a ≡ b → xs ≡ ys → a ∷ xs ≡ b ∷ ys
+cons-of : {A : Type 0} {a b : A} {xs ys : List A} → a ≡ b → xs ≡ ys → a ∷ xs ≡ b ∷ ys
 cons-of p q = cc
 
-rest-back : (front rest : List ℕ) (x : Float) (count : ℕ) (xs : List Float)
-    → floatsAt ((front ++ floatBytes x) ++ rest) (length (front ++ floatBytes x)) count ≡ xs → floatsAt (front ++ (floatBytes x ++ rest)) (length front + 8) count ≡ xs
-rest-back front rest x count xs h =
-    let e : length front + 8 ≡ length (front ++ floatBytes x) = omega (arith, length-append front (floatBytes x), length-float-bytes x) in
-    ap (λ (l : List ℕ). floatsAt l (length front + 8) count) (sym (append-assoc front (floatBytes x) rest))
-    ∙ (ap (λ (k : ℕ). floatsAt ((front ++ floatBytes x) ++ rest) k count) e ∙ h)
+-- numbers of one size, each read back from its bytes, wherever they begin and whatever follows
+module _ {A : Type 0} (at : List ℕ → ℕ → A) (size : ℕ) (bytesOf : A → List ℕ) (Fits : A → Type 0)
+    (long : (x : A) → length (bytesOf x) ≡ size)
+    (behind : (front bytes : List ℕ) → at (front ++ bytes) (length front) ≡ at bytes 0)
+    (front-back : (x : A) (rest : List ℕ) → Fits x → at (bytesOf x ++ rest) 0 ≡ x) where
+  each-none : (bytes : List ℕ) (place : ℕ) → eachAt at size bytes place 0 ≡ []
+  unfolding eachAt
+  each-none bytes place = refl
 
-floats-back : (front : List ℕ) (xs : List Float) → FloatsFit xs → floatsAt (front ++ floatsBytes xs) (length front) (length xs) ≡ xs
-unfolding floatsBytes
-floats-back front [] h = floats-none (front ++ []) (length front)
-floats-back front (x ∷ xs) h =
-    floats-split (front ++ (floatBytes x ++ floatsBytes xs)) (length front) (length xs)
-    ∙ cons-of (float-shifted front (floatBytes x ++ floatsBytes xs) ∙ float-front x (floatsBytes xs) (h .0))
-    (rest-back front (floatsBytes xs) x (length xs) xs (floats-back (front ++ floatBytes x) xs (h .1)))
+  each-split : (bytes : List ℕ) (place count : ℕ) → eachAt at size bytes place (suc count) ≡ at bytes place ∷ eachAt at size bytes (place + size) count
+  unfolding eachAt
+  each-split bytes place zero = let e : place + size * 0 ≡ place = omega arith in rw e
+  each-split bytes place (suc count) =
+      let e : place + size * suc count ≡ place + size + size * count = omega (arith, mul-suc size count) in
+      rw e (ap (λ (l : List A). l ++ (at bytes (place + size + size * count) ∷ [])) (each-split bytes place count))
+
+  length-each-bytes : (xs : List A) → length (eachBytes bytesOf xs) ≡ size * length xs
+  unfolding eachBytes
+  length-each-bytes [] = sym (mul-zero size)
+  length-each-bytes (x ∷ xs) =
+      omega (arith, length-append (bytesOf x) (eachBytes bytesOf xs), long x, length-each-bytes xs, mul-suc size (length xs))
+
+  rest-back : (front rest : List ℕ) (x : A) (count : ℕ) (xs : List A)
+      → eachAt at size ((front ++ bytesOf x) ++ rest) (length (front ++ bytesOf x)) count ≡ xs → eachAt at size (front ++ (bytesOf x ++ rest)) (length front + size) count ≡ xs
+  rest-back front rest x count xs h =
+      let e : length front + size ≡ length (front ++ bytesOf x) = omega (arith, length-append front (bytesOf x), long x) in
+      ap (λ (l : List ℕ). eachAt at size l (length front + size) count) (sym (append-assoc front (bytesOf x) rest))
+      ∙ (ap (λ (k : ℕ). eachAt at size ((front ++ bytesOf x) ++ rest) k count) e ∙ h)
+
+  each-back : (front : List ℕ) (xs : List A) (rest : List ℕ) → EachFits Fits xs → eachAt at size (front ++ (eachBytes bytesOf xs ++ rest)) (length front) (length xs) ≡ xs
+  unfolding eachBytes
+  each-back front [] rest h = each-none (front ++ rest) (length front)
+  each-back front (x ∷ xs) rest h =
+      ap (λ (l : List ℕ). eachAt at size (front ++ l) (length front) (suc (length xs))) (append-assoc (bytesOf x) (eachBytes bytesOf xs) rest)
+      ∙ (each-split (front ++ (bytesOf x ++ (eachBytes bytesOf xs ++ rest))) (length front) (length xs)
+      ∙ cons-of (behind front (bytesOf x ++ (eachBytes bytesOf xs ++ rest)) ∙ front-back x (eachBytes bytesOf xs ++ rest) (h .0))
+      (rest-back front (eachBytes bytesOf xs ++ rest) x (length xs) xs (each-back (front ++ bytesOf x) xs rest (h .1))))
+
+length-floats-bytes : (xs : List Float) → length (floatsBytes xs) ≡ 8 * length xs
+length-floats-bytes = length-each-bytes floatAt 8 floatBytes FloatFits length-float-bytes float-behind float-front
+
+length-words-bytes : (xs : List ℕ) → length (wordsBytes xs) ≡ 4 * length xs
+length-words-bytes = length-each-bytes wordAt 4 wordBytes WordFits length-word-bytes word-behind word-back
+
+floats-back : (front : List ℕ) (xs : List Float) (rest : List ℕ) → FloatsFit xs → floatsAt (front ++ (floatsBytes xs ++ rest)) (length front) (length xs) ≡ xs
+floats-back = each-back floatAt 8 floatBytes FloatFits length-float-bytes float-behind float-front
+
+words-back : (front : List ℕ) (xs : List ℕ) (rest : List ℕ) → EachFits WordFits xs → wordsAt (front ++ (wordsBytes xs ++ rest)) (length front) (length xs) ≡ xs
+words-back = each-back wordAt 4 wordBytes WordFits length-word-bytes word-behind word-back
+
+-- at the end of a body
+floats-last : (front : List ℕ) (xs : List Float) → FloatsFit xs → floatsAt (front ++ floatsBytes xs) (length front) (length xs) ≡ xs
+floats-last front xs h = rw append-nil at (floats-back front xs [] h)
+
+words-last : (front : List ℕ) (xs : List ℕ) → EachFits WordFits xs → wordsAt (front ++ wordsBytes xs) (length front) (length xs) ≡ xs
+words-last front xs h = rw append-nil at (words-back front xs [] h)
+
+-- ---- meshes
+
+mesh-of : {vs ws : List Float} {ts us : List ℕ} → vs ≡ ws → ts ≡ us → _≡_ {A = Mesh} record { vertices = vs; triangles = ts } record { vertices = ws; triangles = us }
+mesh-of p q = cc
+
+module _ (r : Ray) (m : Mesh) (h : MeshFits m) (short : length (bodyBytes r (mesh m)) ≤ longest) where
+  abbrev body : List ℕ
+  body = bodyBytes r (mesh m)
+
+  abbrev front : List ℕ
+  front = 1 ∷ (3 ∷ (rayBytes r ++ countsBytes m))
+
+  mesh-long : length body ≡ 66 + (8 * length (m .vertices) + 4 * length (m .triangles))
+  unfolding kindByte shapeBytes bodyBytes rayBytes countsBytes vectorBytes floatBytes bitsBytes wordBytes
+  mesh-long =
+      omega (arith, length-append (floatsBytes (m .vertices)) (wordsBytes (m .triangles)), length-floats-bytes (m .vertices), length-words-bytes (m .triangles))
+
+  vertex-count : vertexCount body ≡ thirds (length (m .vertices))
+  unfolding kindByte shapeBytes bodyBytes rayBytes countsBytes vectorBytes floatBytes bitsBytes wordAt wordBytes
+  vertex-count = word-back (thirds (length (m .vertices))) [] (omega (arith, mesh-long))
+
+  triangle-count : triangleCount body ≡ thirds (length (m .triangles))
+  unfolding kindByte shapeBytes bodyBytes rayBytes countsBytes vectorBytes floatBytes bitsBytes wordAt wordBytes
+  triangle-count = word-back (thirds (length (m .triangles))) [] (omega (arith, mesh-long))
+
+  vertices-back : floatsAt body 66 (3 * vertexCount body) ≡ m .vertices
+  unfolding kindByte shapeBytes bodyBytes rayBytes countsBytes vectorBytes floatBytes bitsBytes wordBytes
+  vertices-back =
+      ap (floatsAt body 66) (ap (λ (n : ℕ). 3 * n) vertex-count ∙ sym (h .wholeVertices)) ∙ floats-back front (m .vertices) (wordsBytes (m .triangles)) (h .verticesFit)
+
+  -- ranged over what stands before the indices
+  behind-vertices : length (front ++ floatsBytes (m .vertices)) ≡ 66 + 24 * vertexCount body
+  unfolding rayBytes countsBytes vectorBytes floatBytes bitsBytes wordBytes
+  behind-vertices = omega (arith, length-floats-bytes (m .vertices), vertex-count, h .wholeVertices)
+
+  regrouped : body ≡ (front ++ floatsBytes (m .vertices)) ++ wordsBytes (m .triangles)
+  unfolding kindByte shapeBytes bodyBytes rayBytes countsBytes vectorBytes floatBytes bitsBytes wordBytes
+  regrouped = refl
+
+  indices-back : wordsAt body (66 + 24 * vertexCount body) (3 * triangleCount body) ≡ m .triangles
+  indices-back =
+      ap (wordsAt body (66 + 24 * vertexCount body)) (ap (λ (n : ℕ). 3 * n) triangle-count ∙ sym (h .wholeTriangles))
+      ∙ (ap (λ (k : ℕ). wordsAt body k (length (m .triangles))) (sym behind-vertices)
+      ∙ (ap (λ (l : List ℕ). wordsAt l (length (front ++ floatsBytes (m .vertices))) (length (m .triangles))) regrouped
+      ∙ words-last (front ++ floatsBytes (m .vertices)) (m .triangles) (h .indicesFit)))
+
+  mesh-back : shapeOf 3 body ≡ mesh m
+  unfolding shapeOf meshOf
+  mesh-back = ap mesh (mesh-of vertices-back indices-back)
+
+  mesh-filled : filled 3 body ≡ true
+  unfolding filled meshFills
+  mesh-filled =
+      eq-eqb (length body) (66 + 24 * vertexCount body + 12 * triangleCount body)
+      (omega (arith, mesh-long, vertex-count, triangle-count, h .wholeVertices, h .wholeTriangles))
 
 -- ---- grids
 
@@ -152,7 +240,7 @@ module _ (r : Ray) (f : Field) (numbers : List Float) (h : FieldFits f numbers) 
   heights-back =
       heights-of
       (field-of (word-back (f .rows) [] (h .rowsFit)) (word-back (f .columns) [] (h .columnsFit)) (float-back (f .«spacing_x») (h .xFits)) (float-back (f .«spacing_y») (h .yFits)))
-      (ap (floatsAt (bodyBytes r (heights f numbers)) 82) height-count ∙ floats-back (1 ∷ (4 ∷ (rayBytes r ++ fieldBytes f))) numbers (h .numbersFit))
+      (ap (floatsAt (bodyBytes r (heights f numbers)) 82) height-count ∙ floats-last (1 ∷ (4 ∷ (rayBytes r ++ fieldBytes f))) numbers (h .numbersFit))
 
   heights-long : length (bodyBytes r (heights f numbers)) ≡ 82 + 8 * length numbers
   unfolding kindByte shapeBytes bodyBytes rayBytes fieldBytes vectorBytes floatBytes bitsBytes wordBytes
@@ -187,7 +275,7 @@ module _ (r : Ray) (g : Grid) (numbers : List Float) (h : GridFits g numbers) wh
       distances-of
       (grid-of (sides-of (word-back (g .sides .x) [] (h .firstFits)) (word-back (g .sides .y) [] (h .secondFits)) (word-back (g .sides .z) [] (h .thirdFits)))
       (vector-back (g .origin) (h .originFits)) (vector-back (g .spacing) (h .spacingFits)))
-      (ap (floatsAt (bodyBytes r (distances g numbers)) 118) value-count ∙ floats-back (1 ∷ (5 ∷ (rayBytes r ++ gridBytes g))) numbers (h .numbersFit))
+      (ap (floatsAt (bodyBytes r (distances g numbers)) 118) value-count ∙ floats-last (1 ∷ (5 ∷ (rayBytes r ++ gridBytes g))) numbers (h .numbersFit))
 
   distances-long : length (bodyBytes r (distances g numbers)) ≡ 118 + 8 * length numbers
   unfolding kindByte shapeBytes bodyBytes rayBytes gridBytes vectorBytes floatBytes bitsBytes wordBytes
@@ -201,13 +289,14 @@ module _ (r : Ray) (g : Grid) (numbers : List Float) (h : GridFits g numbers) wh
 
 -- ---- shapes
 
-shape-back : (r : Ray) (s : Shape) → ShapeFits s → shapeOf (kindByte s) (bodyBytes r s) ≡ s
+shape-back : (r : Ray) (s : Shape) → ShapeFits s → length (bodyBytes r s) ≤ longest → shapeOf (kindByte s) (bodyBytes r s) ≡ s
 unfolding shapeOf planeOf kindByte shapeBytes bodyBytes rayBytes vectorAt vectorBytes floatAt floatBytes bitsAt bitsBytes wordAt wordBytes
-shape-back r (plane p) h = ap plane (plane-of (vector-back (p .normal) (h .0)) (float-back (p .distance) (h .1)))
-shape-back r (triangle v w u) h =
+shape-back r (plane p) h short = ap plane (plane-of (vector-back (p .normal) (h .0)) (float-back (p .distance) (h .1)))
+shape-back r (triangle v w u) h short =
     triangle-of (vector-back v (h .0)) (vector-back w (h .1 .0)) (vector-back u (h .1 .1))
-shape-back r (heights f numbers) h = heights-back r f numbers h
-shape-back r (distances g numbers) h = distances-back r g numbers h
+shape-back r (mesh m) h short = mesh-back r m h short
+shape-back r (heights f numbers) h short = heights-back r f numbers h
+shape-back r (distances g numbers) h short = distances-back r g numbers h
 
 well-formed-of : (body : List ℕ) → 58 ≤ length body → length body ≤ longest → versionOf body ≡ 1 → filled (kindOf body) body ≡ true → wellFormed body ≡ true
 unfolding wellFormed
@@ -218,6 +307,8 @@ encoded-well-formed : (r : Ray) (s : Shape) → ShapeFits s → length (bodyByte
 unfolding wellFormed filled kindByte shapeBytes bodyBytes rayBytes vectorBytes floatBytes bitsBytes wordBytes
 encoded-well-formed r (plane p) h short = refl
 encoded-well-formed r (triangle v w u) h short = refl
+encoded-well-formed r (mesh m) h short =
+    well-formed-of (bodyBytes r (mesh m)) (omega (arith, mesh-long r m h short)) short refl (mesh-filled r m h short)
 encoded-well-formed r (heights f numbers) h short =
     well-formed-of (bodyBytes r (heights f numbers)) (omega (arith, heights-long r f numbers h)) short refl (heights-filled r f numbers h)
 encoded-well-formed r (distances g numbers) h short =
@@ -230,7 +321,7 @@ kind-back r s = refl
 -- a record that is encoded is parsed back
 pub parse-encoded : (r : Ray) (s : Shape) → RayFits r → ShapeFits s → length (bodyBytes r s) ≤ longest → parse (bodyBytes r s) ≡ says r s
 unfolding parse
-parse-encoded r s ray shape short = simp (encoded-well-formed r s shape short, ray-back r s ray, kind-back r s, shape-back r s shape)
+parse-encoded r s ray shape short = simp (encoded-well-formed r s shape short, ray-back r s ray, kind-back r s, shape-back r s shape short)
 
 -- ---- frames
 

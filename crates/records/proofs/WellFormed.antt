@@ -3,11 +3,11 @@ use Prim.Native.Nat.{ℕ, _+_, _*_, _≤_}
 use mathlib.Core.Path.{_≡_, refl}
 use mathlib.Core.Bool.{Bool, true, false, _&&_, cond}
 use mathlib.Core.List.{List}
-use borrow.Author.Tests.{leb-true, eqb-true, eq-eqb, ne-eqb}
+use borrow.Author.Tests.{leb-true, eqb-true, ne-eqb}
 use lib.Dec.{leb, eqb}
 use lib.ListN.{length}
-use Rattle.records.specs.Fields.{versionOf, kindOf, shapePlace, heightCount, valueCount}
-use Rattle.records.specs.Parse.{longest, heightsFill, valuesFill, filled, wellFormed}
+use Rattle.records.specs.Fields.{versionOf, kindOf, shapePlace, vertexCount, triangleCount, heightCount, valueCount}
+use Rattle.records.specs.Parse.{longest, meshFills, heightsFill, valuesFill, filled, wellFormed}
 
 and-first : (a b : Bool) → (a && b) ≡ true → a ≡ true
 and-first true b h = refl
@@ -44,20 +44,23 @@ module _ (body : List ℕ) (good : wellFormed body ≡ true) where
 
   pub plane-length : kindOf body ≡ 1 → length body ≡ 90
   unfolding filled
-  plane-length k = eqb-true (length body) 90 (simp (eq-eqb (kindOf body) 1 k) at fills)
+  plane-length k = eqb-true (length body) 90 (rw k at fills)
 
-  pub triangle-length : (kindOf body ≡ 1 → ⊥) → kindOf body ≡ 2 → length body ≡ 130
+  pub triangle-length : kindOf body ≡ 2 → length body ≡ 130
   unfolding filled
-  triangle-length j k = eqb-true (length body) 130 (simp (ne-eqb (kindOf body) 1 j, eq-eqb (kindOf body) 2 k) at fills)
+  triangle-length k = eqb-true (length body) 130 (rw k at fills)
 
-  pub heights-length : (kindOf body ≡ 1 → ⊥) → (kindOf body ≡ 2 → ⊥) → kindOf body ≡ 4 → length body ≡ 82 + 8 * heightCount body
+  pub mesh-length : kindOf body ≡ 3 → length body ≡ 66 + 24 * vertexCount body + 12 * triangleCount body
+  unfolding filled meshFills
+  mesh-length k = eqb-true (length body) (66 + 24 * vertexCount body + 12 * triangleCount body) (rw k at fills)
+
+  pub heights-length : kindOf body ≡ 4 → length body ≡ 82 + 8 * heightCount body
   unfolding filled heightsFill
-  heights-length i j k =
-      eqb-true (length body) (82 + 8 * heightCount body) (simp (ne-eqb (kindOf body) 1 i, ne-eqb (kindOf body) 2 j, eq-eqb (kindOf body) 4 k) at fills)
+  heights-length k = eqb-true (length body) (82 + 8 * heightCount body) (rw k at fills)
 
-  pub values-length : (kindOf body ≡ 1 → ⊥) → (kindOf body ≡ 2 → ⊥) → (kindOf body ≡ 4 → ⊥) → length body ≡ 118 + 8 * valueCount body
+  pub values-length : (kindOf body ≡ 1 → ⊥) → (kindOf body ≡ 2 → ⊥) → (kindOf body ≡ 3 → ⊥) → (kindOf body ≡ 4 → ⊥) → length body ≡ 118 + 8 * valueCount body
   unfolding filled valuesFill
-  values-length i j k =
+  values-length i j l k =
       eqb-true (length body) (118 + 8 * valueCount body)
       (last-kind (eqb (kindOf body) 5) (eqb (length body) (118 + 8 * valueCount body))
-      (simp (ne-eqb (kindOf body) 1 i, ne-eqb (kindOf body) 2 j, ne-eqb (kindOf body) 4 k) at fills))
+      (simp (ne-eqb (kindOf body) 1 i, ne-eqb (kindOf body) 2 j, ne-eqb (kindOf body) 3 l, ne-eqb (kindOf body) 4 k) at fills))

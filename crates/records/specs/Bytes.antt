@@ -24,7 +24,13 @@ floatAt bytes place = ofBits binary64 (bitsAt bytes place)
 unfoldable pub vectorAt : List ℕ → ℕ → Vec3
 vectorAt bytes place = record { x = floatAt bytes place; y = floatAt bytes (place + 8); z = floatAt bytes (place + 16) }
 
--- so many floats from a place on
-unfoldable pub floatsAt : List ℕ → ℕ → ℕ → List Float
-floatsAt bytes place zero = []
-floatsAt bytes place (suc count) = floatsAt bytes place count ++ (floatAt bytes (place + 8 * count) ∷ [])
+-- so many numbers from a place on, each read by `at` and so many bytes long
+unfoldable pub eachAt : {A : Type 0} → (List ℕ → ℕ → A) → ℕ → List ℕ → ℕ → ℕ → List A
+eachAt at size bytes place zero = []
+eachAt at size bytes place (suc count) = eachAt at size bytes place count ++ (at bytes (place + size * count) ∷ [])
+
+abbrev pub floatsAt : List ℕ → ℕ → ℕ → List Float
+floatsAt = eachAt floatAt 8
+
+abbrev pub wordsAt : List ℕ → ℕ → ℕ → List ℕ
+wordsAt = eachAt wordAt 4

@@ -9,7 +9,8 @@ use Rattle.geometry.specs.declared.vec3.Vec3.{Vec3}
 use Rattle.geometry.specs.declared.ray.Ray.{Ray}
 use Rattle.height_field.specs.declared.field.Field.{Field}
 use Rattle.level_set.specs.declared.grid.Grid.{Grid}
-use Rattle.records.specs.Parse.{Shape, plane, triangle, heights, distances}
+use Rattle.tree.specs.Mesh.{Mesh, thirds}
+use Rattle.records.specs.Parse.{Shape, plane, triangle, mesh, heights, distances}
 
 -- "Floats are 8 bytes and u32 4, all big-endian"
 unfoldable pub wordBytes : ℕ → List ℕ
@@ -31,12 +32,24 @@ rayBytes r = vectorBytes (r .origin) ++ (vectorBytes (r .direction) ++ floatByte
 unfoldable pub kindByte : Shape → ℕ
 kindByte (plane p) = 1
 kindByte (triangle v w u) = 2
+kindByte (mesh m) = 3
 kindByte (heights field numbers) = 4
 kindByte (distances grid numbers) = 5
 
-unfoldable pub floatsBytes : List Float → List ℕ
-floatsBytes [] = []
-floatsBytes (x ∷ xs) = floatBytes x ++ floatsBytes xs
+-- one number's bytes after another's
+unfoldable pub eachBytes : {A : Type 0} → (A → List ℕ) → List A → List ℕ
+eachBytes bytes [] = []
+eachBytes bytes (x ∷ xs) = bytes x ++ eachBytes bytes xs
+
+abbrev pub floatsBytes : List Float → List ℕ
+floatsBytes = eachBytes floatBytes
+
+abbrev pub wordsBytes : List ℕ → List ℕ
+wordsBytes = eachBytes wordBytes
+
+-- the counts of a mesh
+unfoldable pub countsBytes : Mesh → List ℕ
+countsBytes m = wordBytes (thirds (length (m .vertices))) ++ wordBytes (thirds (length (m .triangles)))
 
 unfoldable pub fieldBytes : Field → List ℕ
 fieldBytes f = wordBytes (f .rows) ++ (wordBytes (f .columns) ++ (floatBytes (f .«spacing_x») ++ floatBytes (f .«spacing_y»)))
@@ -45,10 +58,11 @@ unfoldable pub gridBytes : Grid → List ℕ
 gridBytes g =
     wordBytes (g .sides .x) ++ (wordBytes (g .sides .y) ++ (wordBytes (g .sides .z) ++ (vectorBytes (g .origin) ++ vectorBytes (g .spacing))))
 
--- "normal and distance; three corners; .. u32 rows, columns, spacing, heights; three u32 sides, origin, spacing, values"
+-- "normal and distance; three corners; u32 vertex and triangle counts, vertices, u32 indices; u32 rows, columns, spacing, heights; three u32 sides, origin, spacing, values"
 unfoldable pub shapeBytes : Shape → List ℕ
 shapeBytes (plane p) = vectorBytes (p .normal) ++ floatBytes (p .distance)
 shapeBytes (triangle v w u) = vectorBytes v ++ (vectorBytes w ++ vectorBytes u)
+shapeBytes (mesh m) = countsBytes m ++ (floatsBytes (m .vertices) ++ wordsBytes (m .triangles))
 shapeBytes (heights field numbers) = fieldBytes field ++ floatsBytes numbers
 shapeBytes (distances grid numbers) = gridBytes grid ++ floatsBytes numbers
 
@@ -74,13 +88,23 @@ pub record RayFits (r : Ray) : Type 0 where
   pub along : VectorFits (r .direction)
   pub upTo : FloatFits (r .«max_distance»)
 
-abbrev pub FloatsFit : List Float → Type 0
-FloatsFit [] = Unit {0}
-FloatsFit (x ∷ xs) = FloatFits x × FloatsFit xs
-
--- a count is a u32
+-- a count or an index is a u32
 abbrev pub WordFits : ℕ → Type 0
 WordFits n = n < 0x1_0000_0000
+
+abbrev pub EachFits : {A : Type 0} → (A → Type 0) → List A → Type 0
+EachFits Fits [] = Unit {0}
+EachFits Fits (x ∷ xs) = Fits x × EachFits Fits xs
+
+abbrev pub FloatsFit : List Float → Type 0
+FloatsFit = EachFits FloatFits
+
+-- three numbers to a vertex and three indices to a triangle
+pub record MeshFits (m : Mesh) : Type 0 where
+  pub wholeVertices : length (m .vertices) ≡ 3 * thirds (length (m .vertices))
+  pub wholeTriangles : length (m .triangles) ≡ 3 * thirds (length (m .triangles))
+  pub verticesFit : FloatsFit (m .vertices)
+  pub indicesFit : EachFits WordFits (m .triangles)
 
 -- as many numbers as the counts say
 pub record FieldFits (f : Field) (numbers : List Float) : Type 0 where
@@ -103,5 +127,6 @@ pub record GridFits (g : Grid) (numbers : List Float) : Type 0 where
 abbrev pub ShapeFits : Shape → Type 0
 ShapeFits (plane p) = VectorFits (p .normal) × FloatFits (p .distance)
 ShapeFits (triangle v w u) = VectorFits v × (VectorFits w × VectorFits u)
+ShapeFits (mesh m) = MeshFits m
 ShapeFits (heights field numbers) = FieldFits field numbers
 ShapeFits (distances grid numbers) = GridFits grid numbers

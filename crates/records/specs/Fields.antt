@@ -1,5 +1,5 @@
 -- The fields of a record, each at its place in the body, which is the record without the four bytes of its length. Definitions only. Assumes nothing.
-use Prim.Native.Nat.{ℕ, _*_}
+use Prim.Native.Nat.{ℕ, _+_, _*_}
 use mathlib.Core.List.{List, [], _∷_}
 use lib.Ieee.{Float}
 use Rattle.geometry.specs.declared.vec3.Vec3.{Vec3}
@@ -7,7 +7,8 @@ use Rattle.geometry.specs.declared.ray.Ray.{Ray}
 use Rattle.casts.specs.declared.plane.Plane.{Plane}
 use Rattle.height_field.specs.declared.field.Field.{Field}
 use Rattle.level_set.specs.declared.grid.Grid.{Grid}
-use Rattle.records.specs.Bytes.{byteAt, wordAt, floatAt, vectorAt, floatsAt}
+use Rattle.tree.specs.Mesh.{Mesh}
+use Rattle.records.specs.Bytes.{byteAt, wordAt, floatAt, vectorAt, floatsAt, wordsAt}
 
 -- "version byte 1, kind byte 1 to 5 in mission order, origin, direction, maximum, then the shape"
 abbrev pub versionOf : List ℕ → ℕ
@@ -30,6 +31,19 @@ planeOf body = record { normal = vectorAt body 58; distance = floatAt body 82 }
 -- "three corners"
 unfoldable pub cornersOf : List ℕ → List Vec3
 cornersOf body = vectorAt body 58 ∷ (vectorAt body 82 ∷ (vectorAt body 106 ∷ []))
+
+-- "u32 vertex and triangle counts, vertices, u32 indices": three floats to a vertex from place 66 on, then three indices to a triangle
+abbrev pub vertexCount : List ℕ → ℕ
+vertexCount body = wordAt body 58
+
+abbrev pub triangleCount : List ℕ → ℕ
+triangleCount body = wordAt body 62
+
+unfoldable pub meshOf : List ℕ → Mesh
+meshOf body = record {
+  vertices = floatsAt body 66 (3 * vertexCount body);
+  triangles = wordsAt body (66 + 24 * vertexCount body) (3 * triangleCount body);
+}
 
 -- "u32 rows, columns, spacing, heights": two floats of spacing, and rows · columns heights from place 82 on
 unfoldable pub fieldOf : List ℕ → Field

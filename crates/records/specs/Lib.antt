@@ -4,5 +4,8 @@ pub mod Fields
 pub mod Parse
 pub mod Encode
 pub mod Text
+pub mod MeshAnswer
+pub mod Areas
 pub mod Lines
 pub mod Stream
+pub mod WorkedExample

@@ -5,11 +5,13 @@ use lib.Ieee.{Float}
 use Rattle.geometry.specs.declared.vec3.Vec3.{Vec3}
 use Rattle.geometry.specs.declared.ray.Ray.{Ray}
 use Rattle.casts.specs.Answer.{Answer, hit, none, refused}
+use Rattle.casts.specs.Nearest.{Indexed, hitAt, noHit, stopped, withoutIndex}
 use Rattle.casts.specs.Plane.{rayPlane}
 use Rattle.casts.specs.Triangle.{rayTriangle}
 use Rattle.height_field.specs.Cast.{rayHeightField}
 use Rattle.level_set.specs.Walk.{rayLevelSet}
-use Rattle.records.specs.Parse.{Shape, plane, triangle, heights, distances, Parsed, says, malformed, parse}
+use Rattle.records.specs.MeshAnswer.{meshAnswer}
+use Rattle.records.specs.Parse.{Shape, plane, triangle, mesh, heights, distances, Parsed, says, malformed, parse}
 use Rattle.records.specs.Text.{decimal, hexadecimal, printedBits}
 
 -- `hit`, `none`, `refused ` and `bad`
@@ -40,16 +42,26 @@ answerText (hit normal distance) = hitText normal distance
 answerText none = noneWord
 answerText (refused number) = refusedWord ++ decimal number
 
+-- "a mesh adds the index in decimal"
+unfoldable pub indexText : Indexed → List ℕ
+indexText (hitAt normal distance index) = (32 ∷ []) ++ decimal index
+indexText noHit = []
+indexText (stopped number) = []
+
+unfoldable pub indexedText : Indexed → List ℕ
+indexedText answer = answerText (withoutIndex answer) ++ indexText answer
+
 -- the cast at each shape
-unfoldable pub shapeAnswer : Ray → Shape → Answer
-shapeAnswer ray (plane p) = rayPlane p ray
-shapeAnswer ray (triangle v w u) = rayTriangle ray (v ∷ (w ∷ (u ∷ [])))
-shapeAnswer ray (heights field numbers) = rayHeightField ray field numbers
-shapeAnswer ray (distances grid numbers) = rayLevelSet ray grid numbers
+unfoldable pub shapeText : Ray → Shape → List ℕ
+shapeText ray (plane p) = answerText (rayPlane p ray)
+shapeText ray (triangle v w u) = answerText (rayTriangle ray (v ∷ (w ∷ (u ∷ []))))
+shapeText ray (mesh m) = indexedText (meshAnswer ray m)
+shapeText ray (heights field numbers) = answerText (rayHeightField ray field numbers)
+shapeText ray (distances grid numbers) = answerText (rayLevelSet ray grid numbers)
 
 -- malformed comes before every refusal
 unfoldable pub parsedText : Parsed → List ℕ
-parsedText (says ray shape) = answerText (shapeAnswer ray shape)
+parsedText (says ray shape) = shapeText ray shape
 parsedText malformed = badWord
 
 -- the answer to a record's body

@@ -2,7 +2,7 @@ use geometry::vec3::Vec3;
 ghost use mathlib.Core.Path.{_≡_};
 ghost use Prim.Native.Nat.{_+_, _*_, _<_, _≤_};
 ghost use lib.ListN.{length, take};
-ghost use Rattle.records.specs.Bytes.{byteAt, wordAt, bitsAt, floatAt, vectorAt, floatsAt};
+ghost use Rattle.records.specs.Bytes.{byteAt, wordAt, bitsAt, floatAt, vectorAt, floatsAt, wordsAt};
 
 // The byte at a place, as a wide number.
 fn byte_at(bytes: &[u8], place: usize) -> u64
@@ -62,6 +62,18 @@ pub fn floats_at(bytes: &[u8], place: usize, count: usize, work: &mut [f64])
     let mut i = 0;
     while i < count {
         work[i] = float_at(bytes, place + 8 * i);
+        i += 1;
+    }
+}
+
+// So many u32 from a place on, in the same way.
+pub fn words_at(bytes: &[u8], place: usize, count: usize, work: &mut [u32])
+    requires { ⌜ (place + 4 * count ≤ length (now bytes)) × (count ≤ length (now work)) ⌝ }
+    ensures { λ r. ⌜ take count (now (work .exit)) ≡ wordsAt (now (bytes .entry)) place count ⌝ }
+{
+    let mut i = 0;
+    while i < count {
+        work[i] = word_at(bytes, place + 4 * i) as u32;
         i += 1;
     }
 }

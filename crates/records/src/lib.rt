@@ -5,7 +5,7 @@
 // | place | field                                   |
 // |-------|-----------------------------------------|
 // | 0     | version, 1                              |
-// | 1     | kind: 1 plane, 2 triangle, 4 height grid, 5 distance grid |
+// | 1     | kind: 1 plane, 2 triangle, 3 mesh, 4 height grid, 5 distance grid |
 // | 2     | origin, three floats                    |
 // | 26    | direction, three floats                 |
 // | 50    | maximum, a float                        |
@@ -19,6 +19,8 @@ pub mod fields;
 pub mod parse;
 // Numbers as text.
 pub mod text;
+// The answer to a mesh.
+pub mod meshes;
 // The line that answers a record.
 pub mod lines;
 // Where a record ends in a stream.

@@ -1,8 +1,11 @@
 use crate::bytes;
 use crate::fields;
+use crate::meshes;
 use crate::parse;
 use crate::text;
 use casts::answer::Cast;
+use casts::nearest;
+use casts::nearest::IndexedCast;
 use casts::plane;
 use casts::triangle;
 use geometry::ray::Ray;
@@ -15,14 +18,16 @@ ghost use mathlib.Core.List.{[], _∷_, _++_};
 ghost use Prim.Native.Nat.{_+_, _*_, _≤_};
 ghost use lib.ListN.{length};
 ghost use Rattle.casts.specs.Answer.{says};
+ghost use Rattle.casts.specs.Nearest.{saysIndexed};
 ghost use Rattle.height_field.specs.Cast.{rayHeightField};
 ghost use Rattle.level_set.specs.Walk.{rayLevelSet};
 ghost use Rattle.records.specs.Parse.{wellFormed, shapeOf};
 ghost use Rattle.records.specs.Fields.{rayOf, kindOf, fieldOf, heightCount, heightsOf, gridOf, valueCount, valuesOf};
 ghost use Rattle.records.specs.Text.{Put, Written, decimal};
-ghost use Rattle.records.specs.Lines.{floatText, hitText, answerText, shapeAnswer, recordText, lineOf, badLine};
+ghost use Rattle.records.specs.Areas.{TreeLent};
+ghost use Rattle.records.specs.Lines.{floatText, hitText, answerText, indexText, indexedText, shapeText, recordText, lineOf, badLine};
 
-// A line has at most 104 bytes: a number of 20 digits, a space, `hit` with four floats of 17 bytes, a triangle's index of 10 digits after a space, and its end.
+// A line has at most 114 bytes: a number, a space, `hit` with four floats of 17 bytes, a triangle's index after a space, and its end; 20 digits are set aside for each whole number.
 
 fn put_float(out: &mut [u8], at: usize, x: f64) -> usize
     requires { ⌜ at + 17 ≤ length (now out) ⌝ }
@@ -61,6 +66,37 @@ fn put_answer(out: &mut [u8], at: usize, cast: Cast) -> usize
     }
 }
 
+// What a mesh adds to an answer.
+fn put_index(out: &mut [u8], at: usize, cast: IndexedCast) -> usize
+    requires { ⌜ at + 21 ≤ length (now out) ⌝ }
+    ensures { λ r. ⌜ Put (now (out .entry)) at (indexText (saysIndexed cast)) (now (out .exit)) r ⌝ }
+{
+    match cast {
+        IndexedCast::Hit {
+            normal: _,
+            distance: _,
+            index,
+        } => {
+            let next = text::put_byte(out, at, b' ');
+            return text::put_decimal(out, next, index as u64);
+        }
+        IndexedCast::None => {
+            return at;
+        }
+        IndexedCast::Refused(_) => {
+            return at;
+        }
+    }
+}
+
+fn put_indexed(out: &mut [u8], at: usize, cast: IndexedCast) -> usize
+    requires { ⌜ at + 92 ≤ length (now out) ⌝ }
+    ensures { λ r. ⌜ Put (now (out .entry)) at (indexedText (saysIndexed cast)) (now (out .exit)) r ⌝ }
+{
+    let next = put_answer(out, at, nearest::without_index(cast));
+    put_index(out, next, cast)
+}
+
 // The cast at a well-formed body of kind 4; its heights are decoded into the work area.
 fn heights_answer(body: &[u8], ray: Ray, work: &mut [f64]) -> Cast
     requires { ⌜ (82 + 8 * heightCount (now body) ≡ length (now body)) × ((length (now body) ≤ 8192) × (1024 ≤ length (now work))) ⌝ }
@@ -83,10 +119,10 @@ fn values_answer(body: &[u8], ray: Ray, work: &mut [f64]) -> Cast
     walk::ray_level_set(ray, grid, &work[..count])
 }
 
-// The cast at a well-formed body: one call for each kind of shape.
+// The cast at a well-formed body of another kind than 3: one call for each kind of shape.
 fn shape_answer(body: &[u8], work: &mut [f64]) -> Cast
-    requires { ⌜ (wellFormed (now body) ≡ true) × (1024 ≤ length (now work)) ⌝ }
-    ensures { λ r. ⌜ says r ≡ shapeAnswer (rayOf (now (body .entry))) (shapeOf (kindOf (now (body .entry))) (now (body .entry))) ⌝ }
+    requires { ⌜ (wellFormed (now body) ≡ true) × ((kindOf (now body) ≡ 3 → ⊥) × (1024 ≤ length (now work))) ⌝ }
+    ensures { λ r. ⌜ answerText (says r) ≡ shapeText (rayOf (now (body .entry))) (shapeOf (kindOf (now (body .entry))) (now (body .entry))) ⌝ }
 {
     let ray = fields::ray_of(body);
     let kind = fields::kind_of(body);
@@ -103,15 +139,43 @@ fn shape_answer(body: &[u8], work: &mut [f64]) -> Cast
 }
 
 // The answer to any body.
-fn put_record(out: &mut [u8], at: usize, body: &[u8], work: &mut [f64]) -> usize
-    requires { ⌜ (at + 71 ≤ length (now out)) × (1024 ≤ length (now work)) ⌝ }
+fn put_record(
+    out: &mut [u8],
+    at: usize,
+    body: &[u8],
+    work: &mut [f64],
+    triangles: &mut [u32],
+    node_boxes: &mut [f64],
+    triangle_boxes: &mut [f64],
+    node_words: &mut [u32],
+    order: &mut [u32],
+    list: &mut [u32],
+    stack: &mut [u32],
+) -> usize
+    requires { ⌜ (at + 92 ≤ length (now out)) × ((1024 ≤ length (now work)) × (2031 ≤ length (now triangles))) ⌝ }
+    requires { ⌜ TreeLent (now «node_boxes») (now «triangle_boxes») (now «node_words») (now order) (now list) (now stack) ⌝ }
     ensures { λ r. ⌜ Put (now (out .entry)) at (recordText (now (body .entry))) (now (out .exit)) r ⌝ }
 {
     if !parse::is_well_formed(body) {
         return text::put_text(out, at, b"bad");
     }
-    let cast = shape_answer(body, work);
-    put_answer(out, at, cast)
+    if fields::kind_of(body) != 3 {
+        let cast = shape_answer(body, work);
+        return put_answer(out, at, cast);
+    }
+    let nearest = meshes::mesh_answer(
+        body,
+        fields::ray_of(body),
+        work,
+        triangles,
+        node_boxes,
+        triangle_boxes,
+        node_words,
+        order,
+        list,
+        stack,
+    );
+    put_indexed(out, at, nearest)
 }
 
 // The record number and a space, at the front.
@@ -123,17 +187,41 @@ fn put_number(out: &mut [u8], number: u64) -> usize
     text::put_byte(out, end, b' ')
 }
 
-// The line of a record, at the front of `out`; returns how many bytes it has. The work area may hold anything afterwards.
-pub fn line(number: u64, body: &[u8], work: &mut [f64; 1024], out: &mut [u8; 104]) -> usize
+// The line of a record, at the front of `out`; returns how many bytes it has. All areas between are work areas, which may hold anything afterwards.
+pub fn line(
+    number: u64,
+    body: &[u8],
+    work: &mut [f64; 1024],
+    triangles: &mut [u32; 2031],
+    node_boxes: &mut [f64; 8124],
+    triangle_boxes: &mut [f64; 4062],
+    node_words: &mut [u32; 4062],
+    order: &mut [u32; 677],
+    list: &mut [u32; 677],
+    stack: &mut [u32; 1355],
+    out: &mut [u8; 114],
+) -> usize
     ensures { λ r. ⌜ Written (lineOf number (now (body .entry))) (now (out .entry)) (now (out .exit)) r ⌝ }
 {
     let start = put_number(out, number);
-    let end = put_record(out, start, body, work);
+    let end = put_record(
+        out,
+        start,
+        body,
+        work,
+        triangles,
+        node_boxes,
+        triangle_boxes,
+        node_words,
+        order,
+        list,
+        stack,
+    );
     text::put_byte(out, end, b'\n')
 }
 
 // The line of a record that is cut short or over length, in the same way.
-pub fn bad_line(number: u64, out: &mut [u8; 104]) -> usize
+pub fn bad_line(number: u64, out: &mut [u8; 114]) -> usize
     ensures { λ r. ⌜ Written (badLine number) (now (out .entry)) (now (out .exit)) r ⌝ }
 {
     let start = put_number(out, number);

@@ -5,7 +5,7 @@ ghost use Prim.Native.Nat.{_≤_};
 ghost use mathlib.Core.Bool.{cond};
 ghost use lib.Dec.{ltb};
 ghost use lib.ListN.{length};
-ghost use Rattle.records.specs.Parse.{heightsFill, valuesFill, filled, wellFormed};
+ghost use Rattle.records.specs.Parse.{meshFills, heightsFill, valuesFill, filled, wellFormed};
 
 // A count, or the largest u32 if it is more: its product with a u32 then fits, and is 0 or too large where the count's is.
 fn capped(count: u64) -> u64
@@ -17,7 +17,19 @@ fn capped(count: u64) -> u64
     count
 }
 
-// Whether the fields of kind 4 end where the body does.
+// Whether the fields of kind 3 end where the body does. Counts are u32, so the sum stays far below 2^64.
+fn mesh_fills(body: &[u8]) -> bool
+    ensures { λ r. ⌜ r ≡ meshFills (now (body .entry)) ⌝ }
+{
+    if body.len() < 66 {
+        return false;
+    }
+    let vertices = bytes::word_at(body, 58);
+    let triangles = bytes::word_at(body, 62);
+    body.len() as u64 == 66 + 24 * vertices + 12 * triangles
+}
+
+// Whether the fields of kind 4 do.
 fn heights_fill(body: &[u8]) -> bool
     requires { ⌜ length (now body) ≤ 8192 ⌝ }
     ensures { λ r. ⌜ r ≡ heightsFill (now (body .entry)) ⌝ }
@@ -58,6 +70,9 @@ fn is_filled(kind: u8, body: &[u8]) -> bool
     }
     if kind == 2 {
         return body.len() == 130;
+    }
+    if kind == 3 {
+        return mesh_fills(body);
     }
     if kind == 4 {
         return heights_fill(body);

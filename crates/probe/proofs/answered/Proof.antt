@@ -30,7 +30,7 @@ slice-aggregate-added : tie.Need-slice-aggregate-added
 slice-aggregate-added c = front-length (c .before .before .line2 .ensures)
 
 added-requires : tie.Need-added-requires
-added-requires c κs = (search needs, (front-short (c .before .before .line2 .ensures) 104 (length-line _ _), search needs))
+added-requires c κs = (search needs, (front-short (c .before .before .line2 .ensures) 114 (length-line _ _), search needs))
 
 is-well-formed-requires : tie.Need-is-well-formed-requires
 is-well-formed-requires c κs = search needs
@@ -39,7 +39,7 @@ same-length : tie.Need-same-length
 same-length c = search needs
 
 returns : tie.Need-returns
-returns c = search needs
+returns c = record { ordered = c .before .before .before .before .before .before .before .before .before .before .before .before .before .before .before .before .before .before .before .before .before .pre .0 .1; read = c .before .before .before .before .before .before .before .before .before .before .before .before .before .before .before .before .before .before .before .before .before .pre .1 .0 .read; held = c .before .before .before .added .ensures }
 
 pub answered-spec : {M : Type 1} → statement M
 answered-spec =

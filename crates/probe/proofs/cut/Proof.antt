@@ -15,7 +15,7 @@ slice-aggregate-added : tie.Need-slice-aggregate-added
 slice-aggregate-added c = front-length (c .before .before .bad-line .ensures)
 
 added-requires : tie.Need-added-requires
-added-requires c κs = (search needs, (front-short (c .before .before .bad-line .ensures) 104 (length-bad-line _), search needs))
+added-requires c κs = (search needs, (front-short (c .before .before .bad-line .ensures) 114 (length-bad-line _), search needs))
 
 same-length : tie.Need-same-length
 same-length c = search needs

@@ -9,10 +9,10 @@ use Rattle.probe.proofs.main.Statement.{statement}
 use Rattle.probe.proofs.main.Tie as tie
 
 abbrev Inv-loop : tie.InvT-loop
-Inv-loop input₀ work₀ output₀ run₀ number₀ input work output run number = (length input ≡ 65536) × ((length output ≡ 65536) × Sound run)
+Inv-loop input₀ work₀ triangles₀ nodeBoxes₀ triangleBoxes₀ nodeWords₀ order₀ list₀ stack₀ output₀ run₀ number₀ input work triangles nodeBoxes triangleBoxes nodeWords order list stack output run number = (length input ≡ 65536) × ((length output ≡ 65536) × Sound run)
 
 abbrev μ-loop : tie.MeasureT-loop
-μ-loop input₀ work₀ output₀ run₀ number₀ input work output run number = 18446744073709551615 - number
+μ-loop input₀ work₀ triangles₀ nodeBoxes₀ triangleBoxes₀ nodeWords₀ order₀ list₀ stack₀ output₀ run₀ number₀ input work triangles nodeBoxes triangleBoxes nodeWords order list stack output run number = 18446744073709551615 - number
 
 large-buffer-requires : tie.Need-large-buffer-requires Inv-loop μ-loop
 large-buffer-requires c κs = tt
@@ -27,10 +27,10 @@ slice-aggregate-step : tie.Need-slice-aggregate-step Inv-loop μ-loop
 slice-aggregate-step c = sym (c .before .before .before .before .loop .inv .0)
 
 slice-aggregate-step-2 : tie.Need-slice-aggregate-step-2 Inv-loop μ-loop
-slice-aggregate-step-2 c = sym (c .before .before .before .before .before .before .loop .inv .1 .0)
+slice-aggregate-step-2 c = sym (c .before .before .before .before .before .before .before .before .before .before .before .before .before .loop .inv .1 .0)
 
 step-requires : tie.Need-step-requires Inv-loop μ-loop
-step-requires c κs = (c .before .before .before .before .before .before .loop .inv .1 .1, (c .before .before .before .before .before .before .loop .inv .0, c .before .before .before .before .before .before .loop .inv .1 .0))
+step-requires c κs = (c .before .before .before .before .before .before .before .before .before .before .before .before .before .loop .inv .1 .1, (c .before .before .before .before .before .before .before .before .before .before .before .before .before .loop .inv .0, c .before .before .before .before .before .before .before .before .before .before .before .before .before .loop .inv .1 .0))
 
 add-number : tie.Need-add-number Inv-loop μ-loop
 add-number c = omega arith
@@ -39,7 +39,7 @@ loop-less : tie.Need-loop-less Inv-loop μ-loop
 loop-less c = omega arith
 
 loop-again : tie.Need-loop-again Inv-loop μ-loop
-loop-again c = (omega (arith, c .before .before .step .kept .1 .1 .0, c .before .before .before .before .before .before .before .before .before .loop .inv .0), (omega (arith, c .before .before .step .kept .1 .1 .1 .1 .0, c .before .before .before .before .before .before .before .before .before .loop .inv .1 .0), c .before .before .step .ensures))
+loop-again c = (omega (arith, c .before .before .step .kept .1 .1 .0, c .before .before .before .before .before .before .before .before .before .before .before .before .before .before .before .before .loop .inv .0), (omega (arith, c .before .before .step .kept .1 .1 .1 .1 .1 .1 .1 .1 .1 .1 .1 .0, c .before .before .before .before .before .before .before .before .before .before .before .before .before .before .before .before .loop .inv .1 .0), c .before .before .step .ensures))
 
 array-share-prefix-output : tie.Need-array-share-prefix-output Inv-loop μ-loop
 array-share-prefix-output c = omega (arith, c .before .loop .inv .1 .0, c .before .loop .inv .1 .1 .held)

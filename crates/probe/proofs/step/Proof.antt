@@ -24,7 +24,7 @@ enum-known-found : tie.Need-enum-known-found
 enum-known-found c = search needs
 
 answered-requires : tie.Need-answered-requires
-answered-requires c κs = (record-fits (c .before .before .before .before .before .before .before .before .before .before .before .refilled .last .1 .0) (c .before .before .before .before .before .before .before .before .before .before .before .refilled .result .from) (c .before .before .before .before .before .before .before .before .before .before .before .refilled .result .to) _ (sym (c .before .before .before .before .before .before .next .ensures) ∙ c .before .before .before .before .found .given .1) (c .before .before .before .before .before .before .before .before .before .before .before .refilled .ensures .ordered), (c .before .before .before .before .before .before .before .before .before .before .before .refilled .ensures, (search needs, search needs)))
+answered-requires c κs = (record-fits (c .before .before .before .before .before .before .before .before .before .before .before .before .before .before .before .before .before .before .refilled .last .1 .0) (c .before .before .before .before .before .before .before .before .before .before .before .before .before .before .before .before .before .before .refilled .result .from) (c .before .before .before .before .before .before .before .before .before .before .before .before .before .before .before .before .before .before .refilled .result .to) _ (sym (c .before .before .before .before .before .before .before .before .before .before .before .before .before .next .ensures) ∙ c .before .before .before .before .before .before .before .before .before .before .before .found .given .1) (c .before .before .before .before .before .before .before .before .before .before .before .before .before .before .before .before .before .before .refilled .ensures .ordered), (c .before .before .before .before .before .before .before .before .before .before .before .before .before .before .before .before .before .before .refilled .ensures, (search needs, search needs)))
 
 same-length : tie.Need-same-length
 same-length c = search needs

@@ -1,5 +1,6 @@
 -- `records::bytes::floats_at` meets its contract. Assumes nothing.
 use Rattle.records.proofs.Decoding.{Decoded, decoded-none, decoded-one, decoded-all}
+use Rattle.records.specs.Bytes.{floatAt}
 use lib.ListN.{length, length-set}
 use Prim.Native.Nat.{_-_, _≤_}
 use mathlib.Core.Path.{_≡_, refl}
@@ -8,13 +9,13 @@ use Rattle.records.proofs.bytes.floats_at.Statement.{statement}
 use Rattle.records.proofs.bytes.floats_at.Tie as tie
 
 abbrev Inv-loop : tie.InvT-loop
-Inv-loop bytes place count work₀ i₀ work i = (i ≤ count) × ((length work ≡ length work₀) × Decoded bytes place i work)
+Inv-loop bytes place count work₀ i₀ work i = (i ≤ count) × ((length work ≡ length work₀) × Decoded floatAt 8 bytes place i work)
 
 abbrev μ-loop : tie.MeasureT-loop
 μ-loop bytes place count work₀ i₀ work i = count - i
 
 loop-holds : tie.Need-loop-holds Inv-loop μ-loop
-loop-holds c = (omega arith, (refl, decoded-none _ _ _))
+loop-holds c = (omega arith, (refl, decoded-none floatAt 8 _ _ _))
 
 mul-float-at : tie.Need-mul-float-at Inv-loop μ-loop
 mul-float-at c = omega arith
@@ -38,13 +39,13 @@ loop-less : tie.Need-loop-less Inv-loop μ-loop
 loop-less c = omega arith
 
 loop-again : tie.Need-loop-again Inv-loop μ-loop
-loop-again c = (omega arith, (simp length-set (c .before .before .loop .inv .1 .0), decoded-one _ _ _ _ _ (c .before .before .loop .inv .1 .1) (omega arith) (c .float-at .ensures)))
+loop-again c = (omega arith, (simp length-set (c .before .before .loop .inv .1 .0), decoded-one floatAt 8 _ _ _ _ _ (c .before .before .loop .inv .1 .1) (omega arith) (c .float-at .ensures)))
 
 same-length : tie.Need-same-length Inv-loop μ-loop
 same-length c = c .before .loop .inv .1 .0
 
 returns : tie.Need-returns Inv-loop μ-loop
-returns c = decoded-all (c .before .loop .inv .1 .1) (c .before .loop .inv .0) (c .loop-test .left)
+returns c = decoded-all floatAt 8 (c .before .loop .inv .1 .1) (c .before .loop .inv .0) (c .loop-test .left)
 
 pub floats-at-spec : {M : Type 1} → statement M
 floats-at-spec =

@@ -2,6 +2,7 @@
 use Rattle.records.specs.Parse.{filled}
 use mathlib.Core.Path.{sym}
 use borrow.Author.Tests.{eq-eqb, ne-eqb}
+use borrow.Author.Needs.{needs}
 use Rattle.records.proofs.parse.is_filled.Statement.{statement}
 use Rattle.records.proofs.parse.is_filled.Tie as tie
 
@@ -13,23 +14,30 @@ returns-2 : tie.Need-returns-2
 unfolding filled
 returns-2 c = simp (ne-eqb _ _ (c .before .if1 .left), eq-eqb _ _ (c .if2 .taken))
 
-heights-fill-requires : tie.Need-heights-fill-requires
-heights-fill-requires c κs = c .before .before .before .before .pre
+mesh-fills-requires : tie.Need-mesh-fills-requires
+mesh-fills-requires c κs = search needs
 
 returns-3 : tie.Need-returns-3
 unfolding filled
-returns-3 c = simp (ne-eqb _ _ (c .before .before .before .if1 .left), ne-eqb _ _ (c .before .before .if2 .left), eq-eqb _ _ (c .before .if3 .taken), sym (c .heights-fill .ensures))
+returns-3 c = simp (ne-eqb _ _ (c .before .before .before .if1 .left), ne-eqb _ _ (c .before .before .if2 .left), eq-eqb _ _ (c .before .if3 .taken), sym (c .mesh-fills .ensures))
 
-values-fill-requires : tie.Need-values-fill-requires
-values-fill-requires c κs = c .before .before .before .before .before .pre
+heights-fill-requires : tie.Need-heights-fill-requires
+heights-fill-requires c κs = c .before .before .before .before .before .pre
 
 returns-4 : tie.Need-returns-4
 unfolding filled
-returns-4 c = simp (ne-eqb _ _ (c .before .before .before .before .if1 .left), ne-eqb _ _ (c .before .before .before .if2 .left), ne-eqb _ _ (c .before .before .if3 .left), eq-eqb _ _ (c .before .if4 .taken), sym (c .values-fill .ensures))
+returns-4 c = simp (ne-eqb _ _ (c .before .before .before .before .if1 .left), ne-eqb _ _ (c .before .before .before .if2 .left), ne-eqb _ _ (c .before .before .if3 .left), eq-eqb _ _ (c .before .if4 .taken), sym (c .heights-fill .ensures))
+
+values-fill-requires : tie.Need-values-fill-requires
+values-fill-requires c κs = c .before .before .before .before .before .before .pre
 
 returns-5 : tie.Need-returns-5
 unfolding filled
-returns-5 c = simp (ne-eqb _ _ (c .before .before .before .if1 .left), ne-eqb _ _ (c .before .before .if2 .left), ne-eqb _ _ (c .before .if3 .left), ne-eqb _ _ (c .if4 .left))
+returns-5 c = simp (ne-eqb _ _ (c .before .before .before .before .before .if1 .left), ne-eqb _ _ (c .before .before .before .before .if2 .left), ne-eqb _ _ (c .before .before .before .if3 .left), ne-eqb _ _ (c .before .before .if4 .left), eq-eqb _ _ (c .before .if5 .taken), sym (c .values-fill .ensures))
+
+returns-6 : tie.Need-returns-6
+unfolding filled
+returns-6 c = simp (ne-eqb _ _ (c .before .before .before .before .if1 .left), ne-eqb _ _ (c .before .before .before .if2 .left), ne-eqb _ _ (c .before .before .if3 .left), ne-eqb _ _ (c .before .if4 .left), ne-eqb _ _ (c .if5 .left))
 
 pub is-filled-spec : {M : Type 1} → statement M
 is-filled-spec =
@@ -37,8 +45,10 @@ is-filled-spec =
     (tie.spec
     returns
     returns-2
-    heights-fill-requires
+    mesh-fills-requires
     returns-3
-    values-fill-requires
+    heights-fill-requires
     returns-4
-    returns-5)
+    values-fill-requires
+    returns-5
+    returns-6)

@@ -1,0 +1,24 @@
+-- The lengths of the areas in which a record is answered. Definitions only. Assumes nothing.
+use Prim.Native.Nat.{ℕ, _+_, _*_, _≤_}
+use mathlib.Core.Path.{_≡_}
+use mathlib.Core.List.{List}
+use lib.Ieee.{Float}
+use lib.ListN.{length}
+
+-- for a tree of n triangles, to the place
+pub record TreeRoom (n : ℕ) (nodeBoxes triangleBoxes : List Float) (nodeWords order list stack : List ℕ) : Type 0 where
+  pub boxed : length nodeBoxes ≡ 12 * n
+  pub bounded : length triangleBoxes ≡ 6 * n
+  pub worded : length nodeWords ≡ 6 * n
+  pub ordered : length order ≡ n
+  pub listed : length list ≡ n
+  pub stacked : length stack ≡ 2 * n + 1
+
+-- for the tree of any well-formed record, which has 677 triangles at most: (8,192 - 66) / 12
+pub record TreeLent (nodeBoxes triangleBoxes : List Float) (nodeWords order list stack : List ℕ) : Type 0 where
+  pub boxed : 8124 ≤ length nodeBoxes
+  pub bounded : 4062 ≤ length triangleBoxes
+  pub worded : 4062 ≤ length nodeWords
+  pub ordered : 677 ≤ length order
+  pub listed : 677 ≤ length list
+  pub stacked : 1355 ≤ length stack

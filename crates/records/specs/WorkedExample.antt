@@ -1,0 +1,56 @@
+-- Document 01's worked example: three records, and the whole output for them. Definitions only. Assumes nothing.
+use Prim.Native.Nat.{ℕ}
+use mathlib.Core.List.{List, [], _∷_, _++_}
+use lib.Ieee.{Float, binary64, ofBits}
+use lib.ListN.{replicate}
+use Rattle.geometry.specs.Numbers.{zeroᶠ, oneᶠ}
+use Rattle.records.specs.Parse.{plane}
+use Rattle.records.specs.Encode.{bodyBytes, framed}
+
+abbrev two : Float
+two = ofBits binary64 0x4000_0000_0000_0000
+
+abbrev five : Float
+five = ofBits binary64 0x4014_0000_0000_0000
+
+abbrev minusOne : Float
+minusOne = ofBits binary64 0xbff0_0000_0000_0000
+
+abbrev minusTwo : Float
+minusTwo = ofBits binary64 0xc000_0000_0000_0000
+
+-- "Plane normal (0,0,1), distance 0, origin (0,0,2)": a record of a ray along z
+abbrev exampleRecord : Float → Float → List ℕ
+exampleRecord z maximum =
+    framed
+    (bodyBytes record {
+      origin = record { x = zeroᶠ; y = zeroᶠ; z = two };
+      direction = record { x = zeroᶠ; y = zeroᶠ; z = z };
+      «max_distance» = maximum;
+    } (plane record { normal = record { x = zeroᶠ; y = zeroᶠ; z = oneᶠ }; distance = zeroᶠ }))
+
+-- "directions (0,0,-1) with maxima 5 and 1, then (0,0,-2) with 5"
+unfoldable pub exampleRecords : List ℕ
+exampleRecords = exampleRecord minusOne five ++ (exampleRecord minusOne oneᶠ ++ exampleRecord minusTwo five)
+
+-- so many digits 0
+abbrev zeros : ℕ → List ℕ
+zeros n = replicate n 48
+
+-- "1 hit 0000000000000000 0000000000000000 3ff0000000000000 4000000000000000"
+abbrev firstLine : List ℕ
+firstLine =
+    (49 ∷ (32 ∷ (104 ∷ (105 ∷ (116 ∷ (32 ∷ []))))))
+    ++ (zeros 16 ++ ((32 ∷ []) ++ (zeros 16 ++ ((32 ∷ (51 ∷ (102 ∷ (102 ∷ [])))) ++ (zeros 13 ++ ((32 ∷ (52 ∷ [])) ++ (zeros 15 ++ (10 ∷ []))))))))
+
+-- "2 none"
+abbrev secondLine : List ℕ
+secondLine = 50 ∷ (32 ∷ (110 ∷ (111 ∷ (110 ∷ (101 ∷ (10 ∷ []))))))
+
+-- "3 refused 1"
+abbrev thirdLine : List ℕ
+thirdLine = 51 ∷ (32 ∷ (114 ∷ (101 ∷ (102 ∷ (117 ∷ (115 ∷ (101 ∷ (100 ∷ (32 ∷ (49 ∷ (10 ∷ [])))))))))))
+
+-- "Whole output"
+unfoldable pub exampleOutput : List ℕ
+exampleOutput = firstLine ++ (secondLine ++ thirdLine)

@@ -1,0 +1,138 @@
+use crate::bytes;
+use casts::answer;
+use casts::nearest::IndexedCast;
+use geometry::ray::Ray;
+use mesh::cast;
+use tree_build::build;
+use tree_build::build::Built;
+use tree_build::writing;
+ghost use mathlib.Core.Path.{_≡_};
+ghost use Prim.Native.Nat.{_+_, _*_, _≤_};
+ghost use lib.ListN.{length};
+ghost use Rattle.casts.specs.Nearest.{saysIndexed};
+ghost use Rattle.tree.specs.Mesh.{thirds};
+ghost use Rattle.tree_build.specs.Build.{areas, mesh, buildOf};
+ghost use Rattle.records.specs.Fields.{vertexCount, triangleCount, meshOf};
+ghost use Rattle.records.specs.MeshAnswer.{throughTree, meshAnswer};
+ghost use Rattle.records.specs.Areas.{TreeRoom, TreeLent};
+
+// All areas but the vertices and triangles are work areas: they may hold anything afterwards.
+
+// Builds the tree and casts through it. The build's work area is the list.
+fn cast_built(
+    ray: Ray,
+    vertices: &[f64],
+    triangles: &[u32],
+    node_boxes: &mut [f64],
+    triangle_boxes: &mut [f64],
+    node_words: &mut [u32],
+    order: &mut [u32],
+    list: &mut [u32],
+    stack: &mut [u32],
+) -> IndexedCast
+    ensures { λ r. ⌜ saysIndexed r ≡ throughTree ray (mesh (now (vertices .entry)) (now (triangles .entry))) (length (now (list .entry))) (length (now (stack .entry))) (buildOf (mesh (now (vertices .entry)) (now (triangles .entry))) (areas (now («node_boxes» .entry)) (now («triangle_boxes» .entry)) (now («node_words» .entry)) (now (order .entry))) (length (now (list .entry)))) ⌝ }
+{
+    let built = build::build(
+        vertices,
+        triangles,
+        node_boxes,
+        triangle_boxes,
+        node_words,
+        order,
+        list,
+    );
+    match built {
+        Built::Nodes(count) => {
+            return cast::ray_mesh(
+                ray,
+                vertices,
+                triangles,
+                vertices,
+                count,
+                node_boxes,
+                triangle_boxes,
+                node_words,
+                order,
+                list,
+                stack,
+            );
+        }
+        Built::Refused(number) => {
+            return IndexedCast::Refused(number);
+        }
+    }
+}
+
+// Check 1, then the tree in areas filled with zeros.
+fn cast_fresh(
+    ray: Ray,
+    vertices: &[f64],
+    triangles: &[u32],
+    node_boxes: &mut [f64],
+    triangle_boxes: &mut [f64],
+    node_words: &mut [u32],
+    order: &mut [u32],
+    list: &mut [u32],
+    stack: &mut [u32],
+) -> IndexedCast
+    requires { ⌜ TreeRoom (thirds (length (now triangles))) (now «node_boxes») (now «triangle_boxes») (now «node_words») (now order) (now list) (now stack) ⌝ }
+    ensures { λ r. ⌜ saysIndexed r ≡ meshAnswer ray (mesh (now (vertices .entry)) (now (triangles .entry))) ⌝ }
+{
+    if !ray.validate() {
+        return IndexedCast::Refused(answer::INVALID_INPUT);
+    }
+    writing::zero_numbers(node_boxes);
+    writing::zero_numbers(triangle_boxes);
+    writing::zero_words(node_words);
+    writing::zero_words(order);
+    cast_built(
+        ray,
+        vertices,
+        triangles,
+        node_boxes,
+        triangle_boxes,
+        node_words,
+        order,
+        list,
+        stack,
+    )
+}
+
+// The cast at a well-formed body of kind 3; its mesh is decoded into the first two areas, and the tree is built in parts of the others.
+pub fn mesh_answer(
+    body: &[u8],
+    ray: Ray,
+    vertices: &mut [f64],
+    triangles: &mut [u32],
+    node_boxes: &mut [f64],
+    triangle_boxes: &mut [f64],
+    node_words: &mut [u32],
+    order: &mut [u32],
+    list: &mut [u32],
+    stack: &mut [u32],
+) -> IndexedCast
+    requires { ⌜ (66 + 24 * vertexCount (now body) + 12 * triangleCount (now body) ≡ length (now body)) × (length (now body) ≤ 8192) ⌝ }
+    requires { ⌜ (1024 ≤ length (now vertices)) × ((2031 ≤ length (now triangles)) × TreeLent (now «node_boxes») (now «triangle_boxes») (now «node_words») (now order) (now list) (now stack)) ⌝ }
+    ensures { λ r. ⌜ saysIndexed r ≡ meshAnswer ray (meshOf (now (body .entry))) ⌝ }
+{
+    let corners = 3 * bytes::word_at(body, 58) as usize;
+    let count = bytes::word_at(body, 62) as usize;
+    let indices = 3 * count;
+    let start = 66 + 8 * corners;
+    bytes::floats_at(body, 66, corners, vertices);
+    bytes::words_at(body, start, indices, triangles);
+    let boxes = 12 * count;
+    let words = 6 * count;
+    let nodes = 2 * count + 1;
+    cast_fresh(
+        ray,
+        &vertices[..corners],
+        &triangles[..indices],
+        &mut node_boxes[..boxes],
+        &mut triangle_boxes[..words],
+        &mut node_words[..words],
+        &mut order[..count],
+        &mut list[..count],
+        &mut stack[..nodes],
+    )
+}
