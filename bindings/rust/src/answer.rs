@@ -1,0 +1,157 @@
+//! What the calls answer.
+use crate::sys;
+use std::error::Error;
+use std::fmt;
+
+/// What a ray met.
+#[derive(Clone, Copy, Debug, PartialEq)]
+pub struct Hit {
+    /// The surface's unit normal.
+    pub normal: [f64; 3],
+    /// How far along the ray. Triangles of extreme size may give NaN.
+    pub distance: f64,
+}
+
+/// What a ray met of a mesh.
+#[derive(Clone, Copy, Debug, PartialEq)]
+pub struct MeshHit {
+    /// The triangle's unit normal, which faces the ray.
+    pub normal: [f64; 3],
+    /// How far along the ray. Triangles of extreme size may give NaN.
+    pub distance: f64,
+    /// The triangle's index, from 0.
+    pub triangle: u32,
+}
+
+/// The answer of a cast.
+///
+/// ```
+/// use probe_rays::{ray_plane, Cast, Plane, Ray, Refusal};
+///
+/// let floor = Plane { normal: [0.0, 0.0, 1.0], distance: 0.0 };
+/// // the direction is not of length 1
+/// let ray = Ray::new([0.0, 0.0, 2.0], [0.0, 0.0, -2.0], 5.0);
+/// assert_eq!(ray_plane(&ray, &floor), Cast::Refused(Refusal::InvalidInput));
+/// ```
+#[derive(Clone, Copy, Debug, PartialEq)]
+#[must_use]
+pub enum Cast<H = Hit> {
+    /// The nearest surface along the ray.
+    Hit(H),
+    /// No surface within the ray's maximum distance.
+    None,
+    /// The cast could not be answered: nothing is known of the surface.
+    Refused(Refusal),
+}
+
+impl<H> Cast<H> {
+    /// The hit, if any, with a refusal as the error: a refusal cannot be taken for a none.
+    ///
+    /// ```
+    /// use probe_rays::{ray_plane, Plane, Ray, Refusal};
+    ///
+    /// let floor = Plane { normal: [0.0, 0.0, 1.0], distance: 0.0 };
+    /// let short = Ray::new([0.0, 0.0, 2.0], [0.0, 0.0, -1.0], 1.0);
+    /// assert_eq!(ray_plane(&short, &floor).into_result()?, None);
+    /// # Ok::<(), Refusal>(())
+    /// ```
+    pub fn into_result(self) -> Result<Option<H>, Refusal> {
+        match self {
+            Cast::Hit(hit) => Ok(Some(hit)),
+            Cast::None => Ok(None),
+            Cast::Refused(refusal) => Err(refusal),
+        }
+    }
+
+    /// The answer of a call: its number, and the hit where it says so.
+    pub(crate) fn of(answer: u32, hit: impl FnOnce() -> H) -> Cast<H> {
+        match answer {
+            sys::HIT => Cast::Hit(hit()),
+            sys::NONE => Cast::None,
+            number => Cast::Refused(Refusal::from_number(number)),
+        }
+    }
+}
+
+/// Why a call refused.
+#[derive(Clone, Copy, Debug, PartialEq, Eq, Hash)]
+#[non_exhaustive]
+pub enum Refusal {
+    /// 1: a ray's origin or maximum is not finite, its maximum is below 0, its direction is not finite or not of
+    /// length 1 within 1e-12; a query's box is not valid.
+    InvalidInput,
+    /// 2: a count, length, spacing, normal, plane distance or grid origin outside the limits.
+    BadShape,
+    /// 3: a lent slice is too short.
+    NoRoom,
+    /// 4: the vertices to cast at are not as many as the mesh's.
+    WrongPose,
+    /// 5: an index or a box that does not fit, a tree that is broken, a sample outside a distance grid.
+    OutOfBounds,
+    /// 6: a number on the way is not finite.
+    Overflow,
+    /// 7: the normal of the surface hit cannot be normalised.
+    NoNormal,
+    /// 8: the walk through a distance grid ends without an answer, or the gradient at its hit cannot be normalised.
+    NotConvergent,
+    /// A number that this crate has no name for: a library newer than it.
+    Other(u32),
+}
+
+impl Refusal {
+    /// The refusal of a number.
+    ///
+    /// ```
+    /// use probe_rays::Refusal;
+    ///
+    /// assert_eq!(Refusal::from_number(4), Refusal::WrongPose);
+    /// assert_eq!(Refusal::from_number(9), Refusal::Other(9));
+    /// ```
+    pub fn from_number(number: u32) -> Refusal {
+        match number {
+            sys::REFUSED_INVALID_INPUT => Refusal::InvalidInput,
+            sys::REFUSED_BAD_SHAPE => Refusal::BadShape,
+            sys::REFUSED_NO_ROOM => Refusal::NoRoom,
+            sys::REFUSED_WRONG_POSE => Refusal::WrongPose,
+            sys::REFUSED_OUT_OF_BOUNDS => Refusal::OutOfBounds,
+            sys::REFUSED_OVERFLOW => Refusal::Overflow,
+            sys::REFUSED_NO_NORMAL => Refusal::NoNormal,
+            sys::REFUSED_NOT_CONVERGENT => Refusal::NotConvergent,
+            other => Refusal::Other(other),
+        }
+    }
+
+    /// The number of the refusal.
+    pub fn number(self) -> u32 {
+        match self {
+            Refusal::InvalidInput => sys::REFUSED_INVALID_INPUT,
+            Refusal::BadShape => sys::REFUSED_BAD_SHAPE,
+            Refusal::NoRoom => sys::REFUSED_NO_ROOM,
+            Refusal::WrongPose => sys::REFUSED_WRONG_POSE,
+            Refusal::OutOfBounds => sys::REFUSED_OUT_OF_BOUNDS,
+            Refusal::Overflow => sys::REFUSED_OVERFLOW,
+            Refusal::NoNormal => sys::REFUSED_NO_NORMAL,
+            Refusal::NotConvergent => sys::REFUSED_NOT_CONVERGENT,
+            Refusal::Other(number) => number,
+        }
+    }
+}
+
+impl fmt::Display for Refusal {
+    fn fmt(&self, out: &mut fmt::Formatter<'_>) -> fmt::Result {
+        let words = match self {
+            Refusal::InvalidInput => "invalid input: a ray or a query's box that is not admitted",
+            Refusal::BadShape => "bad shape: a count, length or parameter outside the limits",
+            Refusal::NoRoom => "no room: a lent slice is too short",
+            Refusal::WrongPose => "wrong pose: not as many vertices as the mesh has",
+            Refusal::OutOfBounds => "out of bounds: an index, box or sample that does not fit",
+            Refusal::Overflow => "overflow: a number on the way is not finite",
+            Refusal::NoNormal => "no normal: the surface hit has no unit normal",
+            Refusal::NotConvergent => "not convergent: the walk through the grid has no answer",
+            Refusal::Other(_) => "a refusal that this version does not know",
+        };
+        write!(out, "refused {}, {words}", self.number())
+    }
+}
+
+impl Error for Refusal {}

@@ -1,0 +1,325 @@
+//! Build, query, tree check and mesh cast over slices of the caller's: nothing is allocated.
+//!
+//! For n triangles the areas have at least these lengths, for which there is a function each:
+//!
+//! | area | element | length | holds |
+//! |---|---|---|---|
+//! | vertices | f64 | 3 a vertex | x, y, z |
+//! | triangles | u32 | 3n | three vertex indices a triangle |
+//! | node boxes | f64 | 12n | six numbers a node: minimum x, y, z, then maximum x, y, z |
+//! | triangle boxes | f64 | 6n | six numbers a triangle, in the same order |
+//! | node words | u32 | 6n | three words a node: 0, start, count (a leaf); 1, left, right (a branch) |
+//! | order | u32 | n | triangle indices, the leaves' ranges one after another |
+//! | work | u32 | n | the build's; holds anything afterwards |
+//! | list | u32 | n | the query's result; the mesh cast's work |
+//! | stack | u32 | node count + 1 | the walk's; holds anything afterwards |
+//! | marks | u32 | 3n | the check's; holds anything afterwards |
+//!
+//! A shorter one is refused with 3; a longer one is admitted. Slices of `[f64; 3]` and `[u32; 3]` become such ones by
+//! `as_flattened`.
+//!
+//! ```
+//! use probe_rays::{lent, Cast, Ray, Refusal};
+//!
+//! // two triangles, a square
+//! let vertices = [0.0, 0.0, 0.0, 4.0, 0.0, 0.0, 4.0, 4.0, 0.0, 0.0, 4.0, 0.0];
+//! let triangles = [0, 1, 2, 0, 2, 3];
+//! const N: usize = 2;
+//! let mut node_boxes = [0.0; lent::node_boxes_length(N)];
+//! let mut triangle_boxes = [0.0; lent::triangle_boxes_length(N)];
+//! let mut node_words = [0; lent::node_words_length(N)];
+//! let mut order = [0; lent::order_length(N)];
+//! let mut work = [0; lent::work_length(N)];
+//! let nodes = lent::build(
+//!     &vertices,
+//!     &triangles,
+//!     lent::TreeAreas {
+//!         node_boxes: &mut node_boxes,
+//!         triangle_boxes: &mut triangle_boxes,
+//!         node_words: &mut node_words,
+//!         order: &mut order,
+//!     },
+//!     &mut work,
+//! )?;
+//! let tree = lent::TreeRef {
+//!     nodes,
+//!     node_boxes: &node_boxes,
+//!     triangle_boxes: &triangle_boxes,
+//!     node_words: &node_words,
+//!     order: &order,
+//! };
+//!
+//! let mut marks = [0; lent::marks_length(N)];
+//! assert!(lent::tree_check(&vertices, &triangles, &tree, &mut marks)?);
+//!
+//! let mut list = [0; lent::list_length(N)];
+//! // a tree of n triangles has at most 2n nodes
+//! let mut stack = [0; lent::stack_length(2 * N)];
+//! let found = lent::query([0.5, 2.5, 0.0], [1.0, 3.0, 0.0], N, &tree, &mut list, &mut stack)?;
+//! assert_eq!(list[..found], [0, 1]);
+//!
+//! let down = Ray::new([1.0, 3.0, 5.0], [0.0, 0.0, -1.0], 10.0);
+//! let cast = lent::ray_mesh(&down, &vertices, &triangles, &vertices, &tree, &mut list, &mut stack);
+//! let Cast::Hit(hit) = cast else { panic!() };
+//! assert_eq!((hit.distance, hit.triangle), (5.0, 1));
+//! # Ok::<(), Refusal>(())
+//! ```
+use crate::answer::{Cast, MeshHit, Refusal};
+use crate::shapes::{placed, Places};
+use crate::{sys, Ray};
+
+/// The length of the node boxes of n triangles.
+pub const fn node_boxes_length(n: usize) -> usize {
+    12 * n
+}
+
+/// The length of the triangle boxes of n triangles.
+pub const fn triangle_boxes_length(n: usize) -> usize {
+    6 * n
+}
+
+/// The length of the node words of n triangles.
+pub const fn node_words_length(n: usize) -> usize {
+    6 * n
+}
+
+/// The length of the order of n triangles.
+pub const fn order_length(n: usize) -> usize {
+    n
+}
+
+/// The length of the build's work area for n triangles.
+pub const fn work_length(n: usize) -> usize {
+    n
+}
+
+/// The length of the list of n triangles.
+pub const fn list_length(n: usize) -> usize {
+    n
+}
+
+/// The length of the stack for a node count.
+pub const fn stack_length(nodes: usize) -> usize {
+    nodes + 1
+}
+
+/// The length of the check's mark area for n triangles.
+pub const fn marks_length(n: usize) -> usize {
+    3 * n
+}
+
+/// A tree in somebody's slices, from whatever builder.
+#[derive(Clone, Copy, Debug, PartialEq)]
+pub struct TreeRef<'a> {
+    /// The node count. Node 0 is the root.
+    pub nodes: usize,
+    /// Six numbers a node: minimum x, y, z, then maximum x, y, z.
+    pub node_boxes: &'a [f64],
+    /// Six numbers a triangle, in the same order.
+    pub triangle_boxes: &'a [f64],
+    /// Three words a node: 0, start, count of a leaf, or 1, left, right of a branch.
+    pub node_words: &'a [u32],
+    /// Triangle indices, the leaves' ranges one after another.
+    pub order: &'a [u32],
+}
+
+/// Where the build writes a tree.
+#[derive(Debug)]
+pub struct TreeAreas<'a> {
+    /// Six numbers a node.
+    pub node_boxes: &'a mut [f64],
+    /// Six numbers a triangle.
+    pub triangle_boxes: &'a mut [f64],
+    /// Three words a node.
+    pub node_words: &'a mut [u32],
+    /// The triangles in the order of the leaves.
+    pub order: &'a mut [u32],
+}
+
+/// Builds the tree of a mesh and gives its node count; places past the tree are unchanged.
+///
+/// Refuses with 2, 3, 5 (no triangle, an index past the vertices, a triangle whose box is not finite) or 6. After 5
+/// and 6 the areas are zeros, after 2 and 3 unchanged. Every tree that is written passes [`tree_check`].
+pub fn build(
+    vertices: &[f64],
+    triangles: &[u32],
+    areas: TreeAreas<'_>,
+    work: &mut [u32],
+) -> Result<usize, Refusal> {
+    let mut nodes = [0_usize];
+    // SAFETY: every pointer and length is a slice's, and Rust lets no mutable one overlap another.
+    let answer = unsafe {
+        sys::probe_build(
+            vertices.as_ptr(),
+            vertices.len(),
+            triangles.as_ptr(),
+            triangles.len(),
+            areas.node_boxes.as_mut_ptr(),
+            areas.node_boxes.len(),
+            areas.triangle_boxes.as_mut_ptr(),
+            areas.triangle_boxes.len(),
+            areas.node_words.as_mut_ptr(),
+            areas.node_words.len(),
+            areas.order.as_mut_ptr(),
+            areas.order.len(),
+            work.as_mut_ptr(),
+            work.len(),
+            nodes.as_mut_ptr(),
+            nodes.len(),
+        )
+    };
+    match answer {
+        sys::DONE => Ok(nodes[0]),
+        number => Err(Refusal::from_number(number)),
+    }
+}
+
+/// Lists the triangles, of n, whose boxes touch the box from `min` to `max`, ascending, and gives how many; places
+/// of the list past them are unchanged.
+///
+/// Refuses with 1, 2, 3 or 5 (the tree is broken where the walk meets it). After 5 the list is zeros.
+pub fn query(
+    min: [f64; 3],
+    max: [f64; 3],
+    n: usize,
+    tree: &TreeRef<'_>,
+    list: &mut [u32],
+    stack: &mut [u32],
+) -> Result<usize, Refusal> {
+    let mut found = [0_usize];
+    let [min_x, min_y, min_z] = min;
+    let [max_x, max_y, max_z] = max;
+    // SAFETY: every pointer and length is a slice's, and Rust lets no mutable one overlap another.
+    let answer = unsafe {
+        sys::probe_query(
+            min_x,
+            min_y,
+            min_z,
+            max_x,
+            max_y,
+            max_z,
+            n,
+            tree.nodes,
+            tree.node_boxes.as_ptr(),
+            tree.node_boxes.len(),
+            tree.triangle_boxes.as_ptr(),
+            tree.triangle_boxes.len(),
+            tree.node_words.as_ptr(),
+            tree.node_words.len(),
+            tree.order.as_ptr(),
+            tree.order.len(),
+            list.as_mut_ptr(),
+            list.len(),
+            stack.as_mut_ptr(),
+            stack.len(),
+            found.as_mut_ptr(),
+            found.len(),
+        )
+    };
+    match answer {
+        sys::DONE => Ok(found[0]),
+        number => Err(Refusal::from_number(number)),
+    }
+}
+
+/// Whether a tree, from whatever builder, fits a mesh: every node and triangle stands in it once, and every box
+/// encloses what is below it.
+///
+/// Refuses with 2 or 3. A triangle index past the vertices, or a node count above 2n, is `false`.
+pub fn tree_check(
+    vertices: &[f64],
+    triangles: &[u32],
+    tree: &TreeRef<'_>,
+    marks: &mut [u32],
+) -> Result<bool, Refusal> {
+    // SAFETY: every pointer and length is a slice's, and Rust lets no mutable one overlap another.
+    let answer = unsafe {
+        sys::probe_tree_check(
+            vertices.as_ptr(),
+            vertices.len(),
+            triangles.as_ptr(),
+            triangles.len(),
+            tree.nodes,
+            tree.node_boxes.as_ptr(),
+            tree.node_boxes.len(),
+            tree.triangle_boxes.as_ptr(),
+            tree.triangle_boxes.len(),
+            tree.node_words.as_ptr(),
+            tree.node_words.len(),
+            tree.order.as_ptr(),
+            tree.order.len(),
+            marks.as_mut_ptr(),
+            marks.len(),
+        )
+    };
+    match answer {
+        sys::YES => Ok(true),
+        sys::NO => Ok(false),
+        number => Err(Refusal::from_number(number)),
+    }
+}
+
+/// Casts a ray at a mesh through its tree. `pose` holds the vertices to cast at: the mesh's own, or as many moved
+/// ones. The tree's boxes are those of the mesh's own.
+///
+/// A hit is the nearest; of equally near ones, that of the lowest index. Refuses with 1 to 7. At the mesh's own
+/// vertices, through a tree that passes [`tree_check`], no triangle whose box touches that of the ray's segment is
+/// missed, as long as none of them gives a distance that is NaN. Through any other tree the call ends too, but may
+/// miss a surface.
+pub fn ray_mesh(
+    ray: &Ray,
+    vertices: &[f64],
+    triangles: &[u32],
+    pose: &[f64],
+    tree: &TreeRef<'_>,
+    list: &mut [u32],
+    stack: &mut [u32],
+) -> Cast<MeshHit> {
+    let mut places: Places = [0.0; 4];
+    let mut index = [0_u32];
+    let [origin_x, origin_y, origin_z] = ray.origin;
+    let [direction_x, direction_y, direction_z] = ray.direction;
+    // SAFETY: every pointer and length is a slice's, and Rust lets no mutable one overlap another.
+    let answer = unsafe {
+        sys::probe_ray_mesh(
+            origin_x,
+            origin_y,
+            origin_z,
+            direction_x,
+            direction_y,
+            direction_z,
+            ray.max_distance,
+            vertices.as_ptr(),
+            vertices.len(),
+            triangles.as_ptr(),
+            triangles.len(),
+            pose.as_ptr(),
+            pose.len(),
+            tree.nodes,
+            tree.node_boxes.as_ptr(),
+            tree.node_boxes.len(),
+            tree.triangle_boxes.as_ptr(),
+            tree.triangle_boxes.len(),
+            tree.node_words.as_ptr(),
+            tree.node_words.len(),
+            tree.order.as_ptr(),
+            tree.order.len(),
+            list.as_mut_ptr(),
+            list.len(),
+            stack.as_mut_ptr(),
+            stack.len(),
+            places.as_mut_ptr(),
+            places.len(),
+            index.as_mut_ptr(),
+            index.len(),
+        )
+    };
+    Cast::of(answer, || {
+        let hit = placed(&places);
+        MeshHit {
+            normal: hit.normal,
+            distance: hit.distance,
+            triangle: index[0],
+        }
+    })
+}

@@ -1,0 +1,69 @@
+//! Ray casts at a plane, a triangle, a triangle mesh with its box tree, a height grid and a distance grid.
+//!
+//! The casts, the tree's build, query and check are proved, in Rattle, to answer exactly what their definitions say,
+//! to end, and to touch nothing past a slice's end (the repository's README.md and docs/PROOFS.md). This crate links
+//! them, has no dependencies, and adds slices, enums and owned areas. What it adds is ordinary Rust: it is tested,
+//! and not proved.
+//!
+//! A cast answers a hit, none or a refusal ([`Cast`]). A refusal is not a none: nothing is known of the surface then.
+//!
+//! ```
+//! use probe_rays::{ray_plane, Cast, Plane, Ray};
+//!
+//! let floor = Plane { normal: [0.0, 0.0, 1.0], distance: 0.0 };
+//! let down = Ray::new([0.0, 0.0, 2.0], [0.0, 0.0, -1.0], 5.0);
+//! match ray_plane(&down, &floor) {
+//!     Cast::Hit(hit) => assert_eq!((hit.distance, hit.normal), (2.0, [0.0, 0.0, 1.0])),
+//!     Cast::None => panic!("the floor is two below"),
+//!     Cast::Refused(refusal) => panic!("{refusal}"),
+//! }
+//! ```
+//!
+//! A [`Mesh`] owns a mesh and a tree that fits it:
+//!
+//! ```
+//! use probe_rays::{Cast, Mesh, Ray, Refusal};
+//!
+//! let corners = [[0.0, 0.0, 0.0], [1.0, 0.0, 0.0], [0.0, 1.0, 0.0]];
+//! let mut mesh = Mesh::build(corners, [[0, 1, 2]])?;
+//! let hit = mesh.cast(&Ray::new([0.25, 0.25, 1.0], [0.0, 0.0, -1.0], 10.0)).into_result()?;
+//! assert_eq!(hit.unwrap().triangle, 0);
+//! # Ok::<(), Refusal>(())
+//! ```
+//!
+//! [`lent`] has the same calls over slices of the caller's, for those who allocate nothing, and [`sys`] the
+//! declarations as C sees them.
+#![deny(missing_docs)]
+#![deny(unsafe_op_in_unsafe_fn)]
+
+mod answer;
+pub mod lent;
+mod mesh;
+mod ray;
+mod shapes;
+pub mod sys;
+
+pub use answer::{Cast, Hit, MeshHit, Refusal};
+pub use mesh::{Mesh, Scratch, Tree, TreeError};
+pub use ray::Ray;
+pub use shapes::{
+    ray_height_field, ray_level_set, ray_plane, ray_triangle, HeightField, LevelSet, Plane,
+};
+
+/// The most vertices, and the most triangles, of a mesh.
+pub const MAX_COUNT: usize = 65_536;
+
+/// The version of the library that is linked: [`sys::VERSION`], if this crate is its own.
+///
+/// ```
+/// assert_eq!(probe_rays::version(), probe_rays::sys::VERSION);
+/// ```
+pub fn version() -> u32 {
+    // SAFETY: takes nothing.
+    unsafe { sys::probe_version() }
+}
+
+// The Rust in the repository's README.md is run as a doc example; its other code has a language.
+#[cfg(doctest)]
+#[doc = include_str!("../../../README.md")]
+struct Readme;

@@ -1,0 +1,304 @@
+//! A mesh that owns its tree.
+use crate::answer::{Cast, MeshHit, Refusal};
+use crate::lent::{self, TreeAreas, TreeRef};
+use crate::{Ray, MAX_COUNT};
+use std::error::Error;
+use std::fmt;
+
+/// A tree in vectors of its own: what [`Mesh::with_tree`] takes. [`lent`] says how long each is and what it holds.
+#[derive(Clone, Debug, Default, PartialEq)]
+pub struct Tree {
+    /// The node count. Node 0 is the root.
+    pub nodes: usize,
+    /// Six numbers a node: minimum x, y, z, then maximum x, y, z. At least 12 a triangle.
+    pub node_boxes: Vec<f64>,
+    /// Six numbers a triangle, in the same order.
+    pub triangle_boxes: Vec<f64>,
+    /// Three words a node: 0, start, count of a leaf, or 1, left, right of a branch. At least 6 a triangle.
+    pub node_words: Vec<u32>,
+    /// Triangle indices, the leaves' ranges one after another.
+    pub order: Vec<u32>,
+}
+
+impl Tree {
+    /// The areas of a tree of n triangles, all zeros.
+    fn with_room(n: usize) -> Tree {
+        Tree {
+            nodes: 0,
+            node_boxes: vec![0.0; lent::node_boxes_length(n)],
+            triangle_boxes: vec![0.0; lent::triangle_boxes_length(n)],
+            node_words: vec![0; lent::node_words_length(n)],
+            order: vec![0; lent::order_length(n)],
+        }
+    }
+
+    /// The tree, to read.
+    pub fn as_lent(&self) -> TreeRef<'_> {
+        TreeRef {
+            nodes: self.nodes,
+            node_boxes: &self.node_boxes,
+            triangle_boxes: &self.triangle_boxes,
+            node_words: &self.node_words,
+            order: &self.order,
+        }
+    }
+}
+
+/// The work areas of a cast or query. They grow to what a mesh asks, may serve any number of meshes, and hold
+/// nothing that a call depends on. A thread has its own.
+#[derive(Clone, Debug, Default)]
+pub struct Scratch {
+    list: Vec<u32>,
+    stack: Vec<u32>,
+}
+
+impl Scratch {
+    /// Empty areas.
+    pub fn new() -> Scratch {
+        Scratch::default()
+    }
+
+    /// Makes room for n triangles and a node count.
+    fn fit(&mut self, n: usize, nodes: usize) {
+        if self.list.len() < lent::list_length(n) {
+            self.list.resize(lent::list_length(n), 0);
+        }
+        if self.stack.len() < lent::stack_length(nodes) {
+            self.stack.resize(lent::stack_length(nodes), 0);
+        }
+    }
+}
+
+/// A mesh and a tree that fits it: built here, or somebody else's that passed the check. So a cast at the mesh's own
+/// vertices misses no triangle whose box touches that of the ray's segment, as long as none of them gives a distance
+/// that is NaN.
+///
+/// ```
+/// use probe_rays::{Cast, Mesh, Ray, Refusal, Scratch};
+///
+/// let square = [[0.0, 0.0, 0.0], [4.0, 0.0, 0.0], [4.0, 4.0, 0.0], [0.0, 4.0, 0.0]];
+/// let mut mesh = Mesh::build(square, [[0, 1, 2], [0, 2, 3]])?;
+/// let down = Ray::new([1.0, 3.0, 5.0], [0.0, 0.0, -1.0], 10.0);
+///
+/// // with the mesh's own work areas
+/// let Cast::Hit(hit) = mesh.cast(&down) else { panic!() };
+/// assert_eq!((hit.distance, hit.triangle), (5.0, 1));
+/// assert_eq!(mesh.query([3.5, 0.0, 0.0], [4.0, 0.5, 0.0])?, [0, 1]);
+///
+/// // one mesh, many threads, each with work areas of its own
+/// let mesh = &mesh;
+/// std::thread::scope(|threads| {
+///     for x in 1..4 {
+///         threads.spawn(move || {
+///             let mut scratch = Scratch::new();
+///             let ray = Ray::new([f64::from(x), 0.5, 5.0], [0.0, 0.0, -1.0], 10.0);
+///             assert!(matches!(mesh.cast_with(&ray, &mut scratch), Cast::Hit(_)));
+///         });
+///     }
+/// });
+/// # Ok::<(), Refusal>(())
+/// ```
+#[derive(Clone, Debug)]
+pub struct Mesh {
+    vertices: Vec<[f64; 3]>,
+    triangles: Vec<[u32; 3]>,
+    tree: Tree,
+    scratch: Scratch,
+}
+
+impl Mesh {
+    /// Builds the tree of these vertices and triangles, each of three vertex indices.
+    ///
+    /// Refuses with 2 (more than 65,536 vertices or triangles), 5 (no triangle, an index past the vertices, a
+    /// triangle whose box is not finite) or 6.
+    ///
+    /// ```
+    /// use probe_rays::{Mesh, Refusal};
+    ///
+    /// // there is no vertex 3
+    /// let corners = [[0.0, 0.0, 0.0], [1.0, 0.0, 0.0], [0.0, 1.0, 0.0]];
+    /// assert_eq!(Mesh::build(corners, [[0, 1, 3]]).unwrap_err(), Refusal::OutOfBounds);
+    /// ```
+    pub fn build(
+        vertices: impl Into<Vec<[f64; 3]>>,
+        triangles: impl Into<Vec<[u32; 3]>>,
+    ) -> Result<Mesh, Refusal> {
+        let (vertices, triangles) = (vertices.into(), triangles.into());
+        let n = room_for(&triangles);
+        let mut tree = Tree::with_room(n);
+        let mut work = vec![0; lent::work_length(n)];
+        tree.nodes = lent::build(
+            vertices.as_flattened(),
+            triangles.as_flattened(),
+            TreeAreas {
+                node_boxes: &mut tree.node_boxes,
+                triangle_boxes: &mut tree.triangle_boxes,
+                node_words: &mut tree.node_words,
+                order: &mut tree.order,
+            },
+            &mut work,
+        )?;
+        Ok(Mesh {
+            vertices,
+            triangles,
+            tree,
+            scratch: Scratch::new(),
+        })
+    }
+
+    /// Takes a tree that somebody else built, if it passes the check: with a tree that does not, a cast could miss
+    /// a surface, and nothing would tell that none from a right one.
+    ///
+    /// ```
+    /// use probe_rays::{Mesh, Refusal, TreeError};
+    ///
+    /// let square = [[0.0, 0.0, 0.0], [4.0, 0.0, 0.0], [4.0, 4.0, 0.0], [0.0, 4.0, 0.0]];
+    /// let triangles = [[0, 1, 2], [0, 2, 3]];
+    /// let mut tree = Mesh::build(square, triangles)?.into_parts().2;
+    /// assert!(Mesh::with_tree(square, triangles, tree.clone()).is_ok());
+    ///
+    /// // the root's box is made too small: its maximum x is 3
+    /// tree.node_boxes[3] = 3.0;
+    /// assert_eq!(Mesh::with_tree(square, triangles, tree).unwrap_err(), TreeError::DoesNotFit);
+    /// # Ok::<(), Refusal>(())
+    /// ```
+    pub fn with_tree(
+        vertices: impl Into<Vec<[f64; 3]>>,
+        triangles: impl Into<Vec<[u32; 3]>>,
+        tree: Tree,
+    ) -> Result<Mesh, TreeError> {
+        let (vertices, triangles) = (vertices.into(), triangles.into());
+        let mut marks = vec![0; lent::marks_length(room_for(&triangles))];
+        let fits = lent::tree_check(
+            vertices.as_flattened(),
+            triangles.as_flattened(),
+            &tree.as_lent(),
+            &mut marks,
+        );
+        match fits {
+            Ok(true) => Ok(Mesh {
+                vertices,
+                triangles,
+                tree,
+                scratch: Scratch::new(),
+            }),
+            Ok(false) => Err(TreeError::DoesNotFit),
+            Err(refusal) => Err(TreeError::Refused(refusal)),
+        }
+    }
+
+    /// The nearest triangle that a ray hits, with the mesh's own work areas; of equally near ones, that of the
+    /// lowest index. Refuses with 1, 6 or 7.
+    pub fn cast(&mut self, ray: &Ray) -> Cast<MeshHit> {
+        let mut scratch = std::mem::take(&mut self.scratch);
+        let answer = self.cast_with(ray, &mut scratch);
+        self.scratch = scratch;
+        answer
+    }
+
+    /// The same with work areas of the caller's, so that threads may share the mesh.
+    pub fn cast_with(&self, ray: &Ray, scratch: &mut Scratch) -> Cast<MeshHit> {
+        self.cast_at(ray, &self.vertices, scratch)
+    }
+
+    /// Casts at other vertices, as many as the mesh's (else 4, or 2 above 65,536). The tree's boxes stay those of
+    /// the mesh's own vertices: only triangles whose box there touches that of the ray's segment are cast at.
+    pub fn cast_at(&self, ray: &Ray, pose: &[[f64; 3]], scratch: &mut Scratch) -> Cast<MeshHit> {
+        scratch.fit(self.triangles.len(), self.tree.nodes);
+        lent::ray_mesh(
+            ray,
+            self.vertices.as_flattened(),
+            self.triangles.as_flattened(),
+            pose.as_flattened(),
+            &self.tree.as_lent(),
+            &mut scratch.list,
+            &mut scratch.stack,
+        )
+    }
+
+    /// The triangles whose boxes touch the box from `min` to `max`, ascending, in the mesh's own work areas.
+    /// Refuses with 1 where a corner is not finite, or a minimum is above its maximum.
+    pub fn query(&mut self, min: [f64; 3], max: [f64; 3]) -> Result<&[u32], Refusal> {
+        let mut scratch = std::mem::take(&mut self.scratch);
+        let found = self
+            .query_with(min, max, &mut scratch)
+            .map(|list| list.len());
+        self.scratch = scratch;
+        found.map(|count| &self.scratch.list[..count])
+    }
+
+    /// The same with work areas of the caller's, in which the list stands.
+    pub fn query_with<'s>(
+        &self,
+        min: [f64; 3],
+        max: [f64; 3],
+        scratch: &'s mut Scratch,
+    ) -> Result<&'s [u32], Refusal> {
+        scratch.fit(self.triangles.len(), self.tree.nodes);
+        let found = lent::query(
+            min,
+            max,
+            self.triangles.len(),
+            &self.tree.as_lent(),
+            &mut scratch.list,
+            &mut scratch.stack,
+        )?;
+        Ok(&scratch.list[..found])
+    }
+
+    /// The vertices.
+    pub fn vertices(&self) -> &[[f64; 3]] {
+        &self.vertices
+    }
+
+    /// The triangles, each of three vertex indices.
+    pub fn triangles(&self) -> &[[u32; 3]] {
+        &self.triangles
+    }
+
+    /// The tree.
+    pub fn tree(&self) -> &Tree {
+        &self.tree
+    }
+
+    /// The vertices, the triangles and the tree.
+    pub fn into_parts(self) -> (Vec<[f64; 3]>, Vec<[u32; 3]>, Tree) {
+        (self.vertices, self.triangles, self.tree)
+    }
+}
+
+/// How many triangles to make room for. Of too many the library refuses whatever the areas, so none is made then.
+fn room_for(triangles: &[[u32; 3]]) -> usize {
+    if triangles.len() > MAX_COUNT {
+        0
+    } else {
+        triangles.len()
+    }
+}
+
+/// Why [`Mesh::with_tree`] did not take a tree.
+#[derive(Clone, Copy, Debug, PartialEq, Eq, Hash)]
+pub enum TreeError {
+    /// The check says no: the tree is not one of this mesh.
+    DoesNotFit,
+    /// The check refused: the mesh is outside the limits (2), or an area of the tree is too short (3).
+    Refused(Refusal),
+}
+
+impl fmt::Display for TreeError {
+    fn fmt(&self, out: &mut fmt::Formatter<'_>) -> fmt::Result {
+        match self {
+            TreeError::DoesNotFit => write!(out, "the tree does not fit the mesh"),
+            TreeError::Refused(refusal) => refusal.fmt(out),
+        }
+    }
+}
+
+impl Error for TreeError {
+    fn source(&self) -> Option<&(dyn Error + 'static)> {
+        match self {
+            TreeError::DoesNotFit => None,
+            TreeError::Refused(refusal) => Some(refusal),
+        }
+    }
+}

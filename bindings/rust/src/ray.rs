@@ -1,0 +1,54 @@
+//! A ray.
+
+/// A ray: where it starts, its direction, of length 1, and how far it reaches.
+#[derive(Clone, Copy, Debug, PartialEq)]
+pub struct Ray {
+    /// Where it starts.
+    pub origin: [f64; 3],
+    /// Its direction, of length 1 within 1e-12.
+    pub direction: [f64; 3],
+    /// How far it reaches; a surface at just this distance is hit.
+    pub max_distance: f64,
+}
+
+impl Ray {
+    /// A ray of these numbers, as they are: a cast refuses it with 1 where it is not admitted.
+    pub fn new(origin: [f64; 3], direction: [f64; 3], max_distance: f64) -> Ray {
+        Ray {
+            origin,
+            direction,
+            max_distance,
+        }
+    }
+
+    /// A ray whose direction, of any length, is made one of length 1. A direction that has none (zero, or not
+    /// finite) is left as it is, and a cast refuses it with 1.
+    ///
+    /// ```
+    /// use probe_rays::Ray;
+    ///
+    /// let ray = Ray::toward([0.0; 3], [0.0, 3.0, 4.0], 10.0);
+    /// assert_eq!(ray.direction, [0.0, 0.6, 0.8]);
+    /// assert_eq!(ray.at(5.0), [0.0, 3.0, 4.0]);
+    /// ```
+    pub fn toward(origin: [f64; 3], direction: [f64; 3], max_distance: f64) -> Ray {
+        // by the largest component first, so that no square overflows or vanishes
+        let largest = direction
+            .iter()
+            .fold(0.0_f64, |most, part| most.max(part.abs()));
+        let scaled = direction.map(|part| part / largest);
+        let length = scaled.iter().map(|part| part * part).sum::<f64>().sqrt();
+        let unit = scaled.map(|part| part / length);
+        let direction = if unit.iter().all(|part| part.is_finite()) {
+            unit
+        } else {
+            direction
+        };
+        Ray::new(origin, direction, max_distance)
+    }
+
+    /// The point at a distance along the ray.
+    pub fn at(&self, distance: f64) -> [f64; 3] {
+        std::array::from_fn(|axis| self.origin[axis] + self.direction[axis] * distance)
+    }
+}

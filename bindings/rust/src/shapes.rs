@@ -1,0 +1,217 @@
+//! The casts at a plane, a triangle, a height grid and a distance grid.
+use crate::answer::{Cast, Hit};
+use crate::{sys, Ray};
+
+/// The places of a hit: normal x, y, z, then the distance.
+pub(crate) type Places = [f64; 4];
+
+/// The hit in its places.
+pub(crate) fn placed(places: &Places) -> Hit {
+    Hit {
+        normal: [places[0], places[1], places[2]],
+        distance: places[3],
+    }
+}
+
+/// All points whose dot with the normal is the distance.
+#[derive(Clone, Copy, Debug, PartialEq)]
+pub struct Plane {
+    /// Its normal, of length 1 within 1e-12.
+    pub normal: [f64; 3],
+    /// How far from the frame's origin, along the normal; finite.
+    pub distance: f64,
+}
+
+/// A grid of heights: that of row r and column c stands over x = c · spacing\[0\], y = r · spacing\[1\], at place
+/// r · columns + c. Each cell is two triangles.
+#[derive(Clone, Copy, Debug, PartialEq)]
+pub struct HeightField<'a> {
+    /// How many rows, 2 to 1,024.
+    pub rows: usize,
+    /// How many columns, 2 to 1,024.
+    pub columns: usize,
+    /// How far the columns, and the rows, are apart; finite and above 0.
+    pub spacing: [f64; 2],
+    /// The heights, row after row: rows · columns of them.
+    pub heights: &'a [f64],
+}
+
+/// A grid of distances from a surface: that of node (i, j, k) stands at origin + (i, j, k) · spacing, at place
+/// (k · sides\[1\] + j) · sides\[0\] + i.
+#[derive(Clone, Copy, Debug, PartialEq)]
+pub struct LevelSet<'a> {
+    /// How many nodes along each axis, 2 to 256.
+    pub sides: [u32; 3],
+    /// Where node (0, 0, 0) stands; finite.
+    pub origin: [f64; 3],
+    /// How far nodes are apart along each axis; finite and above 0.
+    pub spacing: [f64; 3],
+    /// The distances, x fastest: as many as the sides multiply to.
+    pub values: &'a [f64],
+}
+
+/// Casts a ray at a plane. The normal of a hit faces the ray. Refuses with 1, 2 or 6.
+///
+/// ```
+/// use probe_rays::{ray_plane, Cast, Plane, Ray};
+///
+/// let ceiling = Plane { normal: [0.0, 0.0, 1.0], distance: 3.0 };
+/// let up = Ray::new([0.0; 3], [0.0, 0.0, 1.0], 3.0);
+/// let Cast::Hit(hit) = ray_plane(&up, &ceiling) else { panic!() };
+/// assert_eq!((hit.distance, hit.normal[2]), (3.0, -1.0));
+/// ```
+pub fn ray_plane(ray: &Ray, plane: &Plane) -> Cast {
+    let mut places: Places = [0.0; 4];
+    let [origin_x, origin_y, origin_z] = ray.origin;
+    let [direction_x, direction_y, direction_z] = ray.direction;
+    let [normal_x, normal_y, normal_z] = plane.normal;
+    // SAFETY: the places are four, and the call's alone.
+    let answer = unsafe {
+        sys::probe_ray_plane(
+            origin_x,
+            origin_y,
+            origin_z,
+            direction_x,
+            direction_y,
+            direction_z,
+            ray.max_distance,
+            normal_x,
+            normal_y,
+            normal_z,
+            plane.distance,
+            places.as_mut_ptr(),
+            places.len(),
+        )
+    };
+    Cast::of(answer, || placed(&places))
+}
+
+/// Casts a ray at a triangle of three corners, from either side. The normal of a hit faces the ray.
+/// Refuses with 1, 6 or 7.
+///
+/// ```
+/// use probe_rays::{ray_triangle, Cast, Ray};
+///
+/// let corners = [[0.0, 0.0, 0.0], [1.0, 0.0, 0.0], [0.0, 1.0, 0.0]];
+/// let inside = Ray::new([0.25, 0.25, 1.0], [0.0, 0.0, -1.0], 1.0);
+/// assert!(matches!(ray_triangle(&inside, &corners), Cast::Hit(_)));
+/// let outside = Ray::new([0.75, 0.5, 1.0], [0.0, 0.0, -1.0], 1.0);
+/// assert_eq!(ray_triangle(&outside, &corners), Cast::None);
+/// ```
+pub fn ray_triangle(ray: &Ray, corners: &[[f64; 3]; 3]) -> Cast {
+    let mut places: Places = [0.0; 4];
+    let [origin_x, origin_y, origin_z] = ray.origin;
+    let [direction_x, direction_y, direction_z] = ray.direction;
+    let [[a_x, a_y, a_z], [b_x, b_y, b_z], [c_x, c_y, c_z]] = *corners;
+    // SAFETY: the places are four, and the call's alone.
+    let answer = unsafe {
+        sys::probe_ray_triangle(
+            origin_x,
+            origin_y,
+            origin_z,
+            direction_x,
+            direction_y,
+            direction_z,
+            ray.max_distance,
+            a_x,
+            a_y,
+            a_z,
+            b_x,
+            b_y,
+            b_z,
+            c_x,
+            c_y,
+            c_z,
+            places.as_mut_ptr(),
+            places.len(),
+        )
+    };
+    Cast::of(answer, || placed(&places))
+}
+
+/// Casts a ray at a height grid; the hit is the nearest, and its normal faces the ray. Only the cells under the box
+/// of the ray's segment are looked at. Refuses with 1, 2, 5, 6 or 7.
+///
+/// ```
+/// use probe_rays::{ray_height_field, Cast, HeightField, Ray};
+///
+/// let flat = HeightField { rows: 2, columns: 2, spacing: [1.0, 1.0], heights: &[0.0; 4] };
+/// let down = Ray::new([0.75, 0.25, 1.0], [0.0, 0.0, -1.0], 2.0);
+/// let Cast::Hit(hit) = ray_height_field(&down, &flat) else { panic!() };
+/// assert_eq!(hit.distance, 1.0);
+/// ```
+pub fn ray_height_field(ray: &Ray, field: &HeightField<'_>) -> Cast {
+    let mut places: Places = [0.0; 4];
+    let [origin_x, origin_y, origin_z] = ray.origin;
+    let [direction_x, direction_y, direction_z] = ray.direction;
+    let [spacing_x, spacing_y] = field.spacing;
+    // SAFETY: the heights are a slice; the places are four, and the call's alone.
+    let answer = unsafe {
+        sys::probe_ray_height_field(
+            origin_x,
+            origin_y,
+            origin_z,
+            direction_x,
+            direction_y,
+            direction_z,
+            ray.max_distance,
+            field.rows,
+            field.columns,
+            spacing_x,
+            spacing_y,
+            field.heights.as_ptr(),
+            field.heights.len(),
+            places.as_mut_ptr(),
+            places.len(),
+        )
+    };
+    Cast::of(answer, || placed(&places))
+}
+
+/// Casts a ray at the zero surface of a distance grid. The normal of a hit points to where the distances grow, and
+/// is not turned towards the ray. Refuses with 1, 2, 5, 6 or 8.
+///
+/// ```
+/// use probe_rays::{ray_level_set, Cast, LevelSet, Ray};
+///
+/// // the surface z = 0.5: each value is the node's height less 0.5
+/// let values = [-0.5, -0.5, -0.5, -0.5, 0.5, 0.5, 0.5, 0.5];
+/// let grid = LevelSet { sides: [2; 3], origin: [0.0; 3], spacing: [1.0; 3], values: &values };
+/// let down = Ray::new([0.5, 0.5, 2.0], [0.0, 0.0, -1.0], 5.0);
+/// let Cast::Hit(hit) = ray_level_set(&down, &grid) else { panic!() };
+/// assert!((hit.distance - 1.5).abs() < 1e-12);
+/// ```
+pub fn ray_level_set(ray: &Ray, grid: &LevelSet<'_>) -> Cast {
+    let mut places: Places = [0.0; 4];
+    let [origin_x, origin_y, origin_z] = ray.origin;
+    let [direction_x, direction_y, direction_z] = ray.direction;
+    let [side_x, side_y, side_z] = grid.sides;
+    let [grid_x, grid_y, grid_z] = grid.origin;
+    let [spacing_x, spacing_y, spacing_z] = grid.spacing;
+    // SAFETY: the values are a slice; the places are four, and the call's alone.
+    let answer = unsafe {
+        sys::probe_ray_level_set(
+            origin_x,
+            origin_y,
+            origin_z,
+            direction_x,
+            direction_y,
+            direction_z,
+            ray.max_distance,
+            side_x,
+            side_y,
+            side_z,
+            grid_x,
+            grid_y,
+            grid_z,
+            spacing_x,
+            spacing_y,
+            spacing_z,
+            grid.values.as_ptr(),
+            grid.values.len(),
+            places.as_mut_ptr(),
+            places.len(),
+        )
+    };
+    Cast::of(answer, || placed(&places))
+}

@@ -1,0 +1,222 @@
+//! The library's calls as C sees them: a slice is a pointer and a length.
+//!
+//! include/probe_rays.h says what each call asks and answers. tests/declarations.sh compares these lines
+//! with that header and with the proved source, crates/exports.
+//! The safe functions of this crate are made of these and give all that they give.
+
+extern "C" {
+    /// The version of the library that is linked: [`VERSION`], if this crate is its own.
+    pub fn probe_version() -> u32;
+
+    /// Casts a ray at a plane.
+    pub fn probe_ray_plane(
+        origin_x: f64,
+        origin_y: f64,
+        origin_z: f64,
+        direction_x: f64,
+        direction_y: f64,
+        direction_z: f64,
+        max_distance: f64,
+        normal_x: f64,
+        normal_y: f64,
+        normal_z: f64,
+        distance: f64,
+        hit: *mut f64,
+        hit_length: usize,
+    ) -> u32;
+
+    /// Casts a ray at a triangle.
+    pub fn probe_ray_triangle(
+        origin_x: f64,
+        origin_y: f64,
+        origin_z: f64,
+        direction_x: f64,
+        direction_y: f64,
+        direction_z: f64,
+        max_distance: f64,
+        a_x: f64,
+        a_y: f64,
+        a_z: f64,
+        b_x: f64,
+        b_y: f64,
+        b_z: f64,
+        c_x: f64,
+        c_y: f64,
+        c_z: f64,
+        hit: *mut f64,
+        hit_length: usize,
+    ) -> u32;
+
+    /// Casts a ray at a height grid.
+    pub fn probe_ray_height_field(
+        origin_x: f64,
+        origin_y: f64,
+        origin_z: f64,
+        direction_x: f64,
+        direction_y: f64,
+        direction_z: f64,
+        max_distance: f64,
+        rows: usize,
+        columns: usize,
+        spacing_x: f64,
+        spacing_y: f64,
+        heights: *const f64,
+        heights_length: usize,
+        hit: *mut f64,
+        hit_length: usize,
+    ) -> u32;
+
+    /// Casts a ray at a distance grid.
+    pub fn probe_ray_level_set(
+        origin_x: f64,
+        origin_y: f64,
+        origin_z: f64,
+        direction_x: f64,
+        direction_y: f64,
+        direction_z: f64,
+        max_distance: f64,
+        side_x: u32,
+        side_y: u32,
+        side_z: u32,
+        grid_x: f64,
+        grid_y: f64,
+        grid_z: f64,
+        spacing_x: f64,
+        spacing_y: f64,
+        spacing_z: f64,
+        values: *const f64,
+        values_length: usize,
+        hit: *mut f64,
+        hit_length: usize,
+    ) -> u32;
+
+    /// Casts a ray at a mesh through its tree.
+    pub fn probe_ray_mesh(
+        origin_x: f64,
+        origin_y: f64,
+        origin_z: f64,
+        direction_x: f64,
+        direction_y: f64,
+        direction_z: f64,
+        max_distance: f64,
+        vertices: *const f64,
+        vertices_length: usize,
+        triangles: *const u32,
+        triangles_length: usize,
+        pose: *const f64,
+        pose_length: usize,
+        nodes: usize,
+        node_boxes: *const f64,
+        node_boxes_length: usize,
+        triangle_boxes: *const f64,
+        triangle_boxes_length: usize,
+        node_words: *const u32,
+        node_words_length: usize,
+        order: *const u32,
+        order_length: usize,
+        list: *mut u32,
+        list_length: usize,
+        stack: *mut u32,
+        stack_length: usize,
+        hit: *mut f64,
+        hit_length: usize,
+        index: *mut u32,
+        index_length: usize,
+    ) -> u32;
+
+    /// Builds a mesh's tree.
+    pub fn probe_build(
+        vertices: *const f64,
+        vertices_length: usize,
+        triangles: *const u32,
+        triangles_length: usize,
+        node_boxes: *mut f64,
+        node_boxes_length: usize,
+        triangle_boxes: *mut f64,
+        triangle_boxes_length: usize,
+        node_words: *mut u32,
+        node_words_length: usize,
+        order: *mut u32,
+        order_length: usize,
+        work: *mut u32,
+        work_length: usize,
+        nodes: *mut usize,
+        nodes_length: usize,
+    ) -> u32;
+
+    /// Lists the triangles whose boxes touch a box.
+    pub fn probe_query(
+        min_x: f64,
+        min_y: f64,
+        min_z: f64,
+        max_x: f64,
+        max_y: f64,
+        max_z: f64,
+        triangles: usize,
+        nodes: usize,
+        node_boxes: *const f64,
+        node_boxes_length: usize,
+        triangle_boxes: *const f64,
+        triangle_boxes_length: usize,
+        node_words: *const u32,
+        node_words_length: usize,
+        order: *const u32,
+        order_length: usize,
+        list: *mut u32,
+        list_length: usize,
+        stack: *mut u32,
+        stack_length: usize,
+        found: *mut usize,
+        found_length: usize,
+    ) -> u32;
+
+    /// Whether a tree fits a mesh.
+    pub fn probe_tree_check(
+        vertices: *const f64,
+        vertices_length: usize,
+        triangles: *const u32,
+        triangles_length: usize,
+        nodes: usize,
+        node_boxes: *const f64,
+        node_boxes_length: usize,
+        triangle_boxes: *const f64,
+        triangle_boxes_length: usize,
+        node_words: *const u32,
+        node_words_length: usize,
+        order: *const u32,
+        order_length: usize,
+        marks: *mut u32,
+        marks_length: usize,
+    ) -> u32;
+}
+
+/// The version of these calls: it changes when one of them does.
+pub const VERSION: u32 = 1;
+
+/// A hit: its values are written.
+pub const HIT: u32 = 256;
+/// No surface within the maximum distance.
+pub const NONE: u32 = 257;
+/// The tree fits the mesh.
+pub const YES: u32 = 258;
+/// The tree does not fit the mesh.
+pub const NO: u32 = 259;
+/// The build wrote a tree, or the query its list.
+pub const DONE: u32 = 260;
+
+/// Refusal 1.
+pub const REFUSED_INVALID_INPUT: u32 = 1;
+/// Refusal 2.
+pub const REFUSED_BAD_SHAPE: u32 = 2;
+/// Refusal 3.
+pub const REFUSED_NO_ROOM: u32 = 3;
+/// Refusal 4.
+pub const REFUSED_WRONG_POSE: u32 = 4;
+/// Refusal 5.
+pub const REFUSED_OUT_OF_BOUNDS: u32 = 5;
+/// Refusal 6.
+pub const REFUSED_OVERFLOW: u32 = 6;
+/// Refusal 7.
+pub const REFUSED_NO_NORMAL: u32 = 7;
+/// Refusal 8.
+pub const REFUSED_NOT_CONVERGENT: u32 = 8;

@@ -1,0 +1,3 @@
+-- Laws about what the calls answer and leave. Assumes nothing.
+pub mod Kept
+pub mod Counts

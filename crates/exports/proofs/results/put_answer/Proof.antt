@@ -1,0 +1,51 @@
+-- `exports::results::put_answer` meets its contract. Assumes nothing.
+use borrow.Author.Tests.{le-leb, lt-leb}
+use Rattle.exports.specs.Results.{answered, told}
+use borrow.Author.Needs.{needs}
+use Rattle.exports.proofs.results.put_answer.Statement.{statement}
+use Rattle.exports.proofs.results.put_answer.Tie as tie
+
+returns : tie.Need-returns
+unfolding answered
+returns c = simp (lt-leb _ _ (c .if1 .taken))
+
+enum-known-answer : tie.Need-enum-known-answer
+enum-known-answer c = search needs
+
+put-hit-requires : tie.Need-put-hit-requires
+put-hit-requires c κs = search needs
+
+same-length : tie.Need-same-length
+same-length c = search needs
+
+returns-2 : tie.Need-returns-2
+unfolding answered told
+returns-2 c = simp (le-leb _ _ (c .before .before .before .before .before .before .before .if1 .left), c .before .before .before .before .before .answer .given .1, c .before .before .put-hit .ensures)
+
+enum-told : tie.Need-enum-told
+enum-told c = search needs
+
+returns-3 : tie.Need-returns-3
+unfolding answered told
+returns-3 c = simp (le-leb _ _ (c .before .before .if1 .left), c .enum-told .given .1)
+
+enum-known-answer-2 : tie.Need-enum-known-answer-2
+enum-known-answer-2 c = search needs
+
+returns-4 : tie.Need-returns-4
+unfolding answered told
+returns-4 c = simp (le-leb _ _ (c .before .before .before .if1 .left), c .before .answer2 .given .1)
+
+pub put-answer-spec : {M : Type 1} → statement M
+put-answer-spec =
+    tie.close
+    (tie.spec
+    returns
+    enum-known-answer
+    put-hit-requires
+    same-length
+    returns-2
+    enum-told
+    returns-3
+    enum-known-answer-2
+    returns-4)

@@ -1,0 +1,26 @@
+-- `exports::shapes::probe_ray_plane` meets its contract. Assumes nothing.
+use borrow.Author.Needs.{needs}
+use Rattle.exports.proofs.shapes.probe_ray_plane.Statement.{statement}
+use Rattle.exports.proofs.shapes.probe_ray_plane.Tie as tie
+use Rattle.casts.proofs.plane.ray_plane.Reads as ray-plane-reads
+use Rattle.exports.proofs.results.put_answer.Reads as put-answer-reads
+use Rattle.exports.proofs.results.ray_of.Reads as ray-of-reads
+
+ray-of-requires : tie.Need-ray-of-requires
+ray-of-requires c κs = search needs
+
+ray-plane-requires : tie.Need-ray-plane-requires
+ray-plane-requires c κs = search needs
+
+put-answer-requires : tie.Need-put-answer-requires
+put-answer-requires c κs = search needs
+
+same-length : tie.Need-same-length
+same-length c = search needs
+
+returns : tie.Need-returns
+returns c = simp (c .before .before .put-answer .ensures, c .before .before .before .before .ray-plane .ensures, c .before .before .before .before .before .ray-of .ensures)
+
+pub probe-ray-plane-spec : {M : Type 1} → statement M
+probe-ray-plane-spec =
+    tie.close (tie.spec ray-of-requires ray-plane-requires put-answer-requires same-length returns)

@@ -1,0 +1,2 @@
+-- What the calls for other languages answer and write. Definitions only. Assumes nothing.
+pub mod Results

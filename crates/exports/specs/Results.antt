@@ -1,0 +1,139 @@
+-- The number that a call answers, and what its result slices hold afterwards. Definitions only. Assumes nothing.
+use Prim.Native.Nat.{ℕ}
+use mathlib.Core.Bool.{Bool, _&&_, cond}
+use mathlib.Core.List.{List, [], _∷_}
+use lib.Dec.{leb}
+use lib.Ieee.{Float}
+use lib.ListN.{length}
+use lib.Seq.{sets}
+use Rattle.geometry.specs.declared.aabb.Aabb.{Aabb}
+use Rattle.geometry.specs.declared.ray.Ray.{Ray}
+use Rattle.geometry.specs.declared.vec3.Vec3.{Vec3}
+use Rattle.casts.specs.Answer.{Answer, hit, none, refused, noRoom}
+use Rattle.casts.specs.Nearest.{Indexed, hitAt, noHit, stopped}
+use Rattle.casts.specs.declared.plane.Plane.{Plane}
+use Rattle.height_field.specs.declared.field.Field.{Field}
+use Rattle.level_set.specs.declared.grid.Grid.{Grid}
+use Rattle.tree_build.specs.Build.{Areas, Outcome}
+use Rattle.tree_build.specs.Build as Build
+use Rattle.tree_query.specs.Query.{Queried}
+use Rattle.tree_query.specs.Query as Query
+use Rattle.tree_check.specs.Verdict as Verdict
+
+-- ---- what the numbers of a call mean
+
+abbrev pub version : ℕ
+version = 1
+
+abbrev pub vec : Float → Float → Float → Vec3
+vec x y z = record { x = x; y = y; z = z }
+
+abbrev pub rayOf : Float → Float → Float → Float → Float → Float → Float → Ray
+rayOf ox oy oz dx dy dz maximum = record { origin = vec ox oy oz; direction = vec dx dy dz; «max_distance» = maximum }
+
+abbrev pub planeOf : Float → Float → Float → Float → Plane
+planeOf x y z distance = record { normal = vec x y z; distance = distance }
+
+abbrev pub cornersOf : Float → Float → Float → Float → Float → Float → Float → Float → Float → List Vec3
+cornersOf ax ay az bx by bz cx cy cz = vec ax ay az ∷ vec bx by bz ∷ vec cx cy cz ∷ []
+
+abbrev pub fieldOf : ℕ → ℕ → Float → Float → Field
+fieldOf rows columns x y = record { rows = rows; columns = columns; «spacing_x» = x; «spacing_y» = y }
+
+abbrev pub gridOf : ℕ → ℕ → ℕ → Float → Float → Float → Float → Float → Float → Grid
+gridOf nx ny nz ox oy oz sx sy sz = record { sides = record { x = nx; y = ny; z = nz }; origin = vec ox oy oz; spacing = vec sx sy sz }
+
+abbrev pub boxOf : Float → Float → Float → Float → Float → Float → Aabb
+boxOf x y z x' y' z' = record { min = vec x y z; max = vec x' y' z' }
+
+-- ---- codes: "codes that no refusal number can be taken for"
+
+abbrev pub hitCode : ℕ
+hitCode = 256
+
+abbrev pub noneCode : ℕ
+noneCode = 257
+
+abbrev pub yesCode : ℕ
+yesCode = 258
+
+abbrev pub noCode : ℕ
+noCode = 259
+
+abbrev pub doneCode : ℕ
+doneCode = 260
+
+-- ---- casts
+
+-- the number, and the slice of a hit's normal and distance
+pub record Told : Type 0 where
+  pub number : ℕ
+  pub hit : List Float
+
+unfoldable pub told : Answer → List Float → Told
+told (hit n d) area = record { number = hitCode; hit = sets area 0 (n .x ∷ n .y ∷ n .z ∷ d ∷ []) }
+told none area = record { number = noneCode; hit = area }
+told (refused number) area = record { number = number; hit = area }
+
+-- a result slice that is too short is refused, and nothing is written
+unfoldable pub answered : Answer → List Float → Told
+answered answer area = cond (leb 4 (length area)) (told answer area) record { number = noRoom; hit = area }
+
+-- with the slice of the triangle's index
+pub record ToldIndexed : Type 0 where
+  pub number : ℕ
+  pub hit : List Float
+  pub index : List ℕ
+
+unfoldable pub toldIndexed : Indexed → List Float → List ℕ → ToldIndexed
+toldIndexed (hitAt n d i) area place = record { number = hitCode; hit = sets area 0 (n .x ∷ n .y ∷ n .z ∷ d ∷ []); index = sets place 0 (i ∷ []) }
+toldIndexed noHit area place = record { number = noneCode; hit = area; index = place }
+toldIndexed (stopped number) area place = record { number = number; hit = area; index = place }
+
+unfoldable pub resultsFit : List Float → List ℕ → Bool
+resultsFit area place = leb 4 (length area) && leb 1 (length place)
+
+unfoldable pub answeredIndexed : Indexed → List Float → List ℕ → ToldIndexed
+answeredIndexed answer area place = cond (resultsFit area place) (toldIndexed answer area place) record { number = noRoom; hit = area; index = place }
+
+-- ---- build, query and tree check
+
+-- the number, and the slice of the one count
+pub record Counted : Type 0 where
+  pub number : ℕ
+  pub count : List ℕ
+
+unfoldable pub toldNodes : Build.Answer → List ℕ → Counted
+toldNodes (Build.nodes count) place = record { number = doneCode; count = sets place 0 (count ∷ []) }
+toldNodes (Build.refused number) place = record { number = number; count = place }
+
+unfoldable pub toldFound : Query.Listing → List ℕ → Counted
+toldFound (Query.count count) place = record { number = doneCode; count = sets place 0 (count ∷ []) }
+toldFound (Query.refused number) place = record { number = number; count = place }
+
+unfoldable pub toldVerdict : Verdict.Ruling → ℕ
+toldVerdict Verdict.yes = yesCode
+toldVerdict Verdict.no = noCode
+toldVerdict (Verdict.refused number) = number
+
+-- the build's number and node count, and its areas
+pub record BuildTold : Type 0 where
+  pub told : Counted
+  pub after : Areas
+
+unfoldable pub buildTold : Outcome → Areas → List ℕ → BuildTold
+buildTold o before place =
+    cond (leb 1 (length place))
+    record { told = toldNodes (o .answer) place; after = o .after }
+    record { told = record { number = noRoom; count = place }; after = before }
+
+-- the query's number and the list's length, and its list
+pub record QueryTold : Type 0 where
+  pub told : Counted
+  pub list : List ℕ
+
+unfoldable pub queryTold : Queried → List ℕ → List ℕ → QueryTold
+queryTold q before place =
+    cond (leb 1 (length place))
+    record { told = toldFound (q .answer) place; list = q .list }
+    record { told = record { number = noRoom; count = place }; list = before }

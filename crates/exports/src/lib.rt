@@ -1,0 +1,10 @@
+// The calls for C, C++ and Rust: include/probe_rays.h says what each answers.
+// A slice is a pointer and a length there, and a ray is its seven numbers.
+// A call answers one number: a refusal's of document 01, or a code of `results`, which no refusal has.
+
+// The codes, and how an answer goes into the lent result slices.
+mod results;
+// The version, and the casts at a plane, a triangle and the two grids.
+pub mod shapes;
+// The mesh cast, build, query and tree check.
+pub mod meshes;

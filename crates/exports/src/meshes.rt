@@ -1,0 +1,184 @@
+use crate::results;
+use casts::answer;
+use geometry::aabb::Aabb;
+use geometry::vec3::Vec3;
+use mesh::cast;
+use tree_build::build;
+use tree_check::check;
+use tree_query::query;
+ghost use mathlib.Core.Path.{_≡_};
+ghost use mathlib.Core.Bool.{false, _&&_};
+ghost use lib.Dec.{leb};
+ghost use lib.ListN.{length};
+ghost use Rattle.tree_build.specs.Build.{areas, buildOf, testsPass as buildTestsPass};
+ghost use Rattle.tree_query.specs.Areas.{treeOf};
+ghost use Rattle.tree_query.specs.Query.{queryOf, testsPass as queryTestsPass};
+ghost use Rattle.tree_check.specs.Verdict.{checkOf, marksAfter};
+ghost use Rattle.mesh.specs.MeshCast.{mesh, rayMesh, testsPass};
+ghost use Rattle.exports.specs.Results.{rayOf, boxOf, resultsFit, answeredIndexed, buildTold, queryTold, toldVerdict};
+
+// The mesh cast. The list and the stack are work areas: unchanged until the result slices and refusals 1 to 4 have let the call pass, and then they may hold anything.
+#[no_mangle]
+pub extern "C" fn probe_ray_mesh(
+    origin_x: f64,
+    origin_y: f64,
+    origin_z: f64,
+    direction_x: f64,
+    direction_y: f64,
+    direction_z: f64,
+    max_distance: f64,
+    vertices: &[f64],
+    triangles: &[u32],
+    pose: &[f64],
+    nodes: usize,
+    node_boxes: &[f64],
+    triangle_boxes: &[f64],
+    node_words: &[u32],
+    order: &[u32],
+    list: &mut [u32],
+    stack: &mut [u32],
+    hit: &mut [f64],
+    index: &mut [u32],
+) -> u32
+    ensures { λ r. ⌜ record { number = r; hit = now (hit .exit); index = now (index .exit) } ≡ answeredIndexed (rayMesh (rayOf «origin_x» «origin_y» «origin_z» «direction_x» «direction_y» «direction_z» «max_distance») (mesh (now (vertices .entry)) (now (triangles .entry))) (now (pose .entry)) (treeOf nodes (now («node_boxes» .entry)) (now («triangle_boxes» .entry)) (now («node_words» .entry)) (now (order .entry))) (length (now (list .entry))) (length (now (stack .entry)))) (now (hit .entry)) (now (index .entry)) ⌝ }
+    ensures { λ r. ⌜ ((resultsFit (now (hit .entry)) (now (index .entry)) && testsPass (rayOf «origin_x» «origin_y» «origin_z» «direction_x» «direction_y» «direction_z» «max_distance») (mesh (now (vertices .entry)) (now (triangles .entry))) (now (pose .entry)) (treeOf nodes (now («node_boxes» .entry)) (now («triangle_boxes» .entry)) (now («node_words» .entry)) (now (order .entry))) (length (now (list .entry))) (length (now (stack .entry)))) ≡ false → (now (list .exit) ≡ now (list .entry)) × (now (stack .exit) ≡ now (stack .entry))) ⌝ }
+{
+    if hit.len() < 4 {
+        return answer::NO_ROOM;
+    }
+    if index.len() < 1 {
+        return answer::NO_ROOM;
+    }
+    let ray = results::ray_of(
+        origin_x,
+        origin_y,
+        origin_z,
+        direction_x,
+        direction_y,
+        direction_z,
+        max_distance,
+    );
+    let found = cast::ray_mesh(
+        ray,
+        vertices,
+        triangles,
+        pose,
+        nodes,
+        node_boxes,
+        triangle_boxes,
+        node_words,
+        order,
+        list,
+        stack,
+    );
+    results::put_indexed(found, hit, index)
+}
+
+// Builds a mesh's tree into the result areas and writes its node count. The work area is unchanged after refusals 2 and 3; past their tests nothing is promised of it.
+#[no_mangle]
+pub extern "C" fn probe_build(
+    vertices: &[f64],
+    triangles: &[u32],
+    node_boxes: &mut [f64],
+    triangle_boxes: &mut [f64],
+    node_words: &mut [u32],
+    order: &mut [u32],
+    work: &mut [u32],
+    nodes: &mut [usize],
+) -> u32
+    ensures { λ r. ⌜ record { told = record { number = r; count = now (nodes .exit) }; after = areas (now («node_boxes» .exit)) (now («triangle_boxes» .exit)) (now («node_words» .exit)) (now (order .exit)) } ≡ buildTold (buildOf (mesh (now (vertices .entry)) (now (triangles .entry))) (areas (now («node_boxes» .entry)) (now («triangle_boxes» .entry)) (now («node_words» .entry)) (now (order .entry))) (length (now (work .entry)))) (areas (now («node_boxes» .entry)) (now («triangle_boxes» .entry)) (now («node_words» .entry)) (now (order .entry))) (now (nodes .entry)) ⌝ }
+    ensures { λ r. ⌜ ((leb 1 (length (now (nodes .entry))) && buildTestsPass (mesh (now (vertices .entry)) (now (triangles .entry))) (areas (now («node_boxes» .entry)) (now («triangle_boxes» .entry)) (now («node_words» .entry)) (now (order .entry))) (length (now (work .entry)))) ≡ false → now (work .exit) ≡ now (work .entry)) ⌝ }
+{
+    if nodes.len() < 1 {
+        return answer::NO_ROOM;
+    }
+    let built = build::build(
+        vertices,
+        triangles,
+        node_boxes,
+        triangle_boxes,
+        node_words,
+        order,
+        work,
+    );
+    results::put_nodes(built, nodes)
+}
+
+// Lists the triangles of a tree whose boxes touch a box, ascending, and writes how many.
+// The stack is a work area: unchanged after refusals 1 to 3, and past their tests nothing is promised of it.
+#[no_mangle]
+pub extern "C" fn probe_query(
+    min_x: f64,
+    min_y: f64,
+    min_z: f64,
+    max_x: f64,
+    max_y: f64,
+    max_z: f64,
+    triangles: usize,
+    nodes: usize,
+    node_boxes: &[f64],
+    triangle_boxes: &[f64],
+    node_words: &[u32],
+    order: &[u32],
+    list: &mut [u32],
+    stack: &mut [u32],
+    found: &mut [usize],
+) -> u32
+    ensures { λ r. ⌜ record { told = record { number = r; count = now (found .exit) }; list = now (list .exit) } ≡ queryTold (queryOf (boxOf «min_x» «min_y» «min_z» «max_x» «max_y» «max_z») triangles (treeOf nodes (now («node_boxes» .entry)) (now («triangle_boxes» .entry)) (now («node_words» .entry)) (now (order .entry))) (now (list .entry)) (length (now (stack .entry)))) (now (list .entry)) (now (found .entry)) ⌝ }
+    ensures { λ r. ⌜ ((leb 1 (length (now (found .entry))) && queryTestsPass (boxOf «min_x» «min_y» «min_z» «max_x» «max_y» «max_z») triangles (treeOf nodes (now («node_boxes» .entry)) (now («triangle_boxes» .entry)) (now («node_words» .entry)) (now (order .entry))) (length (now (list .entry))) (length (now (stack .entry)))) ≡ false → now (stack .exit) ≡ now (stack .entry)) ⌝ }
+{
+    if found.len() < 1 {
+        return answer::NO_ROOM;
+    }
+    let bounds = Aabb {
+        min: Vec3 {
+            x: min_x,
+            y: min_y,
+            z: min_z,
+        },
+        max: Vec3 {
+            x: max_x,
+            y: max_y,
+            z: max_z,
+        },
+    };
+    let listed = query::query(
+        bounds,
+        triangles,
+        nodes,
+        node_boxes,
+        triangle_boxes,
+        node_words,
+        order,
+        list,
+        stack,
+    );
+    results::put_found(listed, found)
+}
+
+// Whether a tree, from whatever builder, fits the mesh. The marks are a work area, unchanged after a refusal.
+#[no_mangle]
+pub extern "C" fn probe_tree_check(
+    vertices: &[f64],
+    triangles: &[u32],
+    nodes: usize,
+    node_boxes: &[f64],
+    triangle_boxes: &[f64],
+    node_words: &[u32],
+    order: &[u32],
+    marks: &mut [u32],
+) -> u32
+    ensures { λ r. ⌜ r ≡ toldVerdict (checkOf (mesh (now (vertices .entry)) (now (triangles .entry))) (treeOf nodes (now («node_boxes» .entry)) (now («triangle_boxes» .entry)) (now («node_words» .entry)) (now (order .entry))) (length (now (marks .entry)))) ⌝ }
+    ensures { λ r. ⌜ now (marks .exit) ≡ marksAfter (checkOf (mesh (now (vertices .entry)) (now (triangles .entry))) (treeOf nodes (now («node_boxes» .entry)) (now («triangle_boxes» .entry)) (now («node_words» .entry)) (now (order .entry))) (length (now (marks .entry)))) (now (marks .entry)) (now (marks .exit)) ⌝ }
+{
+    results::verdict_number(check::check(
+        vertices,
+        triangles,
+        nodes,
+        node_boxes,
+        triangle_boxes,
+        node_words,
+        order,
+        marks,
+    ))
+}

@@ -1,0 +1,163 @@
+use casts::answer;
+use casts::answer::Cast;
+use casts::nearest::IndexedCast;
+use geometry::ray::Ray;
+use geometry::vec3::Vec3;
+use tree_build::build::Built;
+use tree_check::check::Verdict;
+use tree_query::query::Listed;
+ghost use mathlib.Core.Path.{_≡_};
+ghost use mathlib.Core.List.{[], _∷_};
+ghost use Prim.Native.Nat.{_≤_};
+ghost use lib.ListN.{length};
+ghost use lib.Seq.{sets};
+ghost use Rattle.casts.specs.Answer.{says};
+ghost use Rattle.casts.specs.Nearest.{saysIndexed};
+ghost use Rattle.tree_build.specs.Build.{says as saysBuilt};
+ghost use Rattle.tree_check.specs.Verdict.{says as saysVerdict};
+ghost use Rattle.tree_query.specs.Query.{saysListed};
+ghost use Rattle.exports.specs.Results.{rayOf, answered, toldIndexed, toldNodes, toldFound, toldVerdict};
+
+// What a call answers where it does not refuse. Refusals, document 02's among them, stay below 256.
+pub const HIT: u32 = 256;
+
+pub const NONE: u32 = 257;
+
+pub const YES: u32 = 258;
+
+pub const NO: u32 = 259;
+
+// The build wrote a tree, or the query its list.
+pub const DONE: u32 = 260;
+
+// A ray from its seven numbers.
+pub fn ray_of(
+    origin_x: f64,
+    origin_y: f64,
+    origin_z: f64,
+    direction_x: f64,
+    direction_y: f64,
+    direction_z: f64,
+    max_distance: f64,
+) -> Ray
+    ensures { λ r. ⌜ r ≡ rayOf «origin_x» «origin_y» «origin_z» «direction_x» «direction_y» «direction_z» «max_distance» ⌝ }
+{
+    Ray {
+        origin: Vec3 {
+            x: origin_x,
+            y: origin_y,
+            z: origin_z,
+        },
+        direction: Vec3 {
+            x: direction_x,
+            y: direction_y,
+            z: direction_z,
+        },
+        max_distance: max_distance,
+    }
+}
+
+// A hit's normal and distance, into the first four places. Callers show that they are there.
+fn put_hit(hit: &mut [f64], normal: Vec3, distance: f64)
+    requires { ⌜ 4 ≤ length (now hit) ⌝ }
+    ensures { λ _. ⌜ now (hit .exit) ≡ sets (now (hit .entry)) 0 (normal .x ∷ normal .y ∷ normal .z ∷ distance ∷ []) ⌝ }
+{
+    hit[0] = normal.x;
+    hit[1] = normal.y;
+    hit[2] = normal.z;
+    hit[3] = distance;
+}
+
+// An answer as its number, a hit's values written; a result slice that is too short is refused.
+pub fn put_answer(answer: Cast, hit: &mut [f64]) -> u32
+    ensures { λ r. ⌜ record { number = r; hit = now (hit .exit) } ≡ answered (says answer) (now (hit .entry)) ⌝ }
+{
+    if hit.len() < 4 {
+        return answer::NO_ROOM;
+    }
+    match answer {
+        Cast::Hit { normal, distance } => {
+            put_hit(hit, normal, distance);
+            return HIT;
+        }
+        Cast::None => {
+            return NONE;
+        }
+        Cast::Refused(number) => {
+            return number;
+        }
+    }
+}
+
+// The same with the triangle's index. Callers show that the result slices are long enough.
+pub fn put_indexed(answer: IndexedCast, hit: &mut [f64], index: &mut [u32]) -> u32
+    requires { ⌜ 4 ≤ length (now hit) ⌝ ∗ ⌜ 1 ≤ length (now index) ⌝ }
+    ensures { λ r. ⌜ record { number = r; hit = now (hit .exit); index = now (index .exit) } ≡ toldIndexed (saysIndexed answer) (now (hit .entry)) (now (index .entry)) ⌝ }
+{
+    match answer {
+        IndexedCast::Hit {
+            normal,
+            distance,
+            index: at,
+        } => {
+            put_hit(hit, normal, distance);
+            index[0] = at;
+            return HIT;
+        }
+        IndexedCast::None => {
+            return NONE;
+        }
+        IndexedCast::Refused(number) => {
+            return number;
+        }
+    }
+}
+
+// The build's answer as its number, the node count written. Callers show that its place is there.
+pub fn put_nodes(built: Built, nodes: &mut [usize]) -> u32
+    requires { ⌜ 1 ≤ length (now nodes) ⌝ }
+    ensures { λ r. ⌜ record { number = r; count = now (nodes .exit) } ≡ toldNodes (saysBuilt built) (now (nodes .entry)) ⌝ }
+{
+    match built {
+        Built::Nodes(count) => {
+            nodes[0] = count;
+            return DONE;
+        }
+        Built::Refused(number) => {
+            return number;
+        }
+    }
+}
+
+// The query's answer as its number, the list's length written. Callers show that its place is there.
+pub fn put_found(listed: Listed, found: &mut [usize]) -> u32
+    requires { ⌜ 1 ≤ length (now found) ⌝ }
+    ensures { λ r. ⌜ record { number = r; count = now (found .exit) } ≡ toldFound (saysListed listed) (now (found .entry)) ⌝ }
+{
+    match listed {
+        Listed::Count(count) => {
+            found[0] = count;
+            return DONE;
+        }
+        Listed::Refused(number) => {
+            return number;
+        }
+    }
+}
+
+// The tree check's answer as its number.
+pub fn verdict_number(verdict: Verdict) -> u32
+    ensures { λ r. ⌜ r ≡ toldVerdict (saysVerdict verdict) ⌝ }
+{
+    match verdict {
+        Verdict::Yes => {
+            return YES;
+        }
+        Verdict::No => {
+            return NO;
+        }
+        Verdict::Refused(number) => {
+            return number;
+        }
+    }
+}

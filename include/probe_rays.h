@@ -1,0 +1,367 @@
+/* Ray casts at a plane, a triangle, a triangle mesh with its box tree, a height grid and a distance grid.
+ *
+ * The library is target/staticlib/libexports.a, which `rt staticlib exports` proves and writes, for x86-64.
+ * C99 or later, and C++. tests/declarations.sh compares this header with the proved source and with the Rust crate.
+ *
+ * HOW TO CALL
+ *
+ * A slice is two parameters: a pointer and, under the same name with _length, the number of elements.
+ *   - The pointer is valid for that many elements, aligned for them, and not null. This holds for a length of
+ *     zero too: any aligned pointer that is not null will do then, such as the address of a variable of the
+ *     element's type; nothing is read or written through it.
+ *   - A slice that a call writes (no const) shares no element with another slice of the same call.
+ *     Slices that are only read may be the same one.
+ *   - The elements are initialised, also in an area that is only written: calloc will do, or a static array.
+ * A C compiler checks none of this, and the library cannot: everything else may be passed with any value.
+ *
+ * No call allocates, locks, keeps anything between calls, or reads anything but what it is given; each one ends.
+ * Calls may run at the same time in any number of threads, as long as no slice that one of them writes is
+ * used by another.
+ * The processor's floating point mode is the one that a program starts with: rounding to nearest, subnormal
+ * numbers kept. (Linking with -ffast-math or -Ofast turns subnormal numbers off: do not.)
+ *
+ * Lengths, coordinates and distances have whatever unit the caller uses; all geometry is in the shape's own frame.
+ *
+ * WHAT A CALL ANSWERS
+ *
+ * A refusal, a number below 256:
+ *
+ *   no.  name            when                                                          result areas afterwards
+ *   1    invalid input   a ray's origin or maximum is not finite, its maximum is       unchanged
+ *                        below 0, its direction is not finite or has a length more
+ *                        than 1e-12 from 1; a query's box has a corner that is not
+ *                        finite, or a minimum above its maximum
+ *   2    bad shape       a count, length, spacing, normal, plane distance or grid      unchanged
+ *                        origin outside the limits below
+ *   3    no room         a lent slice shorter than stated                              unchanged
+ *   4    wrong pose      the vertices to cast at are not as many as the mesh's         unchanged
+ *   5    out of bounds   an index or a box that does not fit, a tree that is broken    build, query: zeros;
+ *                        where the walk meets it, a sample outside a distance grid     else unchanged
+ *   6    overflow        a number on the way is not finite                             build: zeros; else unchanged
+ *   7    no normal       the normal of the surface hit cannot be normalised            unchanged
+ *   8    not convergent  the walk through a distance grid ends without an answer, or   unchanged
+ *                        the gradient at its hit cannot be normalised
+ *
+ * Or one of the codes PROBE_HIT, PROBE_NONE, PROBE_YES, PROBE_NO and PROBE_DONE, which no refusal has.
+ * Numbers from 9 on may be added to the refusals; all stay below 256.
+ *
+ * Tested first is that the result slices hit, index, nodes (of probe_build) and found are long enough: else 3,
+ * whatever the rest is. Then 1, 2, 3 and 4 in this order, then the others as the cast meets them.
+ * The result slices hit, index, nodes and found are written only with PROBE_HIT and PROBE_DONE; their places past
+ * those stated are unchanged.
+ * 'Zeros' fill every place of the build's node_boxes, triangle_boxes, node_words and order, or of the query's list,
+ * however long they are.
+ * Work areas are the mesh cast's list and stack, the query's stack, the build's work and the check's marks: they
+ * need not be cleared before a call, they are unchanged after 1 to 4, and hold anything after any other answer.
+ *
+ * LIMITS
+ *
+ * Up to 65,536 vertices and 65,536 triangles; 2 to 1,024 rows and columns of heights; 2 to 256 nodes along each
+ * side of a distance grid, and exactly as many heights or values as the sides multiply to. Spacings are finite and
+ * above 0. The length of a plane's normal is within 1e-12 of 1 and its distance finite; a grid's origin is finite.
+ * Other values are not scanned: a coordinate, height or value may be infinite or NaN.
+ */
+#ifndef PROBE_RAYS_H
+#define PROBE_RAYS_H
+
+#include <stddef.h>
+#include <stdint.h>
+
+#ifdef __cplusplus
+extern "C" {
+#endif
+
+/* The version of these calls: it changes when one of them does. */
+#define PROBE_VERSION 1u
+
+/* What a call answers where it does not refuse. */
+#define PROBE_HIT 256u  /* a hit: hit, and index of a mesh, are written */
+#define PROBE_NONE 257u /* no surface within the maximum distance */
+#define PROBE_YES 258u  /* the tree fits the mesh */
+#define PROBE_NO 259u   /* the tree does not fit the mesh */
+#define PROBE_DONE 260u /* the build wrote a tree, or the query its list */
+
+/* The refusals. */
+#define PROBE_REFUSED_INVALID_INPUT 1u
+#define PROBE_REFUSED_BAD_SHAPE 2u
+#define PROBE_REFUSED_NO_ROOM 3u
+#define PROBE_REFUSED_WRONG_POSE 4u
+#define PROBE_REFUSED_OUT_OF_BOUNDS 5u
+#define PROBE_REFUSED_OVERFLOW 6u
+#define PROBE_REFUSED_NO_NORMAL 7u
+#define PROBE_REFUSED_NOT_CONVERGENT 8u
+
+/* Whether an answer is a refusal. */
+#define PROBE_IS_REFUSAL(answer) ((answer) < 256u)
+
+/* The limits of a mesh. */
+#define PROBE_MAX_VERTICES 65536u
+#define PROBE_MAX_TRIANGLES 65536u
+
+/* A mesh of n triangles and its tree lie in areas that the caller lends. A longer area is admitted.
+ *
+ *   area            element   length          holds
+ *   vertices        double    3 a vertex      x, y, z
+ *   triangles       uint32_t  3n              three vertex indices a triangle, from 0
+ *   node_boxes      double    12n             six numbers a node: minimum x, y, z, then maximum x, y, z
+ *   triangle_boxes  double    6n              six numbers a triangle, in the same order
+ *   node_words      uint32_t  6n              three words a node: 0, start, count (a leaf: places of order),
+ *                                             or 1, left, right (a branch: two nodes)
+ *   order           uint32_t  n               triangle indices, the leaves' ranges one after another
+ *   work            uint32_t  n               the build's work area
+ *   list            uint32_t  n               the query's result; a work area of the mesh cast
+ *   stack           uint32_t  node count + 1  a work area of the query and the mesh cast
+ *   marks           uint32_t  3n              the check's work area
+ *   hit             double    4               normal x, y, z, then the distance
+ *   index           uint32_t  1               the index of the triangle hit
+ *   nodes, found    size_t    1               the build's node count; how many triangles the query listed
+ *
+ * Node 0 is the root. A node count is at most 2n (more is 2), so a stack of 2n + 1 does for every tree.
+ */
+#define PROBE_VERTICES_LENGTH(vertices) ((size_t)3 * (vertices))
+#define PROBE_TRIANGLES_LENGTH(n) ((size_t)3 * (n))
+#define PROBE_NODE_BOXES_LENGTH(n) ((size_t)12 * (n))
+#define PROBE_TRIANGLE_BOXES_LENGTH(n) ((size_t)6 * (n))
+#define PROBE_NODE_WORDS_LENGTH(n) ((size_t)6 * (n))
+#define PROBE_ORDER_LENGTH(n) ((size_t)(n))
+#define PROBE_WORK_LENGTH(n) ((size_t)(n))
+#define PROBE_LIST_LENGTH(n) ((size_t)(n))
+#define PROBE_STACK_LENGTH(nodes) ((size_t)(nodes) + 1)
+#define PROBE_MARKS_LENGTH(n) ((size_t)3 * (n))
+#define PROBE_HIT_LENGTH 4
+#define PROBE_INDEX_LENGTH 1
+#define PROBE_COUNT_LENGTH 1
+
+/* The version of the library that is linked: PROBE_VERSION, if this header is its own. */
+uint32_t probe_version(void);
+
+/* Casts a ray at the plane of all points whose dot with the normal is the distance.
+ *
+ * Answers PROBE_HIT, PROBE_NONE, or refuses with 1, 2, 3 or 6. The normal written faces the ray. A plane that is
+ * parallel to the ray is none. A distance equal to the maximum is a hit.
+ */
+uint32_t probe_ray_plane(
+    double origin_x,
+    double origin_y,
+    double origin_z,
+    double direction_x,
+    double direction_y,
+    double direction_z,
+    double max_distance,
+    double normal_x,
+    double normal_y,
+    double normal_z,
+    double distance,
+    double *hit,
+    size_t hit_length
+);
+
+/* Casts a ray at the triangle of corners a, b and c, from either side.
+ *
+ * Answers PROBE_HIT, PROBE_NONE, or refuses with 1, 3, 6 or 7. The normal written faces the ray. A triangle that is
+ * flat for the ray (parallel to it, or too small) is none. A distance equal to the maximum is a hit. Corners far
+ * apart may give a hit whose distance is NaN: it passes the comparisons.
+ */
+uint32_t probe_ray_triangle(
+    double origin_x,
+    double origin_y,
+    double origin_z,
+    double direction_x,
+    double direction_y,
+    double direction_z,
+    double max_distance,
+    double a_x,
+    double a_y,
+    double a_z,
+    double b_x,
+    double b_y,
+    double b_z,
+    double c_x,
+    double c_y,
+    double c_z,
+    double *hit,
+    size_t hit_length
+);
+
+/* Casts a ray at a height grid: the height of row r and column c, at x = c * spacing_x, y = r * spacing_y, stands at
+ * heights[r * columns + c]. Each cell is two triangles. Only the cells under the box of the ray's segment are looked
+ * at.
+ *
+ * Answers PROBE_HIT, PROBE_NONE, or refuses with 1, 2, 3, 5, 6 or 7. The hit is the nearest; its normal faces the
+ * ray.
+ */
+uint32_t probe_ray_height_field(
+    double origin_x,
+    double origin_y,
+    double origin_z,
+    double direction_x,
+    double direction_y,
+    double direction_z,
+    double max_distance,
+    size_t rows,
+    size_t columns,
+    double spacing_x,
+    double spacing_y,
+    const double *heights,
+    size_t heights_length,
+    double *hit,
+    size_t hit_length
+);
+
+/* Casts a ray at the zero surface of a distance grid: the value of node (i, j, k), at grid + (i, j, k) * spacing,
+ * stands at values[(k * side_y + j) * side_x + i].
+ *
+ * Answers PROBE_HIT, PROBE_NONE, or refuses with 1, 2, 3, 5, 6 or 8. The normal is the gradient's direction: it
+ * points to where the values grow, and is not turned towards the ray.
+ */
+uint32_t probe_ray_level_set(
+    double origin_x,
+    double origin_y,
+    double origin_z,
+    double direction_x,
+    double direction_y,
+    double direction_z,
+    double max_distance,
+    uint32_t side_x,
+    uint32_t side_y,
+    uint32_t side_z,
+    double grid_x,
+    double grid_y,
+    double grid_z,
+    double spacing_x,
+    double spacing_y,
+    double spacing_z,
+    const double *values,
+    size_t values_length,
+    double *hit,
+    size_t hit_length
+);
+
+/* Casts a ray at a mesh through its tree. `vertices` and `triangles` are the mesh; `pose` holds the vertices to cast
+ * at: pass `vertices` again, or as many moved ones. The tree's boxes are those of the mesh's own vertices, and only
+ * triangles whose box there touches the box of the ray's segment are cast at. `nodes` is the tree's node count.
+ *
+ * Answers PROBE_HIT, PROBE_NONE, or refuses with 1 to 7. A hit is the nearest; of equally near ones, that of the
+ * lowest index. At the mesh's own vertices, through a tree for which probe_tree_check says PROBE_YES, no triangle
+ * whose box touches is missed, as long as none of them gives a distance that is NaN. Any other tree may be passed
+ * too: the call ends, and touches nothing past an area's end, but a surface that such a tree does not enclose may be
+ * missed, and nothing tells that none from a right one.
+ */
+uint32_t probe_ray_mesh(
+    double origin_x,
+    double origin_y,
+    double origin_z,
+    double direction_x,
+    double direction_y,
+    double direction_z,
+    double max_distance,
+    const double *vertices,
+    size_t vertices_length,
+    const uint32_t *triangles,
+    size_t triangles_length,
+    const double *pose,
+    size_t pose_length,
+    size_t nodes,
+    const double *node_boxes,
+    size_t node_boxes_length,
+    const double *triangle_boxes,
+    size_t triangle_boxes_length,
+    const uint32_t *node_words,
+    size_t node_words_length,
+    const uint32_t *order,
+    size_t order_length,
+    uint32_t *list,
+    size_t list_length,
+    uint32_t *stack,
+    size_t stack_length,
+    double *hit,
+    size_t hit_length,
+    uint32_t *index,
+    size_t index_length
+);
+
+/* Builds the tree of a mesh into node_boxes, triangle_boxes, node_words and order, and writes its node count to
+ * nodes[0]. Places past the tree are unchanged. Every tree that is written passes probe_tree_check.
+ *
+ * Answers PROBE_DONE, or refuses with 2, 3, 5 (no triangle, an index past the vertices, a triangle whose box is not
+ * finite) or 6. After 5 and 6 the four areas are zeros.
+ */
+uint32_t probe_build(
+    const double *vertices,
+    size_t vertices_length,
+    const uint32_t *triangles,
+    size_t triangles_length,
+    double *node_boxes,
+    size_t node_boxes_length,
+    double *triangle_boxes,
+    size_t triangle_boxes_length,
+    uint32_t *node_words,
+    size_t node_words_length,
+    uint32_t *order,
+    size_t order_length,
+    uint32_t *work,
+    size_t work_length,
+    size_t *nodes,
+    size_t nodes_length
+);
+
+/* Lists the triangles whose boxes touch a box, ascending, and writes how many to found[0]; places of list past them
+ * are unchanged. `triangles` is the number n of triangles, `nodes` the tree's node count.
+ *
+ * Answers PROBE_DONE, or refuses with 1, 2, 3 or 5 (the tree is broken where the walk meets it). After 5 the list is
+ * zeros.
+ */
+uint32_t probe_query(
+    double min_x,
+    double min_y,
+    double min_z,
+    double max_x,
+    double max_y,
+    double max_z,
+    size_t triangles,
+    size_t nodes,
+    const double *node_boxes,
+    size_t node_boxes_length,
+    const double *triangle_boxes,
+    size_t triangle_boxes_length,
+    const uint32_t *node_words,
+    size_t node_words_length,
+    const uint32_t *order,
+    size_t order_length,
+    uint32_t *list,
+    size_t list_length,
+    uint32_t *stack,
+    size_t stack_length,
+    size_t *found,
+    size_t found_length
+);
+
+/* Whether a tree, from whatever builder, fits a mesh: every node and triangle stands in it once, and every box
+ * encloses what is below it. Check a tree that somebody else built once; then cast through it as often as you like.
+ *
+ * Answers PROBE_YES or PROBE_NO, or refuses with 2 or 3. A triangle index past the vertices, or a node count above
+ * 2n, is a no.
+ */
+uint32_t probe_tree_check(
+    const double *vertices,
+    size_t vertices_length,
+    const uint32_t *triangles,
+    size_t triangles_length,
+    size_t nodes,
+    const double *node_boxes,
+    size_t node_boxes_length,
+    const double *triangle_boxes,
+    size_t triangle_boxes_length,
+    const uint32_t *node_words,
+    size_t node_words_length,
+    const uint32_t *order,
+    size_t order_length,
+    uint32_t *marks,
+    size_t marks_length
+);
+
+#ifdef __cplusplus
+}
+#endif
+
+#endif

@@ -1,0 +1,74 @@
+#!/usr/bin/env bash
+# The library for other languages: proves and writes it, runs the C example built as C and as C++, the Rust crate's
+# tests and doc examples, and the STL example. What the examples print is held to files written from the geometry.
+# usage: tests/bindings.sh   (PROBE_RAYS_LIB names a folder with another libexports.a, which is then taken as it is)
+set -euo pipefail
+cd "$(dirname "$0")/.."
+work=$(mktemp -d)
+trap 'rm -rf "$work"' EXIT
+log=$work/log
+export CARGO_TARGET_DIR=${CARGO_TARGET_DIR:-$PWD/target/bindings}
+
+if [ -z "${PROBE_RAYS_LIB:-}" ]; then
+  export PROBE_RAYS_LIB=$PWD/target/staticlib
+  rt staticlib exports > "$log" 2>&1 || { tail -n 20 "$log" >&2; exit 1; }
+fi
+archive=$PROBE_RAYS_LIB/libexports.a
+
+# the archive defines the header's calls, no others, and asks for nothing but memory functions of C
+grep -oE '^uint32_t probe_\w+' include/probe_rays.h | cut -d' ' -f2 | sort > "$work/declared"
+nm "$archive" | awk '$2 == "T" { print $3 }' | sort > "$work/defined"
+diff "$work/declared" "$work/defined"
+if nm -u "$archive" | awk '$1 == "U" { print $2 }' | grep -vxE 'mem(set|cpy|move|cmp)'; then
+  echo "error: the archive asks for the functions above" >&2
+  exit 1
+fi
+
+strict="-O2 -Wall -Wextra -Werror -pedantic -I include"
+gcc -std=c99 $strict examples/panel.c "$archive" -o "$work/panel-c"
+g++ -x c++ -std=c++98 $strict -c examples/panel.c -o "$work/panel.o"
+g++ "$work/panel.o" "$archive" -o "$work/panel-c++"
+for panel in "$work/panel-c" "$work/panel-c++"; do
+  "$panel" | diff - examples/panel.expected
+done
+echo "the C example prints what the panel's measures say, as C and as C++"
+
+(
+  cd bindings/rust
+  cargo test --release --offline > "$log" 2>&1 || { cat "$log" >&2; exit 1; }
+  RUSTDOCFLAGS="-D warnings" cargo doc --offline --no-deps > "$work/doc" 2>&1 || { cat "$work/doc" >&2; exit 1; }
+  cargo build --release --offline --quiet --example stl
+)
+awk '/^test result: ok/ { sum += $4 } END { print sum " Rust tests and doc examples passed" }' "$log"
+stl=$CARGO_TARGET_DIR/release/examples/stl
+
+# expect STATUS FILE COMMAND..: the command ends with the status and prints the file's lines
+expect() {
+  local status=$1 file=$2 got=0
+  shift 2
+  "$@" > "$work/printed" 2> "$work/error" || got=$?
+  if [ "$got" != "$status" ]; then
+    echo "error: $* ended with $got in place of $status" >&2
+    cat "$work/error" >&2
+    exit 1
+  fi
+  cat "$work/printed" "$work/error" | diff - "$file"
+}
+
+examples/panel_stl.py | cmp - examples/panel.stl
+mapfile -t words < <(sed 's/#.*//' examples/panel.rays | tr -s ' ' '\n' | grep .)
+head -n -1 examples/panel.hits > "$work/hits"
+# the last ray is refused: status 1 with it, and 0 without
+expect 1 examples/panel.hits "$stl" examples/panel.stl "${words[@]}"
+expect 0 "$work/hits" "$stl" examples/panel.stl "${words[@]:0:${#words[@]}-7}"
+
+# the same panel in other files, and files that are not right
+tests/stl_files.py "$work"
+for same in "$work"/same-*.stl; do
+  expect 1 examples/panel.hits "$stl" "$same" "${words[@]}"
+done
+for wrong in "$work"/wrong-*.stl; do
+  name=$(basename "$wrong" .stl)
+  expect 2 "$work/$name.says" "$stl" "$wrong" "${words[@]}"
+done
+echo "the STL example prints what the panel's measures say, from ASCII and binary files"
