@@ -32,16 +32,16 @@ pub struct Case {
     pub work: Vec<u32>,
 }
 
-fn filled(random: &mut Random, length: usize) -> Vec<u32> {
+pub fn filled(random: &mut Random, length: usize) -> Vec<u32> {
     (0..length).map(|_| random.bits() as u32).collect()
 }
 
-fn filled_floats(random: &mut Random, length: usize) -> Vec<f64> {
+pub fn filled_floats(random: &mut Random, length: usize) -> Vec<f64> {
     (0..length).map(|_| random.special()).collect()
 }
 
 /// A stated length, at times one or more too short or too long.
-fn about(random: &mut Random, stated: usize) -> usize {
+pub fn about(random: &mut Random, stated: usize) -> usize {
     match random.below(40) {
         0 => stated.saturating_sub(1),
         1 => random.below(stated + 1),
@@ -52,7 +52,7 @@ fn about(random: &mut Random, stated: usize) -> usize {
 
 /// The mesh of a record, at times with more triangles than a record holds, ragged,
 /// or above what is admitted.
-fn mesh(random: &mut Random, seed: u64, number: u64) -> (Ray, Vec<f64>, Vec<u32>) {
+pub fn mesh(random: &mut Random, seed: u64, number: u64) -> (Ray, Vec<f64>, Vec<u32>) {
     let record = generate::record(seed, number, &[3]);
     let Shape::Mesh {
         mut vertices,
@@ -96,7 +96,7 @@ fn tree_for(random: &mut Random, vertices: &[f64], indices: &[u32]) -> FlatTree 
 }
 
 /// Areas of the stated lengths for `n` triangles that hold anything.
-fn areas(random: &mut Random, n: usize) -> FlatTree {
+pub fn areas(random: &mut Random, n: usize) -> FlatTree {
     FlatTree {
         node_boxes: filled_floats(random, 12 * n),
         triangle_boxes: filled_floats(random, 6 * n),
@@ -107,7 +107,7 @@ fn areas(random: &mut Random, n: usize) -> FlatTree {
 }
 
 /// Cuts or lengthens the areas of a tree a little.
-fn about_tree(random: &mut Random, tree: &mut FlatTree) {
+pub fn about_tree(random: &mut Random, tree: &mut FlatTree) {
     let float = random.special();
     tree.node_boxes
         .resize(about(random, tree.node_boxes.len()), float);
@@ -118,7 +118,7 @@ fn about_tree(random: &mut Random, tree: &mut FlatTree) {
     tree.order.resize(about(random, tree.order.len()), 7);
 }
 
-fn pose(random: &mut Random, vertices: &[f64]) -> Vec<f64> {
+pub fn pose(random: &mut Random, vertices: &[f64]) -> Vec<f64> {
     let mut posed = vertices.to_vec();
     match random.below(12) {
         0 if !posed.is_empty() => {
@@ -154,6 +154,11 @@ fn query_box(random: &mut Random, ray: &Ray) -> [f64; 6] {
 pub fn case(seed: u64, number: u64) -> Case {
     let random = &mut Random::of_record(!seed, number);
     let (ray, vertices, indices) = mesh(random, seed, number);
+    of_mesh(random, ray, vertices, indices)
+}
+
+/// A case for a ray and a mesh.
+pub fn of_mesh(random: &mut Random, ray: Ray, vertices: Vec<f64>, indices: Vec<u32>) -> Case {
     let n = indices.len() / 3;
     let mut tree = tree_for(random, &vertices, &indices);
     let stack = about(random, tree.node_count.min(2 * n) + 1);

@@ -215,7 +215,7 @@ fn distance_from(random: &mut Random) -> f64 {
 }
 
 /// A ray towards a target, at sizes of about `scale`.
-fn ray_to(random: &mut Random, target: Point, scale: f64) -> Ray {
+pub fn ray_to(random: &mut Random, target: Point, scale: f64) -> Ray {
     let away = distance_from(random) * scale;
     let mut direction = direction(random);
     let mut origin = add(target, times(direction, -away));

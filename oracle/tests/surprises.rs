@@ -59,6 +59,27 @@ fn a_distance_grid_above_zero_everywhere_is_hit_where_its_values_are_tiny() {
 }
 
 #[test]
+fn a_hit_at_a_distance_grid_lies_off_its_surface_behind_an_edge_of_cells() {
+    // The ray passes y = 2 and z = 3 at once. In the cell behind that edge, x from 0 to 1
+    // and y and z from 2 to 3, the values between the nodes are 2.5 - y.
+    let node = |k: u32| [k % 5, k / 5 % 5, k / 25].map(f64::from);
+    let value = |[x, y, z]: [f64; 3]| (x - 0.5).abs() + (y - 3.0).abs() + (z - 2.5).abs() - 1.5;
+    let values: Vec<f64> = (0..125).map(|k| value(node(k))).collect();
+    let length = 29.0_f64.sqrt();
+    let ray = Ray {
+        origin: [2.75, -2.0, 6.0],
+        direction: [-2.0 / length, 4.0 / length, -3.0 / length],
+        maximum: 40.0,
+    };
+    let cast = answer::level_set(&ray, [5; 3], [0.0; 3], [1.0; 3], &values);
+    let Answer::Hit { distance, .. } = cast else {
+        panic!("{cast:?}");
+    };
+    let y = ray.origin[1] + ray.direction[1] * distance;
+    assert!(2.488 < y && y < 2.49);
+}
+
+#[test]
 fn the_normal_of_a_distance_grid_does_not_face_the_ray() {
     let values: Vec<f64> = (0..8).map(|k| f64::from(k / 4) - 0.5).collect();
     let ray = Ray {

@@ -1,0 +1,11 @@
+//! The static library beside the unchanged Rust and beside the model of what document
+//! 01 adds to it, on seeded inputs.
+
+pub mod calls;
+pub mod lent;
+pub mod library;
+pub mod log;
+pub mod other_trees;
+pub mod panel;
+pub mod run;
+pub mod shapes;

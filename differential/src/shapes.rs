@@ -1,0 +1,151 @@
+//! The casts at a plane, a triangle and the two grids through the library, beside the
+//! Rust's behind document 01's refusals 1 and 2.
+
+use crate::{
+    calls::says,
+    lent::same_bits,
+    library,
+    log::{Log, in_words},
+};
+use oracle::{
+    answer::{self, Answer, Ray, agree},
+    cases, generate,
+    random::Random,
+    record::{Record, Shape},
+};
+use probe_rays::sys;
+
+/// A record's cast, at times with a hit slice that is too short or a grid whose length or
+/// sides a record could not carry.
+pub fn compare(log: &mut Log, random: &mut Random, seed: u64, number: u64) {
+    let mut record = generate::record(!seed, number, &[1, 2, 4, 5]);
+    if let Shape::HeightField { heights, .. }
+    | Shape::LevelSet {
+        values: heights, ..
+    } = &mut record.shape
+    {
+        match random.below(80) {
+            0 => drop(heights.pop()),
+            1 => heights.push(0.0),
+            _ => {}
+        }
+    }
+    let length = random.pick(&[4, 4, 4, 4, 4, 4, 4, 4, 5, 7, 3, 0]);
+    let hit = cases::filled_floats(random, length);
+    // Rows that only a usize holds.
+    let rows_above = random.once_in(400).then_some(1 << 32);
+    log.context = "as drawn";
+    cast(log, &record, &hit, rows_above);
+}
+
+fn name(shape: &Shape) -> &'static str {
+    match shape {
+        Shape::Plane { .. } => "plane cast",
+        Shape::Triangle { .. } => "triangle cast",
+        Shape::Mesh { .. } => unreachable!("meshes have their own comparison"),
+        Shape::HeightField { .. } => "height cast",
+        Shape::LevelSet { .. } => "distance cast",
+    }
+}
+
+/// The library's answer; `rows_above` is added to the rows of a height grid.
+fn library_cast(
+    record: &Record,
+    hit: &[f64],
+    rows_above: Option<usize>,
+) -> Result<(u32, Vec<f64>), String> {
+    let Ray {
+        origin: o,
+        direction: d,
+        maximum: m,
+    } = record.ray;
+    match &record.shape {
+        Shape::Plane {
+            normal: n,
+            distance,
+        } => library::shape_cast(&[], hit, |_, _, hit, length| unsafe {
+            sys::probe_ray_plane(
+                o[0], o[1], o[2], d[0], d[1], d[2], m, n[0], n[1], n[2], *distance, hit, length,
+            )
+        }),
+        Shape::Triangle { corners: [a, b, c] } => {
+            library::shape_cast(&[], hit, |_, _, hit, length| unsafe {
+                sys::probe_ray_triangle(
+                    o[0], o[1], o[2], d[0], d[1], d[2], m, a[0], a[1], a[2], b[0], b[1], b[2],
+                    c[0], c[1], c[2], hit, length,
+                )
+            })
+        }
+        Shape::Mesh { .. } => unreachable!("meshes have their own comparison"),
+        Shape::HeightField {
+            rows,
+            columns,
+            spacing: s,
+            heights,
+        } => library::shape_cast(heights, hit, |values, count, hit, length| unsafe {
+            sys::probe_ray_height_field(
+                o[0],
+                o[1],
+                o[2],
+                d[0],
+                d[1],
+                d[2],
+                m,
+                *rows as usize + rows_above.unwrap_or(0),
+                *columns as usize,
+                s[0],
+                s[1],
+                values,
+                count,
+                hit,
+                length,
+            )
+        }),
+        Shape::LevelSet {
+            sides,
+            origin: g,
+            spacing: s,
+            values,
+        } => library::shape_cast(values, hit, |values, count, hit, length| unsafe {
+            sys::probe_ray_level_set(
+                o[0], o[1], o[2], d[0], d[1], d[2], m, sides[0], sides[1], sides[2], g[0], g[1],
+                g[2], s[0], s[1], s[2], values, count, hit, length,
+            )
+        }),
+    }
+}
+
+/// The cast of a record that is no mesh, `hit` being its result slice.
+pub fn cast(log: &mut Log, record: &Record, hit: &[f64], rows_above: Option<usize>) {
+    let name = name(&record.shape);
+    let (number, after) = match library_cast(record, hit, rows_above) {
+        Ok(done) => done,
+        Err(fault) => return log.differs(name, fault, format!("{record:?}")),
+    };
+    log.answered(name, number);
+    let rows_above = rows_above.filter(|_| matches!(record.shape, Shape::HeightField { .. }));
+    let expected = if hit.len() < 4 {
+        log.left_out(name, "a result slice is too short");
+        Answer::Refused(3)
+    } else if rows_above.is_some() {
+        log.left_out(name, "rows above what the Rust's side of the driver holds");
+        Answer::Refused(if answer::ray_admitted(&record.ray) {
+            2
+        } else {
+            1
+        })
+    } else {
+        log.compared(name, "the Rust");
+        record.answer()
+    };
+    let kept = if number == sys::HIT {
+        4.min(hit.len())
+    } else {
+        0
+    };
+    if !says(number, &after, &expected, agree) || !same_bits(&after[kept..], &hit[kept..]) {
+        let number = in_words(number);
+        let text = format!("answers {number} with {after:?} for {hit:?}, not {expected:?}");
+        log.differs(name, text, format!("{record:?}"));
+    }
+}
