@@ -1,0 +1,92 @@
+//! The program `probe` beside `oracle-probe` on one stored stream of records.
+
+use crate::{clock, timing::Row};
+use oracle::{agree, generate};
+use std::{
+    fs::{self, File},
+    path::{Path, PathBuf},
+    process::{Command, Stdio},
+};
+
+/// Records in the stored stream, and how often it is repeated.
+const RECORDS: usize = 5_000;
+const REPEATED: usize = 20;
+const MESH: u8 = 3;
+
+/// PROBE names our program; the Rust's stands beside this one.
+fn programs() -> [PathBuf; 2] {
+    let ours = std::env::var_os("PROBE").unwrap_or_else(|| "target/bin/probe".into());
+    let rust = std::env::current_exe().expect("this program's path");
+    [ours.into(), rust.with_file_name("oracle-probe")]
+}
+
+fn stream(kinds: &[u8]) -> Vec<u8> {
+    let mut records = generate::marked();
+    records.retain(|record| kinds.contains(&record.shape.kind()));
+    let first = records.len() as u64;
+    let others = (first..RECORDS as u64).map(|number| generate::record(9, number, kinds));
+    records.extend(others);
+    records.iter().flat_map(|record| record.write()).collect()
+}
+
+fn lines(program: &Path, input: &Path) -> String {
+    let output = Command::new(program)
+        .stdin(File::open(input).expect("records"))
+        .output()
+        .unwrap_or_else(|error| panic!("{}: {error}", program.display()));
+    assert!(output.status.success(), "{} failed", program.display());
+    String::from_utf8(output.stdout).expect("text")
+}
+
+fn run(program: &Path, input: &Path) {
+    let status = Command::new(program)
+        .stdin(File::open(input).expect("records"))
+        .stdout(Stdio::null())
+        .status()
+        .expect("a program that ran before");
+    assert!(status.success());
+}
+
+/// All kinds, but for meshes while our program takes them for malformed.
+fn kinds(program: &Path, file: &Path) -> Vec<u8> {
+    fs::write(file, stream(&[MESH])).expect("a file for the records");
+    let known = !lines(program, file).contains("bad");
+    (1..=5).filter(|&kind| kind != MESH || known).collect()
+}
+
+fn compare(name: &str, programs: &[PathBuf; 2], file: &Path) {
+    let [ours, rust] = [0, 1].map(|side| lines(&programs[side], file));
+    assert_eq!(ours.lines().count(), rust.lines().count(), "{name}");
+    for (a, b) in ours.lines().zip(rust.lines()) {
+        assert!(
+            agree::lines_agree(a, b),
+            "{name}: {a} here, {b} from the Rust"
+        );
+    }
+}
+
+pub fn row(name: &str) -> Row {
+    let file = std::env::temp_dir().join(format!("bench-{}.records", std::process::id()));
+    let programs = programs();
+    let stored = stream(&kinds(&programs[0], &file));
+    fs::write(&file, stored.repeat(REPEATED)).expect("a file for the records");
+    compare(name, &programs, &file);
+    let [ours, rust] = programs;
+    let kept = Kept(file.clone());
+    Row {
+        name: name.to_owned(),
+        units: (RECORDS * REPEATED) as f64,
+        clock: clock::children,
+        ours: Box::new(move || run(&ours, &kept.0)),
+        rust: Some(Box::new(move || run(&rust, &file))),
+    }
+}
+
+/// A file that goes when its row does.
+struct Kept(PathBuf);
+
+impl Drop for Kept {
+    fn drop(&mut self) {
+        let _ = fs::remove_file(&self.0);
+    }
+}
