@@ -1,14 +1,14 @@
 -- The last sentence of demand 3 holds: where the build answers with a node count, it has written the tree of an admitted mesh with some triangles, and that tree passes the check. Assumes nothing.
-use Prim.Native.Nat.{ℕ, _<_}
+use Prim.Native.Nat.{ℕ, _*_, _<_, _≤_}
 use mathlib.Core.Path.{_≡_, refl, sym, ap, _∙_}
 use mathlib.Core.Bool.{Bool, true, false, _&&_, cond}
-use mathlib.Core.List.{List}
+use mathlib.Core.List.{List, _++_}
 use native.Mathlib.Omega.{arith}
-use lib.Dec.{eqb}
+use lib.Dec.{eqb, leb}
 use lib.Ieee.{Float, nan}
-use lib.ListN.{length, drop}
+use lib.ListN.{length, drop, length-append, length-drop}
 use lib.Seq.{take-at}
-use borrow.Author.Tests.{eqb-false}
+use borrow.Author.Tests.{eqb-false, leb-true, le-leb}
 use Rattle.geometry.specs.Box.{validBox}
 use Rattle.geometry.proofs.JoinedTests.{and-first, and-second}
 use Rattle.casts.specs.Answer.{badShape, noRoom, outOfBounds, overflow}
@@ -21,6 +21,8 @@ use Rattle.tree_build.specs.Ranges.{extentsFinite, orderBelow, boxesBelow}
 use Rattle.tree_build.specs.Build.{Areas, Outcome, nodes, refused, zeroed, roomFor, eachBox, triangleCount, triangleFits, trianglesFit, boxesWritten, treeWritten, builtOf, buildOf}
 use Rattle.tree_build.proofs.Shapes.{sizeOf-shapeOf}
 use Rattle.tree_check.specs.Check.{clausesHold, treePasses}
+use Rattle.tree_check.specs.Verdict.{roomFor as roomToCheck}
+use Rattle.tree_check.proofs.Answers.{passes-yes}
 use Rattle.mesh.specs.Builder.{treeIn, BuiltTreesPass}
 use Rattle.mesh.proofs.BuildOrder.{count-order, length-order}
 use Rattle.mesh.proofs.BuildRuns.{run-front, run-boxes}
@@ -41,6 +43,11 @@ module _ (o : Outcome) (number : ℕ) (left : Areas) (count : ℕ) where
   taken-else : (b : Bool) → cond b (refusedWith number left) o .answer ≡ nodes count → (b ≡ false) × (cond b (refusedWith number left) o ≡ o)
   taken-else true h = absurd (no-refusal number count h)
   taken-else false h = (refl, refl)
+
+-- what refusals 2 and 3 have let pass
+record Passed (m : Mesh) (a : Areas) (work : ℕ) : Type 0 where
+  pub lengths : lengthsAdmitted (length (m .vertices)) (length (m .triangles)) ≡ true
+  pub room : roomFor (triangleCount m) a work ≡ true
 
 record Accepted (m : Mesh) (a : Areas) (o : Outcome) : Type 0 where
   pub some : 0 < triangleCount m
@@ -68,6 +75,14 @@ module _ (m : Mesh) (a : Areas) where
       let g = taken whole overflow (zeroed a) count shaped (ap (λ (o : Outcome). o .answer) (sym (s .1 ∙ f .1)) ∙ h) in
       let n : triangleCount m ≡ 0 → ⊥ = eqb-false (triangleCount m) 0 (s .0) in
       record { some = omega (arith, n); fit = f .0; outcome = s .1 ∙ f .1 ∙ g .1 }
+
+  build-passed : (work count : ℕ) → buildOf m a work .answer ≡ nodes count → Passed m a work
+  unfolding buildOf
+  build-passed work count h =
+      let room = cond (roomFor (triangleCount m) a work) (builtOf m a) (refusedWith noRoom a) in
+      let l = taken room badShape a count (lengthsAdmitted (length (m .vertices)) (length (m .triangles))) h in
+      let r = taken (builtOf m a) noRoom a count (roomFor (triangleCount m) a work) (ap (λ (o : Outcome). o .answer) (sym (l .1)) ∙ h) in
+      record { lengths = l .0; room = r .0 }
 
   build-accepted : (work count : ℕ) → buildOf m a work .answer ≡ nodes count → Accepted m a (buildOf m a work)
   unfolding buildOf
@@ -124,9 +139,31 @@ module _ (m : Mesh) (a : Areas) (some : 0 < triangleCount m) (fit : trianglesFit
 same-count : (p q : ℕ) → nodes p ≡ nodes q → p ≡ q
 same-count p q h = cc
 
-pub built-trees-pass : BuiltTreesPass
+-- ---- the areas stay long enough for the check
+over-long : {A : Type 0} (new old : List A) (k : ℕ) → leb k (length old) ≡ true → leb k (length (new ++ drop (length new) old)) ≡ true
+over-long new old k h =
+    let l : k ≤ length old = leb-true k (length old) h in
+    le-leb k (length (new ++ drop (length new) old)) (simp (length-append, length-drop) (omega arith))
+
+room-to-check : (m : Mesh) (a : Areas) (work marks : ℕ) → roomFor (triangleCount m) a work ≡ true → 3 * triangleCount m ≤ marks
+    → roomToCheck (triangleCount m) (length (treeWritten m a .nodeBoxes)) (length (treeWritten m a .triangleBoxes)) (length (treeWritten m a .nodeWords)) (length (treeWritten m a .order)) marks ≡ true
+unfolding roomFor roomToCheck treeWritten boxesWritten
+room-to-check m a work marks h long =
+    let n = triangleCount m in
+    let boxes = leb (12 * n) (length (a .nodeBoxes)) in
+    let around = leb (6 * n) (length (a .triangleBoxes)) in
+    let words = leb (6 * n) (length (a .nodeWords)) in
+    let ordered = leb n (length (a .order)) in
+    let worked = leb n work in
+    let h1 = and-second boxes (around && (words && (ordered && worked))) h in
+    let h2 = and-second around (words && (ordered && worked)) h1 in
+    let h3 = and-second words (ordered && worked) h2 in
+    simp
+    (over-long (boxesBelow (boxesWritten m (a .triangleBoxes)) (shapeOf n) (range 0 n)) (a .nodeBoxes) (12 * n) (and-first boxes (around && (words && (ordered && worked))) h), over-long (eachBox (triangleBox (m .vertices) (m .triangles)) (range 0 n)) (a .triangleBoxes) (6 * n) (and-first around (words && (ordered && worked)) h1), over-long (wordsOf 0 0 (shapeOf n)) (a .nodeWords) (6 * n) (and-first words (ordered && worked) h2), over-long (orderBelow (boxesWritten m (a .triangleBoxes)) (shapeOf n) (range 0 n)) (a .order) n (and-first ordered worked h3), le-leb (3 * n) marks long)
+
+built-tree-passes : (m : Mesh) (areas : Areas) (work count : ℕ) → buildOf m areas work .answer ≡ nodes count → treePasses m (treeIn count (buildOf m areas work .after)) ≡ true
 unfolding treePasses
-built-trees-pass m areas work count h =
+built-tree-passes m areas work count h =
     let c = build-accepted m areas work count h in
     let e : count ≡ nodesOf (shapeOf (triangleCount m)) =
     same-count count (nodesOf (shapeOf (triangleCount m))) (sym h ∙ ap (λ (o : Outcome). o .answer) (c .outcome))
@@ -137,3 +174,12 @@ built-trees-pass m areas work count h =
     ∙ built-passes m (tree m areas (c .some) (c .fit)) (tree-built m areas (c .some) (c .fit))
     in
     or-second (eqb count 0 && eqb (triangleCount m) 0) (clausesHold m (treeIn count (buildOf m areas work .after))) passes
+
+pub built-trees-pass : BuiltTreesPass
+built-trees-pass m areas work count marks h long =
+    let p = build-passed m areas work count h in
+    let c = build-accepted m areas work count h in
+    passes-yes m (treeIn count (buildOf m areas work .after)) marks (p .lengths)
+    (ap (λ (o : Outcome). roomToCheck (triangleCount m) (length (o .after .nodeBoxes)) (length (o .after .triangleBoxes)) (length (o .after .nodeWords)) (length (o .after .order)) marks) (c .outcome)
+    ∙ room-to-check m areas work marks (p .room) long)
+    (built-tree-passes m areas work count h)

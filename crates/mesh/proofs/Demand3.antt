@@ -26,6 +26,7 @@ use Rattle.tree.proofs.Corners.{corners-answer}
 use Rattle.tree.proofs.CountLaws.{count-of-member, member-of-count, count-keep, range-bounds, count-range-inside}
 use Rattle.tree.proofs.SortLaws.{range-ascends, keep-ascends}
 use Rattle.tree_check.specs.Check.{triangleCount, treePasses}
+use Rattle.tree_check.proofs.Answers.{yes-passes}
 use Rattle.mesh.specs.MeshCast.{shapeAdmitted, overWalk, meshCast, rayMesh}
 use Rattle.mesh.specs.Demand3.{Admitted, Candidate, answerOf, Refuses, IsHit, DistancesAreNumbers, LowestRefuses, NearestHit, MeetsDemand, Demand3}
 use Rattle.mesh.proofs.CheckedTree.{Checked, checked-or-empty}
@@ -78,22 +79,25 @@ corners-inside m t h i below = go (checked-or-empty m t h)
     go (inr e) = absurd (omega arith)
 
 module _ (r : Ray) (m : Mesh) (t : Tree) (list stack : ℕ) (a : Admitted r m t list stack) where
+  passes : treePasses m t ≡ true
+  passes = yes-passes m t (a .tree .marks) (a .tree .says-yes)
+
   -- ---- the cast is the fold over the candidates
   abbrev foldedAnswer : ℕ → Answer
   foldedAnswer = triangleAnswer r (m .vertices) (m .triangles)
 
   shape-admitted : shapeAdmitted m (m .vertices) t ≡ true
   unfolding shapeAdmitted
-  shape-admitted = simp (a .mesh, le-leb (t .nodeCount) (2 * triangleCount m t) (few-nodes m t (a .tree)))
+  shape-admitted = simp (a .mesh, le-leb (t .nodeCount) (2 * triangleCount m t) (few-nodes m t passes))
 
   pub cast-is-fold : rayMesh r m (m .vertices) t list stack ≡ nearestOf foldedAnswer (candidates m (segmentBox r))
   unfolding rayMesh meshCast overWalk
   cast-is-fold =
-      simp (a .ray, shape-admitted, a .areas, eq-eqb (length (m .vertices)) (length (m .vertices)) refl, a .end, segment-box-valid r (a .ray) (a .end), walk-lists-candidates m t (segmentBox r) (a .tree))
+      simp (a .ray, shape-admitted, a .areas, eq-eqb (length (m .vertices)) (length (m .vertices)) refl, a .end, segment-box-valid r (a .ray) (a .end), walk-lists-candidates m t (segmentBox r) passes)
 
   answers-same : (i : ℕ) → Candidate r m i → foldedAnswer i ≡ answerOf r m i
   unfolding answerOf rayTriangle
-  answers-same i c = simp (a .ray) (sym (corners-answer r (m .vertices) (m .triangles) i (corners-inside m t (a .tree) i (c .triangle))))
+  answers-same i c = simp (a .ray) (sym (corners-answer r (m .vertices) (m .triangles) i (corners-inside m t passes i (c .triangle))))
 
   -- ---- the fold's properties in the demand's words
   abbrev folded : Indexed

@@ -1,11 +1,11 @@
 -- The last sentence of demand 3 as one statement: what the build writes without refusing passes the check. Definitions only. Assumes nothing.
-use Prim.Native.Nat.{ℕ}
+use Prim.Native.Nat.{ℕ, _*_, _≤_}
 use mathlib.Core.Path.{_≡_}
-use mathlib.Core.Bool.{true}
+use lib.ListN.{length}
 use Rattle.tree.specs.Layout.{Tree}
-use Rattle.tree.specs.Mesh.{Mesh}
+use Rattle.tree.specs.Mesh.{Mesh, thirds}
 use Rattle.tree_build.specs.Build.{Areas, nodes, buildOf}
-use Rattle.tree_check.specs.Check.{treePasses}
+use Rattle.tree_check.specs.Verdict.{yes, checkOf}
 
 -- a tree as the result areas hold it
 abbrev pub treeIn : ℕ → Areas → Tree
@@ -18,6 +18,8 @@ treeIn count a = record {
 }
 
 -- "Every tree our builder writes without refusing, whatever the admitted mesh and whatever its areas held before, passes the check."
+-- The check says yes with every mark area that is long enough.
 abbrev pub BuiltTreesPass : Type 0
 BuiltTreesPass =
-    (m : Mesh) (areas : Areas) (work count : ℕ) → buildOf m areas work .answer ≡ nodes count → treePasses m (treeIn count (buildOf m areas work .after)) ≡ true
+    (m : Mesh) (areas : Areas) (work count marks : ℕ) → buildOf m areas work .answer ≡ nodes count → 3 * thirds (length (m .triangles)) ≤ marks
+    → checkOf m (treeIn count (buildOf m areas work .after)) marks ≡ yes

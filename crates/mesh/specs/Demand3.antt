@@ -14,15 +14,20 @@ use Rattle.casts.specs.Triangle.{rayTriangle}
 use Rattle.casts.specs.Nearest.{Indexed, hitAt, noHit, stopped}
 use Rattle.tree.specs.Layout.{Tree}
 use Rattle.tree.specs.Mesh.{Mesh, thirds, lengthsAdmitted, cornersOf, triangleBox}
-use Rattle.tree_check.specs.Check.{treePasses}
+use Rattle.tree_check.specs.Verdict.{yes, checkOf}
 use Rattle.mesh.specs.MeshCast.{roomFor, rayMesh}
+
+-- "A tree passes the check if the check, with a mark area long enough, says yes"
+pub record PassesCheck (m : Mesh) (t : Tree) : Type 0 where
+  pub marks : ℕ
+  pub says-yes : checkOf m t marks ≡ yes
 
 -- "Take any admitted mesh and ray with a finite segment end, any tree that passes the tree check for that mesh, .. and areas long enough"
 pub record Admitted (r : Ray) (m : Mesh) (t : Tree) (list stack : ℕ) : Type 0 where
   pub mesh : lengthsAdmitted (length (m .vertices)) (length (m .triangles)) ≡ true
   pub ray : rayAdmitted r ≡ true
   pub end : finiteVec (segmentEnd r) ≡ true
-  pub tree : treePasses m t ≡ true
+  pub tree : PassesCheck m t
   pub areas : roomFor m t list stack ≡ true
 
 module _ (r : Ray) (m : Mesh) where
