@@ -1,13 +1,10 @@
 //! Rays, shapes and lent areas, as our calls take them, and the calls.
 
-use probe_rays::sys;
-
-#[derive(Clone, Copy)]
-pub struct Ray {
-    pub origin: [f64; 3],
-    pub direction: [f64; 3],
-    pub maximum: f64,
-}
+pub use probe_rays::Ray;
+use probe_rays::{
+    HeightField, LevelSet, Plane, calls,
+    lent::{TreeAreas, TreeRef},
+};
 
 pub struct Mesh {
     pub vertices: Vec<f64>,
@@ -44,6 +41,16 @@ impl Tree {
             triangle_boxes: vec![0.0; 6 * n],
             node_words: vec![0; 6 * n],
             order: vec![0; n],
+        }
+    }
+
+    fn lent(&self) -> TreeRef<'_> {
+        TreeRef {
+            nodes: self.nodes,
+            node_boxes: &self.node_boxes,
+            triangle_boxes: &self.triangle_boxes,
+            node_words: &self.node_words,
+            order: &self.order,
         }
     }
 }
@@ -85,224 +92,80 @@ impl Lent {
 
 #[inline(always)]
 pub fn plane(ray: &Ray, normal: &[f64; 3], distance: f64, hit: &mut [f64; 4]) -> u32 {
-    let ([x, y, z], [a, b, c]) = (ray.origin, ray.direction);
-    let [u, v, w] = *normal;
-    unsafe {
-        sys::probe_ray_plane(
-            x,
-            y,
-            z,
-            a,
-            b,
-            c,
-            ray.maximum,
-            u,
-            v,
-            w,
-            distance,
-            hit.as_mut_ptr(),
-            4,
-        )
-    }
+    let normal = *normal;
+    calls::ray_plane(ray, &Plane { normal, distance }, hit)
 }
 
 #[inline(always)]
 pub fn triangle(ray: &Ray, corners: &[[f64; 3]; 3], hit: &mut [f64; 4]) -> u32 {
-    let ([x, y, z], [a, b, c]) = (ray.origin, ray.direction);
-    let [[ax, ay, az], [bx, by, bz], [cx, cy, cz]] = *corners;
-    unsafe {
-        sys::probe_ray_triangle(
-            x,
-            y,
-            z,
-            a,
-            b,
-            c,
-            ray.maximum,
-            ax,
-            ay,
-            az,
-            bx,
-            by,
-            bz,
-            cx,
-            cy,
-            cz,
-            hit.as_mut_ptr(),
-            4,
-        )
-    }
+    calls::ray_triangle(ray, corners, hit)
 }
 
 #[inline(always)]
 pub fn mesh(ray: &Ray, mesh: &Mesh, tree: &Tree, lent: &mut Lent) -> u32 {
-    let ([x, y, z], [a, b, c]) = (ray.origin, ray.direction);
-    unsafe {
-        sys::probe_ray_mesh(
-            x,
-            y,
-            z,
-            a,
-            b,
-            c,
-            ray.maximum,
-            mesh.vertices.as_ptr(),
-            mesh.vertices.len(),
-            mesh.triangles.as_ptr(),
-            mesh.triangles.len(),
-            mesh.vertices.as_ptr(),
-            mesh.vertices.len(),
-            tree.nodes,
-            tree.node_boxes.as_ptr(),
-            tree.node_boxes.len(),
-            tree.triangle_boxes.as_ptr(),
-            tree.triangle_boxes.len(),
-            tree.node_words.as_ptr(),
-            tree.node_words.len(),
-            tree.order.as_ptr(),
-            tree.order.len(),
-            lent.list.as_mut_ptr(),
-            lent.list.len(),
-            lent.stack.as_mut_ptr(),
-            lent.stack.len(),
-            lent.hit.as_mut_ptr(),
-            4,
-            lent.index.as_mut_ptr(),
-            1,
-        )
-    }
+    calls::ray_mesh(
+        ray,
+        &mesh.vertices,
+        &mesh.triangles,
+        &mesh.vertices,
+        &tree.lent(),
+        &mut lent.list,
+        &mut lent.stack,
+        &mut lent.hit,
+        &mut lent.index,
+    )
 }
 
 #[inline(always)]
 pub fn query(bounds: &[f64; 6], triangles: usize, tree: &Tree, lent: &mut Lent) -> u32 {
     let [a, b, c, d, e, f] = *bounds;
-    unsafe {
-        sys::probe_query(
-            a,
-            b,
-            c,
-            d,
-            e,
-            f,
-            triangles,
-            tree.nodes,
-            tree.node_boxes.as_ptr(),
-            tree.node_boxes.len(),
-            tree.triangle_boxes.as_ptr(),
-            tree.triangle_boxes.len(),
-            tree.node_words.as_ptr(),
-            tree.node_words.len(),
-            tree.order.as_ptr(),
-            tree.order.len(),
-            lent.list.as_mut_ptr(),
-            lent.list.len(),
-            lent.stack.as_mut_ptr(),
-            lent.stack.len(),
-            lent.found.as_mut_ptr(),
-            1,
-        )
-    }
+    calls::query(
+        [a, b, c],
+        [d, e, f],
+        triangles,
+        &tree.lent(),
+        &mut lent.list,
+        &mut lent.stack,
+        &mut lent.found,
+    )
 }
 
 /// The node count goes into the tree.
 #[inline(always)]
 pub fn build(mesh: &Mesh, tree: &mut Tree, work: &mut [u32]) -> u32 {
-    unsafe {
-        sys::probe_build(
-            mesh.vertices.as_ptr(),
-            mesh.vertices.len(),
-            mesh.triangles.as_ptr(),
-            mesh.triangles.len(),
-            tree.node_boxes.as_mut_ptr(),
-            tree.node_boxes.len(),
-            tree.triangle_boxes.as_mut_ptr(),
-            tree.triangle_boxes.len(),
-            tree.node_words.as_mut_ptr(),
-            tree.node_words.len(),
-            tree.order.as_mut_ptr(),
-            tree.order.len(),
-            work.as_mut_ptr(),
-            work.len(),
-            &mut tree.nodes,
-            1,
-        )
-    }
+    let areas = TreeAreas {
+        node_boxes: &mut tree.node_boxes,
+        triangle_boxes: &mut tree.triangle_boxes,
+        node_words: &mut tree.node_words,
+        order: &mut tree.order,
+    };
+    let nodes = std::slice::from_mut(&mut tree.nodes);
+    calls::build(&mesh.vertices, &mesh.triangles, areas, work, nodes)
 }
 
 #[inline(always)]
 pub fn check(mesh: &Mesh, tree: &Tree, marks: &mut [u32]) -> u32 {
-    unsafe {
-        sys::probe_tree_check(
-            mesh.vertices.as_ptr(),
-            mesh.vertices.len(),
-            mesh.triangles.as_ptr(),
-            mesh.triangles.len(),
-            tree.nodes,
-            tree.node_boxes.as_ptr(),
-            tree.node_boxes.len(),
-            tree.triangle_boxes.as_ptr(),
-            tree.triangle_boxes.len(),
-            tree.node_words.as_ptr(),
-            tree.node_words.len(),
-            tree.order.as_ptr(),
-            tree.order.len(),
-            marks.as_mut_ptr(),
-            marks.len(),
-        )
-    }
+    calls::tree_check(&mesh.vertices, &mesh.triangles, &tree.lent(), marks)
 }
 
 #[inline(always)]
 pub fn height_field(ray: &Ray, field: &Heights, hit: &mut [f64; 4]) -> u32 {
-    let ([x, y, z], [a, b, c]) = (ray.origin, ray.direction);
-    unsafe {
-        sys::probe_ray_height_field(
-            x,
-            y,
-            z,
-            a,
-            b,
-            c,
-            ray.maximum,
-            field.rows,
-            field.columns,
-            field.spacing[0],
-            field.spacing[1],
-            field.heights.as_ptr(),
-            field.heights.len(),
-            hit.as_mut_ptr(),
-            4,
-        )
-    }
+    let field = HeightField {
+        rows: field.rows,
+        columns: field.columns,
+        spacing: field.spacing,
+        heights: &field.heights,
+    };
+    calls::ray_height_field(ray, &field, hit)
 }
 
 #[inline(always)]
 pub fn level_set(ray: &Ray, grid: &Distances, hit: &mut [f64; 4]) -> u32 {
-    let ([x, y, z], [a, b, c]) = (ray.origin, ray.direction);
-    let ([i, j, k], [u, v, w]) = (grid.sides, grid.origin);
-    let [p, q, r] = grid.spacing;
-    unsafe {
-        sys::probe_ray_level_set(
-            x,
-            y,
-            z,
-            a,
-            b,
-            c,
-            ray.maximum,
-            i,
-            j,
-            k,
-            u,
-            v,
-            w,
-            p,
-            q,
-            r,
-            grid.values.as_ptr(),
-            grid.values.len(),
-            hit.as_mut_ptr(),
-            4,
-        )
-    }
+    let grid = LevelSet {
+        sides: grid.sides,
+        origin: grid.origin,
+        spacing: grid.spacing,
+        values: &grid.values,
+    };
+    calls::ray_level_set(ray, &grid, hit)
 }

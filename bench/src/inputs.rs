@@ -24,7 +24,7 @@ pub fn toward(origin: [f64; 3], target: [f64; 3]) -> Ray {
     Ray {
         origin,
         direction: along.map(|c| c / length),
-        maximum: length,
+        max_distance: length,
     }
 }
 
@@ -104,7 +104,7 @@ pub fn short_probes(count: usize) -> Vec<Ray> {
         Ray {
             origin: [random.between(0.0, wide), random.between(0.0, deep), height],
             direction,
-            maximum: random.between(15.0, 30.0),
+            max_distance: random.between(15.0, 30.0),
         }
     };
     (0..count).map(probe).collect()
@@ -141,7 +141,7 @@ pub fn through_holes(count: usize) -> Vec<Ray> {
             THICK + 4.0,
         ],
         direction: [0.0, 0.0, -1.0],
-        maximum: 30.0,
+        max_distance: 30.0,
     };
     (0..count).map(ray).collect()
 }
@@ -235,7 +235,7 @@ pub fn from_above(count: usize, wide: f64, deep: f64) -> Vec<Ray> {
     let ray = |_| Ray {
         origin: [random.between(0.0, wide), random.between(0.0, deep), 4.0],
         direction: [0.0, 0.0, -1.0],
-        maximum: 8.0,
+        max_distance: 8.0,
     };
     (0..count).map(ray).collect()
 }
@@ -308,7 +308,7 @@ pub fn at_ball(count: usize, near: f64, far: f64) -> Vec<Ray> {
             [0, 1, 2].map(|axis| past[axis] + 3.0 * from[axis]),
             [0, 1, 2].map(|axis| past[axis] - 3.0 * from[axis]),
         );
-        ray.maximum = 6.0;
+        ray.max_distance = 6.0;
         ray
     };
     (0..count).map(ray).collect()
@@ -334,7 +334,7 @@ pub fn at_triangles(count: usize, hit: bool) -> Vec<(Ray, [[f64; 3]; 3])> {
             a + u * (b - a) + v * (c - a)
         });
         let mut ray = toward(origin, target);
-        ray.maximum *= 1.5;
+        ray.max_distance *= 1.5;
         (ray, corners)
     };
     (0..count).map(pair).collect()
@@ -349,7 +349,7 @@ pub fn at_planes(count: usize) -> Vec<(Ray, [f64; 3], f64)> {
         let (origin, target) = (point(), point());
         let distance = (0..3).map(|axis| normal[axis] * target[axis]).sum();
         let mut ray = toward(origin, target);
-        ray.maximum *= 2.0;
+        ray.max_distance *= 2.0;
         (ray, normal, distance)
     };
     (0..count).map(pair).collect()

@@ -11,7 +11,6 @@ use std::{
 /// Records in the stored stream, and how often it is repeated.
 const RECORDS: usize = 5_000;
 const REPEATED: usize = 20;
-const MESH: u8 = 3;
 
 /// PROBE names our program; the Rust's stands beside this one.
 fn programs() -> [PathBuf; 2] {
@@ -20,11 +19,11 @@ fn programs() -> [PathBuf; 2] {
     [ours.into(), rust.with_file_name("oracle-probe")]
 }
 
-fn stream(kinds: &[u8]) -> Vec<u8> {
+fn stream() -> Vec<u8> {
     let mut records = generate::marked();
-    records.retain(|record| kinds.contains(&record.shape.kind()));
     let first = records.len() as u64;
-    let others = (first..RECORDS as u64).map(|number| generate::record(9, number, kinds));
+    let others =
+        (first..RECORDS as u64).map(|number| generate::record(9, number, &[1, 2, 3, 4, 5]));
     records.extend(others);
     records.iter().flat_map(|record| record.write()).collect()
 }
@@ -47,13 +46,6 @@ fn run(program: &Path, input: &Path) {
     assert!(status.success());
 }
 
-/// All kinds, but for meshes while our program takes them for malformed.
-fn kinds(program: &Path, file: &Path) -> Vec<u8> {
-    fs::write(file, stream(&[MESH])).expect("a file for the records");
-    let known = !lines(program, file).contains("bad");
-    (1..=5).filter(|&kind| kind != MESH || known).collect()
-}
-
 fn compare(name: &str, programs: &[PathBuf; 2], file: &Path) {
     let [ours, rust] = [0, 1].map(|side| lines(&programs[side], file));
     assert_eq!(ours.lines().count(), rust.lines().count(), "{name}");
@@ -68,8 +60,7 @@ fn compare(name: &str, programs: &[PathBuf; 2], file: &Path) {
 pub fn row(name: &str) -> Row {
     let file = std::env::temp_dir().join(format!("bench-{}.records", std::process::id()));
     let programs = programs();
-    let stored = stream(&kinds(&programs[0], &file));
-    fs::write(&file, stored.repeat(REPEATED)).expect("a file for the records");
+    fs::write(&file, stream().repeat(REPEATED)).expect("a file for the records");
     compare(name, &programs, &file);
     let [ours, rust] = programs;
     let kept = Kept(file.clone());

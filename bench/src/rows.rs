@@ -21,7 +21,7 @@ fn rust_ray(ray: &Ray) -> RustRay {
     timed::ray(
         Vec3::from_array(ray.origin),
         Vec3::from_array(ray.direction),
-        ray.maximum,
+        ray.max_distance,
     )
 }
 
@@ -243,7 +243,7 @@ pub fn mesh(name: &str, wanted: u32, both: &Rc<Both>, rays: Vec<Ray>) -> Row {
 fn segment_box(ray: &Ray) -> [f64; 6] {
     let mut bounds = [0.0; 6];
     for axis in 0..3 {
-        let end = ray.origin[axis] + ray.direction[axis] * ray.maximum;
+        let end = ray.origin[axis] + ray.direction[axis] * ray.max_distance;
         bounds[axis] = ray.origin[axis].min(end);
         bounds[axis + 3] = ray.origin[axis].max(end);
     }

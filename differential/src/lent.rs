@@ -62,16 +62,9 @@ impl<T: Word> Lent<T> {
         }
     }
 
-    /// Null for an empty slice, as C lends it.
-    pub fn pointer(&mut self) -> *mut T {
-        if self.length == 0 {
-            return std::ptr::null_mut();
-        }
-        self.buffer[MARGIN..].as_mut_ptr()
-    }
-
-    pub fn length(&self) -> usize {
-        self.length
+    /// The slice that a call may write.
+    pub fn slice(&mut self) -> &mut [T] {
+        &mut self.buffer[MARGIN..MARGIN + self.length]
     }
 
     pub fn contents(&self) -> &[T] {

@@ -3,7 +3,10 @@
 
 use crate::lent::{Lent, Word, same_bits};
 use oracle::{answer::Ray, tree::FlatTree};
-use probe_rays::sys;
+use probe_rays::{
+    calls,
+    lent::{TreeAreas, TreeRef},
+};
 
 /// A build's inputs. `areas` has no node count; `nodes` is the result slice.
 #[derive(Clone, Copy, Debug)]
@@ -111,6 +114,25 @@ impl LentTree {
         }
     }
 
+    fn lent(&self, node_count: usize) -> TreeRef<'_> {
+        TreeRef {
+            nodes: node_count,
+            node_boxes: self.node_boxes.contents(),
+            triangle_boxes: self.triangle_boxes.contents(),
+            node_words: self.node_words.contents(),
+            order: self.order.contents(),
+        }
+    }
+
+    fn areas(&mut self) -> TreeAreas<'_> {
+        TreeAreas {
+            node_boxes: self.node_boxes.slice(),
+            triangle_boxes: self.triangle_boxes.slice(),
+            node_words: self.node_words.slice(),
+            order: self.order.slice(),
+        }
+    }
+
     fn only_read(&self, given: &FlatTree) -> Result<(), Fault> {
         only_read("the node boxes", &self.node_boxes, &given.node_boxes)?;
         only_read(
@@ -133,32 +155,24 @@ impl LentTree {
     }
 }
 
+/// The oracle's ray as the library takes it.
+pub fn ray(ray: &Ray) -> probe_rays::Ray {
+    probe_rays::Ray::new(ray.origin, ray.direction, ray.maximum)
+}
+
 pub fn build(call: &Build) -> Result<Built, Fault> {
-    let mut vertices = Lent::new(call.vertices);
-    let mut indices = Lent::new(call.indices);
+    let vertices = Lent::new(call.vertices);
+    let indices = Lent::new(call.indices);
     let mut areas = LentTree::new(call.areas);
     let mut work = Lent::new(call.work);
     let mut nodes = Lent::new(call.nodes);
-    let number = unsafe {
-        sys::probe_build(
-            vertices.pointer(),
-            vertices.length(),
-            indices.pointer(),
-            indices.length(),
-            areas.node_boxes.pointer(),
-            areas.node_boxes.length(),
-            areas.triangle_boxes.pointer(),
-            areas.triangle_boxes.length(),
-            areas.node_words.pointer(),
-            areas.node_words.length(),
-            areas.order.pointer(),
-            areas.order.length(),
-            work.pointer(),
-            work.length(),
-            nodes.pointer(),
-            nodes.length(),
-        )
-    };
+    let number = calls::build(
+        vertices.contents(),
+        indices.contents(),
+        areas.areas(),
+        work.slice(),
+        nodes.slice(),
+    );
     only_read("the vertices", &vertices, call.vertices)?;
     only_read("the triangles", &indices, call.indices)?;
     Ok(Built {
@@ -170,29 +184,16 @@ pub fn build(call: &Build) -> Result<Built, Fault> {
 }
 
 pub fn check(call: &Check) -> Result<Checked, Fault> {
-    let mut vertices = Lent::new(call.vertices);
-    let mut indices = Lent::new(call.indices);
-    let mut tree = LentTree::new(call.tree);
+    let vertices = Lent::new(call.vertices);
+    let indices = Lent::new(call.indices);
+    let tree = LentTree::new(call.tree);
     let mut marks = Lent::new(call.marks);
-    let number = unsafe {
-        sys::probe_tree_check(
-            vertices.pointer(),
-            vertices.length(),
-            indices.pointer(),
-            indices.length(),
-            call.tree.node_count,
-            tree.node_boxes.pointer(),
-            tree.node_boxes.length(),
-            tree.triangle_boxes.pointer(),
-            tree.triangle_boxes.length(),
-            tree.node_words.pointer(),
-            tree.node_words.length(),
-            tree.order.pointer(),
-            tree.order.length(),
-            marks.pointer(),
-            marks.length(),
-        )
-    };
+    let number = calls::tree_check(
+        vertices.contents(),
+        indices.contents(),
+        &tree.lent(call.tree.node_count),
+        marks.slice(),
+    );
     only_read("the vertices", &vertices, call.vertices)?;
     only_read("the triangles", &indices, call.indices)?;
     tree.only_read(call.tree)?;
@@ -203,37 +204,20 @@ pub fn check(call: &Check) -> Result<Checked, Fault> {
 }
 
 pub fn query(call: &Query) -> Result<Queried, Fault> {
-    let mut tree = LentTree::new(call.tree);
+    let tree = LentTree::new(call.tree);
     let mut list = Lent::new(call.list);
     let mut stack = Lent::new(call.stack);
     let mut found = Lent::new(call.found);
     let [min_x, min_y, min_z, max_x, max_y, max_z] = call.bounds;
-    let number = unsafe {
-        sys::probe_query(
-            min_x,
-            min_y,
-            min_z,
-            max_x,
-            max_y,
-            max_z,
-            call.triangles,
-            call.tree.node_count,
-            tree.node_boxes.pointer(),
-            tree.node_boxes.length(),
-            tree.triangle_boxes.pointer(),
-            tree.triangle_boxes.length(),
-            tree.node_words.pointer(),
-            tree.node_words.length(),
-            tree.order.pointer(),
-            tree.order.length(),
-            list.pointer(),
-            list.length(),
-            stack.pointer(),
-            stack.length(),
-            found.pointer(),
-            found.length(),
-        )
-    };
+    let number = calls::query(
+        [min_x, min_y, min_z],
+        [max_x, max_y, max_z],
+        call.triangles,
+        &tree.lent(call.tree.node_count),
+        list.slice(),
+        stack.slice(),
+        found.slice(),
+    );
     tree.only_read(call.tree)?;
     Ok(Queried {
         number,
@@ -244,49 +228,25 @@ pub fn query(call: &Query) -> Result<Queried, Fault> {
 }
 
 pub fn cast(call: &Cast) -> Result<Hit, Fault> {
-    let mut vertices = Lent::new(call.vertices);
-    let mut indices = Lent::new(call.indices);
-    let mut pose = Lent::new(call.pose);
-    let mut tree = LentTree::new(call.tree);
+    let vertices = Lent::new(call.vertices);
+    let indices = Lent::new(call.indices);
+    let pose = Lent::new(call.pose);
+    let tree = LentTree::new(call.tree);
     let mut list = Lent::new(call.list);
     let mut stack = Lent::new(call.stack);
     let mut hit = Lent::new(call.hit);
     let mut index = Lent::new(call.index);
-    let ([o_x, o_y, o_z], [d_x, d_y, d_z]) = (call.ray.origin, call.ray.direction);
-    let number = unsafe {
-        sys::probe_ray_mesh(
-            o_x,
-            o_y,
-            o_z,
-            d_x,
-            d_y,
-            d_z,
-            call.ray.maximum,
-            vertices.pointer(),
-            vertices.length(),
-            indices.pointer(),
-            indices.length(),
-            pose.pointer(),
-            pose.length(),
-            call.tree.node_count,
-            tree.node_boxes.pointer(),
-            tree.node_boxes.length(),
-            tree.triangle_boxes.pointer(),
-            tree.triangle_boxes.length(),
-            tree.node_words.pointer(),
-            tree.node_words.length(),
-            tree.order.pointer(),
-            tree.order.length(),
-            list.pointer(),
-            list.length(),
-            stack.pointer(),
-            stack.length(),
-            hit.pointer(),
-            hit.length(),
-            index.pointer(),
-            index.length(),
-        )
-    };
+    let number = calls::ray_mesh(
+        &ray(&call.ray),
+        vertices.contents(),
+        indices.contents(),
+        pose.contents(),
+        &tree.lent(call.tree.node_count),
+        list.slice(),
+        stack.slice(),
+        hit.slice(),
+        index.slice(),
+    );
     only_read("the vertices", &vertices, call.vertices)?;
     only_read("the triangles", &indices, call.indices)?;
     only_read("the pose", &pose, call.pose)?;
@@ -300,20 +260,15 @@ pub fn cast(call: &Cast) -> Result<Hit, Fault> {
     })
 }
 
-/// A cast at one of the other shapes: `call` gets the hit slice, and the values of a grid.
+/// A cast at one of the other shapes: `call` gets the values of a grid and the hit slice.
 pub fn shape_cast(
     values: &[f64],
     hit: &[f64],
-    call: impl FnOnce(*const f64, usize, *mut f64, usize) -> u32,
+    call: impl FnOnce(&[f64], &mut [f64]) -> u32,
 ) -> Result<(u32, Vec<f64>), Fault> {
-    let mut lent_values = Lent::new(values);
+    let lent_values = Lent::new(values);
     let mut lent_hit = Lent::new(hit);
-    let number = call(
-        lent_values.pointer(),
-        lent_values.length(),
-        lent_hit.pointer(),
-        lent_hit.length(),
-    );
+    let number = call(lent_values.contents(), lent_hit.slice());
     only_read("the values", &lent_values, values)?;
     Ok((number, written("the hit", &lent_hit)?))
 }

@@ -8,12 +8,12 @@ use crate::{
     log::{Log, in_words},
 };
 use oracle::{
-    answer::{self, Answer, Ray, agree},
+    answer::{self, Answer, agree},
     cases, generate,
     random::Random,
     record::{Record, Shape},
 };
-use probe_rays::sys;
+use probe_rays::{HeightField, LevelSet, Plane, calls, sys};
 
 /// A record's cast, at times with a hit slice that is too short or a grid whose length or
 /// sides a record could not carry.
@@ -54,63 +54,43 @@ fn library_cast(
     hit: &[f64],
     rows_above: Option<usize>,
 ) -> Result<(u32, Vec<f64>), String> {
-    let Ray {
-        origin: o,
-        direction: d,
-        maximum: m,
-    } = record.ray;
+    let ray = library::ray(&record.ray);
     match &record.shape {
-        Shape::Plane {
-            normal: n,
-            distance,
-        } => library::shape_cast(&[], hit, |_, _, hit, length| unsafe {
-            sys::probe_ray_plane(
-                o[0], o[1], o[2], d[0], d[1], d[2], m, n[0], n[1], n[2], *distance, hit, length,
-            )
+        Shape::Plane { normal, distance } => library::shape_cast(&[], hit, |_, hit| {
+            let (normal, distance) = (*normal, *distance);
+            calls::ray_plane(&ray, &Plane { normal, distance }, hit)
         }),
-        Shape::Triangle { corners: [a, b, c] } => {
-            library::shape_cast(&[], hit, |_, _, hit, length| unsafe {
-                sys::probe_ray_triangle(
-                    o[0], o[1], o[2], d[0], d[1], d[2], m, a[0], a[1], a[2], b[0], b[1], b[2],
-                    c[0], c[1], c[2], hit, length,
-                )
-            })
+        Shape::Triangle { corners } => {
+            library::shape_cast(&[], hit, |_, hit| calls::ray_triangle(&ray, corners, hit))
         }
         Shape::Mesh { .. } => unreachable!("meshes have their own comparison"),
         Shape::HeightField {
             rows,
             columns,
-            spacing: s,
+            spacing,
             heights,
-        } => library::shape_cast(heights, hit, |values, count, hit, length| unsafe {
-            sys::probe_ray_height_field(
-                o[0],
-                o[1],
-                o[2],
-                d[0],
-                d[1],
-                d[2],
-                m,
-                *rows as usize + rows_above.unwrap_or(0),
-                *columns as usize,
-                s[0],
-                s[1],
-                values,
-                count,
-                hit,
-                length,
-            )
+        } => library::shape_cast(heights, hit, |heights, hit| {
+            let field = HeightField {
+                rows: *rows as usize + rows_above.unwrap_or(0),
+                columns: *columns as usize,
+                spacing: *spacing,
+                heights,
+            };
+            calls::ray_height_field(&ray, &field, hit)
         }),
         Shape::LevelSet {
             sides,
-            origin: g,
-            spacing: s,
+            origin,
+            spacing,
             values,
-        } => library::shape_cast(values, hit, |values, count, hit, length| unsafe {
-            sys::probe_ray_level_set(
-                o[0], o[1], o[2], d[0], d[1], d[2], m, sides[0], sides[1], sides[2], g[0], g[1],
-                g[2], s[0], s[1], s[2], values, count, hit, length,
-            )
+        } => library::shape_cast(values, hit, |values, hit| {
+            let grid = LevelSet {
+                sides: *sides,
+                origin: *origin,
+                spacing: *spacing,
+                values,
+            };
+            calls::ray_level_set(&ray, &grid, hit)
         }),
     }
 }

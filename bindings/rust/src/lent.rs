@@ -9,7 +9,7 @@
 //! | node boxes | f64 | 12n | six numbers a node: minimum x, y, z, then maximum x, y, z |
 //! | triangle boxes | f64 | 6n | six numbers a triangle, in the same order |
 //! | node words | u32 | 6n | three words a node: 0, start, count (a leaf); 1, left, right (a branch) |
-//! | order | u32 | n | triangle indices, the leaves' ranges one after another |
+//! | order | u32 | n | triangle indices; a leaf names a range of its places |
 //! | work | u32 | n | the build's; holds anything afterwards |
 //! | list | u32 | n | the query's result; the mesh cast's work |
 //! | stack | u32 | node count + 1 | the walk's; holds anything afterwards |
@@ -66,7 +66,7 @@
 //! ```
 use crate::answer::{Cast, MeshHit, Refusal};
 use crate::shapes::{placed, Places};
-use crate::{sys, Ray};
+use crate::{calls, sys, Ray};
 
 /// The length of the node boxes of n triangles.
 pub const fn node_boxes_length(n: usize) -> usize {
@@ -119,7 +119,7 @@ pub struct TreeRef<'a> {
     pub triangle_boxes: &'a [f64],
     /// Three words a node: 0, start, count of a leaf, or 1, left, right of a branch.
     pub node_words: &'a [u32],
-    /// Triangle indices, the leaves' ranges one after another.
+    /// Triangle indices; a leaf names a range of its places.
     pub order: &'a [u32],
 }
 
@@ -147,27 +147,7 @@ pub fn build(
     work: &mut [u32],
 ) -> Result<usize, Refusal> {
     let mut nodes = [0_usize];
-    // SAFETY: every pointer and length is a slice's, and Rust lets no mutable one overlap another.
-    let answer = unsafe {
-        sys::probe_build(
-            vertices.as_ptr(),
-            vertices.len(),
-            triangles.as_ptr(),
-            triangles.len(),
-            areas.node_boxes.as_mut_ptr(),
-            areas.node_boxes.len(),
-            areas.triangle_boxes.as_mut_ptr(),
-            areas.triangle_boxes.len(),
-            areas.node_words.as_mut_ptr(),
-            areas.node_words.len(),
-            areas.order.as_mut_ptr(),
-            areas.order.len(),
-            work.as_mut_ptr(),
-            work.len(),
-            nodes.as_mut_ptr(),
-            nodes.len(),
-        )
-    };
+    let answer = calls::build(vertices, triangles, areas, work, &mut nodes);
     match answer {
         sys::DONE => Ok(nodes[0]),
         number => Err(Refusal::from_number(number)),
@@ -187,35 +167,7 @@ pub fn query(
     stack: &mut [u32],
 ) -> Result<usize, Refusal> {
     let mut found = [0_usize];
-    let [min_x, min_y, min_z] = min;
-    let [max_x, max_y, max_z] = max;
-    // SAFETY: every pointer and length is a slice's, and Rust lets no mutable one overlap another.
-    let answer = unsafe {
-        sys::probe_query(
-            min_x,
-            min_y,
-            min_z,
-            max_x,
-            max_y,
-            max_z,
-            n,
-            tree.nodes,
-            tree.node_boxes.as_ptr(),
-            tree.node_boxes.len(),
-            tree.triangle_boxes.as_ptr(),
-            tree.triangle_boxes.len(),
-            tree.node_words.as_ptr(),
-            tree.node_words.len(),
-            tree.order.as_ptr(),
-            tree.order.len(),
-            list.as_mut_ptr(),
-            list.len(),
-            stack.as_mut_ptr(),
-            stack.len(),
-            found.as_mut_ptr(),
-            found.len(),
-        )
-    };
+    let answer = calls::query(min, max, n, tree, list, stack, &mut found);
     match answer {
         sys::DONE => Ok(found[0]),
         number => Err(Refusal::from_number(number)),
@@ -232,26 +184,7 @@ pub fn tree_check(
     tree: &TreeRef<'_>,
     marks: &mut [u32],
 ) -> Result<bool, Refusal> {
-    // SAFETY: every pointer and length is a slice's, and Rust lets no mutable one overlap another.
-    let answer = unsafe {
-        sys::probe_tree_check(
-            vertices.as_ptr(),
-            vertices.len(),
-            triangles.as_ptr(),
-            triangles.len(),
-            tree.nodes,
-            tree.node_boxes.as_ptr(),
-            tree.node_boxes.len(),
-            tree.triangle_boxes.as_ptr(),
-            tree.triangle_boxes.len(),
-            tree.node_words.as_ptr(),
-            tree.node_words.len(),
-            tree.order.as_ptr(),
-            tree.order.len(),
-            marks.as_mut_ptr(),
-            marks.len(),
-        )
-    };
+    let answer = calls::tree_check(vertices, triangles, tree, marks);
     match answer {
         sys::YES => Ok(true),
         sys::NO => Ok(false),
@@ -277,43 +210,17 @@ pub fn ray_mesh(
 ) -> Cast<MeshHit> {
     let mut places: Places = [0.0; 4];
     let mut index = [0_u32];
-    let [origin_x, origin_y, origin_z] = ray.origin;
-    let [direction_x, direction_y, direction_z] = ray.direction;
-    // SAFETY: every pointer and length is a slice's, and Rust lets no mutable one overlap another.
-    let answer = unsafe {
-        sys::probe_ray_mesh(
-            origin_x,
-            origin_y,
-            origin_z,
-            direction_x,
-            direction_y,
-            direction_z,
-            ray.max_distance,
-            vertices.as_ptr(),
-            vertices.len(),
-            triangles.as_ptr(),
-            triangles.len(),
-            pose.as_ptr(),
-            pose.len(),
-            tree.nodes,
-            tree.node_boxes.as_ptr(),
-            tree.node_boxes.len(),
-            tree.triangle_boxes.as_ptr(),
-            tree.triangle_boxes.len(),
-            tree.node_words.as_ptr(),
-            tree.node_words.len(),
-            tree.order.as_ptr(),
-            tree.order.len(),
-            list.as_mut_ptr(),
-            list.len(),
-            stack.as_mut_ptr(),
-            stack.len(),
-            places.as_mut_ptr(),
-            places.len(),
-            index.as_mut_ptr(),
-            index.len(),
-        )
-    };
+    let answer = calls::ray_mesh(
+        ray,
+        vertices,
+        triangles,
+        pose,
+        tree,
+        list,
+        stack,
+        &mut places,
+        &mut index,
+    );
     Cast::of(answer, || {
         let hit = placed(&places);
         MeshHit {

@@ -31,12 +31,13 @@
 //! # Ok::<(), Refusal>(())
 //! ```
 //!
-//! [`lent`] has the same calls over slices of the caller's, for those who allocate nothing, and [`sys`] the
-//! declarations as C sees them.
+//! [`lent`] has the same calls over slices of the caller's, for those who allocate nothing, [`calls`] the numbers that
+//! they answer, and [`sys`] the declarations as C sees them.
 #![deny(missing_docs)]
 #![deny(unsafe_op_in_unsafe_fn)]
 
 mod answer;
+pub mod calls;
 pub mod lent;
 mod mesh;
 mod ray;

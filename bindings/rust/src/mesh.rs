@@ -16,7 +16,7 @@ pub struct Tree {
     pub triangle_boxes: Vec<f64>,
     /// Three words a node: 0, start, count of a leaf, or 1, left, right of a branch. At least 6 a triangle.
     pub node_words: Vec<u32>,
-    /// Triangle indices, the leaves' ranges one after another.
+    /// Triangle indices; a leaf names a range of its places.
     pub order: Vec<u32>,
 }
 

@@ -1,6 +1,6 @@
 //! The casts at a plane, a triangle, a height grid and a distance grid.
 use crate::answer::{Cast, Hit};
-use crate::{sys, Ray};
+use crate::{calls, Ray};
 
 /// The places of a hit: normal x, y, z, then the distance.
 pub(crate) type Places = [f64; 4];
@@ -62,27 +62,7 @@ pub struct LevelSet<'a> {
 /// ```
 pub fn ray_plane(ray: &Ray, plane: &Plane) -> Cast {
     let mut places: Places = [0.0; 4];
-    let [origin_x, origin_y, origin_z] = ray.origin;
-    let [direction_x, direction_y, direction_z] = ray.direction;
-    let [normal_x, normal_y, normal_z] = plane.normal;
-    // SAFETY: the places are four, and the call's alone.
-    let answer = unsafe {
-        sys::probe_ray_plane(
-            origin_x,
-            origin_y,
-            origin_z,
-            direction_x,
-            direction_y,
-            direction_z,
-            ray.max_distance,
-            normal_x,
-            normal_y,
-            normal_z,
-            plane.distance,
-            places.as_mut_ptr(),
-            places.len(),
-        )
-    };
+    let answer = calls::ray_plane(ray, plane, &mut places);
     Cast::of(answer, || placed(&places))
 }
 
@@ -100,32 +80,7 @@ pub fn ray_plane(ray: &Ray, plane: &Plane) -> Cast {
 /// ```
 pub fn ray_triangle(ray: &Ray, corners: &[[f64; 3]; 3]) -> Cast {
     let mut places: Places = [0.0; 4];
-    let [origin_x, origin_y, origin_z] = ray.origin;
-    let [direction_x, direction_y, direction_z] = ray.direction;
-    let [[a_x, a_y, a_z], [b_x, b_y, b_z], [c_x, c_y, c_z]] = *corners;
-    // SAFETY: the places are four, and the call's alone.
-    let answer = unsafe {
-        sys::probe_ray_triangle(
-            origin_x,
-            origin_y,
-            origin_z,
-            direction_x,
-            direction_y,
-            direction_z,
-            ray.max_distance,
-            a_x,
-            a_y,
-            a_z,
-            b_x,
-            b_y,
-            b_z,
-            c_x,
-            c_y,
-            c_z,
-            places.as_mut_ptr(),
-            places.len(),
-        )
-    };
+    let answer = calls::ray_triangle(ray, corners, &mut places);
     Cast::of(answer, || placed(&places))
 }
 
@@ -142,29 +97,7 @@ pub fn ray_triangle(ray: &Ray, corners: &[[f64; 3]; 3]) -> Cast {
 /// ```
 pub fn ray_height_field(ray: &Ray, field: &HeightField<'_>) -> Cast {
     let mut places: Places = [0.0; 4];
-    let [origin_x, origin_y, origin_z] = ray.origin;
-    let [direction_x, direction_y, direction_z] = ray.direction;
-    let [spacing_x, spacing_y] = field.spacing;
-    // SAFETY: the heights are a slice; the places are four, and the call's alone.
-    let answer = unsafe {
-        sys::probe_ray_height_field(
-            origin_x,
-            origin_y,
-            origin_z,
-            direction_x,
-            direction_y,
-            direction_z,
-            ray.max_distance,
-            field.rows,
-            field.columns,
-            spacing_x,
-            spacing_y,
-            field.heights.as_ptr(),
-            field.heights.len(),
-            places.as_mut_ptr(),
-            places.len(),
-        )
-    };
+    let answer = calls::ray_height_field(ray, field, &mut places);
     Cast::of(answer, || placed(&places))
 }
 
@@ -183,35 +116,6 @@ pub fn ray_height_field(ray: &Ray, field: &HeightField<'_>) -> Cast {
 /// ```
 pub fn ray_level_set(ray: &Ray, grid: &LevelSet<'_>) -> Cast {
     let mut places: Places = [0.0; 4];
-    let [origin_x, origin_y, origin_z] = ray.origin;
-    let [direction_x, direction_y, direction_z] = ray.direction;
-    let [side_x, side_y, side_z] = grid.sides;
-    let [grid_x, grid_y, grid_z] = grid.origin;
-    let [spacing_x, spacing_y, spacing_z] = grid.spacing;
-    // SAFETY: the values are a slice; the places are four, and the call's alone.
-    let answer = unsafe {
-        sys::probe_ray_level_set(
-            origin_x,
-            origin_y,
-            origin_z,
-            direction_x,
-            direction_y,
-            direction_z,
-            ray.max_distance,
-            side_x,
-            side_y,
-            side_z,
-            grid_x,
-            grid_y,
-            grid_z,
-            spacing_x,
-            spacing_y,
-            spacing_z,
-            grid.values.as_ptr(),
-            grid.values.len(),
-            places.as_mut_ptr(),
-            places.len(),
-        )
-    };
+    let answer = calls::ray_level_set(ray, grid, &mut places);
     Cast::of(answer, || placed(&places))
 }

@@ -1,0 +1,277 @@
+//! Each call of the library over slices, its result slices included, with the number that it answers: a refusal's, or
+//! a code of [`sys`]. Here alone are pointers made. [`lent`](crate::lent) and the casts of this crate turn the number
+//! into an answer; a test or a measurement may want it as it is.
+//!
+//! ```
+//! use probe_rays::{calls, sys, Plane, Ray};
+//!
+//! let ray = Ray::new([0.0, 0.0, 2.0], [0.0, 0.0, -1.0], 5.0);
+//! let plane = Plane { normal: [0.0, 0.0, 1.0], distance: 0.0 };
+//! let mut hit = [0.0; 4];
+//! assert_eq!(calls::ray_plane(&ray, &plane, &mut hit), sys::HIT);
+//! assert_eq!(hit, [0.0, 0.0, 1.0, 2.0]);
+//! // a result slice that is too short is refused with 3
+//! assert_eq!(calls::ray_plane(&ray, &plane, &mut hit[..3]), 3);
+//! ```
+use crate::lent::{TreeAreas, TreeRef};
+use crate::shapes::{HeightField, LevelSet, Plane};
+use crate::{sys, Ray};
+
+/// The cast at a plane; `hit` has four places, normal x, y, z and the distance.
+#[inline]
+pub fn ray_plane(ray: &Ray, plane: &Plane, hit: &mut [f64]) -> u32 {
+    // SAFETY: every pointer and length is a slice's, and Rust lets no mutable one overlap another.
+    unsafe {
+        sys::probe_ray_plane(
+            ray.origin[0],
+            ray.origin[1],
+            ray.origin[2],
+            ray.direction[0],
+            ray.direction[1],
+            ray.direction[2],
+            ray.max_distance,
+            plane.normal[0],
+            plane.normal[1],
+            plane.normal[2],
+            plane.distance,
+            hit.as_mut_ptr(),
+            hit.len(),
+        )
+    }
+}
+
+/// The cast at a triangle.
+#[inline]
+pub fn ray_triangle(ray: &Ray, corners: &[[f64; 3]; 3], hit: &mut [f64]) -> u32 {
+    // SAFETY: every pointer and length is a slice's, and Rust lets no mutable one overlap another.
+    unsafe {
+        sys::probe_ray_triangle(
+            ray.origin[0],
+            ray.origin[1],
+            ray.origin[2],
+            ray.direction[0],
+            ray.direction[1],
+            ray.direction[2],
+            ray.max_distance,
+            corners[0][0],
+            corners[0][1],
+            corners[0][2],
+            corners[1][0],
+            corners[1][1],
+            corners[1][2],
+            corners[2][0],
+            corners[2][1],
+            corners[2][2],
+            hit.as_mut_ptr(),
+            hit.len(),
+        )
+    }
+}
+
+/// The cast at a height grid.
+#[inline]
+pub fn ray_height_field(ray: &Ray, field: &HeightField<'_>, hit: &mut [f64]) -> u32 {
+    // SAFETY: every pointer and length is a slice's, and Rust lets no mutable one overlap another.
+    unsafe {
+        sys::probe_ray_height_field(
+            ray.origin[0],
+            ray.origin[1],
+            ray.origin[2],
+            ray.direction[0],
+            ray.direction[1],
+            ray.direction[2],
+            ray.max_distance,
+            field.rows,
+            field.columns,
+            field.spacing[0],
+            field.spacing[1],
+            field.heights.as_ptr(),
+            field.heights.len(),
+            hit.as_mut_ptr(),
+            hit.len(),
+        )
+    }
+}
+
+/// The cast at a distance grid.
+#[inline]
+pub fn ray_level_set(ray: &Ray, grid: &LevelSet<'_>, hit: &mut [f64]) -> u32 {
+    // SAFETY: every pointer and length is a slice's, and Rust lets no mutable one overlap another.
+    unsafe {
+        sys::probe_ray_level_set(
+            ray.origin[0],
+            ray.origin[1],
+            ray.origin[2],
+            ray.direction[0],
+            ray.direction[1],
+            ray.direction[2],
+            ray.max_distance,
+            grid.sides[0],
+            grid.sides[1],
+            grid.sides[2],
+            grid.origin[0],
+            grid.origin[1],
+            grid.origin[2],
+            grid.spacing[0],
+            grid.spacing[1],
+            grid.spacing[2],
+            grid.values.as_ptr(),
+            grid.values.len(),
+            hit.as_mut_ptr(),
+            hit.len(),
+        )
+    }
+}
+
+/// The mesh cast; `index` has one place.
+#[allow(clippy::too_many_arguments)]
+#[inline]
+pub fn ray_mesh(
+    ray: &Ray,
+    vertices: &[f64],
+    triangles: &[u32],
+    pose: &[f64],
+    tree: &TreeRef<'_>,
+    list: &mut [u32],
+    stack: &mut [u32],
+    hit: &mut [f64],
+    index: &mut [u32],
+) -> u32 {
+    // SAFETY: every pointer and length is a slice's, and Rust lets no mutable one overlap another.
+    unsafe {
+        sys::probe_ray_mesh(
+            ray.origin[0],
+            ray.origin[1],
+            ray.origin[2],
+            ray.direction[0],
+            ray.direction[1],
+            ray.direction[2],
+            ray.max_distance,
+            vertices.as_ptr(),
+            vertices.len(),
+            triangles.as_ptr(),
+            triangles.len(),
+            pose.as_ptr(),
+            pose.len(),
+            tree.nodes,
+            tree.node_boxes.as_ptr(),
+            tree.node_boxes.len(),
+            tree.triangle_boxes.as_ptr(),
+            tree.triangle_boxes.len(),
+            tree.node_words.as_ptr(),
+            tree.node_words.len(),
+            tree.order.as_ptr(),
+            tree.order.len(),
+            list.as_mut_ptr(),
+            list.len(),
+            stack.as_mut_ptr(),
+            stack.len(),
+            hit.as_mut_ptr(),
+            hit.len(),
+            index.as_mut_ptr(),
+            index.len(),
+        )
+    }
+}
+
+/// The build; `nodes` has one place, the node count.
+#[inline]
+pub fn build(
+    vertices: &[f64],
+    triangles: &[u32],
+    areas: TreeAreas<'_>,
+    work: &mut [u32],
+    nodes: &mut [usize],
+) -> u32 {
+    // SAFETY: every pointer and length is a slice's, and Rust lets no mutable one overlap another.
+    unsafe {
+        sys::probe_build(
+            vertices.as_ptr(),
+            vertices.len(),
+            triangles.as_ptr(),
+            triangles.len(),
+            areas.node_boxes.as_mut_ptr(),
+            areas.node_boxes.len(),
+            areas.triangle_boxes.as_mut_ptr(),
+            areas.triangle_boxes.len(),
+            areas.node_words.as_mut_ptr(),
+            areas.node_words.len(),
+            areas.order.as_mut_ptr(),
+            areas.order.len(),
+            work.as_mut_ptr(),
+            work.len(),
+            nodes.as_mut_ptr(),
+            nodes.len(),
+        )
+    }
+}
+
+/// The query of n triangles; `found` has one place, how many are listed.
+#[inline]
+pub fn query(
+    min: [f64; 3],
+    max: [f64; 3],
+    n: usize,
+    tree: &TreeRef<'_>,
+    list: &mut [u32],
+    stack: &mut [u32],
+    found: &mut [usize],
+) -> u32 {
+    // SAFETY: every pointer and length is a slice's, and Rust lets no mutable one overlap another.
+    unsafe {
+        sys::probe_query(
+            min[0],
+            min[1],
+            min[2],
+            max[0],
+            max[1],
+            max[2],
+            n,
+            tree.nodes,
+            tree.node_boxes.as_ptr(),
+            tree.node_boxes.len(),
+            tree.triangle_boxes.as_ptr(),
+            tree.triangle_boxes.len(),
+            tree.node_words.as_ptr(),
+            tree.node_words.len(),
+            tree.order.as_ptr(),
+            tree.order.len(),
+            list.as_mut_ptr(),
+            list.len(),
+            stack.as_mut_ptr(),
+            stack.len(),
+            found.as_mut_ptr(),
+            found.len(),
+        )
+    }
+}
+
+/// The tree check.
+#[inline]
+pub fn tree_check(
+    vertices: &[f64],
+    triangles: &[u32],
+    tree: &TreeRef<'_>,
+    marks: &mut [u32],
+) -> u32 {
+    // SAFETY: every pointer and length is a slice's, and Rust lets no mutable one overlap another.
+    unsafe {
+        sys::probe_tree_check(
+            vertices.as_ptr(),
+            vertices.len(),
+            triangles.as_ptr(),
+            triangles.len(),
+            tree.nodes,
+            tree.node_boxes.as_ptr(),
+            tree.node_boxes.len(),
+            tree.triangle_boxes.as_ptr(),
+            tree.triangle_boxes.len(),
+            tree.node_words.as_ptr(),
+            tree.node_words.len(),
+            tree.order.as_ptr(),
+            tree.order.len(),
+            marks.as_mut_ptr(),
+            marks.len(),
+        )
+    }
+}
