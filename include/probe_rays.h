@@ -107,7 +107,7 @@ extern "C" {
  *   triangle_boxes  double    6n              six numbers a triangle, in the same order
  *   node_words      uint32_t  6n              three words a node: 0, start, count (a leaf: places of order),
  *                                             or 1, left, right (a branch: two nodes)
- *   order           uint32_t  n               triangle indices, the leaves' ranges one after another
+ *   order           uint32_t  n               triangle indices; a leaf names a range of its places
  *   work            uint32_t  n               the build's work area
  *   list            uint32_t  n               the query's result; a work area of the mesh cast
  *   stack           uint32_t  node count + 1  a work area of the query and the mesh cast

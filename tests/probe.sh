@@ -14,8 +14,11 @@ trap 'rm -rf "$work"' EXIT
 
 for example in plane mesh; do
   target/bin/probe < "examples/$example.records" | cmp - "examples/$example.lines"
+  "$oracle/oracle-probe" < "examples/$example.records" | cmp - "examples/$example.lines"
 done
 tools/records.py write < examples/mesh.txt | cmp - examples/mesh.records
+# the stored records and their lines are what tests/VECTORS.md says
+{ cat examples/plane.records; "$oracle/oracle-gen" 94 2000; } | cmp - crates/probe/stdin
 "$oracle/oracle-probe" < crates/probe/stdin | cmp - crates/probe/stdout
 
 "$oracle/oracle-gen" "$seed" "$records" > "$work/records"

@@ -36,4 +36,5 @@ for code in "$work"/[0-9]*; do
   esac
   previous=$code
 done
+[ "$ran" = 4 ] || { echo "error: $ran pieces of README.md's code were found, not 4" >&2; exit 1; }
 echo "$ran pieces of README.md's code do what it says"

@@ -29,16 +29,6 @@ pub nan-le-false : (y : Float) → le nan y ≡ false
 unfolding le
 nan-le-false y = refl
 
-pub eq-nan-false : (x : Float) → eq x nan ≡ false
-unfolding eq
-eq-nan-false nan = refl
-eq-nan-false (inf s) = refl
-eq-nan-false (fin s m e) = refl
-
-pub nan-eq-false : (y : Float) → eq nan y ≡ false
-unfolding eq
-nan-eq-false y = refl
-
 pub is-nan : (x : Float) → isNan x ≡ true → x ≡ nan
 unfolding isNan
 is-nan nan h = refl

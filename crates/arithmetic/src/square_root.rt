@@ -127,7 +127,7 @@ fn near_parabola(piece: u64) -> Parabola {
 }
 
 // A guess at the root of the float x, from 1 to 4, with the pattern b: y is near 1/sqrt(x), and x * y is mended by two terms of the series in
-// 1 - x * y². It is less than 2^-52 off. Nothing rests on that.
+// 1 - x * y². It is nearly always less than 2^-52 off. Nothing rests on that.
 fn guessed_root(b: u64) -> f64
     requires { ⌜ (0x3ff0_0000_0000_0000 ≤ b) × (b < 0x3ff0_0000_0000_0000 + 2 ^ 53) ⌝ }
 {
@@ -156,7 +156,7 @@ fn mended_root(m: u64, q: u64) -> u64
 }
 
 // The whole number nearest to the root of m * 2^52, or 0 where the guess is too far off. The guess has the pattern g. From 1 to 2 its digits are
-// the pattern less 1022 * 2^52, and one less is not above the exact root.
+// the pattern less 1022 * 2^52, and one less is seldom above the exact root; where it is, the answer is 0.
 fn close_root(m: u64, g: u64) -> u64
     requires { ⌜ (0 < m) × ((q : ℕ) → g ≡ q + 0x3fe0_0000_0000_0001 → 2 ^ 52 ≤ q + 1 → q + 1 ≤ 2 ^ 53 → CloseRoot m q) ⌝ }
     ensures { λ r. ⌜ (0 < r → NearestRoot (m * 2 ^ 52) r) ⌝ }

@@ -1,4 +1,4 @@
--- What a cast answers, and the casts at a plane and a triangle. Definitions only. Assumes nothing.
+-- What a cast answers, the casts at a plane and a triangle, and the nearest of many triangles. Definitions only. Assumes nothing.
 pub mod Answer
 pub mod Reach
 pub mod Surface

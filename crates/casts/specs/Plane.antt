@@ -2,9 +2,9 @@
 use mathlib.Core.Bool.{Bool, _&&_, cond}
 use lib.Ieee.{Float, binary64, ofBits, le}
 use Rattle.arithmetic.specs.Basic.{isFinite, absolute}
-use Rattle.geometry.specs.Numbers.{_-ᶠ_, _/ᶠ_, oneᶠ, tolerance}
-use Rattle.geometry.specs.Vector.{lengthOf, checkedDot}
-use Rattle.geometry.specs.Segment.{rayAdmitted}
+use Rattle.geometry.specs.Numbers.{_-ᶠ_, _/ᶠ_}
+use Rattle.geometry.specs.Vector.{checkedDot}
+use Rattle.geometry.specs.Segment.{closeToUnitLength, rayAdmitted}
 use Rattle.geometry.specs.declared.ray.Ray.{Ray}
 use Rattle.casts.specs.Answer.{Answer, hit, none, refused, withValue, invalidInput, badShape, overflow}
 use Rattle.casts.specs.Surface.{outOfRange, facing}
@@ -16,7 +16,7 @@ parallel = ofBits binary64 0x3d00_0000_0000_0000
 
 -- "A plane normal's length is within 1e-12 of 1 and its distance finite"
 unfoldable pub planeAdmitted : Plane → Bool
-planeAdmitted plane = le (absolute (lengthOf (plane .normal) -ᶠ oneᶠ)) tolerance && isFinite (plane .distance)
+planeAdmitted plane = closeToUnitLength (plane .normal) && isFinite (plane .distance)
 
 -- "a distance that is not finite is 6; below 0 or above the maximum is none"
 unfoldable pub planeAt : Plane → Ray → Float → Float → Answer

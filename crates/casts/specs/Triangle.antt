@@ -4,7 +4,7 @@ use mathlib.Core.List.{List}
 use lib.Ieee.{Float, binary64, ofBits, le, lt}
 use Rattle.arithmetic.specs.Basic.{isFinite, absolute}
 use Rattle.arithmetic.specs.Extremes.{maximumOf}
-use Rattle.geometry.specs.Numbers.{_+ᶠ_, _*ᶠ_, _/ᶠ_, zeroᶠ, oneᶠ, minPositive}
+use Rattle.geometry.specs.Numbers.{_+ᶠ_, _*ᶠ_, _/ᶠ_, zeroᶠ, oneᶠ, epsilon, minPositive}
 use Rattle.geometry.specs.Vector.{subOf, crossOf, dotOf, checkedDot, absOf, maxElement, tryNormalize}
 use Rattle.geometry.specs.Box.{corner}
 use Rattle.geometry.specs.Segment.{rayAdmitted}
@@ -14,10 +14,6 @@ use Rattle.casts.specs.Answer.{Answer, hit, none, refused, withValue, wi
 use Rattle.casts.specs.declared.answer.Reach.{Reach}
 use Rattle.casts.specs.declared.answer.Reach.the-variants.{At, Miss, Refused}
 use Rattle.casts.specs.Surface.{outOfRange, facing}
-
--- "EPS is 2^-52", and 32
-abbrev pub epsilon : Float
-epsilon = ofBits binary64 0x3cb0_0000_0000_0000
 
 abbrev thirtyTwo : Float
 thirtyTwo = ofBits binary64 0x4040_0000_0000_0000

@@ -1,4 +1,4 @@
-// The answer of a cast, and the casts at a plane and at a triangle.
+// The answer of a cast, the casts at a plane and at a triangle, and the nearest of many triangles.
 
 // Cast, the answer, and the numbers of the refusals.
 pub mod answer;

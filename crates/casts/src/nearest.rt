@@ -19,7 +19,7 @@ pub enum IndexedCast {
     Refused(u32),
 }
 
-// The first triangle's answer, with its index.
+// A triangle's answer where nothing was found before, with its index.
 fn indexed(index: u32, cast: Cast) -> IndexedCast
     ensures { λ r. ⌜ saysIndexed r ≡ nextOf noHit index (says cast) ⌝ }
 {

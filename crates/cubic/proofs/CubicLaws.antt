@@ -10,8 +10,7 @@ use Rattle.arithmetic.specs.Extremes.{maximumOf}
 use Rattle.arithmetic.specs.Ordering.{totalOrder}
 use Rattle.arithmetic.proofs.Order.{lt-asymmetric}
 use Rattle.arithmetic.proofs.TotalOrder.{lesser-before}
-use Rattle.geometry.specs.Numbers.{_-ᶠ_, _*ᶠ_, _/ᶠ_, zeroᶠ, oneᶠ}
-use Rattle.casts.specs.Triangle.{epsilon}
+use Rattle.geometry.specs.Numbers.{_-ᶠ_, _*ᶠ_, _/ᶠ_, zeroᶠ, oneᶠ, epsilon}
 use Rattle.cubic.specs.Polynomial.{twoᶠ, threeᶠ, fourᶠ}
 use Rattle.cubic.specs.Turns.{listed, betweenEnds, keptPoint, keptPoints, vertex, turningBy, turningPoints, extrema, AllBetween, none-left, one-more}
 use Rattle.cubic.specs.Halving.{halve, halvings, settled}

@@ -10,6 +10,7 @@ use lib.Ieee.{Float, nan, inf, fin, binary64, ofBits, up, down, odd, units, roun
 use lib.Ieee.Fits.{round-is, down-pos, mul-fits, add-fits}
 use lib.Ieee.Order.{round-mono}
 use borrow.Author.Tests.{ltb-true, ltb-false}
+use lib.Ieee.Bits.{is-true}
 use Rattle.arithmetic.specs.Basic.{isFinite, absolute, signPositive}
 use Rattle.arithmetic.proofs.Order.{not-lt-of-le}
 use Rattle.geometry.specs.Numbers.{_+ᶠ_, _*ᶠ_, zeroᶠ, oneᶠ, halfᶠ}
@@ -63,10 +64,6 @@ below-half (inf true) p h = absurd (false≢true (sym p))
 below-half (inf false) p h = absurd (false≢true (sym h))
 below-half (fin true m e) p h = absurd (false≢true (sym p))
 below-half (fin false m e) p h = let g = ltb-false (1 * 1 * down e) (m * up e * 2) h in below {k = 2} m e (omega arith)
-
-pub is-true : (b : Bool) → T b → b ≡ true
-is-true true t = refl
-is-true false t = absurd t
 
 half-round : round binary64 false 1 2 ≡ fin false 1 (negsuc 0)
 unfolding round

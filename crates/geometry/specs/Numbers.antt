@@ -28,6 +28,10 @@ oneᶠ = ofBits binary64 0x3ff0_0000_0000_0000
 abbrev pub halfᶠ : Float
 halfᶠ = ofBits binary64 0x3fe0_0000_0000_0000
 
+-- "EPS is 2^-52"
+abbrev pub epsilon : Float
+epsilon = ofBits binary64 0x3cb0_0000_0000_0000
+
 -- 1e-12, how far a length may be from 1
 abbrev pub tolerance : Float
 tolerance = ofBits binary64 0x3d71_9799_812d_ea11

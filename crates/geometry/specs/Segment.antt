@@ -1,6 +1,6 @@
 -- Rays: which are admitted, and the segment up to the maximum. Definitions only. Assumes nothing.
 use mathlib.Core.Bool.{Bool, _&&_, not}
-use lib.Ieee.{Float, lt}
+use lib.Ieee.{Float, lt, le}
 use Rattle.arithmetic.specs.Basic.{isFinite, absolute}
 use Rattle.geometry.specs.Numbers.{_-ᶠ_, zeroᶠ, oneᶠ, tolerance}
 use Rattle.geometry.specs.Vector.{finiteVec, lengthOf, addOf, scaleOf, minOf, maxOf}
@@ -11,6 +11,10 @@ use Rattle.geometry.specs.declared.ray.Ray.{Ray}
 -- not "its length more than 1e-12 from 1"
 unfoldable pub unitLength : Vec3 → Bool
 unitLength direction = not (lt tolerance (absolute (lengthOf direction -ᶠ oneᶠ)))
+
+-- "length is within 1e-12 of 1", as a plane normal's is asked to be: a NaN length is not
+abbrev pub closeToUnitLength : Vec3 → Bool
+closeToUnitLength vector = le (absolute (lengthOf vector -ᶠ oneᶠ)) tolerance
 
 -- not refusal 1: "origin or maximum not finite, maximum below 0, direction not finite, or its length more than 1e-12 from 1"
 unfoldable pub rayAdmitted : Ray → Bool

@@ -19,10 +19,6 @@ use Rattle.geometry.specs.declared.vec3.Normalized.the-variants.{Unit as
 unfoldable pub component : ℕ → Vec3 → Float
 component k v = cond (eqb k 0) (v .x) (cond (eqb k 1) (v .y) (v .z))
 
--- a test on every axis
-abbrev pub everyAxis : (ℕ → Bool) → Bool
-everyAxis p = p 0 && (p 1 && p 2)
-
 -- an operation on each axis by itself
 abbrev pub each : (Float → Float) → Vec3 → Vec3
 each f v = record { x = f (v .x); y = f (v .y); z = f (v .z) }

@@ -2,11 +2,7 @@ use crate::aabb::Aabb;
 use crate::vec3::Vec3;
 use arithmetic::basic;
 ghost use mathlib.Core.Path.{_≡_};
-ghost use lib.Ieee.{le};
-ghost use Rattle.arithmetic.specs.Basic.{absolute};
-ghost use Rattle.geometry.specs.Numbers.{_-ᶠ_, oneᶠ, tolerance};
-ghost use Rattle.geometry.specs.Vector.{lengthOf};
-ghost use Rattle.geometry.specs.Segment.{unitLength, rayAdmitted, segmentEnd, segmentBox};
+ghost use Rattle.geometry.specs.Segment.{unitLength, closeToUnitLength, rayAdmitted, segmentEnd, segmentBox};
 
 pub struct Ray {
     pub origin: Vec3,
@@ -32,7 +28,7 @@ pub fn unit_length(direction: Vec3) -> bool
 
 // Whether a vector's length is within 1e-12 of 1; a NaN length is not.
 pub fn close_to_unit_length(vector: Vec3) -> bool
-    ensures { λ r. ⌜ r ≡ le (absolute (lengthOf vector -ᶠ oneᶠ)) tolerance ⌝ }
+    ensures { λ r. ⌜ r ≡ closeToUnitLength vector ⌝ }
 {
     let square = vector.dot(vector);
     if square >= LEAST_SQUARE {

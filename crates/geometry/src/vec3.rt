@@ -23,19 +23,6 @@ pub enum Normalized {
 }
 
 impl Vec3 {
-    // The component of an axis: 0 is x, 1 is y, any other number z.
-    pub fn component(self, axis: usize) -> f64
-        ensures { λ r. ⌜ r ≡ component axis self ⌝ }
-    {
-        if axis == 0 {
-            return self.x;
-        }
-        if axis == 1 {
-            return self.y;
-        }
-        self.z
-    }
-
     pub fn is_finite(self) -> bool
         ensures { λ r. ⌜ r ≡ finiteVec self ⌝ }
     {

@@ -9,22 +9,16 @@ use lib.Dec.{leb, eqb}
 use lib.ListN.{length}
 use lib.Ieee.{Float}
 use borrow.Author.Tests.{leb-true, eqb-true}
+use lib.Arith.{digits-lt}
+use Rattle.geometry.proofs.JoinedTests.{and-first, and-second}
 use Rattle.height_field.specs.declared.field.Field.{Field}
 use Rattle.height_field.specs.Grid.{sideAdmitted, spacingAdmitted, fieldAdmitted, Sized, cellAt, cellRow, cellColumn}
 
 -- ---- admitted
 
-and-left : (a b : Bool) → (a && b) ≡ true → a ≡ true
-and-left true b h = refl
-and-left false b h = h
-
-and-right : (a b : Bool) → (a && b) ≡ true → b ≡ true
-and-right true b h = h
-and-right false b h = absurd (false≢true h)
-
 pub side-bounds : (n : ℕ) → sideAdmitted n ≡ true → (2 ≤ n) × (n ≤ 1024)
 unfolding sideAdmitted
-side-bounds n h = (leb-true 2 n (and-left (leb 2 n) (leb n 1024) h), leb-true n 1024 (and-right (leb 2 n) (leb n 1024) h))
+side-bounds n h = (leb-true 2 n (and-first (leb 2 n) (leb n 1024) h), leb-true n 1024 (and-second (leb 2 n) (leb n 1024) h))
 
 pub admitted-sized : (f : Field) (heights : List Float) → fieldAdmitted f heights ≡ true → Sized f heights
 unfolding fieldAdmitted
@@ -34,10 +28,10 @@ admitted-sized f heights h =
     let d = spacingAdmitted (f .«spacing_x») in
     let e = spacingAdmitted (f .«spacing_y») in
     let l = eqb (length heights) (f .rows * f .columns) in
-    let rest = and-right a (b && (d && (e && l))) h in
-    let rows = side-bounds (f .rows) (and-left a (b && (d && (e && l))) h) in
-    let columns = side-bounds (f .columns) (and-left b (d && (e && l)) rest) in
-    let same = and-right e l (and-right d (e && l) (and-right b (d && (e && l)) rest)) in
+    let rest = and-second a (b && (d && (e && l))) h in
+    let rows = side-bounds (f .rows) (and-first a (b && (d && (e && l))) h) in
+    let columns = side-bounds (f .columns) (and-first b (d && (e && l)) rest) in
+    let same = and-second e l (and-second d (e && l) (and-second b (d && (e && l)) rest)) in
     record {
       someRows = rows .0;
       fewRows = rows .1;
@@ -51,25 +45,18 @@ admitted-sized f heights h =
 pub product-small : {a b : ℕ} → a ≤ 1024 → b ≤ 1024 → a * b ≤ 1048576
 product-small p q = mul-le-mul p q
 
--- a place in row order is below the product of the sides
-pub place-within : {rows columns : ℕ} (row column : ℕ) → row < rows → column < columns → row * columns + column < rows * columns
-place-within {rows} {columns} row column p q =
-    let below : (row + 1) * columns ≤ rows * columns = mul-le-mul-right columns (omega arith) in
-    let split : (row + 1) * columns ≡ row * columns + columns = add-mul row 1 columns ∙ ap (λ (n : ℕ). row * columns + n) (one-mul columns) in
-    omega arith
-
 -- the place of a vertex, and the number of a cell, in an admitted grid
 module _ (f : Field) (heights : List Float) (row column : ℕ) (sized : Sized f heights) where
   pub vertex-within : row < f .rows → column < f .columns → (row * f .columns + column < length heights) × (length heights ≤ 1048576)
   vertex-within p q =
-      let within = place-within row column p q in
+      let within = digits-lt p q in
       let small = product-small (sized .fewRows) (sized .fewColumns) in
       let whole = sized .whole in
       (omega arith, omega arith)
 
   pub cell-small : row + 1 < f .rows → column + 1 < f .columns → row * (f .columns - 1) + column < 1048576
   cell-small p q =
-      let within : row * (f .columns - 1) + column < (f .rows - 1) * (f .columns - 1) = place-within row column (omega arith) (omega arith) in
+      let within : row * (f .columns - 1) + column < (f .rows - 1) * (f .columns - 1) = digits-lt (omega arith) (omega arith) in
       let small : (f .rows - 1) * (f .columns - 1) ≤ 1048576 = product-small (omega (arith, sized)) (omega (arith, sized)) in
       omega arith
 

@@ -16,7 +16,8 @@ use Rattle.arithmetic.specs.Basic.{isFinite}
 use Rattle.arithmetic.proofs.Order.{not-lt-of-le}
 use Rattle.arithmetic.proofs.Exactness.{neg-round}
 use Rattle.geometry.specs.Numbers.{_+ᶠ_, _-ᶠ_, _*ᶠ_, _/ᶠ_}
-use Rattle.cubic.proofs.UnitLaws.{plain, round-plain, is-true}
+use lib.Ieee.Bits.{is-true}
+use Rattle.cubic.proofs.UnitLaws.{plain, round-plain}
 
 -- a finite number of at most 2 ^ k in size
 pub data Within : ℕ → Float → Type 0 where

@@ -10,6 +10,7 @@ use lib.Ieee.{Float, nan, inf, fin, binary64, ofBits, fits, up, down, lt, toUnsi
 use lib.Ieee.Exact.{HasValue}
 use lib.ListN.{length}
 use borrow.Author.Tests.{ltb-true}
+use lib.Arith.{digits-lt}
 use Rattle.arithmetic.specs.Rounding.{roundOf, wholeBy, tiesAway, wholeOf}
 use Rattle.arithmetic.proofs.Casts.{cast-of-value, none}
 use Rattle.arithmetic.proofs.WholeNumbers.{roundOf-value}
@@ -53,13 +54,6 @@ upTo-least last n = go (ltb n last) (ltb-true n last)
     go false h = omega arith
 
 -- ---- a node's place
--- k in the p-th of n rows of m
-row-below : (p n k m : ℕ) → p < n → k < m → p * m + k < n * m
-row-below p n k m h g =
-    let r : (p + 1) * m ≤ n * m = mul-le-mul-right m (omega arith) in
-    let s : (p + 1) * m ≡ p * m + 1 * m = add-mul p 1 m in
-    omega arith
-
 -- a node of the grid has its place among the values, and no step to it is large
 pub record Placed (g : Grid) (values : List Float) (x y z : ℕ) : Type 0 where
   pub line : z * g .sides .y + y < 256 * 256
@@ -69,8 +63,8 @@ pub record Placed (g : Grid) (values : List Float) (x y z : ℕ) : Type 0 where
 pub node-placed : (g : Grid) (values : List Float) (x y z : ℕ)
     → Stands g values × ((x < g .sides .x) × ((y < g .sides .y) × (z < g .sides .z))) → Placed g values x y z
 node-placed g values x y z p =
-    let line-below : z * g .sides .y + y < g .sides .z * g .sides .y = row-below z (g .sides .z) y (g .sides .y) (p .1 .1 .1) (p .1 .1 .0) in
-    let place-below : (z * g .sides .y + y) * g .sides .x + x < nodes (g .sides) = row-below (z * g .sides .y + y) (g .sides .z * g .sides .y) x (g .sides .x) line-below (p .1 .0) in
+    let line-below : z * g .sides .y + y < g .sides .z * g .sides .y = digits-lt (p .1 .1 .1) (p .1 .1 .0) in
+    let place-below : (z * g .sides .y + y) * g .sides .x + x < nodes (g .sides) = digits-lt line-below (p .1 .0) in
     record {
       line = lt-of-lt-of-le line-below (plane-small (g .sides) (p .0 .sides-stand));
       place = lt-of-lt-of-le place-below (nodes-small (g .sides) (p .0 .sides-stand));

@@ -6,9 +6,8 @@ use lib.Ieee.{Float, binary64, ofBits, lt, le, eq}
 use Rattle.arithmetic.specs.Basic.{isFinite, absolute}
 use Rattle.arithmetic.specs.Extremes.{minimumOf, maximumOf}
 use Rattle.arithmetic.specs.Rounding.{floorOf, roundOf, wholeOf}
-use Rattle.geometry.specs.Numbers.{_+ᶠ_, _-ᶠ_, _*ᶠ_, _/ᶠ_, zeroᶠ, oneᶠ}
+use Rattle.geometry.specs.Numbers.{_+ᶠ_, _-ᶠ_, _*ᶠ_, _/ᶠ_, zeroᶠ, oneᶠ, epsilon}
 use Rattle.geometry.specs.declared.vec3.Vec3.{Vec3}
-use Rattle.casts.specs.Triangle.{epsilon}
 use Rattle.level_set.specs.Grid.{whole}
 use Rattle.level_set.specs.declared.grid.Grid.{Grid}
 use Rattle.level_set.specs.declared.cells.Cell.{Cell}

@@ -58,9 +58,9 @@ twoThirds = ofBits binary64 0x3fe5_5555_5555_5555
 unfoldable pub samplesOf : Height → Height → Height → Height → Samples
 samplesOf (HeightAt y0) (HeightAt y1) (HeightAt y2) (HeightAt y3) = All y0 y1 y2 y3
 samplesOf (HeightAt y0) (HeightAt y1) (HeightAt y2) (HeightRefused number) = Refused number
-samplesOf (HeightAt y0) (HeightAt y1) (HeightRefused number) fourth = Refused number
-samplesOf (HeightAt y0) (HeightRefused number) third fourth = Refused number
-samplesOf (HeightRefused number) second third fourth = Refused number
+samplesOf (HeightAt y0) (HeightAt y1) (HeightRefused number) h3 = Refused number
+samplesOf (HeightAt y0) (HeightRefused number) h2 h3 = Refused number
+samplesOf (HeightRefused number) h1 h2 h3 = Refused number
 
 -- "Four samples per cell at 0, 1/3, 2/3, 1"
 unfoldable pub samplesAlong : Ray → Grid → List Float → Float → Float → Samples

@@ -45,7 +45,7 @@ fn slack(size: f64) -> f64
     2.220446049250313e-16 * extremes::maximum(basic::abs(size), 1.0) * 16.0
 }
 
-// The cell that holds a coordinate. The cast cuts the fraction off by itself, and what is below 0 gives 0 with or without a floor.
+// The cell that holds a coordinate. The conversion cuts the fraction off by itself, and what is below 0 gives 0 with or without a floor.
 pub fn floor_cell(coordinate: f64) -> u64
     ensures { λ r. ⌜ r ≡ floorCell coordinate ⌝ }
 {

@@ -99,7 +99,7 @@ fn height_by_steps(low: Face, high: Face, spacing: Vec3, at: Vec3) -> Height
     }
 }
 
-// The value in a cell. Where values and spacing are neither huge nor tiny no step overflows, and the gradient is not computed.
+// The value in a cell. Where no value is huge and no spacing huge or tiny no step overflows, and the gradient is not computed.
 fn height_faces(low: Face, high: Face, spacing: Vec3, at: Vec3) -> Height
     requires { ⌜ Fractions at ⌝ }
     ensures { λ r. ⌜ r ≡ heightOf (sampleFaces low high spacing at) ⌝ }
