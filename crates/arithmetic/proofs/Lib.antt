@@ -17,6 +17,7 @@ pub mod RootPatterns
 pub mod RootScaled
 pub mod RootWhole
 pub mod RoundedSigns
+pub mod RoundedNumbers
 pub mod SignBit
 pub mod SignedOrder
 pub mod Signs

@@ -7,38 +7,16 @@ use native.Mathlib.Omega.{arith}
 use lib.Dec.{T, ltb, eqb→eq, lit<}
 use borrow.Author.Tests.{ne-eqb}
 use lib.IntN.{ℤ, pos, negsuc}
-use lib.Ieee.{Float, nan, inf, fin, Format, binary64, prec, emax, low, up, down, odd, units, round, sum, add, mul, fits, isNan, unlike}
-use lib.Ieee.Fits.{round-is, down-pos, up-pos, mul-fits}
+use lib.Ieee.{Float, nan, inf, fin, binary64, low, up, down, round, sum, add, mul, fits, isNan, unlike}
+use lib.Ieee.Fits.{down-pos, up-pos, mul-fits}
 use lib.Ieee.Exact.{HasValue, round-exact}
 use Rattle.arithmetic.specs.Basic.{isFinite}
 use Rattle.arithmetic.proofs.Exactness.{fits-parts, scaled-exact}
+use Rattle.arithmetic.proofs.RoundedNumbers.{round-number, sum-number}
 use Rattle.geometry.specs.Numbers.{_+ᶠ_, _*ᶠ_}
 use Rattle.cubic.specs.Polynomial.{evaluate, finiteCubic}
 use Rattle.cubic.specs.declared.polynomial.Cubic.{Cubic}
 use Rattle.geometry.proofs.JoinedTests.{and-first, and-second}
-
--- ---- rounding gives a number
-pub chosen-number : (b : Bool) (x y : Float) → isNan x ≡ false → isNan y ≡ false → isNan (cond b x y) ≡ false
-chosen-number true x y p q = p
-chosen-number false x y p q = q
-
-odd-number : (d : ℕ) (s : Bool) (q k l : ℕ) → isNan (odd d s q k l) ≡ false
-unfolding odd isNan
-odd-number d s zero k l = refl
-odd-number d s (suc q) k l = refl
-
-units-number : (f : Format) (s : Bool) (q k : ℕ) → isNan (units f s q k) ≡ false
-unfolding units isNan
-units-number f s q k = chosen-number (ltb (q * 2 ^ k) (2 ^ (low f + suc (emax f)))) (odd (suc (prec f)) s q k (low f)) (inf s) (odd-number (suc (prec f)) s q k (low f)) refl
-
-pub round-number : (f : Format) (s : Bool) (num den : ℕ) → isNan (round f s num den) ≡ false
-round-number f s num den = ap isNan (round-is f s num den) ∙ units-number f s _ _
-
-sum-number : (f : Format) (s : Bool) (a : ℕ) (t : Bool) (b c : ℕ) → isNan (sum f s a t b c) ≡ false
-unfolding sum
-sum-number f s a t b c =
-    chosen-number (Bool·beq s t) _ _ (round-number f s (a + b) c)
-    (chosen-number (ltb a b) _ _ (round-number f t (b - a) c) (round-number f (s && ltb b a) (a - b) c))
 
 -- ---- at a point that is not zero
 product-number : (v : Float) (s : Bool) (m : ℕ) (e : ℤ) → isNan v ≡ false → isNan (v *ᶠ fin s (suc m) e) ≡ false

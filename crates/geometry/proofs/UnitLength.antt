@@ -10,7 +10,7 @@ use lib.Ieee.{Float, nan, inf, fin, binary64, ofBits, size, units, sub, lt, le, 
 use lib.Ieee.Fits.{add-fits}
 use lib.Ieee.Bits.{is-true, ofBits-fits}
 use lib.Ieee.Positive.{positive}
-use Rattle.arithmetic.specs.Basic.{absolute, negative}
+use Rattle.arithmetic.specs.Basic.{isFinite, absolute, negative}
 use Rattle.arithmetic.specs.Root.{rootDigits, wholeRoot, rootRound, rootOf}
 use Rattle.arithmetic.proofs.DistanceFromOne.{one, fromOne, nearer-below-one, farther-above-one}
 use Rattle.arithmetic.proofs.Neighbours.{Neighbours, below-upper, above-lower}
@@ -19,9 +19,13 @@ use Rattle.arithmetic.proofs.RootLaws.{root-positive, root-grows, positive-unsi
 use Rattle.arithmetic.proofs.RoundedSigns.{square-not-negative, sum-not-negative}
 use Rattle.arithmetic.proofs.SignedOrder.{and-false, or-true}
 use Rattle.arithmetic.proofs.Signs.{zero-exp}
-use Rattle.geometry.specs.Numbers.{_-ᶠ_, oneᶠ, tolerance}
-use Rattle.geometry.specs.Vector.{dotOf, lengthOf}
+use Rattle.geometry.specs.Numbers.{_+ᶠ_, _-ᶠ_, _*ᶠ_, zeroᶠ, oneᶠ, tolerance}
+use Rattle.arithmetic.proofs.RoundedNumbers.{Unbounded, no-number, infinite, square-unbounded, unbounded-sum, sum-unbounded, square-number, positive-sum-number}
+use Rattle.geometry.specs.Vector.{dotOf, lengthOf, finiteVec}
+use Rattle.geometry.specs.Segment.{unitLength, closeToUnitLength, rayAdmitted}
+use Rattle.geometry.proofs.JoinedTests.{and-first, and-second}
 use Rattle.geometry.specs.declared.vec3.Vec3.{Vec3}
+use Rattle.geometry.specs.declared.ray.Ray.{Ray}
 
 -- ---- the squares on both sides of the two bounds
 abbrev short : Float
@@ -152,20 +156,6 @@ above-not-le x y h =
     let l = le-of-lt y x h in
     le-is-not-lt x y (le-right-number y x l) (le-left-number y x l) ∙ ap not h
 
-too-far : (x d : Float) → Place x d → lt tolerance d ≡ (lt x leastSquare || lt greatestSquare x)
-too-far x d (below h k) = k ∙ ap (λ (b : Bool). b || lt greatestSquare x) (sym h)
-too-far x d (within l u k) =
-    not-lt-of-le d tolerance k
-    ∙ ap (λ (b : Bool). b || false) (sym (not-lt-of-le leastSquare x l))
-    ∙ ap (λ (b : Bool). lt x leastSquare || b) (sym (not-lt-of-le x greatestSquare u))
-too-far x d (above h k) = k ∙ sym (or-true (lt x leastSquare)) ∙ ap (λ (b : Bool). lt x leastSquare || b) (sym h)
-too-far x d (neither p q) =
-    ap (lt tolerance) q
-    ∙ lt-nan-false tolerance
-    ∙ ap (λ (b : Bool). b || false) (sym (nan-lt-false leastSquare))
-    ∙ ap (λ (b : Bool). lt nan leastSquare || b) (sym (lt-nan-false greatestSquare))
-    ∙ ap (λ (z : Float). lt z leastSquare || lt greatestSquare z) (sym p)
-
 close : (x d : Float) → Place x d → le d tolerance ≡ (le leastSquare x && le x greatestSquare)
 close x d (below h k) = above-not-le d tolerance k ∙ ap (λ (b : Bool). b && le x greatestSquare) (sym (above-not-le leastSquare x h))
 close x d (within l u k) = k ∙ sym (ap (λ (b : Bool). b && le x greatestSquare) l ∙ u)
@@ -190,8 +180,75 @@ square-place v =
     (sum-not-negative binary64 _ _ (square-not-negative binary64 (v .x)) (square-not-negative binary64 (v .y)))
     (square-not-negative binary64 (v .z))))
 
-pub too-far-by-square : (v : Vec3) → lt tolerance (absolute (lengthOf v -ᶠ oneᶠ)) ≡ (lt (dotOf v v) leastSquare || lt greatestSquare (dotOf v v))
-too-far-by-square v = too-far (dotOf v v) (absolute (lengthOf v -ᶠ oneᶠ)) (square-place v)
-
 pub close-by-square : (v : Vec3) → le (absolute (lengthOf v -ᶠ oneᶠ)) tolerance ≡ (le leastSquare (dotOf v v) && le (dotOf v v) greatestSquare)
 close-by-square v = close (dotOf v v) (absolute (lengthOf v -ᶠ oneᶠ)) (square-place v)
+
+-- ---- a length that is close to 1 tells that the components are finite
+unbounded-above : (x : Float) → Unbounded x → le x greatestSquare ≡ false
+unfolding ofBits le
+unbounded-above nan no-number = refl
+unbounded-above (inf false) infinite = refl
+
+module _ (v : Vec3) where
+  abbrev first-sum : Float
+  first-sum = (v .x *ᶠ v .x) +ᶠ (v .y *ᶠ v .y)
+
+  square-sign : (a : Float) → negative (a *ᶠ a) ≡ false
+  square-sign a = square-not-negative binary64 a
+
+  first-sign : negative first-sum ≡ false
+  first-sign = sum-not-negative binary64 (v .x *ᶠ v .x) (v .y *ᶠ v .y) (square-sign (v .x)) (square-sign (v .y))
+
+  -- a component that is not finite, and a square that no number bounds
+  square-of-infinite : finiteVec v ≡ false → Unbounded (dotOf v v)
+  unfolding finiteVec dotOf
+  square-of-infinite h = go (isFinite (v .x)) (isFinite (v .y)) (isFinite (v .z)) refl refl refl h
+    where
+      go : (a b c : Bool) → isFinite (v .x) ≡ a → isFinite (v .y) ≡ b → isFinite (v .z) ≡ c → (a && (b && c)) ≡ false → Unbounded (first-sum +ᶠ (v .z *ᶠ v .z))
+      go false b c p q r h = unbounded-sum binary64 first-sum (v .z *ᶠ v .z) (unbounded-sum binary64 (v .x *ᶠ v .x) (v .y *ᶠ v .y) (square-unbounded binary64 (v .x) p) (square-sign (v .y))) (square-sign (v .z))
+      go true false c p q r h = unbounded-sum binary64 first-sum (v .z *ᶠ v .z) (sum-unbounded binary64 (v .x *ᶠ v .x) (v .y *ᶠ v .y) (square-sign (v .x)) (square-unbounded binary64 (v .y) q)) (square-sign (v .z))
+      go true true false p q r h = sum-unbounded binary64 first-sum (v .z *ᶠ v .z) first-sign (square-unbounded binary64 (v .z) r)
+      go true true true p q r h = absurd (true≢false h)
+
+  -- finite components, and a square that is a number
+  square-of-finite : finiteVec v ≡ true → isNan (dotOf v v) ≡ false
+  unfolding finiteVec dotOf
+  square-of-finite h =
+      let p = and-first (isFinite (v .x)) (isFinite (v .y) && isFinite (v .z)) h in
+      let k = and-second (isFinite (v .x)) (isFinite (v .y) && isFinite (v .z)) h in
+      let q = and-first (isFinite (v .y)) (isFinite (v .z)) k in
+      let r = and-second (isFinite (v .y)) (isFinite (v .z)) k in
+      positive-sum-number binary64 first-sum (v .z *ᶠ v .z) first-sign (square-sign (v .z))
+      (positive-sum-number binary64 (v .x *ᶠ v .x) (v .y *ᶠ v .y) (square-sign (v .x)) (square-sign (v .y)) (square-number binary64 (v .x) p) (square-number binary64 (v .y) q))
+      (square-number binary64 (v .z) r)
+
+-- where the square is a number, "not more than" and "within" are one
+same-at-number : (x d : Float) → Place x d → isNan x ≡ false → not (lt tolerance d) ≡ le d tolerance
+same-at-number x d (below h k) n = ap not k ∙ sym (above-not-le d tolerance k)
+same-at-number x d (within l u k) n = ap not (not-lt-of-le d tolerance k) ∙ sym k
+same-at-number x d (above h k) n = ap not k ∙ sym (above-not-le d tolerance k)
+same-at-number x d (neither p q) n = absurd (true≢false (sym (ap isNan p ∙ unfold isNan in refl) ∙ n))
+
+-- so one test serves for both that rays are asked for
+finite-and-unit : (v : Vec3) → (finiteVec v && unitLength v) ≡ closeToUnitLength v
+unfolding unitLength
+finite-and-unit v = go (finiteVec v) refl
+  where
+    go : (b : Bool) → finiteVec v ≡ b → (b && not (lt tolerance (absolute (lengthOf v -ᶠ oneᶠ)))) ≡ le (absolute (lengthOf v -ᶠ oneᶠ)) tolerance
+    go true h = same-at-number (dotOf v v) (absolute (lengthOf v -ᶠ oneᶠ)) (square-place v) (square-of-finite v h)
+    go false h =
+        sym
+        (close-by-square v
+        ∙ ap (λ (b : Bool). le leastSquare (dotOf v v) && b) (unbounded-above (dotOf v v) (square-of-infinite v h))
+        ∙ and-false (le leastSquare (dotOf v v)))
+
+joined : (a b c : Bool) → (a && (b && c)) ≡ ((a && b) && c)
+joined true b c = refl
+joined false b c = refl
+
+-- not refusal 1, by that test
+pub admitted-is : (r : Ray) → rayAdmitted r ≡ (finiteVec (r .origin) && (closeToUnitLength (r .direction) && (isFinite (r .«max_distance») && not (lt (r .«max_distance») zeroᶠ))))
+unfolding rayAdmitted
+admitted-is r =
+    ap (λ (b : Bool). finiteVec (r .origin) && b)
+    (joined (finiteVec (r .direction)) (unitLength (r .direction)) _ ∙ ap (λ (b : Bool). b && (isFinite (r .«max_distance») && not (lt (r .«max_distance») zeroᶠ))) (finite-and-unit (r .direction)))

@@ -2,7 +2,7 @@ use crate::aabb::Aabb;
 use crate::vec3::Vec3;
 use arithmetic::basic;
 ghost use mathlib.Core.Path.{_≡_};
-ghost use Rattle.geometry.specs.Segment.{unitLength, closeToUnitLength, rayAdmitted, segmentEnd, segmentBox};
+ghost use Rattle.geometry.specs.Segment.{closeToUnitLength, rayAdmitted, segmentEnd, segmentBox};
 
 pub struct Ray {
     pub origin: Vec3,
@@ -11,20 +11,10 @@ pub struct Ray {
 }
 
 // The least and the greatest square whose root is not more than 1e-12 from 1. The roots of the next floats outside are.
+// The root grows with the square, so that the square tells.
 const LEAST_SQUARE: f64 = 0.999999999998;
 
 const GREATEST_SQUARE: f64 = 1.000000000002;
-
-// Whether a direction's length is not more than 1e-12 from 1. The root grows with the square, so that the square tells.
-pub fn unit_length(direction: Vec3) -> bool
-    ensures { λ r. ⌜ r ≡ unitLength direction ⌝ }
-{
-    let square = direction.dot(direction);
-    if square < LEAST_SQUARE {
-        return false;
-    }
-    !(square > GREATEST_SQUARE)
-}
 
 // Whether a vector's length is within 1e-12 of 1; a NaN length is not.
 pub fn close_to_unit_length(vector: Vec3) -> bool
@@ -38,17 +28,14 @@ pub fn close_to_unit_length(vector: Vec3) -> bool
 }
 
 impl Ray {
-    // Whether refusal 1 lets the ray pass.
+    // Whether refusal 1 lets the ray pass. A direction whose length is close to 1 is finite.
     pub fn validate(self) -> bool
         ensures { λ r. ⌜ r ≡ rayAdmitted self ⌝ }
     {
         if !self.origin.is_finite() {
             return false;
         }
-        if !self.direction.is_finite() {
-            return false;
-        }
-        if !unit_length(self.direction) {
+        if !close_to_unit_length(self.direction) {
             return false;
         }
         if !basic::is_finite(self.max_distance) {
