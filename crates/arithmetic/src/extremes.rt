@@ -1,4 +1,6 @@
 ghost use mathlib.Core.Path.{_≡_};
+ghost use mathlib.Core.Bool.{false};
+ghost use lib.Ieee.{isNan};
 ghost use Rattle.arithmetic.specs.Extremes.{minimumOf, maximumOf};
 
 // The lesser operand, the first if they are equal, the other if one is NaN.
@@ -22,6 +24,28 @@ pub fn maximum(x: f64, y: f64) -> f64
         return y;
     }
     if x != x {
+        return y;
+    }
+    x
+}
+
+// The minimum where the first operand is no NaN, as callers show: one comparison, which the processor makes in one instruction, tells it.
+pub fn lesser(x: f64, y: f64) -> f64
+    requires { ⌜ isNan x ≡ false ⌝ }
+    ensures { λ r. ⌜ r ≡ minimumOf x y ⌝ }
+{
+    if x > y {
+        return y;
+    }
+    x
+}
+
+// The maximum where the first operand is no NaN.
+pub fn greater(x: f64, y: f64) -> f64
+    requires { ⌜ isNan x ≡ false ⌝ }
+    ensures { λ r. ⌜ r ≡ maximumOf x y ⌝ }
+{
+    if y > x {
         return y;
     }
     x
