@@ -1,8 +1,9 @@
--- Minimum and maximum are one of their operands, and below or above both where these are no NaN. Assumes nothing.
+-- Minimum and maximum are one of their operands, so finite where both are, and below or above both where these are no NaN. Assumes nothing.
 use mathlib.Core.Path.{_≡_, refl, sym, ap, _∙_}
-use mathlib.Core.Logic.{_⊎_, inl, inr}
+use mathlib.Core.Logic.{_⊎_, inl, inr, ⊎-elim}
 use mathlib.Core.Bool.{Bool, true, false, cond, false≢true}
 use lib.Ieee.{Float, lt, le, isNan}
+use Rattle.arithmetic.specs.Basic.{isFinite}
 use Rattle.arithmetic.specs.Extremes.{minimumOf, maximumOf}
 use Rattle.arithmetic.proofs.Order.{le-of-lt, le-of-not-lt, le-reflexive}
 
@@ -27,6 +28,12 @@ minimum-one x y = pick-one (lt y x) (isNan x) x y
 pub maximum-one : (x y : Float) → (maximumOf x y ≡ x) ⊎ (maximumOf x y ≡ y)
 unfolding maximumOf
 maximum-one x y = pick-one (lt x y) (isNan x) x y
+
+pub minimum-finite : (x y : Float) → isFinite x ≡ true → isFinite y ≡ true → isFinite (minimumOf x y) ≡ true
+minimum-finite x y p q = ⊎-elim (λ e. ap isFinite e ∙ p) (λ e. ap isFinite e ∙ q) (minimum-one x y)
+
+pub maximum-finite : (x y : Float) → isFinite x ≡ true → isFinite y ≡ true → isFinite (maximumOf x y) ≡ true
+maximum-finite x y p q = ⊎-elim (λ e. ap isFinite e ∙ p) (λ e. ap isFinite e ∙ q) (maximum-one x y)
 
 module _ (x y : Float) (p : isNan x ≡ false) (q : isNan y ≡ false) where
   minimum-is : minimumOf x y ≡ pick (lt y x) false x y

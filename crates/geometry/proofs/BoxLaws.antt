@@ -1,21 +1,25 @@
--- A box that encloses a touching box touches; boxes that are equal under IEEE 754 touch alike; and the box of a segment with finite ends is valid. Each is shown on one side and then on all. Assumes nothing.
+-- A box that encloses a touching box touches; boxes that are equal under IEEE 754 touch alike; and the boxes of finite corners and of a segment with finite ends are valid. Each is shown on one side and then on all. Assumes nothing.
 use mathlib.Core.Path.{_≡_, refl, sym, ap, _∙_}
-use mathlib.Core.Bool.{Bool, true, false, _&&_, _||_, Bool·beq, not, true≢false, false≢true}
+use mathlib.Core.Bool.{Bool, true, false, _&&_, _||_, Bool·beq, not, false≢true}
+use mathlib.Core.List.{List}
 use Prim.Native.Nat.{ℕ, _*_}
 use borrow.Author.Tests.{eqb-true, eq-eqb}
 use lib.Dec.{eqb}
-use lib.Ieee.{Float, nan, inf, fin, up, down, lt, le, eq, level, isNan}
+use lib.Ieee.{Float, nan, inf, fin, up, down, lt, le, eq, level}
 use Rattle.arithmetic.specs.Basic.{isFinite}
 use Rattle.arithmetic.specs.Extremes.{minimumOf, maximumOf}
-use Rattle.arithmetic.proofs.Order.{le-of-lt, le-of-eq, le-reflexive, le-transitive, lt-asymmetric}
+use Rattle.arithmetic.proofs.Numbers.{finite-number}
+use Rattle.arithmetic.proofs.Order.{le-of-eq, le-transitive}
+use Rattle.arithmetic.proofs.ExtremesOrder.{minimum-finite, maximum-finite, minimum-below-second, maximum-above-second}
 use Rattle.geometry.specs.Numbers.{zeroᶠ}
 use Rattle.geometry.specs.Vector.{finiteVec, minOf, maxOf}
-use Rattle.geometry.specs.Box.{everySides, validSide, validBox, touchSide, touches, withinSide, encloses, sameSide, sameBox}
+use Rattle.geometry.specs.Box.{everySides, validSide, validBox, touchSide, touches, withinSide, encloses, sameSide, sameBox, corner, cornersBox}
 use Rattle.geometry.specs.Segment.{rayAdmitted, unitLength, segmentEnd, segmentBox}
 use Rattle.geometry.specs.declared.vec3.Vec3.{Vec3}
 use Rattle.geometry.specs.declared.aabb.Aabb.{Aabb}
 use Rattle.geometry.specs.declared.ray.Ray.{Ray}
-use Rattle.geometry.proofs.JoinedTests.{and-both, and-first, and-second}
+use Rattle.geometry.proofs.JoinedTests.{and-both, and-first, and-second, and-three}
+use Rattle.geometry.proofs.FiniteVectors.{finite-x, finite-y, finite-z, min-finite, max-finite}
 
 -- ---- equal numbers are at most the same, and at least the same
 level-symmetric : (s : Bool) (a : ℕ) (t : Bool) (b : ℕ) → level s a t b ≡ true → level t b s a ≡ true
@@ -124,45 +128,41 @@ pub touches-of-same : (b c d : Aabb) → sameBox b c ≡ true → touches b d �
 touches-of-same b c d h =
     alike (touches b d) (touches c d) (touches-grows c b d (encloses-of-same-reversed b c h)) (touches-grows b c d (encloses-of-same b c h))
 
--- ---- the box of a segment
-finite-number : (x : Float) → isFinite x ≡ true → isNan x ≡ false
-unfolding isFinite isNan
-finite-number nan h = absurd (false≢true h)
-finite-number (inf s) h = refl
-finite-number (fin s m e) h = refl
-
-valid-of : (x y : Float) → isFinite x ≡ true → isFinite y ≡ true → le x y ≡ true → validSide x y ≡ true
+-- ---- the boxes of finite corners
+-- the second operand lies between its minimum with one number and its maximum with another
+around-second : (x w y : Float) → isFinite x ≡ true → isFinite w ≡ true → isFinite y ≡ true → validSide (minimumOf x y) (maximumOf w y) ≡ true
 unfolding validSide
-valid-of x y p q h = and-both (isFinite x) (isFinite y && le x y) p (and-both (isFinite y) (le x y) q h)
+around-second x w y p q r =
+    and-three (isFinite (minimumOf x y)) (isFinite (maximumOf w y)) (le (minimumOf x y) (maximumOf w y))
+    (minimum-finite x y p r)
+    (maximum-finite w y q r)
+    (le-transitive (minimumOf x y) y (maximumOf w y)
+    (minimum-below-second x y (finite-number x p) (finite-number y r))
+    (maximum-above-second w y (finite-number w q) (finite-number y r)))
 
-pub extremes-valid : (x y : Float) → isFinite x ≡ true → isFinite y ≡ true → validSide (minimumOf x y) (maximumOf x y) ≡ true
-unfolding minimumOf maximumOf
-extremes-valid x y p q = go (lt y x) refl (lt x y) refl
-  where
-    go : (a : Bool) → lt y x ≡ a → (b : Bool) → lt x y ≡ b → validSide (minimumOf x y) (maximumOf x y) ≡ true
-    go true h true k = absurd (true≢false (sym k ∙ lt-asymmetric y x h))
-    go true h false k = simp (h, k, finite-number x p) (valid-of y x q p (le-of-lt y x h))
-    go false h true k = simp (h, k, finite-number x p) (valid-of x y p q (le-of-lt x y k))
-    go false h false k = simp (h, k, finite-number x p) (valid-of x x p p (le-reflexive x (finite-number x p)))
+around-second-valid : (v w u : Vec3) → finiteVec v ≡ true → finiteVec w ≡ true → finiteVec u ≡ true → validBox record { min = minOf v u; max = maxOf w u } ≡ true
+unfolding validBox minOf maxOf
+around-second-valid v w u p q r =
+    and-three
+    (validSide (minimumOf (v .x) (u .x)) (maximumOf (w .x) (u .x)))
+    (validSide (minimumOf (v .y) (u .y)) (maximumOf (w .y) (u .y)))
+    (validSide (minimumOf (v .z) (u .z)) (maximumOf (w .z) (u .z)))
+    (around-second (v .x) (w .x) (u .x) (finite-x v p) (finite-x w q) (finite-x u r))
+    (around-second (v .y) (w .y) (u .y) (finite-y v p) (finite-y w q) (finite-y u r))
+    (around-second (v .z) (w .z) (u .z) (finite-z v p) (finite-z w q) (finite-z u r))
 
-abbrev finiteOn : (Vec3 → Float) → Vec3 → Bool
-finiteOn axis v = isFinite (axis v)
+pub corners-box-valid : (vs : List Vec3) → finiteVec (corner vs 0) ≡ true → finiteVec (corner vs 1) ≡ true → finiteVec (corner vs 2) ≡ true → validBox (cornersBox vs) ≡ true
+unfolding cornersBox
+corners-box-valid vs p q r =
+    around-second-valid (minOf (corner vs 0) (corner vs 1)) (maxOf (corner vs 0) (corner vs 1)) (corner vs 2)
+    (min-finite (corner vs 0) (corner vs 1) p q) (max-finite (corner vs 0) (corner vs 1) p q) r
 
-abbrev validOn : (Vec3 → Float) → Vec3 → Vec3 → Bool
-validOn axis v w = validSide (minimumOf (axis v) (axis w)) (maximumOf (axis v) (axis w))
-
-box-of-two-valid : (v w : Vec3) → finiteVec v ≡ true → finiteVec w ≡ true → validBox record { min = minOf v w; max = maxOf v w } ≡ true
-unfolding finiteVec validBox minOf maxOf
-box-of-two-valid v w =
-    each-of-two
-    (finiteOn (λ u. u .x) v) (finiteOn (λ u. u .y) v) (finiteOn (λ u. u .z) v)
-    (finiteOn (λ u. u .x) w) (finiteOn (λ u. u .y) w) (finiteOn (λ u. u .z) w)
-    (validOn (λ u. u .x) v w) (validOn (λ u. u .y) v w) (validOn (λ u. u .z) v w)
-    (extremes-valid (v .x) (w .x)) (extremes-valid (v .y) (w .y)) (extremes-valid (v .z) (w .z))
+-- the origin of an admitted ray is finite
+pub origin-finite : (r : Ray) → rayAdmitted r ≡ true → finiteVec (r .origin) ≡ true
+unfolding rayAdmitted
+origin-finite r = and-first (finiteVec (r .origin)) (finiteVec (r .direction) && (unitLength (r .direction) && (isFinite (r .«max_distance») && not (lt (r .«max_distance») zeroᶠ))))
 
 pub segment-box-valid : (r : Ray) → rayAdmitted r ≡ true → finiteVec (segmentEnd r) ≡ true → validBox (segmentBox r) ≡ true
-unfolding rayAdmitted segmentBox
+unfolding segmentBox
 segment-box-valid r admitted finite =
-    box-of-two-valid (r .origin) (segmentEnd r)
-    (and-first (finiteVec (r .origin)) (finiteVec (r .direction) && (unitLength (r .direction) && (isFinite (r .«max_distance») && not (lt (r .«max_distance») zeroᶠ)))) admitted)
-    finite
+    around-second-valid (r .origin) (r .origin) (segmentEnd r) (origin-finite r admitted) (origin-finite r admitted) finite

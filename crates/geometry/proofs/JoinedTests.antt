@@ -1,4 +1,4 @@
--- Two joined tests pass exactly where both do. Assumes nothing.
+-- Two or three joined tests pass exactly where each does. Assumes nothing.
 use mathlib.Core.Path.{_≡_, refl}
 use mathlib.Core.Bool.{Bool, true, false, _&&_, false≢true}
 
@@ -13,3 +13,6 @@ and-first false b h = h
 pub and-second : (a b : Bool) → (a && b) ≡ true → b ≡ true
 and-second true b h = h
 and-second false b h = absurd (false≢true h)
+
+pub and-three : (a b c : Bool) → a ≡ true → b ≡ true → c ≡ true → (a && (b && c)) ≡ true
+and-three a b c p q r = and-both a (b && c) p (and-both b c q r)

@@ -1,4 +1,5 @@
 -- Laws about the geometry's definitions. Assumes nothing.
 pub mod JoinedTests
+pub mod FiniteVectors
 pub mod BoxLaws
 pub mod UnitLength

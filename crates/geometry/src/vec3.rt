@@ -2,6 +2,7 @@ use arithmetic::basic;
 use arithmetic::extremes;
 use arithmetic::square_root;
 ghost use mathlib.Core.Path.{_≡_};
+ghost use mathlib.Core.Bool.{true};
 ghost use Rattle.geometry.specs.Vector.{component, finiteVec, addOf, subOf, negOf, scaleOf, minOf, maxOf, absOf, maxElement, dotOf, checkedDot, crossOf, lengthOf, tryNormalize};
 
 pub struct Vec3 {
@@ -92,6 +93,30 @@ impl Vec3 {
             x: extremes::maximum(self.x, other.x),
             y: extremes::maximum(self.y, other.y),
             z: extremes::maximum(self.z, other.z),
+        }
+    }
+
+    // `min` where this vector is finite, as callers show: one instruction a component.
+    pub fn least(self, other: Vec3) -> Vec3
+        requires { ⌜ finiteVec self ≡ true ⌝ }
+        ensures { λ r. ⌜ r ≡ minOf self other ⌝ }
+    {
+        Vec3 {
+            x: extremes::lesser(self.x, other.x),
+            y: extremes::lesser(self.y, other.y),
+            z: extremes::lesser(self.z, other.z),
+        }
+    }
+
+    // `max` where this vector is finite.
+    pub fn greatest(self, other: Vec3) -> Vec3
+        requires { ⌜ finiteVec self ≡ true ⌝ }
+        ensures { λ r. ⌜ r ≡ maxOf self other ⌝ }
+    {
+        Vec3 {
+            x: extremes::greater(self.x, other.x),
+            y: extremes::greater(self.y, other.y),
+            z: extremes::greater(self.z, other.z),
         }
     }
 
