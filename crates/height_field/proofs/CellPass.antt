@@ -1,21 +1,26 @@
 -- The pass over one cell: what its listing gives, folded, is the code's two triangles in turn. Assumes nothing.
 use Prim.Native.Nat.{ℕ, _+_, _*_, _/_, _%_, _<_}
-use mathlib.Core.Path.{_≡_, refl, ap, _∙_}
-use mathlib.Core.Bool.{Bool, true, false, cond}
+use mathlib.Core.Path.{_≡_, refl, sym, ap, _∙_}
+use mathlib.Core.Bool.{Bool, true, false, _&&_, cond, false≢true}
 use mathlib.Core.List.{List, [], _∷_}
+use native.Mathlib.Numerals.{add-one}
 use native.Mathlib.Omega.{arith}
+use lib.Dec.{eqb}
 use lib.Ieee.{Float}
+use Rattle.geometry.specs.Vector.{finiteVec}
 use Rattle.geometry.specs.Box.{validBox, touches}
 use Rattle.geometry.specs.declared.vec3.Vec3.{Vec3}
 use Rattle.geometry.specs.declared.aabb.Aabb.{Aabb}
 use Rattle.geometry.specs.declared.ray.Ray.{Ray}
+use Rattle.geometry.proofs.JoinedTests.{and-first, and-second}
+use Rattle.geometry.proofs.BoxLaws.{corners-box-valid}
 use Rattle.casts.specs.Answer.{Answer, outOfBounds, overflow}
 use Rattle.casts.specs.Nearest.{Indexed, nextOf, foldFrom}
 use Rattle.height_field.specs.declared.field.Field.{Field}
 use Rattle.height_field.specs.Grid.{cellAt, cellRow, cellColumn, cornersAt, featureCorners}
-use Rattle.height_field.specs.Listing.{listed, unlisted, keep, cellFinite, featureBox, listCell}
+use Rattle.height_field.specs.Listing.{listed, unlisted, keep, allFinite, cellFinite, featureBox, listCell}
 use Rattle.height_field.specs.Cast.{answerOf}
-use Rattle.height_field.specs.Pass.{Passed, going, ended, passFrom, passTriangle, passTriangles}
+use Rattle.height_field.specs.Pass.{Passed, going, ended, passFrom, FiniteCorners, halfOf, passTriangle, passTriangles}
 use Rattle.height_field.proofs.Sizes.{row-of-cell, column-of-cell}
 
 -- ---- two triangles
@@ -37,19 +42,81 @@ fold-of-two answer test best a b = go (test a) (test b)
     go false true = refl
     go false false = refl
 
+-- where the vertices are finite both boxes are valid, so that no box refuses
 pass-of-two : (answer : ℕ → Answer) (test : ℕ → Bool) (best : Indexed) (a b : ℕ) (finite first second : Bool)
+    → (finite ≡ true → first ≡ true) → (finite ≡ true → second ≡ true)
     → passFrom answer best
     (cond finite
     (cond first (cond second (listed (keep test (a ∷ b ∷ []))) (unlisted outOfBounds)) (unlisted outOfBounds))
     (unlisted overflow))
-    ≡ cond finite
-    (cond first (cond second (going (step answer test (step answer test best a) b)) (ended outOfBounds)) (ended outOfBounds))
-    (ended overflow)
+    ≡ cond finite (going (step answer test (step answer test best a) b)) (ended overflow)
 unfolding passFrom
-pass-of-two answer test best a b true true true = ap going (fold-of-two answer test best a b)
-pass-of-two answer test best a b true true false = refl
-pass-of-two answer test best a b true false second = refl
-pass-of-two answer test best a b false first second = refl
+pass-of-two answer test best a b true true true p q = ap going (fold-of-two answer test best a b)
+pass-of-two answer test best a b true true false p q = absurd (false≢true (q refl))
+pass-of-two answer test best a b true false second p q = absurd (false≢true (p refl))
+pass-of-two answer test best a b false first second p q = refl
+
+-- ---- the triangles in turn
+
+module _ (ray : Ray) (box : Aabb) (lower upper : List Vec3) (feature : ℕ) (best : Indexed) where
+  pub one-more : (k : ℕ)
+      → passTriangles ray box lower upper feature best (k + 1)
+      ≡ passTriangle ray box (halfOf lower upper k) (feature + k) (passTriangles ray box lower upper feature best k)
+  unfolding passTriangles
+  one-more k = ap (passTriangles ray box lower upper feature best) (add-one k)
+
+  both-triangles : passTriangles ray box lower upper feature best 2
+      ≡ passTriangle ray box upper (feature + 1) (passTriangle ray box lower feature best)
+  unfolding passTriangles halfOf
+  both-triangles =
+      let first : feature + 0 ≡ feature = omega arith in
+      ap (λ (n : ℕ). passTriangle ray box upper (feature + 1) (passTriangle ray box lower n best)) first
+
+-- ---- finite corners
+
+either-finite : (which : Bool) (lower upper : List Vec3) → FiniteCorners lower → FiniteCorners upper → FiniteCorners (cond which lower upper)
+either-finite true lower upper p q = p
+either-finite false lower upper p q = q
+
+pub half-finite : (lower upper : List Vec3) (triangle : ℕ) → FiniteCorners lower → FiniteCorners upper → FiniteCorners (halfOf lower upper triangle)
+unfolding halfOf
+half-finite lower upper triangle = either-finite (eqb triangle 0) lower upper
+
+-- the corners of a cell's triangles are among its vertices
+module _ (v00 v10 v01 v11 : Vec3) (finite : allFinite v00 v10 v01 v11 ≡ true) where
+  pub lower-finite : FiniteCorners (v00 ∷ v10 ∷ v11 ∷ [])
+  unfolding allFinite
+  lower-finite =
+      let a = finiteVec v00 in
+      let b = finiteVec v10 in
+      let c = finiteVec v01 in
+      let d = finiteVec v11 in
+      let rest = and-second a (b && (c && d)) finite in
+      record { first = and-first a (b && (c && d)) finite; second = and-first b (c && d) rest; third = and-second c d (and-second b (c && d) rest) }
+
+  pub upper-finite : FiniteCorners (v00 ∷ v11 ∷ v01 ∷ [])
+  unfolding allFinite
+  upper-finite =
+      let a = finiteVec v00 in
+      let b = finiteVec v10 in
+      let c = finiteVec v01 in
+      let d = finiteVec v11 in
+      let rest = and-second b (c && d) (and-second a (b && (c && d)) finite) in
+      record { first = and-first a (b && (c && d)) finite; second = and-second c d rest; third = and-first c d rest }
+
+-- a triangle of a cell with finite vertices has a valid box
+module _ (f : Field) (heights : List Float) where
+  corners-finite : (row column triangle : ℕ) → cellFinite f heights row column ≡ true → FiniteCorners (cornersAt f heights row column triangle)
+  unfolding cellFinite cornersAt
+  corners-finite row column triangle finite =
+      either-finite (eqb triangle 0) _ _ (lower-finite _ _ _ _ finite) (upper-finite _ _ _ _ finite)
+
+  feature-valid : (cell feature : ℕ) → feature / 2 ≡ cell → cellFinite f heights (cellRow f cell) (cellColumn f cell) ≡ true
+      → validBox (featureBox f heights feature) ≡ true
+  unfolding featureBox featureCorners
+  feature-valid cell feature e finite =
+      let corners = corners-finite (cellRow f (feature / 2)) (cellColumn f (feature / 2)) (feature % 2) (ap (λ (n : ℕ). cellFinite f heights (cellRow f n) (cellColumn f n)) e ∙ finite) in
+      corners-box-valid (featureCorners f heights feature) (corners .first) (corners .second) (corners .third)
 
 -- ---- the cell of a row and a column
 
@@ -71,16 +138,18 @@ module _ (f : Field) (heights : List Float) (row column : ℕ) (within : column 
   pub pass-of-cell : (ray : Ray) (box : Aabb) (best : Indexed)
       → passFrom (answerOf ray f heights) best (listCell f heights box (cellAt f row column))
       ≡ cond (cellFinite f heights row column)
-      (passTriangles ray box (cornersAt f heights row column 0) (cornersAt f heights row column 1) (cellAt f row column * 2) best)
+      (going (passTriangles ray box (cornersAt f heights row column 0) (cornersAt f heights row column 1) (cellAt f row column * 2) best 2))
       (ended overflow)
-  unfolding listCell featureBox answerOf passTriangles passTriangle step
+  unfolding listCell featureBox answerOf passTriangle step
   pass-of-cell ray box best =
       let cell = cellAt f row column in
-      let whole : (finite : Bool) (lower upper : List Vec3) → Passed = λ finite lower upper. cond finite (passTriangles ray box lower upper (cell * 2) best) (ended overflow) in
+      let whole : (finite : Bool) (lower upper : List Vec3) → Passed = λ finite lower upper. cond finite (going (passTriangle ray box upper (cell * 2 + 1) (passTriangle ray box lower (cell * 2) best))) (ended overflow) in
       let lower = corners-of-feature (cell * 2) 0 (omega arith) (omega arith) in
       let upper = corners-of-feature (cell * 2 + 1) 1 (omega arith) (omega arith) in
       pass-of-two (answerOf ray f heights) (λ (feature : ℕ). touches (featureBox f heights feature) box) best (cell * 2) (cell * 2 + 1)
       (cellFinite f heights (cellRow f cell) (cellColumn f cell)) (validBox (featureBox f heights (cell * 2))) (validBox (featureBox f heights (cell * 2 + 1)))
+      (feature-valid f heights cell (cell * 2) (omega arith)) (feature-valid f heights cell (cell * 2 + 1) (omega arith))
       ∙ ap (λ (finite : Bool). whole finite (featureCorners f heights (cell * 2)) (featureCorners f heights (cell * 2 + 1))) finite-cell
       ∙ ap (λ (l : List Vec3). whole (cellFinite f heights row column) l (featureCorners f heights (cell * 2 + 1))) lower
       ∙ ap (λ (l : List Vec3). whole (cellFinite f heights row column) (cornersAt f heights row column 0) l) upper
+      ∙ ap (λ (found : Indexed). cond (cellFinite f heights row column) (going found) (ended overflow)) (sym (both-triangles ray box (cornersAt f heights row column 0) (cornersAt f heights row column 1) (cell * 2) best))

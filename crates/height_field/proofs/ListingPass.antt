@@ -1,15 +1,21 @@
 -- The pass over a listing in parts: what was found in the first part goes into the second. Assumes nothing.
 use Prim.Native.Nat.{ℕ, suc, _+_, _-_, _≤_, _<_}
 use mathlib.Core.Path.{_≡_, refl, sym, ap, _∙_}
+use mathlib.Core.Bool.{true, cond}
 use mathlib.Core.List.{List, [], _∷_, _++_, map, append-assoc}
 use native.Mathlib.Omega.{arith}
-use Rattle.casts.specs.Answer.{Answer}
+use lib.Ieee.{Float}
+use Rattle.geometry.specs.Vector.{finiteVec}
+use Rattle.geometry.specs.Segment.{rayAdmitted, segmentEnd, segmentBox}
+use Rattle.geometry.specs.declared.ray.Ray.{Ray}
+use Rattle.geometry.proofs.BoxLaws.{segment-box-valid}
+use Rattle.casts.specs.Answer.{Answer, refused, overflow}
 use Rattle.casts.specs.Nearest.{Indexed, noHit, nextOf, foldFrom}
 use Rattle.height_field.specs.declared.field.Field.{Field}
 use Rattle.height_field.specs.Grid.{cellAt}
 use Rattle.height_field.specs.Cells.{run, gridCells}
-use Rattle.height_field.specs.Listing.{Listing, listed, unlisted, both, listAll}
-use Rattle.height_field.specs.Cast.{castListed}
+use Rattle.height_field.specs.Listing.{Listing, listed, unlisted, both, listAll, gridListing}
+use Rattle.height_field.specs.Cast.{answerOf, castListed, spanFinite, heightCast}
 use Rattle.height_field.specs.Pass.{Passed, going, ended, passFrom, answerOfPass}
 
 -- the pass goes on with the next listing, unless it ended
@@ -112,3 +118,10 @@ pub answer-of-pass : (answer : ℕ → Answer) (all : Listing) → answerOfPass 
 unfolding answerOfPass passFrom castListed
 answer-of-pass answer (listed features) = refl
 answer-of-pass answer (unlisted number) = refl
+
+-- the box of an admitted ray with a finite end is valid, so that no box refuses
+pub cast-of-finite-end : (ray : Ray) (f : Field) (heights : List Float) → rayAdmitted ray ≡ true → finiteVec (segmentEnd ray) ≡ true
+    → heightCast ray f heights
+    ≡ cond (spanFinite f) (castListed (answerOf ray f heights) (gridListing f heights (segmentBox ray))) (refused overflow)
+unfolding heightCast
+cast-of-finite-end ray f heights admitted finite = rw (finite, segment-box-valid ray admitted finite)

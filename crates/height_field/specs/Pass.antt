@@ -1,13 +1,16 @@
 -- What the code has found part way through the cells: the cast of the listing, cell by cell. Definitions only. Assumes nothing.
-use Prim.Native.Nat.{ℕ, _+_}
-use mathlib.Core.Bool.{cond}
+use Prim.Native.Nat.{ℕ, zero, suc, _+_}
+use mathlib.Core.Path.{_≡_}
+use mathlib.Core.Bool.{true, cond}
 use mathlib.Core.List.{List}
+use lib.Dec.{eqb}
 use lib.Ieee.{Float}
-use Rattle.geometry.specs.Box.{validBox, touches, cornersBox}
+use Rattle.geometry.specs.Vector.{finiteVec}
+use Rattle.geometry.specs.Box.{touches, corner, cornersBox}
 use Rattle.geometry.specs.declared.vec3.Vec3.{Vec3}
 use Rattle.geometry.specs.declared.aabb.Aabb.{Aabb}
 use Rattle.geometry.specs.declared.ray.Ray.{Ray}
-use Rattle.casts.specs.Answer.{Answer, refused, outOfBounds}
+use Rattle.casts.specs.Answer.{Answer, refused}
 use Rattle.casts.specs.Triangle.{triangleCast}
 use Rattle.casts.specs.Nearest.{Indexed, noHit, saysIndexed, nextOf, foldFrom, withoutIndex}
 use Rattle.height_field.specs.declared.field.Field.{Field}
@@ -42,15 +45,22 @@ gridPass ray box f heights = passFrom (answerOf ray f heights) noHit (gridListin
 
 -- ---- one cell
 
--- a triangle with its corners and its box counts where the box touches
-unfoldable pub passTriangle : Ray → Aabb → List Vec3 → Aabb → ℕ → Indexed → Indexed
-passTriangle ray box corners around feature best = cond (touches around box) (nextOf best feature (triangleCast ray corners)) best
+-- three corners that are finite
+pub record FiniteCorners (corners : List Vec3) : Type 0 where
+  pub first : finiteVec (corner corners 0) ≡ true
+  pub second : finiteVec (corner corners 1) ≡ true
+  pub third : finiteVec (corner corners 2) ≡ true
 
--- the two triangles of a cell, once both boxes are valid
-unfoldable pub passTriangles : Ray → Aabb → List Vec3 → List Vec3 → ℕ → Indexed → Passed
-passTriangles ray box lower upper feature best =
-    cond (validBox (cornersBox lower))
-    (cond (validBox (cornersBox upper))
-    (going (passTriangle ray box upper (cornersBox upper) (feature + 1) (passTriangle ray box lower (cornersBox lower) feature best)))
-    (ended outOfBounds))
-    (ended outOfBounds)
+-- a triangle with its corners counts where its box touches
+unfoldable pub passTriangle : Ray → Aabb → List Vec3 → ℕ → Indexed → Indexed
+passTriangle ray box corners feature best = cond (touches (cornersBox corners) box) (nextOf best feature (triangleCast ray corners)) best
+
+-- the corners of triangle 0, or else of triangle 1
+unfoldable pub halfOf : List Vec3 → List Vec3 → ℕ → List Vec3
+halfOf lower upper triangle = cond (eqb triangle 0) lower upper
+
+-- the first triangles of a cell, one after another: two are all
+unfoldable pub passTriangles : Ray → Aabb → List Vec3 → List Vec3 → ℕ → Indexed → ℕ → Indexed
+passTriangles ray box lower upper feature best zero = best
+passTriangles ray box lower upper feature best (suc k) =
+    passTriangle ray box (halfOf lower upper k) (feature + k) (passTriangles ray box lower upper feature best k)

@@ -12,6 +12,8 @@ use casts::nearest::IndexedCast;
 use geometry::aabb::Aabb;
 use geometry::ray::Ray;
 ghost use mathlib.Core.Path.{_≡_};
+ghost use mathlib.Core.Bool.{true};
+ghost use Rattle.geometry.specs.Segment.{rayAdmitted};
 ghost use Rattle.casts.specs.Answer.{says};
 ghost use Rattle.height_field.specs.Grid.{Sized};
 ghost use Rattle.height_field.specs.Pass.{saysPass, answerOfPass, gridPass};
@@ -67,18 +69,15 @@ fn pass_answer(pass: Pass) -> Cast
     }
 }
 
-// The Rust's ray_height_field. Callers show that the grid is admitted.
+// The Rust's ray_height_field, but for the test of the box: a box with finite ends is valid. Callers show that the ray and the grid are admitted.
 fn height_cast(ray: Ray, field: Field, heights: &[f64]) -> Cast
-    requires { ⌜ Sized field (now heights) ⌝ }
+    requires { ⌜ rayAdmitted ray ≡ true ⌝ ∗ ⌜ Sized field (now heights) ⌝ }
     ensures { λ r. ⌜ says r ≡ heightCast ray field (now (heights .entry)) ⌝ }
 {
     if !ray.segment_end().is_finite() {
         return Cast::Refused(answer::OVERFLOW);
     }
     let bounds = ray.segment_box();
-    if !bounds.is_valid() {
-        return Cast::Refused(answer::OUT_OF_BOUNDS);
-    }
     if !span_finite(field, heights) {
         return Cast::Refused(answer::OVERFLOW);
     }

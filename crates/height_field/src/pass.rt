@@ -14,7 +14,7 @@ ghost use Rattle.height_field.specs.Grid.{Sized, cellAt};
 ghost use Rattle.height_field.specs.Cells.{run, gridCells};
 ghost use Rattle.height_field.specs.Listing.{allFinite, listCell, listAll};
 ghost use Rattle.height_field.specs.Cast.{answerOf};
-ghost use Rattle.height_field.specs.Pass.{saysPass, passFrom, passTriangle, passTriangles};
+ghost use Rattle.height_field.specs.Pass.{saysPass, passFrom, FiniteCorners, halfOf, passTriangle, passTriangles};
 
 // What the cells so far came to: the nearest hit, none or a triangle's refusal, which later cells may still override;
 // or the refusal of the listing, which ends the cast.
@@ -39,24 +39,34 @@ fn all_finite(v00: Vec3, v10: Vec3, v01: Vec3, v11: Vec3) -> bool
     v11.is_finite()
 }
 
-// One triangle and its box: it counts where the box touches the segment's box.
+// The corners of a cell's triangle 0, or else of its triangle 1.
+fn half(lower: [Vec3; 3], upper: [Vec3; 3], triangle: u32) -> [Vec3; 3]
+    ensures { λ r. ⌜ r ≡ halfOf lower upper triangle ⌝ }
+{
+    if triangle == 0 {
+        return lower;
+    }
+    upper
+}
+
+// One triangle, which counts where its box touches the segment's box. Callers show that its corners are finite.
 fn pass_triangle(
     ray: Ray,
     bounds: Aabb,
     corners: [Vec3; 3],
-    around: Aabb,
     feature: u32,
     best: IndexedCast,
 ) -> IndexedCast
-    ensures { λ r. ⌜ saysIndexed r ≡ passTriangle ray bounds corners around feature (saysIndexed best) ⌝ }
+    requires { ⌜ FiniteCorners corners ⌝ }
+    ensures { λ r. ⌜ saysIndexed r ≡ passTriangle ray bounds corners feature (saysIndexed best) ⌝ }
 {
-    if around.touches(bounds) {
+    if Aabb::around(corners).touches(bounds) {
         return nearest::next_triangle(best, feature, ray, corners);
     }
     best
 }
 
-// The two triangles of a cell, whose boxes must both be valid before either is cast at. Callers show that the feature is small.
+// The two triangles of a cell in turn. Callers show that their corners are finite and that the feature is small.
 fn pass_triangles(
     ray: Ray,
     bounds: Aabb,
@@ -64,20 +74,18 @@ fn pass_triangles(
     upper: [Vec3; 3],
     feature: u32,
     best: IndexedCast,
-) -> Pass
-    requires { ⌜ feature + 1 < 2 ^ 32 ⌝ }
-    ensures { λ r. ⌜ saysPass r ≡ passTriangles ray bounds lower upper feature (saysIndexed best) ⌝ }
+) -> IndexedCast
+    requires { ⌜ FiniteCorners lower ⌝ ∗ ⌜ FiniteCorners upper ⌝ ∗ ⌜ feature + 1 < 2 ^ 32 ⌝ }
+    ensures { λ r. ⌜ saysIndexed r ≡ passTriangles ray bounds lower upper feature (saysIndexed best) 2 ⌝ }
 {
-    let first = Aabb::of_corners(lower);
-    if !first.is_valid() {
-        return Pass::Ended(answer::OUT_OF_BOUNDS);
+    let mut found = best;
+    let mut triangle: u32 = 0;
+    while triangle < 2 {
+        let corners = half(lower, upper, triangle);
+        found = pass_triangle(ray, bounds, corners, feature + triangle, found);
+        triangle += 1;
     }
-    let second = Aabb::of_corners(upper);
-    if !second.is_valid() {
-        return Pass::Ended(answer::OUT_OF_BOUNDS);
-    }
-    let after = pass_triangle(ray, bounds, lower, first, feature, best);
-    Pass::Going(pass_triangle(ray, bounds, upper, second, feature + 1, after))
+    found
 }
 
 // One cell. Callers show that it is in the grid.
@@ -101,14 +109,14 @@ fn pass_cell(
         return Pass::Ended(answer::OVERFLOW);
     }
     let cell = row * (field.columns - 1) + column;
-    pass_triangles(
+    Pass::Going(pass_triangles(
         ray,
         bounds,
         [v00, v10, v11],
         [v00, v11, v01],
         (cell * 2) as u32,
         best,
-    )
+    ))
 }
 
 // The cells of one row from the first column to the last. Callers show that they are in the grid.

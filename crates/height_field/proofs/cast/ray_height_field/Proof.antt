@@ -22,7 +22,10 @@ unfolding rayHeightField
 returns-2 c = simp (sym (c .before .before .before .validate .ensures), not-false (c .before .before .before .validate .result) (c .before .before .if1 .left), sym (c .before .is-admitted .ensures), not-true (c .before .is-admitted .result) (c .if2 .taken))
 
 height-cast-requires : tie.Need-height-cast-requires
-height-cast-requires c κs = admitted-sized _ _ (sym (c .before .is-admitted .ensures) ∙ not-false (c .before .is-admitted .result) (c .if2 .left))
+height-cast-requires c κs = (
+  sym (c .before .before .before .validate .ensures) ∙ not-false (c .before .before .before .validate .result) (c .before .before .if1 .left),
+  admitted-sized _ _ (sym (c .before .is-admitted .ensures) ∙ not-false (c .before .is-admitted .result) (c .if2 .left)),
+)
 
 returns-3 : tie.Need-returns-3
 unfolding rayHeightField

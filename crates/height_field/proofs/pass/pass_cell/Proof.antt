@@ -1,13 +1,13 @@
 -- `pass::pass_cell` meets its contract: the four vertices, then the two triangles. Assumes nothing.
 use Prim.Native.Nat.{_+_, _-_, _*_, _<_}
-use mathlib.Core.Path.{sym}
+use mathlib.Core.Path.{sym, _∙_}
 use native.Mathlib.Omega.{arith}
 use borrow.Author.Tests.{not-true, not-false}
 use Rattle.casts.specs.Nearest.{saysIndexed}
 use Rattle.height_field.specs.Grid.{cellAt, cornersAt}
 use Rattle.height_field.specs.Listing.{cellFinite}
 use Rattle.height_field.proofs.Sizes.{cell-small}
-use Rattle.height_field.proofs.CellPass.{pass-of-cell}
+use Rattle.height_field.proofs.CellPass.{lower-finite, upper-finite, pass-of-cell}
 use borrow.Author.Needs.{needs}
 use Rattle.height_field.proofs.pass.pass_cell.Statement.{statement}
 use Rattle.height_field.proofs.pass.pass_cell.Tie as tie
@@ -66,7 +66,10 @@ cast-pass-triangles : tie.Need-cast-pass-triangles
 cast-pass-triangles c = omega (arith, small (c .before .before .before .before .before .before .before .before))
 
 pass-triangles-requires : tie.Need-pass-triangles-requires
-pass-triangles-requires c κs = omega (arith, small (c .before .before .before .before .before .before .before .before))
+pass-triangles-requires c κs =
+    let at = c .before .before in
+    let finite = sym (at .all-finite .ensures) ∙ not-false (at .all-finite .result) (c .before .if1 .left) in
+    (lower-finite _ _ _ _ finite, (upper-finite _ _ _ _ finite, omega (arith, small (c .before .before .before .before .before .before .before .before))))
 
 returns-2 : tie.Need-returns-2
 unfolding cellFinite cornersAt cellAt

@@ -1,55 +1,73 @@
--- `pass::pass_triangles` meets its contract. Assumes nothing.
-use Rattle.height_field.specs.Pass.{passTriangles}
-use mathlib.Core.Path.{sym}
-use borrow.Author.Tests.{not-true, not-false}
+-- `pass::pass_triangles` meets its contract. The loop's invariant: what was found is what the triangles so far give. Assumes nothing.
+use Prim.Native.Nat.{_+_, _-_, _≤_}
+use mathlib.Core.Path.{_≡_, refl, sym, ap, _∙_, subst}
+use mathlib.Core.List.{List}
+use native.Mathlib.Omega.{arith}
+use Rattle.geometry.specs.declared.vec3.Vec3.{Vec3}
+use Rattle.casts.specs.Nearest.{saysIndexed}
+use Rattle.height_field.specs.Pass.{FiniteCorners, halfOf, passTriangle, passTriangles}
+use Rattle.height_field.proofs.CellPass.{half-finite, one-more}
 use borrow.Author.Needs.{needs}
 use Rattle.height_field.proofs.pass.pass_triangles.Statement.{statement}
 use Rattle.height_field.proofs.pass.pass_triangles.Tie as tie
 
-of-corners-requires : tie.Need-of-corners-requires
-of-corners-requires c κs = search needs
+abbrev Inv-loop : tie.InvT-loop
+Inv-loop ray bounds lower upper feature found₀ triangle₀ found triangle =
+    (saysIndexed found ≡ passTriangles ray bounds lower upper feature (saysIndexed found₀) triangle) × (triangle ≤ 2)
 
-is-valid-requires : tie.Need-is-valid-requires
-is-valid-requires c κs = search needs
+abbrev μ-loop : tie.MeasureT-loop
+μ-loop ray bounds lower upper feature found₀ triangle₀ found triangle = 2 - triangle
 
-returns : tie.Need-returns
+loop-holds : tie.Need-loop-holds Inv-loop μ-loop
 unfolding passTriangles
-returns c = simp (sym (c .before .before .of-corners .ensures), sym (c .before .is-valid .ensures), not-true (c .before .is-valid .result) (c .if1 .taken))
+loop-holds c = (refl, omega arith)
 
-of-corners-requires-2 : tie.Need-of-corners-requires-2
-of-corners-requires-2 c κs = search needs
+half-requires : tie.Need-half-requires Inv-loop μ-loop
+half-requires c κs = search needs
 
-is-valid-requires-2 : tie.Need-is-valid-requires-2
-is-valid-requires-2 c κs = search needs
-
-returns-2 : tie.Need-returns-2
-unfolding passTriangles
-returns-2 c = simp (sym (c .before .before .before .before .before .of-corners .ensures), sym (c .before .before .before .before .is-valid .ensures), not-false (c .before .before .before .before .is-valid .result) (c .before .before .before .if1 .left), sym (c .before .before .of-corners2 .ensures), sym (c .before .is-valid2 .ensures), not-true (c .before .is-valid2 .result) (c .if2 .taken))
-
-pass-triangle-requires : tie.Need-pass-triangle-requires
-pass-triangle-requires c κs = search needs
-
-add-pass-triangle : tie.Need-add-pass-triangle
+add-pass-triangle : tie.Need-add-pass-triangle Inv-loop μ-loop
 add-pass-triangle c = search needs
 
-pass-triangle-requires-2 : tie.Need-pass-triangle-requires-2
-pass-triangle-requires-2 c κs = search needs
+pass-triangle-requires : tie.Need-pass-triangle-requires Inv-loop μ-loop
+pass-triangle-requires c κs =
+    let s = c .before .before .before in
+    subst FiniteCorners (sym (c .half .ensures)) (half-finite (s .args .lower) (s .args .upper) (c .before .before .loop .triangle) (s .pre .0) (s .pre .1 .0))
 
-returns-3 : tie.Need-returns-3
-unfolding passTriangles
-returns-3 c = simp (sym (c .before .before .before .before .before .before .before .of-corners .ensures), sym (c .before .before .before .before .before .before .is-valid .ensures), not-false (c .before .before .before .before .before .before .is-valid .result) (c .before .before .before .before .before .if1 .left), sym (c .before .before .before .before .of-corners2 .ensures), sym (c .before .before .before .is-valid2 .ensures), not-false (c .before .before .before .is-valid2 .result) (c .before .before .if2 .left), sym (c .before .pass-triangle .ensures), sym (c .pass-triangle2 .ensures))
+add-triangle : tie.Need-add-triangle Inv-loop μ-loop
+add-triangle c = search needs
+
+loop-less : tie.Need-loop-less Inv-loop μ-loop
+loop-less c = search needs
+
+loop-again : tie.Need-loop-again Inv-loop μ-loop
+loop-again c =
+    let l = c .before .before .before .loop in
+    let a = c .before .before .before .before .args in (
+      c .pass-triangle .ensures
+          ∙ ap (λ (corners : List Vec3). passTriangle (a .ray) (a .bounds) corners (a .feature + l .triangle) (saysIndexed (l .found))) (c .before .half .ensures)
+          ∙ ap (passTriangle (a .ray) (a .bounds) (halfOf (a .lower) (a .upper) (l .triangle)) (a .feature + l .triangle)) (l .inv .0)
+          ∙ sym (one-more (a .ray) (a .bounds) (a .lower) (a .upper) (a .feature) (saysIndexed (a .best)) (l .triangle)),
+      omega arith,
+    )
+
+returns : tie.Need-returns Inv-loop μ-loop
+returns c =
+    let l = c .before .loop in
+    let a = c .before .before .args in
+    let all : l .triangle ≡ 2 = omega arith in
+    l .inv .0 ∙ ap (passTriangles (a .ray) (a .bounds) (a .lower) (a .upper) (a .feature) (saysIndexed (a .best))) all
 
 pub pass-triangles-spec : {M : Type 1} → statement M
 pass-triangles-spec =
     tie.close
     (tie.spec
-    of-corners-requires
-    is-valid-requires
-    returns
-    of-corners-requires-2
-    is-valid-requires-2
-    returns-2
-    pass-triangle-requires
+    Inv-loop
+    μ-loop
+    loop-holds
+    half-requires
     add-pass-triangle
-    pass-triangle-requires-2
-    returns-3)
+    pass-triangle-requires
+    add-triangle
+    loop-less
+    loop-again
+    returns)
