@@ -69,14 +69,16 @@ fn pass_answer(pass: Pass) -> Cast
     }
 }
 
-// The Rust's ray_height_field, but for the test of the box: a box with finite ends is valid. Callers show that the ray and the grid are admitted.
+// The Rust's ray_height_field. Callers show that the ray and the grid are admitted.
 fn height_cast(ray: Ray, field: Field, heights: &[f64]) -> Cast
     requires { ⌜ rayAdmitted ray ≡ true ⌝ ∗ ⌜ Sized field (now heights) ⌝ }
     ensures { λ r. ⌜ says r ≡ heightCast ray field (now (heights .entry)) ⌝ }
 {
-    if !ray.segment_end().is_finite() {
+    let end = ray.segment_end();
+    if !end.is_finite() {
         return Cast::Refused(answer::OVERFLOW);
     }
+    // With both ends finite the box is valid, so that it needs no test.
     let bounds = ray.segment_box();
     if !span_finite(field, heights) {
         return Cast::Refused(answer::OVERFLOW);
