@@ -1,4 +1,4 @@
--- The pass over one cell: what its listing gives, folded, is the code's two triangles in turn. Assumes nothing.
+-- The pass over one cell: what its listing gives, folded, is the code's two triangles in turn, the boxes of finite vertices being valid. Assumes nothing.
 use Prim.Native.Nat.{ℕ, _+_, _*_, _/_, _%_, _<_}
 use mathlib.Core.Path.{_≡_, refl, sym, ap, _∙_}
 use mathlib.Core.Bool.{Bool, true, false, _&&_, cond, false≢true}
@@ -84,25 +84,22 @@ half-finite lower upper triangle = either-finite (eqb triangle 0) lower upper
 
 -- the corners of a cell's triangles are among its vertices
 module _ (v00 v10 v01 v11 : Vec3) (finite : allFinite v00 v10 v01 v11 ≡ true) where
-  pub lower-finite : FiniteCorners (v00 ∷ v10 ∷ v11 ∷ [])
+  each-finite : (finiteVec v00 ≡ true) × ((finiteVec v10 ≡ true) × ((finiteVec v01 ≡ true) × (finiteVec v11 ≡ true)))
   unfolding allFinite
-  lower-finite =
+  each-finite =
       let a = finiteVec v00 in
       let b = finiteVec v10 in
       let c = finiteVec v01 in
       let d = finiteVec v11 in
-      let rest = and-second a (b && (c && d)) finite in
-      record { first = and-first a (b && (c && d)) finite; second = and-first b (c && d) rest; third = and-second c d (and-second b (c && d) rest) }
+      let but-one = and-second a (b && (c && d)) finite in
+      let last-two = and-second b (c && d) but-one in
+      (and-first a (b && (c && d)) finite, (and-first b (c && d) but-one, (and-first c d last-two, and-second c d last-two)))
+
+  pub lower-finite : FiniteCorners (v00 ∷ v10 ∷ v11 ∷ [])
+  lower-finite = record { first = each-finite .0; second = each-finite .1 .0; third = each-finite .1 .1 .1 }
 
   pub upper-finite : FiniteCorners (v00 ∷ v11 ∷ v01 ∷ [])
-  unfolding allFinite
-  upper-finite =
-      let a = finiteVec v00 in
-      let b = finiteVec v10 in
-      let c = finiteVec v01 in
-      let d = finiteVec v11 in
-      let rest = and-second b (c && d) (and-second a (b && (c && d)) finite) in
-      record { first = and-first a (b && (c && d)) finite; second = and-second c d rest; third = and-first c d rest }
+  upper-finite = record { first = each-finite .0; second = each-finite .1 .1 .1; third = each-finite .1 .1 .0 }
 
 -- a triangle of a cell with finite vertices has a valid box
 module _ (f : Field) (heights : List Float) where
