@@ -7,6 +7,7 @@ use native.Mathlib.Omega.{arith}
 use lib.Ieee.{Float}
 use Rattle.geometry.specs.Vector.{finiteVec}
 use Rattle.geometry.specs.Segment.{rayAdmitted, segmentEnd, segmentBox}
+use Rattle.geometry.specs.declared.vec3.Vec3.{Vec3}
 use Rattle.geometry.specs.declared.ray.Ray.{Ray}
 use Rattle.geometry.proofs.BoxLaws.{segment-box-valid}
 use Rattle.casts.specs.Answer.{Answer, refused, overflow}
@@ -120,8 +121,10 @@ answer-of-pass answer (listed features) = refl
 answer-of-pass answer (unlisted number) = refl
 
 -- the box of an admitted ray with a finite end is valid, so that no box refuses
-pub cast-of-finite-end : (ray : Ray) (f : Field) (heights : List Float) → rayAdmitted ray ≡ true → finiteVec (segmentEnd ray) ≡ true
+pub cast-of-finite-end : (ray : Ray) (f : Field) (heights : List Float) (end : Vec3) → rayAdmitted ray ≡ true → end ≡ segmentEnd ray → finiteVec end ≡ true
     → heightCast ray f heights
     ≡ cond (spanFinite f) (castListed (answerOf ray f heights) (gridListing f heights (segmentBox ray))) (refused overflow)
 unfolding heightCast
-cast-of-finite-end ray f heights admitted finite = rw (finite, segment-box-valid ray admitted finite)
+cast-of-finite-end ray f heights end admitted is finite =
+    let finite-end = ap finiteVec (sym is) ∙ finite in
+    rw (finite-end, segment-box-valid ray admitted finite-end)

@@ -1,6 +1,5 @@
 -- `cast::height_cast` meets its contract. Assumes nothing.
 use mathlib.Core.Path.{sym, ap, _∙_}
-use Rattle.geometry.specs.Vector.{finiteVec}
 use Rattle.height_field.specs.Listing.{gridListing}
 use Rattle.height_field.specs.Cast.{answerOf, heightCast}
 use Rattle.height_field.specs.Pass.{answerOfPass, gridPass}
@@ -30,8 +29,8 @@ returns-2 : tie.Need-returns-2
 returns-2 c =
     let end = c .before .before .before .before in
     let s = end .before .before .before in
-    let finite = ap finiteVec (sym (end .before .segment-end .ensures)) ∙ sym (end .is-finite .ensures) ∙ not-false (end .is-finite .result) (c .before .before .before .if1 .left) in
-    rw (cast-of-finite-end (s .args .ray) (s .args .field) (s .args .heights .now) (s .pre .0) finite) (simp (sym (c .before .span-finite .ensures), not-true (c .before .span-finite .result) (c .if2 .taken)))
+    let finite = sym (end .is-finite .ensures) ∙ not-false (end .is-finite .result) (c .before .before .before .if1 .left) in
+    rw (cast-of-finite-end (s .args .ray) (s .args .field) (s .args .heights .now) _ (s .pre .0) (end .before .segment-end .ensures) finite) (simp (sym (c .before .span-finite .ensures), not-true (c .before .span-finite .result) (c .if2 .taken)))
 
 grid-pass-requires : tie.Need-grid-pass-requires
 grid-pass-requires c κs = search needs
@@ -45,10 +44,10 @@ returns-3 c =
     let end = c .before .before .before .before .before .before in
     let s = end .before .before .before in
     let a = s .args in
-    let finite = ap finiteVec (sym (end .before .segment-end .ensures)) ∙ sym (end .is-finite .ensures) ∙ not-false (end .is-finite .result) (c .before .before .before .before .before .if1 .left) in
+    let finite = sym (end .is-finite .ensures) ∙ not-false (end .is-finite .result) (c .before .before .before .before .before .if1 .left) in
     let listing = gridListing (a .field) (a .heights .now) (c .before .before .before .before .segment-box .result) in
     let whole = c .pass-answer .ensures ∙ ap answerOfPass (c .before .grid-pass .ensures) ∙ answer-of-pass (answerOf (a .ray) (a .field) (a .heights .now)) listing in
-    rw (cast-of-finite-end (a .ray) (a .field) (a .heights .now) (s .pre .0) finite) (simp (sym (c .before .before .before .before .segment-box .ensures), sym (c .before .before .before .span-finite .ensures), not-false (c .before .before .before .span-finite .result) (c .before .before .if2 .left), sym whole))
+    rw (cast-of-finite-end (a .ray) (a .field) (a .heights .now) _ (s .pre .0) (end .before .segment-end .ensures) finite) (simp (sym (c .before .before .before .before .segment-box .ensures), sym (c .before .before .before .span-finite .ensures), not-false (c .before .before .before .span-finite .result) (c .before .before .if2 .left), sym whole))
 
 pub height-cast-spec : {M : Type 1} → statement M
 height-cast-spec =
