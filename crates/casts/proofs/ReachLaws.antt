@@ -56,7 +56,7 @@ numberOf (At distance) = 0
 numberOf Miss = 0
 numberOf (Refused number) = number
 
-pub missed : (x : Answer) → reachOf x ≡ Miss → none ≡ x
+missed : (x : Answer) → reachOf x ≡ Miss → none ≡ x
 unfolding reachOf isMiss
 missed (hit n d) h = absurd (true≢false (sym (ap isMiss h)))
 missed none h = refl
@@ -132,14 +132,14 @@ told-by-distance r v w u =
 
 -- ---- one more triangle that changes nothing
 
-pub next-missed : (best : Indexed) (index : ℕ) (x : Answer) → reachOf x ≡ Miss → best ≡ nextOf best index x
+pub next-none : (best : Indexed) (index : ℕ) → best ≡ nextOf best index none
 unfolding nextOf
-next-missed best index x h = go best ∙ ap (nextOf best index) (missed x h)
-  where
-    go : (b : Indexed) → b ≡ nextOf b index none
-    go (hitAt n d i) = refl
-    go noHit = refl
-    go (stopped number) = refl
+next-none (hitAt n d i) index = refl
+next-none noHit index = refl
+next-none (stopped number) index = refl
+
+pub next-missed : (best : Indexed) (index : ℕ) (x : Answer) → reachOf x ≡ Miss → best ≡ nextOf best index x
+next-missed best index x h = next-none best index ∙ ap (nextOf best index) (missed x h)
 
 pub next-farther : (best : Indexed) (index : ℕ) (x : Answer) (d : Float) → reachOf x ≡ At d → givesWay best d ≡ false → best ≡ nextOf best index x
 unfolding nextOf givesWay reachOf isAt distanceOf

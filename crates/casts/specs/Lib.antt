@@ -4,5 +4,6 @@ pub mod Reach
 pub mod Surface
 pub mod Plane
 pub mod Triangle
+pub mod Crossing
 pub mod Nearest
 pub mod Summary

@@ -1,4 +1,5 @@
 use crate::answer::Cast;
+use crate::answer::Crossing;
 use crate::answer::Reach;
 use crate::triangle;
 use geometry::ray::Ray;
@@ -6,6 +7,7 @@ use geometry::vec3::Vec3;
 ghost use mathlib.Core.Path.{_≡_};
 ghost use Rattle.casts.specs.Answer.{says};
 ghost use Rattle.casts.specs.Nearest.{noHit, hitAt, saysIndexed, nextOf, givesWay, withoutIndex};
+ghost use Rattle.casts.specs.Reach.{reachOf};
 ghost use Rattle.casts.specs.Triangle.{triangleCast};
 
 // The answer of a cast at many triangles: the hit adds the triangle's index.
@@ -117,11 +119,17 @@ fn gives_way(best: IndexedCast, distance: f64) -> bool
     }
 }
 
-// What was found so far and one more triangle, whose normal is computed only where its hit takes the place.
-pub fn next_triangle(best: IndexedCast, index: u32, ray: Ray, corners: [Vec3; 3]) -> IndexedCast
+// What was found so far and one more triangle that is reached, whose normal is computed only where its hit takes the place.
+fn next_reach(
+    best: IndexedCast,
+    index: u32,
+    ray: Ray,
+    corners: [Vec3; 3],
+    reach: Reach,
+) -> IndexedCast
+    requires { ⌜ reach ≡ reachOf (triangleCast ray corners) ⌝ }
     ensures { λ r. ⌜ saysIndexed r ≡ nextOf (saysIndexed best) index (triangleCast ray corners) ⌝ }
 {
-    let reach = triangle::triangle_reach(ray, corners);
     match reach {
         Reach::At(distance) => {
             if gives_way(best, distance) {
@@ -133,6 +141,32 @@ pub fn next_triangle(best: IndexedCast, index: u32, ray: Ray, corners: [Vec3; 3]
             return best;
         }
         Reach::Refused(number) => {
+            return next(best, index, Cast::Refused(number));
+        }
+    }
+}
+
+// What was found so far and one more triangle; most miss at the first of their tests.
+pub fn next_triangle(best: IndexedCast, index: u32, ray: Ray, corners: [Vec3; 3]) -> IndexedCast
+    ensures { λ r. ⌜ saysIndexed r ≡ nextOf (saysIndexed best) index (triangleCast ray corners) ⌝ }
+{
+    let start = triangle::crossing(ray, corners);
+    match start {
+        Crossing::Within {
+            offset,
+            a,
+            b,
+            determinant,
+            inverse,
+            u,
+        } => {
+            let reach = triangle::reach_within(ray, offset, a, b, determinant, inverse, u);
+            return next_reach(best, index, ray, corners, reach);
+        }
+        Crossing::Miss => {
+            return best;
+        }
+        Crossing::Refused(number) => {
             return next(best, index, Cast::Refused(number));
         }
     }

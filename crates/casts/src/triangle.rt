@@ -1,5 +1,6 @@
 use crate::answer;
 use crate::answer::Cast;
+use crate::answer::Crossing;
 use crate::answer::Reach;
 use crate::surface;
 use arithmetic::basic;
@@ -13,7 +14,10 @@ ghost use mathlib.Core.Bool.{cond};
 ghost use Rattle.casts.specs.Answer.{none, says};
 ghost use Rattle.geometry.specs.Vector.{subOf};
 ghost use Rattle.geometry.specs.Box.{corner};
+ghost use Rattle.geometry.specs.declared.ray.Ray.{Ray as RayOf};
 ghost use Rattle.casts.specs.Reach.{reachOf};
+ghost use Rattle.casts.specs.Crossing.{crossingAnswer};
+ghost use Rattle.casts.specs.declared.answer.Crossing.the-variants.{Within};
 ghost use Rattle.casts.specs.Triangle.{flat, triangleNormal, triangleFrom, hasNormal, triangleAbove, triangleAt, triangleCast, rayTriangle};
 
 // Whether the determinant is too small for the edges' scale.
@@ -88,23 +92,30 @@ fn triangle_above(
     Reach::At(distance)
 }
 
-// The distance where the determinant is finite; a NaN u is a miss.
-fn triangle_at(ray: Ray, offset: Vec3, a: Vec3, b: Vec3, p: Vec3, determinant: f64) -> Reach
-    ensures { λ r. ⌜ triangleFrom ray a b r ≡ cond (flat determinant a b) none (triangleAt ray offset a b p determinant) ⌝ }
+// What the first test tells where the determinant is finite; a NaN u is a miss.
+fn crossing_at(offset: Vec3, a: Vec3, b: Vec3, p: Vec3, determinant: f64) -> Crossing
+    ensures { λ r. ⌜ ((s : RayOf) → crossingAnswer s r ≡ cond (flat determinant a b) none (triangleAt s offset a b p determinant)) ⌝ }
 {
     let inverse = 1.0 / determinant;
     let u = offset.dot(p) * inverse;
     if 0.0 <= u {
         if u <= 1.0 {
-            return triangle_above(ray, offset, a, b, determinant, inverse, u);
+            return Crossing::Within {
+                offset: offset,
+                a: a,
+                b: b,
+                determinant: determinant,
+                inverse: inverse,
+                u: u,
+            };
         }
     }
-    Reach::Miss
+    Crossing::Miss
 }
 
-// The distance at three corners, or what comes before it; the normal is left.
-fn triangle_distance(ray: Ray, corners: [Vec3; 3]) -> Reach
-    ensures { λ r. ⌜ triangleFrom ray (subOf (corner corners 1) (corner corners 0)) (subOf (corner corners 2) (corner corners 0)) r ≡ triangleCast ray corners ⌝ }
+// The first of the triangle's tests, at which most triangles miss: small, so that it is inlined at each user, and what is left stays out of line.
+pub fn crossing(ray: Ray, corners: [Vec3; 3]) -> Crossing
+    ensures { λ r. ⌜ crossingAnswer ray r ≡ triangleCast ray corners ⌝ }
 {
     let first = corners[0];
     let second = corners[1];
@@ -114,22 +125,27 @@ fn triangle_distance(ray: Ray, corners: [Vec3; 3]) -> Reach
     let p = ray.direction.cross(b);
     let along = a.checked_dot(p);
     let Checked::Value(determinant) = along else {
-        return Reach::Refused(answer::OVERFLOW);
+        return Crossing::Refused(answer::OVERFLOW);
     };
-    triangle_at(ray, ray.origin.sub(first), a, b, p, determinant)
+    crossing_at(ray.origin.sub(first), a, b, p, determinant)
 }
 
-// The cast without its normal, and so without its root: what the mesh and the height grid ask first of each triangle.
-pub fn triangle_reach(ray: Ray, corners: [Vec3; 3]) -> Reach
-    ensures { λ r. ⌜ r ≡ reachOf (triangleCast ray corners) ⌝ }
+// What is left after the first test, without the normal, and so without its root: what the mesh and the height grid ask first of each triangle.
+pub fn reach_within(
+    ray: Ray,
+    offset: Vec3,
+    a: Vec3,
+    b: Vec3,
+    determinant: f64,
+    inverse: f64,
+    u: f64,
+) -> Reach
+    ensures { λ r. ⌜ r ≡ reachOf (crossingAnswer ray (Within offset a b determinant inverse u)) ⌝ }
 {
-    let reach = triangle_distance(ray, corners);
+    let reach = triangle_above(ray, offset, a, b, determinant, inverse, u);
     match reach {
         Reach::At(distance) => {
-            let first = corners[0];
-            let second = corners[1];
-            let third = corners[2];
-            if has_normal(second.sub(first), third.sub(first)) {
+            if has_normal(a, b) {
                 return Reach::At(distance);
             }
             return Reach::Refused(answer::NO_NORMAL);
@@ -139,6 +155,32 @@ pub fn triangle_reach(ray: Ray, corners: [Vec3; 3]) -> Reach
         }
         Reach::Refused(number) => {
             return Reach::Refused(number);
+        }
+    }
+}
+
+// What is left after the first test, with the normal.
+fn cast_within(
+    ray: Ray,
+    offset: Vec3,
+    a: Vec3,
+    b: Vec3,
+    determinant: f64,
+    inverse: f64,
+    u: f64,
+) -> Cast
+    ensures { λ r. ⌜ says r ≡ crossingAnswer ray (Within offset a b determinant inverse u) ⌝ }
+{
+    let reach = triangle_above(ray, offset, a, b, determinant, inverse, u);
+    match reach {
+        Reach::At(distance) => {
+            return triangle_normal(ray, a, b, distance);
+        }
+        Reach::Miss => {
+            return Cast::None;
+        }
+        Reach::Refused(number) => {
+            return Cast::Refused(number);
         }
     }
 }
@@ -157,15 +199,22 @@ pub fn hit_at(ray: Ray, corners: [Vec3; 3], distance: f64) -> Cast
 pub fn triangle_cast(ray: Ray, corners: [Vec3; 3]) -> Cast
     ensures { λ r. ⌜ says r ≡ triangleCast ray corners ⌝ }
 {
-    let reach = triangle_reach(ray, corners);
-    match reach {
-        Reach::At(distance) => {
-            return hit_at(ray, corners, distance);
+    let start = crossing(ray, corners);
+    match start {
+        Crossing::Within {
+            offset,
+            a,
+            b,
+            determinant,
+            inverse,
+            u,
+        } => {
+            return cast_within(ray, offset, a, b, determinant, inverse, u);
         }
-        Reach::Miss => {
+        Crossing::Miss => {
             return Cast::None;
         }
-        Reach::Refused(number) => {
+        Crossing::Refused(number) => {
             return Cast::Refused(number);
         }
     }

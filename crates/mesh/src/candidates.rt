@@ -1,4 +1,5 @@
 use casts::answer;
+use casts::answer::Crossing;
 use casts::answer::Reach;
 use casts::nearest;
 use casts::nearest::IndexedCast;
@@ -27,7 +28,25 @@ fn triangle_reach(ray: Ray, pose: &[f64], triangles: &[u32], index: usize) -> Re
     if !mesh::corners_inside(pose.len() / 3, triangles, index) {
         return Reach::Refused(answer::OUT_OF_BOUNDS);
     }
-    triangle::triangle_reach(ray, mesh::corners_of(pose, triangles, index))
+    let start = triangle::crossing(ray, mesh::corners_of(pose, triangles, index));
+    match start {
+        Crossing::Within {
+            offset,
+            a,
+            b,
+            determinant,
+            inverse,
+            u,
+        } => {
+            return triangle::reach_within(ray, offset, a, b, determinant, inverse, u);
+        }
+        Crossing::Miss => {
+            return Reach::Miss;
+        }
+        Crossing::Refused(number) => {
+            return Reach::Refused(number);
+        }
+    }
 }
 
 // The notes of the triangles in the first places of a list, for an admitted ray. A refusal does not end them: one of a lower index may follow.

@@ -1,60 +1,51 @@
 -- `casts::nearest::next_triangle` meets its contract. Assumes nothing.
-use mathlib.Core.Path.{sym, ap, _∙_}
-use Rattle.casts.specs.Nearest.{nextOf}
-use Rattle.casts.proofs.ReachLaws.{refused-by, told-by-distance, next-missed, next-farther}
+use mathlib.Core.Path.{sym}
+use Rattle.casts.proofs.ReachLaws.{next-none}
 use borrow.Author.Needs.{needs}
 use Rattle.casts.proofs.nearest.next_triangle.Statement.{statement}
 use Rattle.casts.proofs.nearest.next_triangle.Tie as tie
 
-triangle-reach-requires : tie.Need-triangle-reach-requires
-triangle-reach-requires c κs = search needs
+crossing-requires : tie.Need-crossing-requires
+crossing-requires c κs = search needs
 
-enum-known-reach : tie.Need-enum-known-reach
-enum-known-reach c = search needs
+enum-known-start : tie.Need-enum-known-start
+enum-known-start c = search needs
 
-gives-way-requires : tie.Need-gives-way-requires
-gives-way-requires c κs = search needs
+reach-within-requires : tie.Need-reach-within-requires
+reach-within-requires c κs = search needs
 
-hit-at-requires : tie.Need-hit-at-requires
-hit-at-requires c κs = search needs
-
-next-requires : tie.Need-next-requires
-next-requires c κs = search needs
+next-reach-requires : tie.Need-next-reach-requires
+next-reach-requires c κs = simp (sym (c .before .before .before .before .crossing .ensures), c .before .before .start .given .1, sym (c .reach-within .ensures))
 
 returns : tie.Need-returns
-returns c = c .next .ensures ∙ ap (nextOf _ _) (c .before .hit-at .ensures ∙ told-by-distance _ _ _ _ _ (sym (c .before .before .before .before .before .before .before .triangle-reach .ensures) ∙ c .before .before .before .before .before .reach .given .1))
-
-returns-2 : tie.Need-returns-2
-returns-2 c = next-farther _ _ _ _ (sym (c .before .before .before .before .before .triangle-reach .ensures) ∙ c .before .before .before .reach .given .1) (sym (c .before .gives-way .ensures) ∙ c .if1 .left)
+returns c = search needs
 
 enum-told : tie.Need-enum-told
 enum-told c = search needs
 
+returns-2 : tie.Need-returns-2
+returns-2 c = simp (sym (c .before .before .crossing .ensures), c .enum-told .given .1, ← next-none)
+
+enum-known-start-2 : tie.Need-enum-known-start-2
+enum-known-start-2 c = search needs
+
+next-requires : tie.Need-next-requires
+next-requires c κs = search needs
+
 returns-3 : tie.Need-returns-3
-returns-3 c = next-missed _ _ _ (sym (c .before .before .triangle-reach .ensures) ∙ c .enum-told .given .1)
-
-enum-known-reach-2 : tie.Need-enum-known-reach-2
-enum-known-reach-2 c = search needs
-
-next-requires-2 : tie.Need-next-requires-2
-next-requires-2 c κs = search needs
-
-returns-4 : tie.Need-returns-4
-returns-4 c = c .next2 .ensures ∙ ap (nextOf _ _) (refused-by _ _ (sym (c .before .before .before .before .triangle-reach .ensures) ∙ c .before .before .reach2 .given .1))
+returns-3 c = simp (sym (c .before .before .before .before .crossing .ensures), c .before .before .start2 .given .1, sym (c .next .ensures))
 
 pub next-triangle-spec : {M : Type 1} → statement M
 next-triangle-spec =
     tie.close
     (tie.spec
-    triangle-reach-requires
-    enum-known-reach
-    gives-way-requires
-    hit-at-requires
-    next-requires
+    crossing-requires
+    enum-known-start
+    reach-within-requires
+    next-reach-requires
     returns
-    returns-2
     enum-told
-    returns-3
-    enum-known-reach-2
-    next-requires-2
-    returns-4)
+    returns-2
+    enum-known-start-2
+    next-requires
+    returns-3)

@@ -1,9 +1,9 @@
--- `casts::triangle::triangle_distance` meets its contract. Assumes nothing.
+-- `casts::triangle::crossing` meets its contract. Assumes nothing.
 use Rattle.casts.specs.Triangle.{triangleOf}
-use mathlib.Core.Path.{sym}
+use mathlib.Core.Path.{sym, _∙_}
 use borrow.Author.Needs.{needs}
-use Rattle.casts.proofs.triangle.triangle_distance.Statement.{statement}
-use Rattle.casts.proofs.triangle.triangle_distance.Tie as tie
+use Rattle.casts.proofs.triangle.crossing.Statement.{statement}
+use Rattle.casts.proofs.triangle.crossing.Tie as tie
 
 array-copy-out-first : tie.Need-array-copy-out-first
 array-copy-out-first c = search needs
@@ -39,15 +39,15 @@ returns c = simp (sym (c .before .before .before .before .before .sub .ensures),
 sub-requires-3 : tie.Need-sub-requires-3
 sub-requires-3 c κs = search needs
 
-triangle-at-requires : tie.Need-triangle-at-requires
-triangle-at-requires c κs = search needs
+crossing-at-requires : tie.Need-crossing-at-requires
+crossing-at-requires c κs = search needs
 
 returns-2 : tie.Need-returns-2
 unfolding triangleOf
-returns-2 c = simp (sym (c .before .before .before .before .before .before .before .before .sub .ensures), sym (c .before .before .before .before .before .before .before .sub2 .ensures), sym (c .before .before .before .before .before .before .cross .ensures), sym (c .before .before .before .before .before .checked-dot .ensures), c .before .before .before .along .given .1, sym (c .before .sub3 .ensures), sym (c .triangle-at .ensures))
+returns-2 c = c .crossing-at .ensures _ ∙ simp (sym (c .before .before .before .before .before .before .before .before .sub .ensures), sym (c .before .before .before .before .before .before .before .sub2 .ensures), sym (c .before .before .before .before .before .before .cross .ensures), sym (c .before .before .before .before .before .checked-dot .ensures), c .before .before .before .along .given .1, sym (c .before .sub3 .ensures))
 
-pub triangle-distance-spec : {M : Type 1} → statement M
-triangle-distance-spec =
+pub crossing-spec : {M : Type 1} → statement M
+crossing-spec =
     tie.close
     (tie.spec
     array-copy-out-first
@@ -61,5 +61,5 @@ triangle-distance-spec =
     enum-told
     returns
     sub-requires-3
-    triangle-at-requires
+    crossing-at-requires
     returns-2)

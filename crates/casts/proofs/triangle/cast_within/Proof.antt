@@ -1,0 +1,42 @@
+-- `casts::triangle::cast_within` meets its contract. Assumes nothing.
+use mathlib.Core.Path.{sym}
+use borrow.Author.Needs.{needs}
+use Rattle.casts.proofs.triangle.cast_within.Statement.{statement}
+use Rattle.casts.proofs.triangle.cast_within.Tie as tie
+
+triangle-above-requires : tie.Need-triangle-above-requires
+triangle-above-requires c κs = search needs
+
+enum-known-reach : tie.Need-enum-known-reach
+enum-known-reach c = search needs
+
+triangle-normal-requires : tie.Need-triangle-normal-requires
+triangle-normal-requires c κs = search needs
+
+returns : tie.Need-returns
+returns c = simp (sym (c .before .before .before .before .triangle-above .ensures), c .before .before .reach .given .1, sym (c .triangle-normal .ensures))
+
+enum-told : tie.Need-enum-told
+enum-told c = search needs
+
+returns-2 : tie.Need-returns-2
+returns-2 c = simp (sym (c .before .before .triangle-above .ensures), c .enum-told .given .1)
+
+enum-known-reach-2 : tie.Need-enum-known-reach-2
+enum-known-reach-2 c = search needs
+
+returns-3 : tie.Need-returns-3
+returns-3 c = simp (sym (c .before .before .before .triangle-above .ensures), c .before .reach2 .given .1)
+
+pub cast-within-spec : {M : Type 1} → statement M
+cast-within-spec =
+    tie.close
+    (tie.spec
+    triangle-above-requires
+    enum-known-reach
+    triangle-normal-requires
+    returns
+    enum-told
+    returns-2
+    enum-known-reach-2
+    returns-3)

@@ -1,0 +1,25 @@
+-- `casts::triangle::crossing_at` meets its contract. Assumes nothing.
+use Rattle.casts.specs.Triangle.{triangleAt}
+use Rattle.casts.proofs.ReachLaws.{none-either-way}
+use mathlib.Core.Path.{sym}
+use borrow.Author.Needs.{needs}
+use Rattle.casts.proofs.triangle.crossing_at.Statement.{statement}
+use Rattle.casts.proofs.triangle.crossing_at.Tie as tie
+
+dot-requires : tie.Need-dot-requires
+dot-requires c κs = search needs
+
+returns : tie.Need-returns
+unfolding triangleAt
+returns c s = simp (sym (c .before .before .dot .ensures), c .before .if1 .taken, c .if2 .taken)
+
+returns-2 : tie.Need-returns-2
+unfolding triangleAt
+returns-2 c s = simp (sym (c .before .before .dot .ensures), c .before .if1 .taken, c .if2 .left, none-either-way)
+
+returns-3 : tie.Need-returns-3
+unfolding triangleAt
+returns-3 c s = simp (sym (c .before .dot .ensures), c .if1 .left, none-either-way)
+
+pub crossing-at-spec : {M : Type 1} → statement M
+crossing-at-spec = tie.close (tie.spec dot-requires returns returns-2 returns-3)
