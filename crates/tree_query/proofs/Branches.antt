@@ -1,20 +1,19 @@
--- A stack in an area: a push leaves what is below it, and the children of a branch are pushed as the definition of the walk says. Assumes nothing.
-use Prim.Native.Nat.{ℕ, zero, suc, _+_, _<_, _≤_}
+-- A stack in an area: a push leaves what is below it, the node taken from it is the first of it, and the children of a branch are the next ones as the definition of the walk says. Assumes nothing.
+use Prim.Native.Nat.{ℕ, zero, suc, _+_, _-_, _<_, _≤_}
 use mathlib.Core.Path.{_≡_, refl, sym, ap, _∙_}
-use mathlib.Core.Bool.{Bool, true, false, _&&_, cond}
-use mathlib.Core.List.{List, [], _∷_}
+use mathlib.Core.Bool.{Bool, true, false, _&&_}
+use mathlib.Core.List.{List, _∷_}
 use native.Mathlib.Omega.{arith}
+use native.Mathlib.Numerals.{add-one}
 use lib.Dec.{ltb}
-use lib.ListN.{length, getD, set, length-set}
+use lib.ListN.{length, set, take}
 use lib.Seq.{getD-set-same, getD-set-other}
 use Rattle.geometry.specs.declared.aabb.Aabb.{Aabb}
-use Rattle.tree.specs.Lists.{every}
 use Rattle.tree.specs.Layout.{Tree, wordAt}
 use Rattle.tree.proofs.Corners.{and-second}
-use Rattle.tree_query.specs.Walk.{Walking, walking, broken, childFits, atBranch}
-use Rattle.tree_query.specs.Areas.{allBelow, onStack, Stack, Pushed}
-use Rattle.tree_query.specs.declared.step.Filled.{Filled}
-use Rattle.tree_query.specs.declared.step.Filled.the-variants.{Count, Broken}
+use Rattle.tree_query.specs.Walk.{walking, childFits, atBranch}
+use Rattle.tree_query.specs.Areas.{allBelow, onStack, popped, held, Grown, KeptBy, Pushed}
+use Rattle.tree_query.specs.declared.step.Stepped.the-variants.{Next, Ended, Stopped}
 use Rattle.tree_query.proofs.Splitting.{every-cons}
 
 -- a store above the top
@@ -32,44 +31,69 @@ on-stack-push area k v h =
     let r : k ≤ k = omega arith in
     ap (λ (x : ℕ). x ∷ onStack (set area k v) k) (getD-set-same area k v 0 h) ∙ ap (λ (r : List ℕ). v ∷ r) (on-stack-set area k v k r)
 
--- two pushes
-on-stack-pushes : (area : List ℕ) (k v w : ℕ) → k + 2 ≤ length area → onStack (set (set area k v) (k + 1) w) (k + 2) ≡ w ∷ (v ∷ onStack area k)
-on-stack-pushes area k v w h =
-    let a : k < length area = omega arith in
-    let l : length (set area k v) ≡ length area = length-set area k v in
-    let b : k + 1 < length (set area k v) = omega arith in
-    let e : k + 2 ≡ suc (k + 1) = omega arith in
-    let f : k + 1 ≡ suc k = omega arith in
-    ap (onStack (set (set area k v) (k + 1) w)) e ∙ on-stack-push (set area k v) (k + 1) w b ∙ ap (λ (j : ℕ). w ∷ onStack (set area k v) j) f
-    ∙ ap (λ (r : List ℕ). w ∷ r) (on-stack-push area k v a)
+-- a node taken: the code's cases are the definition's
+pub popped-none : (stack : List ℕ) (top found : ℕ) → top ≡ 0 → Ended found ≡ popped stack top found
+unfolding popped
+popped-none stack top found e = rw e refl
 
-module _ (nodes node left right : ℕ) (stack : List ℕ) (top : ℕ) where
+pub popped-next : (stack : List ℕ) (top found : ℕ) → (top ≡ 0 → ⊥) → Next (wordAt stack (top - 1)) (top - 1) found ≡ popped stack top found
+unfolding popped
+popped-next stack top found e =
+    let s : top ≡ suc (top - 1) = omega (arith, e) in
+    ap (λ (k : ℕ). popped stack k found) (sym s)
+
+-- the stack is as it was: its next node stands first
+pub popped-held : (stack list : List ℕ) (top found : ℕ) → held (popped stack top found) list stack ≡ walking (onStack stack top) (take found list)
+unfolding popped onStack
+popped-held stack list zero found = refl
+popped-held stack list (suc top) found = refl
+
+pub popped-kept : (n nodes from : ℕ) (entry list stack : List ℕ) (top found limit : ℕ) → Grown n entry list from found → allBelow nodes (onStack stack top) ≡ true → top ≤ limit
+    → KeptBy n nodes entry from limit (popped stack top found) list stack
+unfolding popped onStack
+popped-kept n nodes from entry list stack zero found limit g a h = g
+popped-kept n nodes from entry list stack (suc top) found limit g a h = record { grown = g; stands = record { within = omega arith; below = a } }
+
+module _ (nodes node left right : ℕ) (stack : List ℕ) (top found : ℕ) where
   abbrev fits : ℕ → Bool
   fits child = ltb node child && ltb child nodes
 
-  pub left-unfit : fits left ≡ false → Pushed nodes node left right stack top Broken stack
+  pub left-unfit : fits left ≡ false → Pushed nodes node left right stack top found Stopped stack
   unfolding atBranch childFits
   left-unfit h =
-      record { holds = λ (t : Tree) (n : ℕ) (box : Aabb) (list : List ℕ) (e : t .nodeCount ≡ nodes). simp (e, h); kept = tt }
+      record {
+        holds = λ (t : Tree) (n : ℕ) (box : Aabb) (list : List ℕ) (e : t .nodeCount ≡ nodes). simp (e, h);
+        kept = λ (n : ℕ) (list₀ list : List ℕ) (from : ℕ) (g : Grown n list₀ list from found). tt;
+      }
 
-  pub right-unfit : fits left ≡ true → fits right ≡ false → Pushed nodes node left right stack top Broken stack
+  pub right-unfit : fits left ≡ true → fits right ≡ false → Pushed nodes node left right stack top found Stopped stack
   unfolding atBranch childFits
   right-unfit g h =
-      record { holds = λ (t : Tree) (n : ℕ) (box : Aabb) (list : List ℕ) (e : t .nodeCount ≡ nodes). simp (e, g, h); kept = tt }
-
-  pub children-pushed : fits left ≡ true → fits right ≡ true → top + 2 ≤ length stack → allBelow nodes (onStack stack top) ≡ true
-      → Pushed nodes node left right stack top (Count (top + 2)) (set (set stack top right) (top + 1) left)
-  unfolding atBranch childFits
-  children-pushed g h k a =
-      let p : onStack (set (set stack top right) (top + 1) left) (top + 2) ≡ left ∷ (right ∷ onStack stack top) = on-stack-pushes stack top right left k in
       record {
-        holds = λ (t : Tree) (n : ℕ) (box : Aabb) (list : List ℕ) (e : t .nodeCount ≡ nodes). simp (e, g, h) (ap (λ (s : List ℕ). walking s list) p);
+        holds = λ (t : Tree) (n : ℕ) (box : Aabb) (list : List ℕ) (e : t .nodeCount ≡ nodes). simp (e, g, h);
+        kept = λ (n : ℕ) (list₀ list : List ℕ) (from : ℕ) (g : Grown n list₀ list from found). tt;
+      }
+
+  pub right-pushed : fits left ≡ true → fits right ≡ true → top < length stack → allBelow nodes (onStack stack top) ≡ true
+      → Pushed nodes node left right stack top found (Next left (top + 1) found) (set stack top right)
+  unfolding atBranch childFits
+  right-pushed g h k a =
+      let p : onStack (set stack top right) (top + 1) ≡ right ∷ onStack stack top = rw (add-one top) (on-stack-push stack top right k) in
+      record {
+        holds =
+            λ (t : Tree) (n : ℕ) (box : Aabb) (list : List ℕ) (e : t .nodeCount ≡ nodes).
+            simp (e, g, h) (ap (λ (s : List ℕ). walking (left ∷ s) (take found list)) p);
         kept =
+            λ (n : ℕ) (list₀ list : List ℕ) (from : ℕ) (grown : Grown n list₀ list from found).
             record {
-              within = omega arith;
-              below =
-                  ap (allBelow nodes) p
-                  ∙ every-cons (λ (x : ℕ). ltb x nodes) left (right ∷ onStack stack top) (and-second (ltb node left) (ltb left nodes) g)
-                  (every-cons (λ (x : ℕ). ltb x nodes) right (onStack stack top) (and-second (ltb node right) (ltb right nodes) h) a);
+              grown = grown;
+              stands =
+                  record {
+                    within = omega arith;
+                    below =
+                        ap (λ (s : List ℕ). allBelow nodes (left ∷ s)) p
+                        ∙ every-cons (λ (x : ℕ). ltb x nodes) left (right ∷ onStack stack top) (and-second (ltb node left) (ltb left nodes) g)
+                        (every-cons (λ (x : ℕ). ltb x nodes) right (onStack stack top) (and-second (ltb node right) (ltb right nodes) h) a);
+                  };
             };
       }

@@ -1,42 +1,25 @@
 -- The walk over all nodes: what is left of it gives the whole, and its list sorted in place is the definition's. Assumes nothing.
-use Prim.Native.Nat.{ℕ, zero, suc, _+_, _-_, _*_, _<_, _≤_}
+use Prim.Native.Nat.{ℕ, zero, suc, _+_, _-_, _<_, _≤_}
 use mathlib.Core.Path.{_≡_, refl, sym, ap, subst, _∙_}
-use mathlib.Core.Bool.{Bool, true, false, _&&_, cond}
+use mathlib.Core.Bool.{true, _&&_}
 use mathlib.Core.List.{List, [], _∷_, _++_}
 use native.Mathlib.Omega.{arith}
-use borrow.Author.Tests.{lt-ltb, eq-eqb, ne-eqb}
-use lib.Dec.{ltb, leb, eqb, leb·zero}
-use lib.ListN.{length, take, drop, set}
+use borrow.Author.Tests.{lt-ltb, ne-eqb}
+use lib.Dec.{ltb, leb, leb·zero}
+use lib.ListN.{length, take, drop}
 use lib.Seq.{take-at, drop-at, length-take-le, length-front}
 use Rattle.geometry.specs.declared.aabb.Aabb.{Aabb}
 use Rattle.tree.specs.Lists.{every, sorted}
 use Rattle.tree.specs.Layout.{Tree}
 use Rattle.tree_query.specs.Walk.{Walking, walking, broken, times, takeNode, start, ended, walkOf}
 use Rattle.tree_query.specs.Sorting.{allWithin}
-use Rattle.tree_query.specs.Areas.{allBelow, listed, onStack, Grown, GrownTo, Stack, NodeRoom, NodeTaken, WalkRoom, Begun}
+use Rattle.tree_query.specs.Areas.{allBelow, listed, onStack, Grown, GrownTo, Stands, NodeRoom, NodeTaken, WalkRoom}
 use Rattle.tree_query.specs.declared.step.Filled.{Filled}
 use Rattle.tree_query.specs.declared.step.Filled.the-variants.{Count, Broken}
-use Rattle.tree_query.specs.declared.step.Walked.{Walked}
-use Rattle.tree_query.specs.declared.step.Walked.the-variants.{Going, Stopped}
+use Rattle.tree_query.specs.declared.step.Stepped.{Stepped}
+use Rattle.tree_query.specs.declared.step.Stepped.the-variants.{Next, Ended, Stopped}
 use Rattle.tree_query.proofs.Sorting.{every-with, every-sorted}
 use Rattle.tree_query.proofs.Places.{grown-none, grown-twice}
-
--- the stack with which it starts
-pub begun-empty : (nodes : ℕ) (stack : List ℕ) → nodes ≡ 0 → Begun nodes 0 stack
-unfolding onStack every
-begun-empty nodes stack e = record { holds = simp (eq-eqb nodes 0 e); stands = record { within = omega arith; below = refl } }
-
-pub begun-root : (nodes : ℕ) (stack : List ℕ) → (nodes ≡ 0 → ⊥) → 0 < length stack → Begun nodes 1 (set stack 0 0)
-unfolding onStack every
-begun-root nodes [] e h = absurd (omega arith)
-begun-root nodes (x ∷ stack) e h =
-    let k : 0 < nodes = omega (arith, e) in
-    record { holds = simp (ne-eqb nodes 0 e); stands = record { within = omega arith; below = simp (lt-ltb 0 nodes k) } }
-
--- the room is that of any stack as long
-pub room-after : (n : ℕ) (t : Tree) (list stack stack' : List ℕ) → WalkRoom n t list stack → length stack' ≡ length stack → WalkRoom n t list stack'
-room-after n t list stack stack' r l =
-    record { ordered = r .ordered; triangles = r .triangles; boxed = r .boxed; worded = r .worded; lent = r .lent; high = omega (arith, r .high) }
 
 module _ (t : Tree) (n : ℕ) (box : Aabb) where
   -- nothing more comes after a 5, nor after the last node
@@ -50,92 +33,91 @@ module _ (t : Tree) (n : ℕ) (box : Aabb) where
   times-empty zero list = refl
   times-empty (suc k) list = times-empty k list
 
+  -- with no node the list is empty
+  pub walks-none : (list : List ℕ) → t .nodeCount ≡ 0 → (ended t n box (walking [] (take 0 list)) ≡ walkOf t n box) × Grown n list list 0 0
+  unfolding walkOf start times every
+  walks-none list e = (simp e, grown-none n 0 list (omega arith) refl)
+
   module _ (list₀ stack₀ : List ℕ) where
     -- what is left of the walk gives the whole
-    pub record Walks (list stack : List ℕ) (top found taken : ℕ) : Type 0 where
-      pub gives : ended t n box (times (t .nodeCount - taken) (takeNode t n box) (walking (onStack stack top) (take found list))) ≡ walkOf t n box
+    pub record Walks (list stack : List ℕ) (node top found taken : ℕ) : Type 0 where
+      pub gives : ended t n box (times (t .nodeCount - taken) (takeNode t n box) (walking (node ∷ onStack stack top) (take found list))) ≡ walkOf t n box
       pub grown : Grown n list₀ list 0 found
-      pub stands : Stack (t .nodeCount) (taken + 1) stack top
-      pub spent : taken ≤ t .nodeCount
+      pub stands : Stands (t .nodeCount) taken stack node top
       pub long : length list ≡ length list₀
       pub high : length stack ≡ length stack₀
 
-    pub walks-begin : (top : ℕ) → Begun (t .nodeCount) top stack₀ → Walks list₀ stack₀ top 0 0
-    unfolding walkOf start every
-    walks-begin top b =
+    pub walks-begin : (t .nodeCount ≡ 0 → ⊥) → Walks list₀ stack₀ 0 0 0 0
+    unfolding walkOf start onStack every
+    walks-begin e =
         let z : t .nodeCount - 0 ≡ t .nodeCount = omega arith in
+        let k : 0 < t .nodeCount = omega (arith, e) in
         record {
-          gives = rw (b .holds, z);
+          gives = simp (z, ne-eqb (t .nodeCount) 0 e);
           grown = grown-none n 0 list₀ (omega arith) refl;
-          stands = b .stands;
-          spent = omega arith;
+          stands = record { within = omega arith; below = simp (lt-ltb 0 (t .nodeCount) k) };
           long = refl;
           high = refl;
         }
 
-    module _ (list stack : List ℕ) (top found taken : ℕ) (w : Walks list stack top found taken) where
-      pub walks-room : WalkRoom n t list₀ stack₀ → 0 < top → taken < t .nodeCount → NodeRoom n t list found stack top
-      walks-room r s h =
-          record {
-            places =
-                record {
-                  ordered = r .ordered;
-                  boxed = r .triangles;
-                  lent = omega (arith, r .lent, w .long);
-                  inside = w .grown .inside;
-                  below = w .grown .below;
-                };
-            boxed = r .boxed;
-            worded = r .worded;
-            taller = omega (arith, r .high, w .high, w .stands .within);
-            some = s;
-            below = w .stands .below;
-          }
-
-      -- the node at hand first
-      node-first : taken < t .nodeCount
-          → ended t n box (times (t .nodeCount - (taken + 1)) (takeNode t n box) (takeNode t n box (walking (onStack stack top) (take found list)))) ≡ walkOf t n box
-      unfolding times
-      node-first h =
-          let e : t .nodeCount - taken ≡ suc (t .nodeCount - (taken + 1)) = omega arith in
+    module _ (list stack : List ℕ) (node top found taken : ℕ) (w : Walks list stack node top found taken) where
+      -- a node is still to be taken when as many were taken as there are
+      pub walks-past : t .nodeCount ≤ taken → ended t n box broken ≡ walkOf t n box
+      unfolding times ended
+      walks-past h =
+          let e : t .nodeCount - taken ≡ 0 = omega arith in
           rw e at (w .gives)
 
-      taken-is : (r x : Walked) (list' stack' : List ℕ) → NodeTaken n box t list found stack top r list' stack' → r ≡ x → NodeTaken n box t list found stack top x list' stack'
-      taken-is r x list' stack' d e = subst (λ (y : Walked). NodeTaken n box t list found stack top y list' stack') e d
+      module _ (h : taken < t .nodeCount) where
+        pub walks-room : WalkRoom n t list₀ stack₀ → NodeRoom n t list found stack node top
+        walks-room r =
+            record {
+              places =
+                  record {
+                    ordered = r .ordered;
+                    boxed = r .triangles;
+                    lent = omega (arith, r .lent, w .long);
+                    inside = w .grown .inside;
+                    below = w .grown .below;
+                  };
+              boxed = r .boxed;
+              worded = r .worded;
+              taller = omega (arith, r .high, w .high, w .stands .within);
+              below = w .stands .below;
+            }
 
-      pub walks-go : taken < t .nodeCount → (r : Walked) (next more : ℕ) (list' stack' : List ℕ) → NodeTaken n box t list found stack top r list' stack' → r ≡ Going next more
-          → length list' ≡ length list → length stack' ≡ length stack → Walks list' stack' next more (taken + 1)
-      walks-go h r next more list' stack' d e l m =
-          let d' : NodeTaken n box t list found stack top (Going next more) list' stack' = taken-is r (Going next more) list' stack' d e in
-          record {
-            gives = ap (λ (v : Walking). ended t n box (times (t .nodeCount - (taken + 1)) (takeNode t n box) v)) (d' .holds) ∙ node-first h;
-            grown = grown-twice n 0 found more list₀ list list' (w .grown) (d' .kept .grown);
-            stands = record { within = omega (arith, d' .kept .stands .within, w .stands .within); below = d' .kept .stands .below };
-            spent = omega arith;
-            long = l ∙ w .long;
-            high = m ∙ w .high;
-          }
+        abbrev rest : Walking → Walking
+        rest v = ended t n box (times (t .nodeCount - (taken + 1)) (takeNode t n box) v)
 
-      pub walks-stop : taken < t .nodeCount → (r : Walked) (list' stack' : List ℕ) → NodeTaken n box t list found stack top r list' stack' → r ≡ Stopped
-          → ended t n box broken ≡ walkOf t n box
-      walks-stop h r list' stack' d e =
-          let d' : NodeTaken n box t list found stack top Stopped list' stack' = taken-is r Stopped list' stack' d e in
-          ap (ended t n box) (sym (times-broken (t .nodeCount - (taken + 1))))
-          ∙ ap (λ (v : Walking). ended t n box (times (t .nodeCount - (taken + 1)) (takeNode t n box) v)) (d' .holds) ∙ node-first h
+        -- the node at hand first
+        node-first : rest (takeNode t n box (walking (node ∷ onStack stack top) (take found list))) ≡ walkOf t n box
+        unfolding times
+        node-first =
+            let e : t .nodeCount - taken ≡ suc (t .nodeCount - (taken + 1)) = omega arith in
+            rw e at (w .gives)
 
-      -- a node is still on the stack when as many were taken as there are
-      pub walks-past : 0 < top → t .nodeCount ≤ taken → ended t n box broken ≡ walkOf t n box
-      unfolding times ended onStack
-      walks-past s h =
-          let e : t .nodeCount - taken ≡ 0 = omega arith in
-          let f : top ≡ suc (top - 1) = omega arith in
-          rw (e, f) at (w .gives)
+        module _ (r : Stepped) (list' stack' : List ℕ) (d : NodeTaken n box t list found stack node top r list' stack') where
+          taken-is : (x : Stepped) → r ≡ x → NodeTaken n box t list found stack node top x list' stack'
+          taken-is x e = subst (λ (y : Stepped). NodeTaken n box t list found stack node top y list' stack') e d
 
-      pub walks-end : top ≤ 0 → ended t n box (walking [] (take found list)) ≡ walkOf t n box
-      unfolding onStack
-      walks-end h =
-          let e : top ≡ 0 = omega arith in
-          ap (ended t n box) (sym (times-empty (t .nodeCount - taken) (take found list))) ∙ (rw e at (w .gives))
+          pub walks-next : (node' top' more : ℕ) → r ≡ Next node' top' more → length list' ≡ length list → length stack' ≡ length stack → Walks list' stack' node' top' more (taken + 1)
+          walks-next node' top' more e l m =
+              let d' : NodeTaken n box t list found stack node top (Next node' top' more) list' stack' = taken-is (Next node' top' more) e in
+              record {
+                gives = ap rest (d' .holds) ∙ node-first;
+                grown = grown-twice n 0 found more list₀ list list' (w .grown) (d' .kept .grown);
+                stands = record { within = omega (arith, d' .kept .stands .within, w .stands .within); below = d' .kept .stands .below };
+                long = l ∙ w .long;
+                high = m ∙ w .high;
+              }
+
+          pub walks-stopped : r ≡ Stopped → ended t n box broken ≡ walkOf t n box
+          walks-stopped e = ap (ended t n box) (sym (times-broken (t .nodeCount - (taken + 1)))) ∙ ap rest (taken-is Stopped e .holds) ∙ node-first
+
+          pub walks-ended : (more : ℕ) → r ≡ Ended more → (ended t n box (walking [] (take more list')) ≡ walkOf t n box) × Grown n list₀ list' 0 more
+          walks-ended more e =
+              let d' : NodeTaken n box t list found stack node top (Ended more) list' stack' = taken-is (Ended more) e in
+              (ap (ended t n box) (sym (times-empty (t .nodeCount - (taken + 1)) (take more list'))) ∙ ap rest (d' .holds) ∙ node-first, grown-twice n 0 found more list₀ list list' (w .grown) (d' .kept))
 
   -- the list of the walk, sorted in its place
   module _ (entry mid : List ℕ) (found : ℕ) (r : Filled) (g : ended t n box (listed [] r mid) ≡ walkOf t n box) (h : GrownTo n entry 0 r mid) where

@@ -1,9 +1,9 @@
 -- What the list and the stack hold while the walk goes on, as the walk's functions promise it. Definitions only. Assumes nothing.
 use Prim.Native.Nat.{ℕ, zero, suc, _+_, _*_, _<_, _≤_}
 use mathlib.Core.Path.{_≡_}
-use mathlib.Core.Bool.{Bool, true, cond}
+use mathlib.Core.Bool.{Bool, true}
 use mathlib.Core.List.{List, [], _∷_}
-use lib.Dec.{ltb, eqb}
+use lib.Dec.{ltb}
 use lib.Ieee.{Float}
 use lib.ListN.{length, take, drop}
 use Rattle.tree.specs.Lists.{every}
@@ -12,8 +12,8 @@ use Rattle.geometry.specs.declared.aabb.Aabb.{Aabb}
 use Rattle.tree_query.specs.Walk.{Walking, walking, broken, atBranch, takeNode}
 use Rattle.tree_query.specs.declared.step.Filled.{Filled}
 use Rattle.tree_query.specs.declared.step.Filled.the-variants.{Count, Broken}
-use Rattle.tree_query.specs.declared.step.Walked.{Walked}
-use Rattle.tree_query.specs.declared.step.Walked.the-variants.{Going, Stopped}
+use Rattle.tree_query.specs.declared.step.Stepped.{Stepped}
+use Rattle.tree_query.specs.declared.step.Stepped.the-variants.{Next, Ended, Stopped}
 
 -- whether all numbers of a list are below a bound
 abbrev pub allBelow : ℕ → List ℕ → Bool
@@ -53,23 +53,35 @@ unfoldable pub onStack : List ℕ → ℕ → List ℕ
 onStack area zero = []
 onStack area (suc k) = wordAt area k ∷ onStack area k
 
-abbrev pub stacked : List ℕ → Filled → List ℕ → Walking
-stacked list (Count k) area = walking (onStack area k) list
-stacked list Broken area = broken
+-- the next of them taken
+unfoldable pub popped : List ℕ → ℕ → ℕ → Stepped
+popped area zero found = Ended found
+popped area (suc k) found = Next (wordAt area k) k found
 
--- a stack of nodes below the node count, not higher than said
-pub record Stack (nodes limit : ℕ) (area : List ℕ) (top : ℕ) : Type 0 where
+-- what a step leaves: the node that is taken next stands before those on the stack
+abbrev pub held : Stepped → List ℕ → List ℕ → Walking
+held (Next node top found) list stack = walking (node ∷ onStack stack top) (take found list)
+held (Ended found) list stack = walking [] (take found list)
+held Stopped list stack = broken
+
+-- nodes below the node count, those on the stack not more than said
+pub record Stands (nodes limit : ℕ) (stack : List ℕ) (node top : ℕ) : Type 0 where
   pub within : top ≤ limit
-  pub below : allBelow nodes (onStack area top) ≡ true
+  pub below : allBelow nodes (node ∷ onStack stack top) ≡ true
 
-abbrev pub StackTo : ℕ → ℕ → Filled → List ℕ → Type 0
-StackTo nodes limit (Count top) area = Stack nodes limit area top
-StackTo nodes limit Broken area = Unit
+pub record Kept (n nodes : ℕ) (entry exit : List ℕ) (from to : ℕ) (limit : ℕ) (stack : List ℕ) (node top : ℕ) : Type 0 where
+  pub grown : Grown n entry exit from to
+  pub stands : Stands nodes limit stack node top
 
--- the children of a branch put on the stack, whatever else the tree and the list hold
-pub record Pushed (nodes node left right : ℕ) (entry : List ℕ) (top : ℕ) (r : Filled) (exit : List ℕ) : Type 0 where
-  pub holds : (t : Tree) (n : ℕ) (box : Aabb) (list : List ℕ) → t .nodeCount ≡ nodes → stacked list r exit ≡ atBranch t n box node left right (onStack entry top) list
-  pub kept : StackTo nodes (top + 2) r exit
+abbrev pub KeptBy : ℕ → ℕ → List ℕ → ℕ → ℕ → Stepped → List ℕ → List ℕ → Type 0
+KeptBy n nodes entry from limit (Next node top found) list stack = Kept n nodes entry list from found limit stack node top
+KeptBy n nodes entry from limit (Ended found) list stack = Grown n entry list from found
+KeptBy n nodes entry from limit Stopped list stack = Unit
+
+-- a branch, whatever else the tree and the list hold
+pub record Pushed (nodes node left right : ℕ) (entry : List ℕ) (top found : ℕ) (r : Stepped) (exit : List ℕ) : Type 0 where
+  pub holds : (t : Tree) (n : ℕ) (box : Aabb) (list : List ℕ) → t .nodeCount ≡ nodes → held r list exit ≡ atBranch t n box node left right (onStack entry top) (take found list)
+  pub kept : (n : ℕ) (list₀ list : List ℕ) (from : ℕ) → Grown n list₀ list from found → KeptBy n nodes list₀ from (top + 1) r list exit
 
 -- the tree in its areas
 abbrev pub treeOf : ℕ → List Float → List Float → List ℕ → List ℕ → Tree
@@ -77,29 +89,16 @@ treeOf nodes nodeBoxes triangleBoxes nodeWords order =
     record { nodeCount = nodes; nodeBoxes = nodeBoxes; triangleBoxes = triangleBoxes; nodeWords = nodeWords; order = order }
 
 -- what taking a node asks of the areas
-pub record NodeRoom (n : ℕ) (t : Tree) (list : List ℕ) (found : ℕ) (stack : List ℕ) (top : ℕ) : Type 0 where
+pub record NodeRoom (n : ℕ) (t : Tree) (list : List ℕ) (found : ℕ) (stack : List ℕ) (node top : ℕ) : Type 0 where
   pub places : Room n (t .order) (t .triangleBoxes) list found
   pub boxed : 6 * t .nodeCount ≤ length (t .nodeBoxes)
   pub worded : 3 * t .nodeCount ≤ length (t .nodeWords)
   pub taller : top < length stack
-  pub some : 0 < top
-  pub below : allBelow (t .nodeCount) (onStack stack top) ≡ true
+  pub below : allBelow (t .nodeCount) (node ∷ onStack stack top) ≡ true
 
 -- and what it promises
-abbrev pub held : Walked → List ℕ → List ℕ → Walking
-held (Going top found) list stack = walking (onStack stack top) (take found list)
-held Stopped list stack = broken
-
-pub record Kept (n nodes : ℕ) (entry exit : List ℕ) (from to : ℕ) (limit : ℕ) (stack : List ℕ) (top : ℕ) : Type 0 where
-  pub grown : Grown n entry exit from to
-  pub stands : Stack nodes limit stack top
-
-abbrev pub KeptBy : ℕ → ℕ → List ℕ → ℕ → ℕ → Walked → List ℕ → List ℕ → Type 0
-KeptBy n nodes entry from limit (Going top found) list stack = Kept n nodes entry list from found limit stack top
-KeptBy n nodes entry from limit Stopped list stack = Unit
-
-pub record NodeTaken (n : ℕ) (box : Aabb) (t : Tree) (list : List ℕ) (found : ℕ) (stack : List ℕ) (top : ℕ) (r : Walked) (list' stack' : List ℕ) : Type 0 where
-  pub holds : held r list' stack' ≡ takeNode t n box (walking (onStack stack top) (take found list))
+pub record NodeTaken (n : ℕ) (box : Aabb) (t : Tree) (list : List ℕ) (found : ℕ) (stack : List ℕ) (node top : ℕ) (r : Stepped) (list' stack' : List ℕ) : Type 0 where
+  pub holds : held r list' stack' ≡ takeNode t n box (walking (node ∷ onStack stack top) (take found list))
   pub kept : KeptBy n (t .nodeCount) list found (top + 1) r list' stack'
 
 -- what the walk asks of the areas
@@ -110,8 +109,3 @@ pub record WalkRoom (n : ℕ) (t : Tree) (list stack : List ℕ) : Type 0 where
   pub worded : 3 * t .nodeCount ≤ length (t .nodeWords)
   pub lent : n ≤ length list
   pub high : t .nodeCount < length stack
-
--- the stack with which it starts
-pub record Begun (nodes top : ℕ) (stack : List ℕ) : Type 0 where
-  pub holds : onStack stack top ≡ cond (eqb nodes 0) [] (0 ∷ [])
-  pub stands : Stack nodes 1 stack top

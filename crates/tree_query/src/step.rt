@@ -8,7 +8,7 @@ ghost use Rattle.tree.specs.Layout.{firstAt, secondAt};
 ghost use Rattle.tree_query.specs.Walk.{walking, takePlace, takePlaces, atLeaf};
 ghost use mathlib.Core.Bool.{true, _&&_};
 ghost use lib.Dec.{ltb};
-ghost use Rattle.tree_query.specs.Areas.{allBelow, onStack, Room, Placed, Pushed, treeOf, NodeRoom, NodeTaken};
+ghost use Rattle.tree_query.specs.Areas.{allBelow, onStack, popped, Room, Placed, Pushed, treeOf, NodeRoom, NodeTaken};
 
 // How many places of an area are filled, or that the walk met a 5.
 pub enum Filled {
@@ -16,9 +16,14 @@ pub enum Filled {
     Broken,
 }
 
-// How many nodes stand on the stack and how many triangles in the list, or that the walk met a 5.
-pub enum Walked {
-    Going { top: usize, found: usize },
+// The node that is taken next, how many stand on the stack below it and how many triangles in the list; or how many triangles the whole walk has listed, or that it met a 5.
+pub enum Stepped {
+    Next {
+        node: usize,
+        top: usize,
+        found: usize,
+    },
+    Ended(usize),
     Stopped,
 }
 
@@ -118,25 +123,51 @@ fn child_fits(nodes: usize, node: usize, child: usize) -> bool
     false
 }
 
-// A branch: its children go on the stack, the left one on top.
-fn at_branch(nodes: usize, node_words: &[u32], node: usize, stack: &mut [u32], top: usize) -> Filled
-    requires { ⌜ (3 * node + 3 ≤ length (now «node_words»)) × ((top + 2 ≤ length (now stack)) × (allBelow nodes (onStack (now stack) top) ≡ true)) ⌝ }
-    ensures { λ r. ⌜ Pushed nodes node (firstAt (now («node_words» .entry)) node) (secondAt (now («node_words» .entry)) node) (now (stack .entry)) top r (now (stack .exit)) ⌝ }
+// The next node taken from the stack; with none there the walk has ended.
+fn pop(stack: &[u32], top: usize, found: usize) -> Stepped
+    requires { ⌜ top ≤ length (now stack) ⌝ }
+    ensures { λ r. ⌜ r ≡ popped (now (stack .entry)) top found ⌝ }
 {
-    let left = node_words[3 * node + 1];
-    let right = node_words[3 * node + 2];
-    if !child_fits(nodes, node, left as usize) {
-        return Filled::Broken;
+    if top == 0 {
+        return Stepped::Ended(found);
     }
-    if !child_fits(nodes, node, right as usize) {
-        return Filled::Broken;
+    let below = top - 1;
+    Stepped::Next {
+        node: stack[below] as usize,
+        top: below,
+        found: found,
     }
-    stack[top] = right;
-    stack[top + 1] = left;
-    Filled::Count(top + 2)
 }
 
-// One node taken from the stack: the rest is tested only where its box touches.
+// A branch: its left child is taken next, the right one goes on the stack.
+fn at_branch(
+    nodes: usize,
+    node_words: &[u32],
+    node: usize,
+    stack: &mut [u32],
+    top: usize,
+    found: usize,
+) -> Stepped
+    requires { ⌜ (3 * node + 3 ≤ length (now «node_words»)) × ((top < length (now stack)) × (allBelow nodes (onStack (now stack) top) ≡ true)) ⌝ }
+    ensures { λ r. ⌜ Pushed nodes node (firstAt (now («node_words» .entry)) node) (secondAt (now («node_words» .entry)) node) (now (stack .entry)) top found r (now (stack .exit)) ⌝ }
+{
+    let left = node_words[3 * node + 1] as usize;
+    let right = node_words[3 * node + 2];
+    if !child_fits(nodes, node, left) {
+        return Stepped::Stopped;
+    }
+    if !child_fits(nodes, node, right as usize) {
+        return Stepped::Stopped;
+    }
+    stack[top] = right;
+    Stepped::Next {
+        node: left,
+        top: top + 1,
+        found: found,
+    }
+}
+
+// One node: the rest is tested only where its box touches.
 pub fn take_node(
     bounds: Aabb,
     count: usize,
@@ -148,18 +179,14 @@ pub fn take_node(
     list: &mut [u32],
     found: usize,
     stack: &mut [u32],
+    node: usize,
     top: usize,
-) -> Walked
-    requires { ⌜ NodeRoom count (treeOf nodes (now «node_boxes») (now «triangle_boxes») (now «node_words») (now order)) (now list) found (now stack) top ⌝ }
-    ensures { λ r. ⌜ NodeTaken count bounds (treeOf nodes (now («node_boxes» .entry)) (now («triangle_boxes» .entry)) (now («node_words» .entry)) (now (order .entry))) (now (list .entry)) found (now (stack .entry)) top r (now (list .exit)) (now (stack .exit)) ⌝ }
+) -> Stepped
+    requires { ⌜ NodeRoom count (treeOf nodes (now «node_boxes») (now «triangle_boxes») (now «node_words») (now order)) (now list) found (now stack) node top ⌝ }
+    ensures { λ r. ⌜ NodeTaken count bounds (treeOf nodes (now («node_boxes» .entry)) (now («triangle_boxes» .entry)) (now («node_words» .entry)) (now (order .entry))) (now (list .entry)) found (now (stack .entry)) node top r (now (list .exit)) (now (stack .exit)) ⌝ }
 {
-    let below = top - 1;
-    let node = stack[below] as usize;
     if !layout::box_at(node_boxes, node).touches(bounds) {
-        return Walked::Going {
-            top: below,
-            found: found,
-        };
+        return pop(stack, top, found);
     }
     let kind = layout::word_at(node_words, 3 * node);
     if kind == 0 {
@@ -174,22 +201,12 @@ pub fn take_node(
             found,
         );
         let Filled::Count(listed) = leaf else {
-            return Walked::Stopped;
+            return Stepped::Stopped;
         };
-        return Walked::Going {
-            top: below,
-            found: listed,
-        };
+        return pop(stack, top, listed);
     }
     if kind != 1 {
-        return Walked::Stopped;
+        return Stepped::Stopped;
     }
-    let branch = at_branch(nodes, node_words, node, stack, below);
-    let Filled::Count(next) = branch else {
-        return Walked::Stopped;
-    };
-    Walked::Going {
-        top: next,
-        found: found,
-    }
+    at_branch(nodes, node_words, node, stack, top, found)
 }

@@ -1,29 +1,16 @@
 use crate::sort;
 use crate::step;
 use crate::step::Filled;
-use crate::step::Walked;
+use crate::step::Stepped;
 use geometry::aabb::Aabb;
 ghost use mathlib.Core.Path.{_≡_};
 ghost use mathlib.Core.List.{[]};
 ghost use Prim.Native.Nat.{_<_};
-ghost use lib.ListN.{length};
 ghost use Rattle.tree_query.specs.Walk.{ended, walkOf};
-ghost use Rattle.tree_query.specs.Areas.{listed, GrownTo, treeOf, WalkRoom, Begun};
-
-// The stack with which the walk starts: node 0, or no node where there is none.
-fn begin(nodes: usize, stack: &mut [u32]) -> usize
-    requires { ⌜ 0 < length (now stack) ⌝ }
-    ensures { λ r. ⌜ Begun nodes r (now (stack .exit)) ⌝ }
-{
-    if nodes == 0 {
-        return 0;
-    }
-    stack[0] = 0;
-    1
-}
+ghost use Rattle.tree_query.specs.Areas.{listed, GrownTo, treeOf, WalkRoom};
 
 // The touching triangles in the walk's own order, in the first places of the list, whose rest is as it was; the stack may hold anything afterwards.
-// Nodes are taken until the stack is empty; each is counted before its box is looked at, and a walk past the node count is 5.
+// The node that is taken next is kept apart from the stack, since a place stored and read back at every node would be waited for. A walk past the node count is 5.
 pub fn gather(
     bounds: Aabb,
     count: usize,
@@ -38,13 +25,14 @@ pub fn gather(
     requires { ⌜ WalkRoom count (treeOf nodes (now «node_boxes») (now «triangle_boxes») (now «node_words») (now order)) (now list) (now stack) ⌝ }
     ensures { λ r. ⌜ (ended (treeOf nodes (now («node_boxes» .entry)) (now («triangle_boxes» .entry)) (now («node_words» .entry)) (now (order .entry))) count bounds (listed [] r (now (list .exit))) ≡ walkOf (treeOf nodes (now («node_boxes» .entry)) (now («triangle_boxes» .entry)) (now («node_words» .entry)) (now (order .entry))) count bounds) × GrownTo count (now (list .entry)) 0 r (now (list .exit)) ⌝ }
 {
-    let mut top = begin(nodes, stack);
-    let mut found: usize = 0;
+    if nodes == 0 {
+        return Filled::Count(0);
+    }
+    let mut next: usize = 0;
+    let mut height: usize = 0;
+    let mut listed: usize = 0;
     let mut taken: usize = 0;
-    while top > 0 {
-        if taken >= nodes {
-            return Filled::Broken;
-        }
+    while taken < nodes {
         let step = step::take_node(
             bounds,
             count,
@@ -54,22 +42,27 @@ pub fn gather(
             node_words,
             order,
             list,
-            found,
+            listed,
             stack,
-            top,
+            next,
+            height,
         );
-        let Walked::Going {
-            top: next,
-            found: listed,
-        } = step
-        else {
-            return Filled::Broken;
-        };
-        top = next;
-        found = listed;
-        taken += 1;
+        match step {
+            Stepped::Next { node, top, found } => {
+                next = node;
+                height = top;
+                listed = found;
+                taken += 1;
+            }
+            Stepped::Ended(found) => {
+                return Filled::Count(found);
+            }
+            Stepped::Stopped => {
+                return Filled::Broken;
+            }
+        }
     }
-    Filled::Count(found)
+    Filled::Broken
 }
 
 // The same triangles, ascending.
