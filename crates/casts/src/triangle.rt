@@ -16,7 +16,7 @@ ghost use Rattle.geometry.specs.Vector.{subOf};
 ghost use Rattle.geometry.specs.Box.{corner};
 ghost use Rattle.geometry.specs.declared.ray.Ray.{Ray as RayOf};
 ghost use Rattle.casts.specs.Reach.{reachOf};
-ghost use Rattle.casts.specs.Crossing.{crossingAnswer};
+ghost use Rattle.casts.specs.Crossing.{crossingAnswer, vector};
 ghost use Rattle.casts.specs.declared.answer.Crossing.the-variants.{Within};
 ghost use Rattle.casts.specs.Triangle.{flat, triangleNormal, triangleFrom, hasNormal, triangleAbove, triangleAt, triangleCast, rayTriangle};
 
@@ -92,6 +92,42 @@ fn triangle_above(
     Reach::At(distance)
 }
 
+// The same, the vectors by their numbers. A call that is not inlined takes numbers in registers; a vector would go through memory, and be read back before it is written.
+fn above_by_numbers(
+    ray: Ray,
+    offset_x: f64,
+    offset_y: f64,
+    offset_z: f64,
+    a_x: f64,
+    a_y: f64,
+    a_z: f64,
+    b_x: f64,
+    b_y: f64,
+    b_z: f64,
+    determinant: f64,
+    inverse: f64,
+    u: f64,
+) -> Reach
+    ensures { λ r. ⌜ triangleFrom ray (vector «a_x» «a_y» «a_z») (vector «b_x» «b_y» «b_z») r ≡ crossingAnswer ray (Within (vector «offset_x» «offset_y» «offset_z») (vector «a_x» «a_y» «a_z») (vector «b_x» «b_y» «b_z») determinant inverse u) ⌝ }
+{
+    let offset = Vec3 {
+        x: offset_x,
+        y: offset_y,
+        z: offset_z,
+    };
+    let a = Vec3 {
+        x: a_x,
+        y: a_y,
+        z: a_z,
+    };
+    let b = Vec3 {
+        x: b_x,
+        y: b_y,
+        z: b_z,
+    };
+    triangle_above(ray, offset, a, b, determinant, inverse, u)
+}
+
 // What the first test tells where the determinant is finite; a NaN u is a miss.
 fn crossing_at(offset: Vec3, a: Vec3, b: Vec3, p: Vec3, determinant: f64) -> Crossing
     ensures { λ r. ⌜ ((s : RayOf) → crossingAnswer s r ≡ cond (flat determinant a b) none (triangleAt s offset a b p determinant)) ⌝ }
@@ -142,7 +178,21 @@ pub fn reach_within(
 ) -> Reach
     ensures { λ r. ⌜ r ≡ reachOf (crossingAnswer ray (Within offset a b determinant inverse u)) ⌝ }
 {
-    let reach = triangle_above(ray, offset, a, b, determinant, inverse, u);
+    let reach = above_by_numbers(
+        ray,
+        offset.x,
+        offset.y,
+        offset.z,
+        a.x,
+        a.y,
+        a.z,
+        b.x,
+        b.y,
+        b.z,
+        determinant,
+        inverse,
+        u,
+    );
     match reach {
         Reach::At(distance) => {
             if has_normal(a, b) {
@@ -171,7 +221,21 @@ fn cast_within(
 ) -> Cast
     ensures { λ r. ⌜ says r ≡ crossingAnswer ray (Within offset a b determinant inverse u) ⌝ }
 {
-    let reach = triangle_above(ray, offset, a, b, determinant, inverse, u);
+    let reach = above_by_numbers(
+        ray,
+        offset.x,
+        offset.y,
+        offset.z,
+        a.x,
+        a.y,
+        a.z,
+        b.x,
+        b.y,
+        b.z,
+        determinant,
+        inverse,
+        u,
+    );
     match reach {
         Reach::At(distance) => {
             return triangle_normal(ray, a, b, distance);
