@@ -2,7 +2,9 @@ use crate::aabb::Aabb;
 use crate::vec3::Vec3;
 use arithmetic::basic;
 ghost use mathlib.Core.Path.{_≡_};
+ghost use mathlib.Core.Bool.{true};
 ghost use Rattle.geometry.specs.Segment.{closeToUnitLength, rayAdmitted, segmentEnd, segmentBox};
+ghost use Rattle.geometry.specs.Vector.{finiteVec};
 
 pub struct Ray {
     pub origin: Vec3,
@@ -59,6 +61,17 @@ impl Ray {
         Aabb {
             min: self.origin.min(end),
             max: self.origin.max(end),
+        }
+    }
+
+    // The same box of a ray whose origin is finite, its end being known.
+    pub fn segment_bounds(self, end: Vec3) -> Aabb
+        requires { ⌜ finiteVec (self .origin) ≡ true ⌝ ∗ ⌜ end ≡ segmentEnd self ⌝ }
+        ensures { λ r. ⌜ r ≡ segmentBox self ⌝ }
+    {
+        Aabb {
+            min: self.origin.least(end),
+            max: self.origin.greatest(end),
         }
     }
 }

@@ -14,6 +14,7 @@ use Rattle.geometry.specs.Segment.{rayAdmitted, segmentEnd, segmentBox}
 use Rattle.geometry.specs.declared.vec3.Vec3.{Vec3}
 use Rattle.geometry.specs.declared.aabb.Aabb.{Aabb}
 use Rattle.geometry.specs.declared.ray.Ray.{Ray}
+use Rattle.geometry.proofs.BoxLaws.{segment-box-valid}
 use Rattle.casts.specs.Answer.{invalidInput, badShape, noRoom, wrongPose, outOfBounds, overflow}
 use Rattle.casts.specs.Nearest.{Indexed, stopped, nearestOf}
 use Rattle.tree.specs.Lists.{sorted}
@@ -56,27 +57,27 @@ module _ (r : Ray) (m : Mesh) (pose : List Float) (t : Tree) where
   unfolding meshCast
   cast-overflow h = simp h
 
-  module _ (f : finiteVec (segmentEnd r) ≡ true) (box : Aabb) (b : box ≡ segmentBox r) where
-    pub cast-unboxed : validBox box ≡ false → stopped outOfBounds ≡ meshCast r m pose t
+  module _ (v : rayAdmitted r ≡ true) (f : finiteVec (segmentEnd r) ≡ true) (box : Aabb) (b : box ≡ segmentBox r) (x : Filled) (exit : List ℕ)
+      (w : ended t n box (listed [] x exit) ≡ walkOf t n box) where
+    -- both ends are finite
+    valid : validBox box ≡ true
+    valid = ap validBox b ∙ segment-box-valid r v f
+
+    over : overWalk r pose (m .triangles) (walkOf t n box) ≡ meshCast r m pose t
     unfolding meshCast
-    cast-unboxed h = simp (f, sym b, h)
+    over = simp (f, sym b, valid)
 
-    module _ (v : validBox box ≡ true) (x : Filled) (exit : List ℕ) (w : ended t n box (listed [] x exit) ≡ walkOf t n box) where
-      over : overWalk r pose (m .triangles) (walkOf t n box) ≡ meshCast r m pose t
-      unfolding meshCast
-      over = simp (f, sym b, v)
+    pub cast-broken : x ≡ Broken → stopped outOfBounds ≡ meshCast r m pose t
+    unfolding overWalk ended
+    cast-broken e =
+        let w' : broken ≡ walkOf t n box = subst (λ (y : Filled). ended t n box (listed [] y exit) ≡ walkOf t n box) e w in
+        ap (overWalk r pose (m .triangles)) w' ∙ over
 
-      pub cast-broken : x ≡ Broken → stopped outOfBounds ≡ meshCast r m pose t
-      unfolding overWalk ended
-      cast-broken e =
-          let w' : broken ≡ walkOf t n box = subst (λ (y : Filled). ended t n box (listed [] y exit) ≡ walkOf t n box) e w in
-          ap (overWalk r pose (m .triangles)) w' ∙ over
-
-      pub cast-nearest : (k : ℕ) (answer : Indexed) → x ≡ Count k → answer ≡ nearestOf (triangleAnswer r pose (m .triangles)) (sorted (take k exit)) → answer ≡ meshCast r m pose t
-      unfolding overWalk ended
-      cast-nearest k answer e a =
-          let w' : walking [] (sorted (take k exit)) ≡ walkOf t n box = subst (λ (y : Filled). ended t n box (listed [] y exit) ≡ walkOf t n box) e w in
-          a ∙ ap (overWalk r pose (m .triangles)) w' ∙ over
+    pub cast-nearest : (k : ℕ) (answer : Indexed) → x ≡ Count k → answer ≡ nearestOf (triangleAnswer r pose (m .triangles)) (sorted (take k exit)) → answer ≡ meshCast r m pose t
+    unfolding overWalk ended
+    cast-nearest k answer e a =
+        let w' : walking [] (sorted (take k exit)) ≡ walkOf t n box = subst (λ (y : Filled). ended t n box (listed [] y exit) ≡ walkOf t n box) e w in
+        a ∙ ap (overWalk r pose (m .triangles)) w' ∙ over
 
 -- the walk's list is within its area and below the triangle count
 pub list-inside : (n k : ℕ) (entry exit : List ℕ) (x : Filled) → GrownTo n entry 0 x exit → x ≡ Count k → (k ≤ length exit) × (allBelow n (take k exit) ≡ true)

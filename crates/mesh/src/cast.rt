@@ -7,10 +7,11 @@ use tree_query::query;
 use tree_query::step::Filled;
 use tree_query::walk;
 ghost use mathlib.Core.Path.{_≡_};
-ghost use mathlib.Core.Bool.{false, _&&_};
+ghost use mathlib.Core.Bool.{true, false, _&&_};
 ghost use Prim.Native.Nat.{_*_};
 ghost use lib.Dec.{leb};
 ghost use lib.ListN.{length};
+ghost use Rattle.geometry.specs.Segment.{rayAdmitted};
 ghost use Rattle.casts.specs.Nearest.{saysIndexed};
 ghost use Rattle.tree.specs.Mesh.{thirds, lengthsAdmitted};
 ghost use Rattle.tree_query.specs.Areas.{treeOf, WalkRoom};
@@ -43,16 +44,15 @@ fn mesh_cast(
     list: &mut [u32],
     stack: &mut [u32],
 ) -> IndexedCast
-    requires { ⌜ WalkRoom (thirds (length (now triangles))) (treeOf nodes (now «node_boxes») (now «triangle_boxes») (now «node_words») (now order)) (now list) (now stack) ⌝ }
+    requires { ⌜ rayAdmitted ray ≡ true ⌝ ∗ ⌜ WalkRoom (thirds (length (now triangles))) (treeOf nodes (now «node_boxes») (now «triangle_boxes») (now «node_words») (now order)) (now list) (now stack) ⌝ }
     ensures { λ r. ⌜ saysIndexed r ≡ meshCast ray (record { vertices = now (pose .entry); triangles = now (triangles .entry) }) (now (pose .entry)) (treeOf nodes (now («node_boxes» .entry)) (now («triangle_boxes» .entry)) (now («node_words» .entry)) (now (order .entry))) ⌝ }
 {
-    if !ray.segment_end().is_finite() {
+    let end = ray.segment_end();
+    if !end.is_finite() {
         return IndexedCast::Refused(answer::OVERFLOW);
     }
-    let bounds = ray.segment_box();
-    if !bounds.is_valid() {
-        return IndexedCast::Refused(answer::OUT_OF_BOUNDS);
-    }
+    // With both ends finite the box is valid, so that it needs no test.
+    let bounds = ray.segment_bounds(end);
     let count = triangles.len() / 3;
     let walked = walk::gather(
         bounds,

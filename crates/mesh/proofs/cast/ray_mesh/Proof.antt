@@ -30,7 +30,7 @@ returns-4 : tie.Need-returns-4
 returns-4 c = with-demand _ _ _ _ _ _ _ _ (mesh-posed _ _ _ _ _ _ (sym (c .before .before .before .before .before .before .validate .ensures) ∙ not-false (c .before .before .before .before .before .before .validate .result) (c .before .before .before .before .before .if1 .left)) (sym (c .before .before .before .before .shape-admitted .ensures) ∙ not-false (c .before .before .before .before .shape-admitted .result) (c .before .before .before .if2 .left)) (sym (c .before .before .walk-fits .ensures) ∙ not-false (c .before .before .walk-fits .result) (c .before .if3 .left)) (c .if4 .taken)) (λ _. (refl, refl))
 
 mesh-cast-requires : tie.Need-mesh-cast-requires
-mesh-cast-requires c κs = fits-room _ _ _ _ (nodes-few _ _ _ _ (sym (c .before .before .before .before .before .before .shape-admitted .ensures) ∙ not-false (c .before .before .before .before .before .before .shape-admitted .result) (c .before .before .before .before .before .if2 .left))) (sym (c .before .before .before .before .walk-fits .ensures) ∙ not-false (c .before .before .before .before .walk-fits .result) (c .before .before .before .if3 .left))
+mesh-cast-requires c κs = (sym (c .before .before .before .before .before .before .before .before .validate .ensures) ∙ not-false (c .before .before .before .before .before .before .before .before .validate .result) (c .before .before .before .before .before .before .before .if1 .left), fits-room _ _ _ _ (nodes-few _ _ _ _ (sym (c .before .before .before .before .before .before .shape-admitted .ensures) ∙ not-false (c .before .before .before .before .before .before .shape-admitted .result) (c .before .before .before .before .before .if2 .left))) (sym (c .before .before .before .before .walk-fits .ensures) ∙ not-false (c .before .before .before .before .walk-fits .result) (c .before .before .before .if3 .left)))
 
 same-length : tie.Need-same-length
 same-length c = search needs

@@ -1,0 +1,18 @@
+-- `geometry::ray::Ray::segment_bounds` meets its contract. Assumes nothing.
+use Rattle.geometry.specs.Segment.{segmentBox}
+use mathlib.Core.Path.{sym}
+use Rattle.geometry.proofs.ray.Ray.segment_bounds.Statement.{statement}
+use Rattle.geometry.proofs.ray.Ray.segment_bounds.Tie as tie
+
+least-requires : tie.Need-least-requires
+least-requires c κs = c .pre .0
+
+greatest-requires : tie.Need-greatest-requires
+greatest-requires c κs = c .before .pre .0
+
+returns : tie.Need-returns
+unfolding segmentBox
+returns c = simp (sym (c .before .before .pre .1), sym (c .before .least .ensures), sym (c .greatest .ensures))
+
+pub segment-bounds-spec : {M : Type 1} → statement M
+segment-bounds-spec = tie.close (tie.spec least-requires greatest-requires returns)
