@@ -5,14 +5,16 @@ use mathlib.Core.List.{List, [], _∷_}
 use lib.Dec.{ltb}
 use lib.Ieee.{Float, lt, le, isNan}
 use Rattle.casts.specs.Answer.{Answer}
-use Rattle.casts.specs.Nearest.{Indexed, noHit, nextOf}
+use Rattle.casts.specs.Nearest.{Indexed, noHit, stopped, nextOf}
 use Rattle.casts.specs.Reach.{reachOf}
 use Rattle.casts.specs.declared.answer.Reach.{Reach}
 use Rattle.casts.specs.declared.answer.Reach.the-variants.{At, Miss, Refused}
-use Rattle.casts.specs.declared.summary.Chosen.{Chosen}
-use Rattle.casts.specs.declared.summary.Chosen.the-variants.{Nobody, At as AtIndex}
+use Rattle.casts.specs.declared.summary.ChosenRefusal.{ChosenRefusal}
+use Rattle.casts.specs.declared.summary.ChosenRefusal.the-variants.{Nobody as NoRefusal, At as AtRefusal}
 use Rattle.casts.specs.declared.summary.ChosenHit.{ChosenHit}
 use Rattle.casts.specs.declared.summary.ChosenHit.the-variants.{Nobody as NoHit, At as AtHit}
+use Rattle.casts.specs.declared.summary.Outcome.{Outcome}
+use Rattle.casts.specs.declared.summary.Outcome.the-variants.{Nobody, Refused as RefusedBy, Struck}
 use Rattle.casts.specs.declared.summary.Notes.{Notes}
 
 -- nobody yet, or the one that goes before all others that came
@@ -25,29 +27,29 @@ unfoldable pub keepOf : {A : Type 0} → (A → A → Bool) → Kept A → A →
 keepOf before nobody x = kept x
 keepOf before (kept y) x = cond (before x y) (kept x) (kept y)
 
--- a triangle that is hit
-pub record Struck : Type 0 where
+-- a triangle with what was found of it: the distance of its hit, or the number of its refusal
+pub record Found (A : Type 0) : Type 0 where
   pub index : ℕ
-  pub distance : Float
+  pub value : A
 
-abbrev pub struck : ℕ → Float → Struck
-struck index distance = record { index = index; distance = distance }
+abbrev pub found : {A : Type 0} → ℕ → A → Found A
+found index value = record { index = index; value = value }
 
 -- of a lower index
-unfoldable pub lower : Struck → Struck → Bool
+unfoldable pub lower : {A : Type 0} → Found A → Found A → Bool
 lower a b = ltb (a .index) (b .index)
 
 -- nearer, or at most as far and of a lower index
-unfoldable pub nearer : Struck → Struck → Bool
-nearer a b = lt (a .distance) (b .distance) || (le (a .distance) (b .distance) && ltb (a .index) (b .index))
+unfoldable pub nearer : Found Float → Found Float → Bool
+nearer a b = lt (a .value) (b .value) || (le (a .value) (b .value) && ltb (a .index) (b .index))
 
 pub record Summary : Type 0 where
-  -- of those that refuse "the lowest-indexed one"
-  pub refuser : Kept ℕ
+  -- of those that refuse "the lowest-indexed one", with its number
+  pub refuser : Kept (Found ℕ)
   -- of those that are hit the lowest-indexed one, whose distance may be NaN
-  pub first : Kept Struck
+  pub first : Kept (Found Float)
   -- of those that are hit at a number: every other one "lies at least as far, and farther if its index is lower"
-  pub least : Kept Struck
+  pub least : Kept (Found Float)
 
 abbrev pub nothing : Summary
 nothing = record { refuser = nobody; first = nobody; least = nobody }
@@ -55,11 +57,11 @@ nothing = record { refuser = nobody; first = nobody; least = nobody }
 -- one more triangle
 unfoldable pub noteOf : Summary → ℕ → Reach → Summary
 noteOf s index Miss = s
-noteOf s index (Refused number) = record { refuser = keepOf ltb (s .refuser) index; first = s .first; least = s .least }
+noteOf s index (Refused number) = record { refuser = keepOf lower (s .refuser) (found index number); first = s .first; least = s .least }
 noteOf s index (At distance) = record {
   refuser = s .refuser;
-  first = keepOf lower (s .first) (struck index distance);
-  least = cond (isNan distance) (s .least) (keepOf nearer (s .least) (struck index distance));
+  first = keepOf lower (s .first) (found index distance);
+  least = cond (isNan distance) (s .least) (keepOf nearer (s .least) (found index distance));
 }
 
 -- all triangles of a list, on top of those noted before
@@ -67,36 +69,38 @@ unfoldable pub summaryFrom : (ℕ → Answer) → Summary → List ℕ → Summa
 summaryFrom answer s [] = s
 summaryFrom answer s (index ∷ rest) = summaryFrom answer (noteOf s index (reachOf (answer index))) rest
 
-abbrev pub indexOf : Kept Struck → Kept ℕ
-indexOf nobody = nobody
-indexOf (kept s) = kept (s .index)
+abbrev pub struckOf : Kept (Found Float) → Outcome
+struckOf nobody = Nobody
+struckOf (kept s) = Struck (s .index) (s .value)
 
 -- whose answer it is: a refuser's before any hit's; a first hit whose distance is NaN stays, since nothing is less than NaN
-unfoldable pub winnerOf : Kept ℕ → Kept Struck → Kept Struck → Kept ℕ
-winnerOf (kept refuser) first least = kept refuser
-winnerOf nobody nobody least = nobody
-winnerOf nobody (kept first) least = cond (isNan (first .distance)) (kept (first .index)) (indexOf least)
+unfoldable pub winnerOf : Kept (Found ℕ) → Kept (Found Float) → Kept (Found Float) → Outcome
+winnerOf (kept refuser) first least = RefusedBy (refuser .value)
+winnerOf nobody nobody least = Nobody
+winnerOf nobody (kept first) least = cond (isNan (first .value)) (Struck (first .index) (first .value)) (struckOf least)
 
-abbrev pub winner : Summary → Kept ℕ
+abbrev pub winner : Summary → Outcome
 winner s = winnerOf (s .refuser) (s .first) (s .least)
 
--- the winner's answer, with its index
-unfoldable pub answerAt : (ℕ → Answer) → Kept ℕ → Indexed
-answerAt answer nobody = noHit
-answerAt answer (kept index) = nextOf noHit index (answer index)
+-- the winner's answer, a hit's with its index
+unfoldable pub answerAt : (ℕ → Answer) → Outcome → Indexed
+answerAt answer Nobody = noHit
+answerAt answer (RefusedBy number) = stopped number
+answerAt answer (Struck index distance) = nextOf noHit index (answer index)
 
 -- the nearest hit of a list of triangles, in whatever order they stand
 abbrev pub nearestNoted : (ℕ → Answer) → List ℕ → Indexed
 nearestNoted answer l = answerAt answer (winner (summaryFrom answer nothing l))
 
 -- what the code's notes say
-abbrev pub saysChosen : Chosen → Kept ℕ
-saysChosen Nobody = nobody
-saysChosen (AtIndex index) = kept index
+abbrev pub saysChosenRefusal : ChosenRefusal → Kept (Found ℕ)
+saysChosenRefusal NoRefusal = nobody
+saysChosenRefusal (AtRefusal index number) = kept (found index number)
 
-abbrev pub saysChosenHit : ChosenHit → Kept Struck
+abbrev pub saysChosenHit : ChosenHit → Kept (Found Float)
 saysChosenHit NoHit = nobody
-saysChosenHit (AtHit index distance) = kept (struck index distance)
+saysChosenHit (AtHit index distance) = kept (found index distance)
 
 abbrev pub saysNotes : Notes → Summary
-saysNotes notes = record { refuser = saysChosen (notes .refuser); first = saysChosenHit (notes .first); least = saysChosenHit (notes .least) }
+saysNotes notes =
+    record { refuser = saysChosenRefusal (notes .refuser); first = saysChosenHit (notes .first); least = saysChosenHit (notes .least) }

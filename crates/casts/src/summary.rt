@@ -1,14 +1,13 @@
 use crate::answer::Reach;
 ghost use mathlib.Core.Path.{_≡_};
 ghost use mathlib.Core.Bool.{cond};
-ghost use lib.Dec.{ltb};
 ghost use lib.Ieee.{isNan};
-ghost use Rattle.casts.specs.Summary.{keepOf, struck, lower, nearer, nothing, noteOf, nobody, indexOf, winnerOf, winner, saysChosen, saysChosenHit, saysNotes};
+ghost use Rattle.casts.specs.Summary.{keepOf, found, lower, nearer, nothing, noteOf, nobody, struckOf, winnerOf, winner, saysChosenRefusal, saysChosenHit, saysNotes};
 
-// An index, or nobody yet.
-pub enum Chosen {
+// An index with the number of its refusal, or nobody yet.
+pub enum ChosenRefusal {
     Nobody,
-    At(u32),
+    At { index: u32, number: u32 },
 }
 
 // An index with its distance, or nobody yet.
@@ -17,9 +16,16 @@ pub enum ChosenHit {
     At { index: u32, distance: f64 },
 }
 
+// The answer of all, without a normal: nobody's, a refusal with its number, or that of a triangle hit at a distance.
+pub enum Outcome {
+    Nobody,
+    Refused(u32),
+    Struck { index: u32, distance: f64 },
+}
+
 // What of many triangles decides the nearest hit, in whatever order they come: the lowest that refuses, the lowest that is hit, and the nearest of those hit at a number.
 pub struct Notes {
-    pub refuser: Chosen,
+    pub refuser: ChosenRefusal,
     pub first: ChosenHit,
     pub least: ChosenHit,
 }
@@ -29,32 +35,44 @@ pub fn empty() -> Notes
     ensures { λ r. ⌜ saysNotes r ≡ nothing ⌝ }
 {
     Notes {
-        refuser: Chosen::Nobody,
+        refuser: ChosenRefusal::Nobody,
         first: ChosenHit::Nobody,
         least: ChosenHit::Nobody,
     }
 }
 
-// The lower index.
-fn lower_index(chosen: Chosen, index: u32) -> Chosen
-    ensures { λ r. ⌜ saysChosen r ≡ keepOf ltb (saysChosen chosen) index ⌝ }
+// The refusal of the lower index, with its number.
+fn lower_refusal(chosen: ChosenRefusal, index: u32, number: u32) -> ChosenRefusal
+    ensures { λ r. ⌜ saysChosenRefusal r ≡ keepOf lower (saysChosenRefusal chosen) (found index number) ⌝ }
 {
     match chosen {
-        Chosen::Nobody => {
-            return Chosen::At(index);
+        ChosenRefusal::Nobody => {
+            return ChosenRefusal::At {
+                index: index,
+                number: number,
+            };
         }
-        Chosen::At(lowest) => {
+        ChosenRefusal::At {
+            index: lowest,
+            number: its,
+        } => {
             if index < lowest {
-                return Chosen::At(index);
+                return ChosenRefusal::At {
+                    index: index,
+                    number: number,
+                };
             }
-            return Chosen::At(lowest);
+            return ChosenRefusal::At {
+                index: lowest,
+                number: its,
+            };
         }
     }
 }
 
 // The hit of the lower index.
 fn lower_hit(chosen: ChosenHit, index: u32, distance: f64) -> ChosenHit
-    ensures { λ r. ⌜ saysChosenHit r ≡ keepOf lower (saysChosenHit chosen) (struck index distance) ⌝ }
+    ensures { λ r. ⌜ saysChosenHit r ≡ keepOf lower (saysChosenHit chosen) (found index distance) ⌝ }
 {
     match chosen {
         ChosenHit::Nobody => {
@@ -83,7 +101,7 @@ fn lower_hit(chosen: ChosenHit, index: u32, distance: f64) -> ChosenHit
 
 // Whether a hit is nearer than another, or as near and of a lower index.
 fn is_nearer(index: u32, distance: f64, other: u32, reach: f64) -> bool
-    ensures { λ r. ⌜ r ≡ nearer (struck index distance) (struck other reach) ⌝ }
+    ensures { λ r. ⌜ r ≡ nearer (found index distance) (found other reach) ⌝ }
 {
     if distance < reach {
         return true;
@@ -96,7 +114,7 @@ fn is_nearer(index: u32, distance: f64, other: u32, reach: f64) -> bool
 
 // The nearer hit; a NaN is none.
 fn nearer_hit(chosen: ChosenHit, index: u32, distance: f64) -> ChosenHit
-    ensures { λ r. ⌜ saysChosenHit r ≡ cond (isNan distance) (saysChosenHit chosen) (keepOf nearer (saysChosenHit chosen) (struck index distance)) ⌝ }
+    ensures { λ r. ⌜ saysChosenHit r ≡ cond (isNan distance) (saysChosenHit chosen) (keepOf nearer (saysChosenHit chosen) (found index distance)) ⌝ }
 {
     if distance != distance {
         return chosen;
@@ -137,8 +155,8 @@ pub fn note(notes: Notes, index: u32, reach: Reach) -> Notes
         Reach::Miss => {
             return notes;
         }
-        Reach::Refused(_) => {
-            let lowest = lower_index(refuser, index);
+        Reach::Refused(number) => {
+            let lowest = lower_refusal(refuser, index, number);
             return Notes {
                 refuser: lowest,
                 first: first,
@@ -157,49 +175,55 @@ pub fn note(notes: Notes, index: u32, reach: Reach) -> Notes
     }
 }
 
-// The index of a hit.
-fn index_of(chosen: ChosenHit) -> Chosen
-    ensures { λ r. ⌜ saysChosen r ≡ indexOf (saysChosenHit chosen) ⌝ }
+// A hit as the winner.
+fn struck(chosen: ChosenHit) -> Outcome
+    ensures { λ r. ⌜ r ≡ struckOf (saysChosenHit chosen) ⌝ }
 {
     match chosen {
         ChosenHit::Nobody => {
-            return Chosen::Nobody;
+            return Outcome::Nobody;
         }
-        ChosenHit::At { index, distance: _ } => {
-            return Chosen::At(index);
+        ChosenHit::At { index, distance } => {
+            return Outcome::Struck {
+                index: index,
+                distance: distance,
+            };
         }
     }
 }
 
 // The winner where nobody refuses: the first hit if its distance is NaN, which nothing is nearer than, else the nearest.
-fn hit_winner(first: ChosenHit, least: ChosenHit) -> Chosen
-    ensures { λ r. ⌜ saysChosen r ≡ winnerOf nobody (saysChosenHit first) (saysChosenHit least) ⌝ }
+fn hit_winner(first: ChosenHit, least: ChosenHit) -> Outcome
+    ensures { λ r. ⌜ r ≡ winnerOf nobody (saysChosenHit first) (saysChosenHit least) ⌝ }
 {
     match first {
         ChosenHit::Nobody => {
-            return Chosen::Nobody;
+            return Outcome::Nobody;
         }
         ChosenHit::At { index, distance } => {
             if distance != distance {
-                return Chosen::At(index);
+                return Outcome::Struck {
+                    index: index,
+                    distance: distance,
+                };
             }
-            return index_of(least);
+            return struck(least);
         }
     }
 }
 
 // Whose answer is the answer of all.
-pub fn winner(notes: Notes) -> Chosen
-    ensures { λ r. ⌜ saysChosen r ≡ winner (saysNotes notes) ⌝ }
+pub fn winner(notes: Notes) -> Outcome
+    ensures { λ r. ⌜ r ≡ winner (saysNotes notes) ⌝ }
 {
     let refuser = notes.refuser;
     let first = notes.first;
     let least = notes.least;
     match refuser {
-        Chosen::At(index) => {
-            return Chosen::At(index);
+        ChosenRefusal::At { index: _, number } => {
+            return Outcome::Refused(number);
         }
-        Chosen::Nobody => {
+        ChosenRefusal::Nobody => {
             return hit_winner(first, least);
         }
     }

@@ -1,19 +1,23 @@
 -- The notes of the listed triangles: what is left of them gives the whole, and the winner's answer is that of the fold over the same list ascending. Assumes nothing.
 use Prim.Native.Nat.{ℕ, zero, suc, _+_, _<_, _≤_}
-use mathlib.Core.Path.{_≡_, sym, ap, _∙_}
+use mathlib.Core.Path.{_≡_, refl, sym, ap, _∙_}
 use mathlib.Core.Bool.{Bool, true, false, cond}
-use mathlib.Core.List.{List, [], _∷_, List·Memᴰ·not-nil}
+use mathlib.Core.List.{List, [], _∷_, List·Memᴰ, List·Memᴰ·not-nil}
 use native.Mathlib.Omega.{arith}
 use native.Mathlib.Numerals.{add-one}
 use borrow.Author.Tests.{ltb-true}
 use lib.Dec.{ltb, leb}
+use lib.Ieee.{Float}
 use lib.ListN.{length, getD, take, drop, drop-of-length-le}
 use lib.Seq.{drop-cons, getD-take, length-take-le}
 use Rattle.casts.specs.Answer.{Answer}
-use Rattle.casts.specs.Nearest.{Indexed, noHit, nextOf, nearestOf}
+use Rattle.casts.specs.Nearest.{Indexed, noHit, stopped, nextOf, nearestOf}
 use Rattle.casts.specs.Reach.{reachOf}
-use Rattle.casts.specs.Summary.{Kept, nobody, kept, Summary, nothing, noteOf, summaryFrom, winner, answerAt}
+use Rattle.casts.specs.Summary.{Summary, nothing, noteOf, summaryFrom, winner, answerAt}
 use Rattle.casts.specs.declared.answer.Reach.{Reach}
+use Rattle.casts.specs.declared.answer.Reach.the-variants.{At}
+use Rattle.casts.specs.declared.summary.Outcome.{Outcome}
+use Rattle.casts.specs.declared.summary.Outcome.the-variants.{Nobody, Refused, Struck}
 use Rattle.casts.proofs.AnswerLists.{Each, each-cons}
 use Rattle.casts.proofs.SummaryOrder.{Reordered, unchanged, exchanged, behind, through}
 use Rattle.casts.proofs.SummaryLaws.{nearest-of-any-order}
@@ -85,20 +89,29 @@ sorted-reorders [] = unchanged
 sorted-reorders (x ∷ l) = through (behind x (sorted-reorders l)) (insert-reorders x (sorted l))
 
 -- ---- the winner's answer
-module _ (answer : ℕ → Answer) (l : List ℕ) (notes : Summary) (h : notes ≡ summaryFrom answer nothing l) (chosen : Kept ℕ) (w : chosen ≡ winner notes) where
-  wins : chosen ≡ winner (summaryFrom answer nothing l)
+-- a triangle of an index below a bound, with what it reaches
+abbrev pub Below : ℕ → (ℕ → Answer) → ℕ → Reach → Type 0
+Below n answer i a = (i < n) × (reachOf (answer i) ≡ a)
+
+module _ (answer : ℕ → Answer) (l : List ℕ) (notes : Summary) (h : notes ≡ summaryFrom answer nothing l) (outcome : Outcome) (w : outcome ≡ winner notes) where
+  wins : outcome ≡ winner (summaryFrom answer nothing l)
   wins = w ∙ ap winner h
 
-  nearest : answerAt answer chosen ≡ nearestOf answer (sorted l)
+  nearest : answerAt answer outcome ≡ nearestOf answer (sorted l)
   nearest = ap (answerAt answer) wins ∙ nearest-of-any-order answer (sorted-reorders l) (sorted-rises l)
 
-  pub nobody-wins : chosen ≡ nobody → noHit ≡ nearestOf answer (sorted l)
+  pub nobody-wins : outcome ≡ Nobody → noHit ≡ nearestOf answer (sorted l)
   unfolding answerAt
   nobody-wins e = ap (answerAt answer) (sym e) ∙ nearest
 
-  pub winner-answers : (index : ℕ) → chosen ≡ kept index → (a : Answer) → a ≡ answer index → (r : Indexed) → r ≡ nextOf noHit index a → r ≡ nearestOf answer (sorted l)
+  pub refusal-wins : (number : ℕ) → outcome ≡ Refused number → stopped number ≡ nearestOf answer (sorted l)
   unfolding answerAt
-  winner-answers index e a f r g = g ∙ ap (nextOf noHit index) f ∙ ap (answerAt answer) (sym e) ∙ nearest
+  refusal-wins number e = ap (answerAt answer) (sym e) ∙ nearest
 
-  pub winner-below : (n index : ℕ) → allBelow n l ≡ true → chosen ≡ kept index → index < n
-  winner-below n index below e = rw (sym wins ∙ e) at (winner-of-list (λ (i : ℕ). i < n) answer l (each-below n l below))
+  module _ (index : ℕ) (distance : Float) (e : outcome ≡ Struck index distance) where
+    pub hit-wins : (a : Answer) → a ≡ answer index → (r : Indexed) → r ≡ nextOf noHit index a → r ≡ nearestOf answer (sorted l)
+    unfolding answerAt
+    hit-wins a f r g = g ∙ ap (nextOf noHit index) f ∙ ap (answerAt answer) (sym e) ∙ nearest
+
+    pub winner-reached : (n : ℕ) → allBelow n l ≡ true → Below n answer index (At distance)
+    winner-reached n below = rw (sym wins ∙ e) at (winner-of-list (Below n answer) answer l (λ (j : ℕ) (m : List·Memᴰ j l). (each-below n l below j m, refl)))

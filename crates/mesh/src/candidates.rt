@@ -4,8 +4,8 @@ use casts::answer::Reach;
 use casts::nearest;
 use casts::nearest::IndexedCast;
 use casts::summary;
-use casts::summary::Chosen;
 use casts::summary::Notes;
+use casts::summary::Outcome;
 use casts::triangle;
 use geometry::ray::Ray;
 use tree::mesh;
@@ -65,7 +65,7 @@ fn note_all(ray: Ray, pose: &[f64], triangles: &[u32], list: &[u32], found: usiz
     notes
 }
 
-// The nearest hit of the triangles in the first places of a list, for an admitted ray: as if they stood there ascending, in whatever order they do. Only the winner's normal is computed.
+// The nearest hit of the triangles in the first places of a list, for an admitted ray: as if they stood there ascending, in whatever order they do. The notes hold the winner's number or distance, so only its normal is left to compute.
 pub fn nearest_of(
     ray: Ray,
     pose: &[f64],
@@ -78,9 +78,17 @@ pub fn nearest_of(
 {
     let notes = note_all(ray, pose, triangles, list, found);
     let winner = summary::winner(notes);
-    let Chosen::At(index) = winner else {
-        return IndexedCast::None;
-    };
-    let answer = mesh::triangle_answer(ray, pose, triangles, index as usize);
-    nearest::next(IndexedCast::None, index, answer)
+    match winner {
+        Outcome::Nobody => {
+            return IndexedCast::None;
+        }
+        Outcome::Refused(number) => {
+            return IndexedCast::Refused(number);
+        }
+        Outcome::Struck { index, distance } => {
+            let corners = mesh::corners_of(pose, triangles, index as usize);
+            let hit = triangle::hit_at(ray, corners, distance);
+            return nearest::next(IndexedCast::None, index, hit);
+        }
+    }
 }

@@ -1,17 +1,23 @@
--- A triangle whose indices are below the vertex count has its three corners within the vertices; its box and its answer from the list of its corners. Assumes nothing.
+-- A triangle whose indices are below the vertex count has its three corners within the vertices; its box and its answer from the list of its corners, and the answer of one that is hit from its distance. Assumes nothing.
 use Prim.Native.Nat.{ℕ, _+_, _*_, _/_, _<_, _≤_}
-use mathlib.Core.Path.{_≡_, refl}
-use mathlib.Core.Bool.{Bool, true, _&&_}
+use mathlib.Core.Path.{_≡_, refl, sym, ap, _∙_}
+use mathlib.Core.Bool.{Bool, true, false, _&&_, cond}
 use mathlib.Core.List.{List}
 use native.Mathlib.Omega.{arith}
 use borrow.Author.Tests.{ltb-true}
 use lib.Dec.{ltb}
 use lib.Ieee.{Float}
 use lib.ListN.{length}
-use Rattle.geometry.specs.Box.{cornersBox}
+use Rattle.geometry.specs.Box.{cornersBox, corner}
+use Rattle.geometry.specs.Vector.{subOf}
+use Rattle.geometry.specs.declared.vec3.Vec3.{Vec3}
 use Rattle.geometry.specs.declared.ray.Ray.{Ray}
 pub use Rattle.geometry.proofs.JoinedTests.{and-first, and-second}
-use Rattle.casts.specs.Triangle.{triangleCast}
+use Rattle.casts.specs.Answer.{Answer, refused, outOfBounds}
+use Rattle.casts.specs.Reach.{reachOf}
+use Rattle.casts.specs.Triangle.{triangleNormal, triangleCast}
+use Rattle.casts.specs.declared.answer.Reach.the-variants.{At, Refused}
+use Rattle.casts.proofs.ReachLaws.{told-by-distance}
 use Rattle.tree.specs.Mesh.{cornerIndex, cornersInside, cornersOf, triangleBox, triangleAnswer, thirds}
 
 fits : (c l : ℕ) → ltb c (l / 3) ≡ true → 3 * c + 3 ≤ l
@@ -44,3 +50,26 @@ pub corners-answer : (r : Ray) (vertices : List Float) (triangles : List ℕ) (i
     → triangleCast r (cornersOf vertices triangles index) ≡ triangleAnswer r vertices triangles index
 unfolding cornersOf triangleAnswer
 corners-answer r vertices triangles index inside = simp inside
+
+-- ---- a triangle that is hit
+refusal-is-no-hit : (number : ℕ) (distance : Float) → Refused number ≡ At distance → ⊥
+refusal-is-no-hit number distance h = let z : _≡_ {A = ℕ} 0 1 = cc in omega arith
+
+-- an index past the vertices is refused, so its corners are within them
+pub hit-inside : (r : Ray) (vertices : List Float) (triangles : List ℕ) (index : ℕ) (distance : Float) → reachOf (triangleAnswer r vertices triangles index) ≡ At distance
+    → cornersInside (thirds (length vertices)) triangles index ≡ true
+unfolding triangleAnswer reachOf
+hit-inside r vertices triangles index distance = go (cornersInside (thirds (length vertices)) triangles index) _
+  where
+    go : (inside : Bool) (a : Answer) → reachOf (cond inside a (refused outOfBounds)) ≡ At distance → inside ≡ true
+    go true a h = refl
+    go false a h = absurd (refusal-is-no-hit outOfBounds distance h)
+
+-- the hit at its distance is its answer
+pub hit-answer : (r : Ray) (vertices : List Float) (triangles : List ℕ) (index : ℕ) (distance : Float) → reachOf (triangleAnswer r vertices triangles index) ≡ At distance
+    → (corners : List Vec3) → corners ≡ cornersOf vertices triangles index
+    → triangleNormal r (subOf (corner corners 1) (corner corners 0)) (subOf (corner corners 2) (corner corners 0)) distance ≡ triangleAnswer r vertices triangles index
+hit-answer r vertices triangles index distance h corners e =
+    let same : triangleCast r corners ≡ triangleAnswer r vertices triangles index =
+    ap (triangleCast r) e ∙ corners-answer r vertices triangles index (hit-inside r vertices triangles index distance h) in
+    told-by-distance r (corner corners 0) (corner corners 1) (corner corners 2) distance (ap reachOf same ∙ h) ∙ same

@@ -1,4 +1,4 @@
-// A mesh and its box tree in lent areas: the layout, readers of one vertex, box or node, and one triangle's answer.
+// A mesh and its box tree in lent areas: the layout, and readers of one vertex, box or node.
 //
 // For n triangles (document 01, 'Mesh hit and its tree'):
 //
@@ -19,5 +19,5 @@
 
 // Readers of the areas.
 pub mod layout;
-// A mesh: which lengths are admitted, a triangle's corners, its box and its answer.
+// A mesh: which lengths are admitted, a triangle's corners and its box.
 pub mod mesh;

@@ -1,17 +1,12 @@
 use crate::layout;
-use casts::answer;
-use casts::answer::Cast;
-use casts::triangle;
 use geometry::aabb::Aabb;
-use geometry::ray::Ray;
 use geometry::vec3::Vec3;
 ghost use mathlib.Core.Path.{_≡_};
 ghost use mathlib.Core.Bool.{true};
 ghost use Prim.Native.Nat.{_+_, _*_, _<_, _≤_};
 ghost use lib.ListN.{length};
-ghost use Rattle.casts.specs.Answer.{says};
 ghost use Rattle.tree.specs.Layout.{wordAt};
-ghost use Rattle.tree.specs.Mesh.{lengthsAdmitted, thirds, cornerIndex, cornersInside, cornerAt, cornersOf, triangleBox, triangleAnswer};
+ghost use Rattle.tree.specs.Mesh.{lengthsAdmitted, thirds, cornerIndex, cornersInside, cornerAt, cornersOf, triangleBox};
 
 // Whether the lengths are three to a vertex and to a triangle, and not past 65,536 of either.
 pub fn lengths_admitted(vertices: usize, triangles: usize) -> bool
@@ -81,15 +76,4 @@ pub fn triangle_box(vertices: &[f64], triangles: &[u32], index: usize) -> Aabb
     ensures { λ r. ⌜ r ≡ triangleBox (now (vertices .entry)) (now (triangles .entry)) index ⌝ }
 {
     Aabb::of_corners(corners_of(vertices, triangles, index))
-}
-
-// The answer of one triangle of a mesh for an admitted ray: an index past the vertices is 5.
-pub fn triangle_answer(ray: Ray, vertices: &[f64], triangles: &[u32], index: usize) -> Cast
-    requires { ⌜ 3 * index + 3 ≤ length (now triangles) ⌝ }
-    ensures { λ r. ⌜ says r ≡ triangleAnswer ray (now (vertices .entry)) (now (triangles .entry)) index ⌝ }
-{
-    if !corners_inside(vertices.len() / 3, triangles, index) {
-        return Cast::Refused(answer::OUT_OF_BOUNDS);
-    }
-    triangle::triangle_cast(ray, corners_of(vertices, triangles, index))
 }

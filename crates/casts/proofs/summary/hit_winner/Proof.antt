@@ -20,13 +20,13 @@ returns-2 : tie.Need-returns-2
 unfolding winnerOf
 returns-2 c = simp (c .before .before .first .given .1, sym (ne-self-is-nan _) ∙ c .if1 .taken)
 
-index-of-requires : tie.Need-index-of-requires
-index-of-requires c κs = search needs
+struck-requires : tie.Need-struck-requires
+struck-requires c κs = search needs
 
 returns-3 : tie.Need-returns-3
 unfolding winnerOf
-returns-3 c = simp (c .before .before .before .first .given .1, sym (ne-self-is-nan _) ∙ c .before .if1 .left, sym (c .index-of .ensures))
+returns-3 c = simp (c .before .before .before .first .given .1, sym (ne-self-is-nan _) ∙ c .before .if1 .left, sym (c .struck .ensures))
 
 pub hit-winner-spec : {M : Type 1} → statement M
 hit-winner-spec =
-    tie.close (tie.spec enum-told returns enum-known-first returns-2 index-of-requires returns-3)
+    tie.close (tie.spec enum-told returns enum-known-first returns-2 struck-requires returns-3)

@@ -12,18 +12,18 @@ returns : tie.Need-returns
 unfolding noteOf
 returns c = simp (c .enum-told .given .1)
 
-enum-told-2 : tie.Need-enum-told-2
-enum-told-2 c = search needs
+enum-known-reach : tie.Need-enum-known-reach
+enum-known-reach c = search needs
 
-lower-index-requires : tie.Need-lower-index-requires
-lower-index-requires c κs = search needs
+lower-refusal-requires : tie.Need-lower-refusal-requires
+lower-refusal-requires c κs = search needs
 
 returns-2 : tie.Need-returns-2
 unfolding noteOf
-returns-2 c = simp (c .before .enum-told2 .given .1, sym (c .lower-index .ensures))
+returns-2 c = simp (c .before .before .reach .given .1, sym (c .lower-refusal .ensures))
 
-enum-known-reach : tie.Need-enum-known-reach
-enum-known-reach c = search needs
+enum-known-reach-2 : tie.Need-enum-known-reach-2
+enum-known-reach-2 c = search needs
 
 lower-hit-requires : tie.Need-lower-hit-requires
 lower-hit-requires c κs = search needs
@@ -33,7 +33,7 @@ nearer-hit-requires c κs = search needs
 
 returns-3 : tie.Need-returns-3
 unfolding noteOf
-returns-3 c = simp (c .before .before .before .reach .given .1, sym (c .before .lower-hit .ensures), sym (c .nearer-hit .ensures))
+returns-3 c = simp (c .before .before .before .reach2 .given .1, sym (c .before .lower-hit .ensures), sym (c .nearer-hit .ensures))
 
 pub note-spec : {M : Type 1} → statement M
 note-spec =
@@ -41,10 +41,10 @@ note-spec =
     (tie.spec
     enum-told
     returns
-    enum-told-2
-    lower-index-requires
-    returns-2
     enum-known-reach
+    lower-refusal-requires
+    returns-2
+    enum-known-reach-2
     lower-hit-requires
     nearer-hit-requires
     returns-3)
