@@ -260,7 +260,7 @@ pub fn hit_at(ray: Ray, corners: [Vec3; 3], distance: f64) -> Cast
 }
 
 // The Rust's ray_triangle, with nothing tested before it.
-pub fn triangle_cast(ray: Ray, corners: [Vec3; 3]) -> Cast
+fn triangle_cast(ray: Ray, corners: [Vec3; 3]) -> Cast
     ensures { λ r. ⌜ says r ≡ triangleCast ray corners ⌝ }
 {
     let start = crossing(ray, corners);
