@@ -53,19 +53,8 @@ impl Ray {
         self.origin.add(self.direction.scale(self.max_distance))
     }
 
-    // The box of origin and end, valid or not.
-    pub fn segment_box(self) -> Aabb
-        ensures { λ r. ⌜ r ≡ segmentBox self ⌝ }
-    {
-        let end = self.segment_end();
-        Aabb {
-            min: self.origin.min(end),
-            max: self.origin.max(end),
-        }
-    }
-
-    // The same box of a ray whose origin is finite, its end being known.
-    pub fn segment_bounds(self, end: Vec3) -> Aabb
+    // The box of origin and end, for a ray whose origin is finite and whose end is known.
+    pub fn segment_box(self, end: Vec3) -> Aabb
         requires { ⌜ finiteVec (self .origin) ≡ true ⌝ ∗ ⌜ end ≡ segmentEnd self ⌝ }
         ensures { λ r. ⌜ r ≡ segmentBox self ⌝ }
     {

@@ -79,7 +79,7 @@ fn height_cast(ray: Ray, field: Field, heights: &[f64]) -> Cast
         return Cast::Refused(answer::OVERFLOW);
     }
     // With both ends finite the box is valid, so that it needs no test.
-    let bounds = ray.segment_bounds(end);
+    let bounds = ray.segment_box(end);
     if !span_finite(field, heights) {
         return Cast::Refused(answer::OVERFLOW);
     }

@@ -52,7 +52,7 @@ fn mesh_cast(
         return IndexedCast::Refused(answer::OVERFLOW);
     }
     // With both ends finite the box is valid, so that it needs no test.
-    let bounds = ray.segment_bounds(end);
+    let bounds = ray.segment_box(end);
     let count = triangles.len() / 3;
     let walked = walk::gather(
         bounds,

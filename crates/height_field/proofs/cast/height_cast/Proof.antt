@@ -20,8 +20,8 @@ returns : tie.Need-returns
 unfolding heightCast
 returns c = simp (sym (c .before .before .segment-end .ensures), sym (c .before .is-finite .ensures), not-true (c .before .is-finite .result) (c .if1 .taken))
 
-segment-bounds-requires : tie.Need-segment-bounds-requires
-segment-bounds-requires c κs = (origin-finite _ (c .before .before .before .before .pre .0), c .before .before .segment-end .ensures)
+segment-box-requires : tie.Need-segment-box-requires
+segment-box-requires c κs = (origin-finite _ (c .before .before .before .before .pre .0), c .before .before .segment-end .ensures)
 
 span-finite-requires : tie.Need-span-finite-requires
 span-finite-requires c κs = search needs
@@ -46,9 +46,9 @@ returns-3 c =
     let s = end .before .before .before in
     let a = s .args in
     let finite = sym (end .is-finite .ensures) ∙ not-false (end .is-finite .result) (c .before .before .before .before .before .if1 .left) in
-    let listing = gridListing (a .field) (a .heights .now) (c .before .before .before .before .segment-bounds .result) in
+    let listing = gridListing (a .field) (a .heights .now) (c .before .before .before .before .segment-box .result) in
     let whole = c .pass-answer .ensures ∙ ap answerOfPass (c .before .grid-pass .ensures) ∙ answer-of-pass (answerOf (a .ray) (a .field) (a .heights .now)) listing in
-    rw (cast-of-finite-end (a .ray) (a .field) (a .heights .now) _ (s .pre .0) (end .before .segment-end .ensures) finite) (simp (sym (c .before .before .before .before .segment-bounds .ensures), sym (c .before .before .before .span-finite .ensures), not-false (c .before .before .before .span-finite .result) (c .before .before .if2 .left), sym whole))
+    rw (cast-of-finite-end (a .ray) (a .field) (a .heights .now) _ (s .pre .0) (end .before .segment-end .ensures) finite) (simp (sym (c .before .before .before .before .segment-box .ensures), sym (c .before .before .before .span-finite .ensures), not-false (c .before .before .before .span-finite .result) (c .before .before .if2 .left), sym whole))
 
 pub height-cast-spec : {M : Type 1} → statement M
 height-cast-spec =
@@ -57,7 +57,7 @@ height-cast-spec =
     segment-end-requires
     is-finite-requires
     returns
-    segment-bounds-requires
+    segment-box-requires
     span-finite-requires
     returns-2
     grid-pass-requires
