@@ -1,6 +1,7 @@
 -- The laws of the cast at a distance grid, beside the functions' own proofs. Assumes nothing.
 pub mod GridLaws
 pub mod CellLaws
+pub mod SampleLaws
 pub mod WalkLaws
 pub mod Examples
 pub mod SlabLaws

@@ -1,7 +1,9 @@
 -- The value and the hit at a distance of the ray. Definitions only. Assumes nothing.
-use mathlib.Core.Bool.{cond}
+use Prim.Native.Nat.{ℕ, zero, suc}
+use mathlib.Core.Bool.{false, cond}
+use mathlib.Core.Path.{_≡_}
 use mathlib.Core.List.{List}
-use lib.Ieee.{Float, binary64, ofBits, eq}
+use lib.Ieee.{Float, binary64, ofBits, eq, isNan}
 use Rattle.geometry.specs.Numbers.{_+ᶠ_, _-ᶠ_, _*ᶠ_, zeroᶠ, oneᶠ}
 use Rattle.geometry.specs.Vector.{addOf, scaleOf, tryNormalize}
 use Rattle.geometry.specs.declared.vec3.Vec3.{Vec3}
@@ -14,6 +16,7 @@ use Rattle.level_set.specs.declared.sampling.Sampled.{Sampled}
 use Rattle.level_set.specs.declared.sampling.Sampled.the-variants.{At as SampledAt, Refused as SampleRefused}
 use Rattle.level_set.specs.declared.heights.Height.{Height}
 use Rattle.level_set.specs.declared.heights.Height.the-variants.{At as HeightAt, Refused as HeightRefused}
+use Rattle.level_set.specs.declared.hits.Known.{Known}
 use Rattle.level_set.specs.declared.hits.Samples.{Samples}
 use Rattle.level_set.specs.declared.hits.Samples.the-variants.{All, Refused}
 
@@ -68,3 +71,16 @@ samplesAlong r g values current end =
     samplesOf (valueAlong r g values (along current end zeroᶠ)) (valueAlong r g values (along current end third))
     (valueAlong r g values (along current end twoThirds))
     (valueAlong r g values (along current end oneᶠ))
+
+-- ---- how the code takes them
+
+-- the parts of the way, by their number
+unfoldable pub fractionOf : ℕ → Float
+fractionOf zero = zeroᶠ
+fractionOf (suc zero) = third
+fractionOf (suc (suc zero)) = twoThirds
+fractionOf (suc (suc (suc n))) = oneᶠ
+
+-- what is remembered of the cell before is true
+pub record Remembered (r : Ray) (g : Grid) (values : List Float) (known : Known) : Type 0 where
+  pub holds : isNan (known .distance) ≡ false → valueAlong r g values (known .distance) ≡ HeightAt (known .value)

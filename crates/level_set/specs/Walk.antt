@@ -13,7 +13,7 @@ use Rattle.level_set.specs.Grid.{gridAdmitted, gridBox}
 use Rattle.level_set.specs.Slab.{rayAabbInterval}
 use Rattle.level_set.specs.Cells.{rayCellIndices, nextCellBoundary}
 use Rattle.cubic.specs.Roots.{firstCubicRoot}
-use Rattle.level_set.specs.Hits.{pointAt, along, hitAlong, touchAt, samplesAlong}
+use Rattle.level_set.specs.Hits.{pointAt, along, hitAlong, touchAt, samplesAlong, Remembered}
 use Rattle.level_set.specs.declared.grid.Grid.{Grid}
 use Rattle.level_set.specs.declared.interval.Interval.{Interval}
 use Rattle.level_set.specs.declared.interval.Interval.the-variants.{Within, Miss}
@@ -23,6 +23,8 @@ use Rattle.level_set.specs.declared.cells.Boundary.{Boundary}
 use Rattle.level_set.specs.declared.cells.Boundary.the-variants.{At as BoundaryAt, Overflow as NoBoundary}
 use Rattle.cubic.specs.declared.roots.Root.{Root}
 use Rattle.cubic.specs.declared.roots.Root.the-variants.{At as RootAt, None as NoRoot, Overflow as RootOverflow}
+use Rattle.casts.specs.declared.answer.Cast.{Cast}
+use Rattle.level_set.specs.declared.hits.Known.{Known}
 use Rattle.level_set.specs.declared.hits.Samples.{Samples}
 use Rattle.level_set.specs.declared.hits.Samples.the-variants.{All, Refused as SamplesRefused}
 use Rattle.level_set.specs.declared.walk.Step.{Step}
@@ -35,7 +37,17 @@ pub data Turn : Type 0 where
 
 abbrev pub tells : Step → Turn
 tells (Done cast) = done (says cast)
-tells (On distance) = on distance
+tells (On distance known) = on distance
+
+-- a step that goes on takes this value along
+pub data Carries (known : Known) : Step → Type 0 where
+  ends : {cast : Cast} → Carries known (Done cast)
+  goes : {next : Float} → Carries known (On next known)
+
+-- and what it takes along is true
+pub data Kept (r : Ray) (g : Grid) (values : List Float) : Step → Type 0 where
+  ended : {cast : Cast} → Kept r g values (Done cast)
+  going : {next : Float} {known : Known} → Remembered r g values known → Kept r g values (On next known)
 
 -- ---- one cell
 unfoldable pub goesOn : Float → Float → Turn

@@ -10,14 +10,22 @@ use geometry::ray::Ray;
 use geometry::vec3::Normalized;
 use geometry::vec3::Vec3;
 ghost use mathlib.Core.Path.{_≡_};
+ghost use mathlib.Core.Bool.{true, false};
+ghost use lib.Ieee.{isNan};
 ghost use Rattle.casts.specs.Answer.{says};
 ghost use Rattle.level_set.specs.Grid.{Stands};
-ghost use Rattle.level_set.specs.Hits.{pointAt, hitWith, touchAt, along, valueAlong, samplesOf, samplesAlong, hitAlong};
+ghost use Rattle.level_set.specs.Hits.{pointAt, hitWith, touchAt, along, valueAlong, fractionOf, samplesAlong, hitAlong, Remembered};
 
 // The values at 0, 1/3, 2/3 and 1 of the way through a cell, or a refusal's number.
 pub enum Samples {
     All { y0: f64, y1: f64, y2: f64, y3: f64 },
     Refused(u32),
+}
+
+// The value that was taken at a distance. The distance is NaN where none was.
+pub struct Known {
+    pub distance: f64,
+    pub value: f64,
 }
 
 // The point of a ray at a distance.
@@ -73,31 +81,51 @@ fn value_along(ray: Ray, grid: Grid, values: &[f64], near: Near, distance: f64) 
     heights::height_at(grid, values, point_at(ray, distance), near)
 }
 
-// Four values; the first that was refused counts.
-fn samples_of(first: Height, second: Height, third: Height, fourth: Height) -> Samples
-    ensures { λ r. ⌜ r ≡ samplesOf first second third fourth ⌝ }
+// Whether two numbers are the same: `==` excludes NaN, and equal bits exclude zeros of two signs. A no says nothing.
+fn is_same(x: f64, y: f64) -> bool
+    ensures { λ r. ⌜ (r ≡ true → isNan x ≡ false) ⌝ ∗ ⌜ (r ≡ true → x ≡ y) ⌝ }
 {
-    match first {
-        Height::Refused(number) => Samples::Refused(number),
-        Height::At(y0) => match second {
-            Height::Refused(number) => Samples::Refused(number),
-            Height::At(y1) => match third {
-                Height::Refused(number) => Samples::Refused(number),
-                Height::At(y2) => match fourth {
-                    Height::Refused(number) => Samples::Refused(number),
-                    Height::At(y3) => Samples::All {
-                        y0: y0,
-                        y1: y1,
-                        y2: y2,
-                        y3: y3,
-                    },
-                },
-            },
-        },
+    if x == y {
+        return f64::to_bits(x) == f64::to_bits(y);
     }
+    false
 }
 
-// The four values from one distance to another.
+// The value at a distance, remembered if it was taken there.
+fn value_known(
+    ray: Ray,
+    grid: Grid,
+    values: &[f64],
+    near: Near,
+    distance: f64,
+    known: Known,
+) -> Height
+    requires { ⌜ Stands grid (now values) ⌝ ∗ ⌜ Remembered ray grid (now values) known ⌝ }
+    ensures { λ r. ⌜ r ≡ valueAlong ray grid (now (values .entry)) distance ⌝ }
+{
+    if is_same(known.distance, distance) {
+        return Height::At(known.value);
+    }
+    value_along(ray, grid, values, near, distance)
+}
+
+// The parts of the way at which samples are taken.
+fn fraction(index: u32) -> f64
+    ensures { λ r. ⌜ r ≡ fractionOf index ⌝ }
+{
+    if index == 0 {
+        return 0.0;
+    }
+    if index == 1 {
+        return 0.3333333333333333;
+    }
+    if index == 2 {
+        return 0.6666666666666666;
+    }
+    1.0
+}
+
+// The four values from one distance to another, each moved up when the next is taken; the first that is refused counts.
 pub fn samples_along(
     ray: Ray,
     grid: Grid,
@@ -105,28 +133,36 @@ pub fn samples_along(
     near: Near,
     current: f64,
     end: f64,
+    known: Known,
 ) -> Samples
-    requires { ⌜ Stands grid (now values) ⌝ }
+    requires { ⌜ Stands grid (now values) ⌝ ∗ ⌜ Remembered ray grid (now values) known ⌝ }
     ensures { λ r. ⌜ r ≡ samplesAlong ray grid (now (values .entry)) current end ⌝ }
 {
-    samples_of(
-        value_along(ray, grid, values, near, along(current, end, 0.0)),
-        value_along(
-            ray,
-            grid,
-            values,
-            near,
-            along(current, end, 0.3333333333333333),
-        ),
-        value_along(
-            ray,
-            grid,
-            values,
-            near,
-            along(current, end, 0.6666666666666666),
-        ),
-        value_along(ray, grid, values, near, along(current, end, 1.0)),
-    )
+    let mut y0 = 0.0;
+    let mut y1 = 0.0;
+    let mut y2 = 0.0;
+    let mut y3 = 0.0;
+    let mut taken = 0;
+    while taken < 4 {
+        let distance = along(current, end, fraction(taken));
+        let found = value_known(ray, grid, values, near, distance, known);
+        match found {
+            Height::Refused(number) => return Samples::Refused(number),
+            Height::At(value) => {
+                y0 = y1;
+                y1 = y2;
+                y2 = y3;
+                y3 = value;
+            }
+        }
+        taken += 1;
+    }
+    Samples::All {
+        y0: y0,
+        y1: y1,
+        y2: y2,
+        y3: y3,
+    }
 }
 
 // The hit at a distance, with the gradient there.

@@ -4,6 +4,7 @@ use crate::cells::Cells;
 use crate::grid;
 use crate::grid::Grid;
 use crate::hits;
+use crate::hits::Known;
 use crate::hits::Samples;
 use crate::interval;
 use crate::interval::Interval;
@@ -17,22 +18,26 @@ use geometry::ray::Ray;
 ghost use mathlib.Core.Path.{_≡_};
 ghost use Rattle.casts.specs.Answer.{says};
 ghost use Rattle.level_set.specs.Grid.{SidesStand, Stands};
-ghost use Rattle.level_set.specs.Walk.{tells, goesOn, cellBy, cellCast, goesTo, walkStep, walkFrom, cellLimit, levelSetCast, rayLevelSet};
+ghost use Rattle.level_set.specs.Hits.{Remembered};
+ghost use Rattle.level_set.specs.Walk.{tells, Carries, Kept, goesOn, cellBy, cellCast, goesTo, walkStep, walkFrom, cellLimit, levelSetCast, rayLevelSet};
 
-// What a cell gives: the answer, or the distance from which the walk goes on.
+// What a cell gives: the answer, or the distance from which the walk goes on and the value that was taken there.
 pub enum Step {
     Done(Cast),
-    On(f64),
+    On { next: f64, known: Known },
 }
 
 // After a cell without a root: the walk ends at the exit.
-fn goes_on(end: f64, exit: f64) -> Step
-    ensures { λ r. ⌜ tells r ≡ goesOn end exit ⌝ }
+fn goes_on(end: f64, exit: f64, known: Known) -> Step
+    ensures { λ r. ⌜ tells r ≡ goesOn end exit ⌝ ∗ ⌜ Carries known r ⌝ }
 {
     if end >= exit {
         return Step::Done(Cast::None);
     }
-    Step::On(end)
+    Step::On {
+        next: end,
+        known: known,
+    }
 }
 
 // What a cell gives by the values at 0, 1/3, 2/3 and 1 of the way through it.
@@ -44,14 +49,15 @@ fn cell_by(
     end: f64,
     exit: f64,
     samples: [f64; 4],
+    known: Known,
 ) -> Step
-    requires { ⌜ Stands grid (now values) ⌝ }
-    ensures { λ r. ⌜ tells r ≡ cellBy ray grid (now (values .entry)) current end exit samples ⌝ }
+    requires { ⌜ Stands grid (now values) ⌝ ∗ ⌜ Remembered ray grid (now values) known ⌝ }
+    ensures { λ r. ⌜ tells r ≡ cellBy ray grid (now (values .entry)) current end exit samples ⌝ ∗ ⌜ Kept ray grid (now (values .entry)) r ⌝ }
 {
     let root = roots::first_cubic_root(samples);
     match root {
         Root::Overflow => Step::Done(Cast::Refused(answer::OVERFLOW)),
-        Root::None => goes_on(end, exit),
+        Root::None => goes_on(end, exit, known),
         Root::At(fraction) => Step::Done(hits::hit_along(
             ray,
             grid,
@@ -70,22 +76,30 @@ fn cell_cast(
     current: f64,
     end: f64,
     exit: f64,
+    known: Known,
 ) -> Step
-    requires { ⌜ Stands grid (now values) ⌝ }
-    ensures { λ r. ⌜ tells r ≡ cellCast ray grid (now (values .entry)) current end exit ⌝ }
+    requires { ⌜ Stands grid (now values) ⌝ ∗ ⌜ Remembered ray grid (now values) known ⌝ }
+    ensures { λ r. ⌜ tells r ≡ cellCast ray grid (now (values .entry)) current end exit ⌝ ∗ ⌜ Kept ray grid (now (values .entry)) r ⌝ }
 {
-    let taken = hits::samples_along(ray, grid, values, near, current, end);
+    let taken = hits::samples_along(ray, grid, values, near, current, end, known);
     match taken {
         Samples::Refused(number) => Step::Done(Cast::Refused(number)),
-        Samples::All { y0, y1, y2, y3 } => cell_by(
-            ray,
-            grid,
-            values,
-            current,
-            end,
-            exit,
-            [y0, y1, y2, y3],
-        ),
+        Samples::All { y0, y1, y2, y3 } => {
+            let last = Known {
+                distance: hits::along(current, end, 1.0),
+                value: y3,
+            };
+            cell_by(
+                ray,
+                grid,
+                values,
+                current,
+                end,
+                exit,
+                [y0, y1, y2, y3],
+                last,
+            )
+        }
     }
 }
 
@@ -98,9 +112,10 @@ fn goes_to(
     current: f64,
     exit: f64,
     next: f64,
+    known: Known,
 ) -> Step
-    requires { ⌜ Stands grid (now values) ⌝ }
-    ensures { λ r. ⌜ tells r ≡ goesTo ray grid (now (values .entry)) current exit next ⌝ }
+    requires { ⌜ Stands grid (now values) ⌝ ∗ ⌜ Remembered ray grid (now values) known ⌝ }
+    ensures { λ r. ⌜ tells r ≡ goesTo ray grid (now (values .entry)) current exit next ⌝ ∗ ⌜ Kept ray grid (now (values .entry)) r ⌝ }
 {
     if next <= current {
         return Step::Done(hits::touch_at(ray, grid, values, current));
@@ -113,13 +128,14 @@ fn goes_to(
         current,
         extremes::minimum(next, exit),
         exit,
+        known,
     )
 }
 
 // One cell of the walk.
-fn walk_step(ray: Ray, grid: Grid, values: &[f64], current: f64, exit: f64) -> Step
-    requires { ⌜ Stands grid (now values) ⌝ }
-    ensures { λ r. ⌜ tells r ≡ walkStep ray grid (now (values .entry)) current exit ⌝ }
+fn walk_step(ray: Ray, grid: Grid, values: &[f64], current: f64, exit: f64, known: Known) -> Step
+    requires { ⌜ Stands grid (now values) ⌝ ∗ ⌜ Remembered ray grid (now values) known ⌝ }
+    ensures { λ r. ⌜ tells r ≡ walkStep ray grid (now (values .entry)) current exit ⌝ ∗ ⌜ Kept ray grid (now (values .entry)) r ⌝ }
 {
     if current > exit {
         return Step::Done(Cast::None);
@@ -141,6 +157,7 @@ fn walk_step(ray: Ray, grid: Grid, values: &[f64], current: f64, exit: f64) -> S
         current,
         exit,
         next,
+        known,
     )
 }
 
@@ -158,13 +175,18 @@ fn walk_from(ray: Ray, grid: Grid, values: &[f64], entry: f64, exit: f64) -> Cas
     ensures { λ r. ⌜ says r ≡ walkFrom ray grid (now (values .entry)) exit (cellLimit grid) entry ⌝ }
 {
     let mut current = entry;
+    let mut known = Known {
+        distance: 0.0 / 0.0,
+        value: 0.0,
+    };
     let mut left = cell_limit(grid);
     while left > 0 {
-        let step = walk_step(ray, grid, values, current, exit);
+        let step = walk_step(ray, grid, values, current, exit, known);
         match step {
             Step::Done(cast) => return cast,
-            Step::On(next) => {
+            Step::On { next, known: last } => {
                 current = next;
+                known = last;
             }
         }
         left -= 1;

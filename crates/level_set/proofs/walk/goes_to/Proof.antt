@@ -1,5 +1,5 @@
 -- `level_set::walk::goes_to` meets its contract. Assumes nothing.
-use Rattle.level_set.specs.Walk.{goesTo}
+use Rattle.level_set.specs.Walk.{goesTo, ended}
 use mathlib.Core.Path.{sym}
 use borrow.Author.Needs.{needs}
 use Rattle.level_set.proofs.walk.goes_to.Statement.{statement}
@@ -10,7 +10,7 @@ touch-at-requires c κs = search needs
 
 returns : tie.Need-returns
 unfolding goesTo
-returns c = simp (c .before .if1 .taken, sym (c .touch-at .ensures))
+returns c = (simp (c .before .if1 .taken, sym (c .touch-at .ensures)), ended)
 
 minimum-requires : tie.Need-minimum-requires
 minimum-requires c κs = tt
@@ -20,7 +20,7 @@ cell-cast-requires c κs = search needs
 
 returns-2 : tie.Need-returns-2
 unfolding goesTo
-returns-2 c = simp (c .before .before .if1 .left, sym (c .before .minimum .ensures), sym (c .cell-cast .ensures))
+returns-2 c = (simp (c .before .before .if1 .left, sym (c .before .minimum .ensures), sym (c .cell-cast .ensures .0)), c .cell-cast .ensures .1)
 
 pub goes-to-spec : {M : Type 1} → statement M
 goes-to-spec =
