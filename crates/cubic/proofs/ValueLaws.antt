@@ -12,6 +12,7 @@ use lib.Ieee.Fits.{down-pos, up-pos, mul-fits}
 use lib.Ieee.Exact.{HasValue, round-exact}
 use Rattle.arithmetic.specs.Basic.{isFinite}
 use Rattle.arithmetic.proofs.Exactness.{fits-parts, scaled-exact}
+use Rattle.arithmetic.proofs.Numbers.{finite-number}
 use Rattle.arithmetic.proofs.RoundedNumbers.{round-number, sum-number}
 use Rattle.geometry.specs.Numbers.{_+ᶠ_, _*ᶠ_}
 use Rattle.cubic.specs.Polynomial.{evaluate, finiteCubic}
@@ -37,12 +38,6 @@ sum-finite-number (fin t n d) (fin s m e) h k = sum-number binary64 t (n * up d 
 
 step-number : (v b : Float) (s : Bool) (m : ℕ) (e : ℤ) → isNan v ≡ false → isFinite b ≡ true → isNan (v *ᶠ fin s (suc m) e +ᶠ b) ≡ false
 step-number v b s m e h k = sum-finite-number (v *ᶠ fin s (suc m) e) b (product-number v s m e h) k
-
-pub finite-number : (x : Float) → isFinite x ≡ true → isNan x ≡ false
-unfolding isFinite isNan
-finite-number nan h = absurd (false≢true h)
-finite-number (inf s) h = refl
-finite-number (fin s m e) h = refl
 
 -- ---- at zero: every value is finite
 chosen-finite : (b : Bool) (x y : Float) → isFinite x ≡ true → isFinite y ≡ true → isFinite (cond b x y) ≡ true

@@ -21,7 +21,8 @@ use Rattle.level_set.specs.declared.places.Located.{Located}
 use Rattle.level_set.specs.declared.places.Located.the-variants.{At, Refused}
 use Rattle.level_set.proofs.CellLaws.{upTo-least}
 use Rattle.arithmetic.proofs.RoundedNumbers.{chosen-number, round-number}
-use Rattle.cubic.proofs.ValueLaws.{sum-finite-number, value-finite, finite-number}
+use Rattle.arithmetic.proofs.Numbers.{finite-number}
+use Rattle.cubic.proofs.ValueLaws.{sum-finite-number, value-finite}
 
 -- ---- what is clamped from 0 to 1 is a fraction, unless it is NaN
 zero-is-fraction : isFraction zeroᶠ ≡ true

@@ -1,12 +1,10 @@
 -- The four samples of a cell: a value that was taken at a distance is the value at any distance with its bits, and the samples taken so far give with those to come the whole. Assumes nothing.
 use mathlib.Core.Path.{_≡_, refl, sym, ap, subst, _∙_}
-use mathlib.Core.Bool.{Bool, true, false, not, false≢true}
+use mathlib.Core.Bool.{Bool, true, false, false≢true}
 use mathlib.Core.List.{List}
 use Prim.Native.Nat.{ℕ, zero, suc, _+_, _≤_, _<_}
 use native.Mathlib.Omega.{arith}
-use lib.Dec.{T}
-use lib.Ieee.{Float, nan, inf, fin, binary64, fits, eq, isNan, toBits, ofBits, div}
-use lib.Ieee.Bits.{ofBits-toBits}
+use lib.Ieee.{Float, nan, isNan, ofBits, div}
 use Rattle.geometry.specs.Numbers.{_/ᶠ_, zeroᶠ, oneᶠ}
 use Rattle.geometry.specs.declared.ray.Ray.{Ray}
 use Rattle.level_set.specs.Hits.{along, valueAlong, samplesOf, samplesAlong, fractionOf, Remembered}
@@ -21,25 +19,6 @@ use Rattle.level_set.specs.declared.walk.Step.{Step}
 use Rattle.level_set.specs.declared.walk.Step.the-variants.{On}
 
 -- ---- what is remembered
-
--- equal floats are numbers
-pub left-number : (x y : Float) → eq x y ≡ true → isNan x ≡ false
-left-number nan y h = absurd (false≢true (unfold eq in h))
-left-number (inf s) y h = unfold isNan in refl
-left-number (fin s m e) y h = unfold isNan in refl
-
-pub right-number : (x y : Float) → eq x y ≡ true → isNan y ≡ false
-right-number nan nan h = absurd (false≢true (unfold eq in h))
-right-number (inf s) nan h = absurd (false≢true (unfold eq in h))
-right-number (fin s m e) nan h = absurd (false≢true (unfold eq in h))
-right-number x (inf s) h = unfold isNan in refl
-right-number x (fin s m e) h = unfold isNan in refl
-
-pub number-passes : (x : Float) → isNan x ≡ false → T (not (isNan x))
-number-passes x h = subst (λ (b : Bool). T (not b)) (sym h) tt
-
-pub same-bits : (x y : Float) → T (fits binary64 x) → T (fits binary64 y) → toBits binary64 x ≡ toBits binary64 y → x ≡ y
-same-bits x y f g e = sym (ofBits-toBits binary64 x f) ∙ ap (ofBits binary64) e ∙ ofBits-toBits binary64 y g
 
 pub remembered-value : (r : Ray) (g : Grid) (values : List Float) (known : Known) (distance : Float) → Remembered r g values known
     → isNan (known .distance) ≡ false → known .distance ≡ distance → At (known .value) ≡ valueAlong r g values distance

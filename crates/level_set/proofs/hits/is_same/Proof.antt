@@ -3,7 +3,7 @@ use mathlib.Core.Path.{_≡_, sym, subst}
 use mathlib.Core.Bool.{true, false≢true}
 use lib.Dec.{T}
 use borrow.Author.Tests.{eqb-true}
-use Rattle.level_set.proofs.SampleLaws.{left-number, right-number, number-passes, same-bits}
+use Rattle.arithmetic.proofs.Numbers.{left-number, right-number, number-passes, same-bits}
 use Rattle.level_set.proofs.hits.is_same.Statement.{statement}
 use Rattle.level_set.proofs.hits.is_same.Tie as tie
 
