@@ -1,3 +1,4 @@
+use crate::sort;
 use crate::step::Filled;
 use crate::walk;
 use casts::answer;
@@ -5,7 +6,7 @@ use geometry::aabb::Aabb;
 ghost use mathlib.Core.Path.{_≡_};
 ghost use mathlib.Core.Bool.{false};
 ghost use Prim.Native.Nat.{_≤_};
-ghost use lib.ListN.{length, replicate};
+ghost use lib.ListN.{length};
 ghost use Rattle.tree_query.specs.Areas.{treeOf};
 ghost use Rattle.tree_query.specs.Query.{saysListed, countsAdmitted, treeFits, walkFits, queryOf, testsPass};
 
@@ -72,17 +73,6 @@ pub fn walk_fits(
     nodes < stack
 }
 
-// Zeros in every place.
-fn clear(area: &mut [u32])
-    ensures { λ _. ⌜ now (area .exit) ≡ replicate (length (now (area .entry))) 0 ⌝ }
-{
-    let mut i: usize = 0;
-    while i < area.len() {
-        area[i] = 0;
-        i += 1;
-    }
-}
-
 // The triangles of any tree whose boxes touch a box, ascending.
 // The stack is a work area: unchanged after refusals 1 to 3, and past their tests nothing is promised of it.
 pub fn query(
@@ -129,7 +119,7 @@ pub fn query(
         stack,
     );
     let Filled::Count(found) = walked else {
-        clear(list);
+        sort::clear(list);
         return Listed::Refused(answer::OUT_OF_BOUNDS);
     };
     Listed::Count(found)

@@ -94,6 +94,6 @@ pub fn walk(
     let Filled::Count(found) = walked else {
         return Filled::Broken;
     };
-    sort::sort_in(&mut list[..found], 0, count as u32);
+    sort::sort_in(&mut list[..found], 0, count as u32, stack);
     Filled::Count(found)
 }
