@@ -1,11 +1,11 @@
--- Minimum and maximum are one of their operands, so finite where both are, and below or above both where these are no NaN. Assumes nothing.
+-- Minimum and maximum are one of their operands, so finite where both are, and below or above both where these are no NaN; where the first operand is no NaN one comparison tells which. Assumes nothing.
 use mathlib.Core.Path.{_≡_, refl, sym, ap, _∙_}
 use mathlib.Core.Logic.{_⊎_, inl, inr, ⊎-elim}
 use mathlib.Core.Bool.{Bool, true, false, cond, false≢true}
 use lib.Ieee.{Float, lt, le, isNan}
 use Rattle.arithmetic.specs.Basic.{isFinite}
 use Rattle.arithmetic.specs.Extremes.{minimumOf, maximumOf}
-use Rattle.arithmetic.proofs.Order.{le-of-lt, le-of-not-lt, le-reflexive}
+use Rattle.arithmetic.proofs.Order.{le-of-lt, le-of-not-lt, le-reflexive, le-left-number, le-right-number}
 
 -- the rule that both follow: the second operand where `better` or where the first is NaN
 abbrev pick : Bool → Bool → Float → Float → Float
@@ -35,6 +35,25 @@ minimum-finite x y p q = ⊎-elim (λ e. ap isFinite e ∙ p) (λ e. ap isFinite
 pub maximum-finite : (x y : Float) → isFinite x ≡ true → isFinite y ≡ true → isFinite (maximumOf x y) ≡ true
 maximum-finite x y p q = ⊎-elim (λ e. ap isFinite e ∙ p) (λ e. ap isFinite e ∙ q) (maximum-one x y)
 
+-- ---- the first operand is no NaN: one comparison tells, and the one picked is no NaN either
+module _ (x y : Float) where
+  pub lesser-second : lt y x ≡ true → (y ≡ minimumOf x y) × (isNan y ≡ false)
+  unfolding minimumOf
+  lesser-second h = (rw h, le-left-number y x (le-of-lt y x h))
+
+  pub lesser-first : lt y x ≡ false → isNan x ≡ false → x ≡ minimumOf x y
+  unfolding minimumOf
+  lesser-first h n = rw (h, n)
+
+  pub greater-second : lt x y ≡ true → (y ≡ maximumOf x y) × (isNan y ≡ false)
+  unfolding maximumOf
+  greater-second h = (rw h, le-right-number x y (le-of-lt x y h))
+
+  pub greater-first : lt x y ≡ false → isNan x ≡ false → x ≡ maximumOf x y
+  unfolding maximumOf
+  greater-first h n = rw (h, n)
+
+-- ---- neither operand is a NaN
 module _ (x y : Float) (p : isNan x ≡ false) (q : isNan y ≡ false) where
   minimum-is : minimumOf x y ≡ pick (lt y x) false x y
   unfolding minimumOf

@@ -29,10 +29,10 @@ pub fn maximum(x: f64, y: f64) -> f64
     x
 }
 
-// The minimum where the first operand is no NaN, as callers show: one comparison, which the processor makes in one instruction, tells it.
+// The minimum where the first operand is no NaN, as callers show, and again no NaN: one comparison, which the processor makes in one instruction, tells it.
 pub fn lesser(x: f64, y: f64) -> f64
     requires { ⌜ isNan x ≡ false ⌝ }
-    ensures { λ r. ⌜ r ≡ minimumOf x y ⌝ }
+    ensures { λ r. ⌜ (r ≡ minimumOf x y) × (isNan r ≡ false) ⌝ }
 {
     if x > y {
         return y;
@@ -40,10 +40,10 @@ pub fn lesser(x: f64, y: f64) -> f64
     x
 }
 
-// The maximum where the first operand is no NaN.
+// The maximum where the first operand is no NaN, and again none.
 pub fn greater(x: f64, y: f64) -> f64
     requires { ⌜ isNan x ≡ false ⌝ }
-    ensures { λ r. ⌜ r ≡ maximumOf x y ⌝ }
+    ensures { λ r. ⌜ (r ≡ maximumOf x y) × (isNan r ≡ false) ⌝ }
 {
     if y > x {
         return y;

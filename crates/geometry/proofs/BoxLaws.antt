@@ -1,4 +1,4 @@
--- A box that encloses a touching box touches; boxes that are equal under IEEE 754 touch alike; and the boxes of finite corners and of a segment with finite ends are valid. Each is shown on one side and then on all. Assumes nothing.
+-- A box that encloses a touching box touches; boxes that are equal under IEEE 754 touch alike; the box around two has the least and the greatest corners; and the boxes of finite corners and of a segment with finite ends are valid. Each is shown on one side and then on all. Assumes nothing.
 use mathlib.Core.Path.{_≡_, refl, sym, ap, _∙_}
 use mathlib.Core.Bool.{Bool, true, false, _&&_, _||_, Bool·beq, not, false≢true}
 use mathlib.Core.List.{List}
@@ -13,7 +13,7 @@ use Rattle.arithmetic.proofs.Order.{le-of-eq, le-transitive}
 use Rattle.arithmetic.proofs.ExtremesOrder.{minimum-finite, maximum-finite, minimum-below-second, maximum-above-second}
 use Rattle.geometry.specs.Numbers.{zeroᶠ}
 use Rattle.geometry.specs.Vector.{finiteVec, minOf, maxOf}
-use Rattle.geometry.specs.Box.{everySides, validSide, validBox, touchSide, touches, withinSide, encloses, sameSide, sameBox, corner, cornersBox}
+use Rattle.geometry.specs.Box.{everySides, validSide, validBox, touchSide, touches, withinSide, encloses, sameSide, sameBox, unionOf, corner, cornersBox}
 use Rattle.geometry.specs.Segment.{rayAdmitted, unitLength, segmentEnd, segmentBox}
 use Rattle.geometry.specs.declared.vec3.Vec3.{Vec3}
 use Rattle.geometry.specs.declared.aabb.Aabb.{Aabb}
@@ -127,6 +127,12 @@ alike false false f g = refl
 pub touches-of-same : (b c d : Aabb) → sameBox b c ≡ true → touches b d ≡ touches c d
 touches-of-same b c d h =
     alike (touches b d) (touches c d) (touches-grows c b d (encloses-of-same-reversed b c h)) (touches-grows b c d (encloses-of-same b c h))
+
+-- ---- the box around two, from its corners
+pub union-is : (low high : Vec3) (next : Aabb) (v w : Vec3) (b : Aabb) → next ≡ b → v ≡ minOf low (next .min) → w ≡ maxOf high (next .max)
+    → _≡_ {A = Aabb} (record { min = v; max = w }) (unionOf (record { min = low; max = high }) b)
+unfolding unionOf
+union-is low high next v w b e p q = rw (p, q, e)
 
 -- ---- the boxes of finite corners
 -- the second operand lies between its minimum with one number and its maximum with another

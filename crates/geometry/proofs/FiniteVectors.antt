@@ -1,12 +1,11 @@
 -- The components of a finite vector are finite numbers, and minimum and maximum of finite vectors are finite. Assumes nothing.
 use mathlib.Core.Path.{_≡_}
-use mathlib.Core.Bool.{true, false, _&&_}
-use lib.Ieee.{Float, isNan}
+use mathlib.Core.Bool.{true, _&&_}
 use Rattle.arithmetic.specs.Basic.{isFinite}
 use Rattle.arithmetic.specs.Extremes.{minimumOf, maximumOf}
 use Rattle.arithmetic.proofs.Numbers.{finite-number}
 use Rattle.arithmetic.proofs.ExtremesOrder.{minimum-finite, maximum-finite}
-use Rattle.geometry.specs.Vector.{finiteVec, minOf, maxOf}
+use Rattle.geometry.specs.Vector.{finiteVec, Numbers, minOf, maxOf}
 use Rattle.geometry.specs.declared.vec3.Vec3.{Vec3}
 use Rattle.geometry.proofs.JoinedTests.{and-first, and-second, and-three}
 
@@ -23,14 +22,8 @@ module _ (v : Vec3) (h : finiteVec v ≡ true) where
   unfolding finiteVec
   finite-z = and-second (isFinite (v .y)) (isFinite (v .z)) (and-second (isFinite (v .x)) (isFinite (v .y) && isFinite (v .z)) h)
 
-  pub number-x : isNan (v .x) ≡ false
-  number-x = finite-number (v .x) finite-x
-
-  pub number-y : isNan (v .y) ≡ false
-  number-y = finite-number (v .y) finite-y
-
-  pub number-z : isNan (v .z) ≡ false
-  number-z = finite-number (v .z) finite-z
+  pub finite-numbers : Numbers v
+  finite-numbers = record { first = finite-number (v .x) finite-x; second = finite-number (v .y) finite-y; third = finite-number (v .z) finite-z }
 
 module _ (v w : Vec3) (p : finiteVec v ≡ true) (q : finiteVec w ≡ true) where
   pub min-finite : finiteVec (minOf v w) ≡ true

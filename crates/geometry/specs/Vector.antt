@@ -1,8 +1,9 @@
 -- Vectors: what is done on one axis is done on each. Definitions only. Assumes nothing.
 use Prim.Native.Nat.{ℕ}
-use mathlib.Core.Bool.{Bool, _&&_, not, cond}
+use mathlib.Core.Path.{_≡_}
+use mathlib.Core.Bool.{Bool, false, _&&_, not, cond}
 use lib.Dec.{eqb}
-use lib.Ieee.{Float, lt, neg}
+use lib.Ieee.{Float, lt, neg, isNan}
 use Rattle.arithmetic.specs.Extremes.{minimumOf, maximumOf}
 use Rattle.arithmetic.specs.Basic.{isFinite, absolute}
 use Rattle.arithmetic.specs.Root.{rootOf}
@@ -30,6 +31,12 @@ eachOf f v w = record { x = f (v .x) (w .x); y = f (v .y) (w .y); z = f (v .z) (
 
 unfoldable pub finiteVec : Vec3 → Bool
 finiteVec v = isFinite (v .x) && (isFinite (v .y) && isFinite (v .z))
+
+-- no component is NaN, so that minimum and maximum take one comparison a component
+pub record Numbers (v : Vec3) : Type 0 where
+  pub first : isNan (v .x) ≡ false
+  pub second : isNan (v .y) ≡ false
+  pub third : isNan (v .z) ≡ false
 
 unfoldable pub addOf : Vec3 → Vec3 → Vec3
 addOf = eachOf _+ᶠ_

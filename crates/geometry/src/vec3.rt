@@ -3,7 +3,7 @@ use arithmetic::extremes;
 use arithmetic::square_root;
 ghost use mathlib.Core.Path.{_≡_};
 ghost use mathlib.Core.Bool.{true};
-ghost use Rattle.geometry.specs.Vector.{component, finiteVec, addOf, subOf, negOf, scaleOf, minOf, maxOf, absOf, maxElement, dotOf, checkedDot, crossOf, lengthOf, tryNormalize};
+ghost use Rattle.geometry.specs.Vector.{component, finiteVec, Numbers, addOf, subOf, negOf, scaleOf, minOf, maxOf, absOf, maxElement, dotOf, checkedDot, crossOf, lengthOf, tryNormalize};
 
 pub struct Vec3 {
     pub x: f64,
@@ -34,6 +34,22 @@ impl Vec3 {
             return false;
         }
         basic::is_finite(self.z)
+    }
+
+    // Whether no component is NaN.
+    pub fn has_numbers(self) -> bool
+        ensures { λ r. ⌜ (r ≡ true → Numbers self) ⌝ }
+    {
+        if self.x != self.x {
+            return false;
+        }
+        if self.y != self.y {
+            return false;
+        }
+        if self.z != self.z {
+            return false;
+        }
+        true
     }
 
     pub fn add(self, other: Vec3) -> Vec3
@@ -96,10 +112,10 @@ impl Vec3 {
         }
     }
 
-    // `min` where this vector is finite, as callers show: one instruction a component.
+    // `min` where this vector has no NaN, as callers show, and again without one: one instruction a component.
     pub fn least(self, other: Vec3) -> Vec3
-        requires { ⌜ finiteVec self ≡ true ⌝ }
-        ensures { λ r. ⌜ r ≡ minOf self other ⌝ }
+        requires { ⌜ Numbers self ⌝ }
+        ensures { λ r. ⌜ (r ≡ minOf self other) × Numbers r ⌝ }
     {
         Vec3 {
             x: extremes::lesser(self.x, other.x),
@@ -108,10 +124,10 @@ impl Vec3 {
         }
     }
 
-    // `max` where this vector is finite.
+    // `max` where this vector has no NaN, and again without one.
     pub fn greatest(self, other: Vec3) -> Vec3
-        requires { ⌜ finiteVec self ≡ true ⌝ }
-        ensures { λ r. ⌜ r ≡ maxOf self other ⌝ }
+        requires { ⌜ Numbers self ⌝ }
+        ensures { λ r. ⌜ (r ≡ maxOf self other) × Numbers r ⌝ }
     {
         Vec3 {
             x: extremes::greater(self.x, other.x),

@@ -11,5 +11,4 @@ pub mod Outcomes
 pub mod Parts
 pub mod Recursion
 pub mod Runs
-pub mod Selecting
 pub mod Shapes

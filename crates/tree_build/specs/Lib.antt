@@ -4,4 +4,3 @@ pub mod Ranges
 pub mod Build
 pub mod Node
 pub mod Merge
-pub mod Plain

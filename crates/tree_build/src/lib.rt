@@ -4,8 +4,6 @@
 pub mod build;
 // The recursion over a range of triangles.
 pub mod nodes;
-// Minimum and maximum of numbers that are not NaN.
-pub mod plain;
 // A range's box, its longest axis, and which of two triangles stands first on it.
 pub mod ranges;
 // The sort of a range.

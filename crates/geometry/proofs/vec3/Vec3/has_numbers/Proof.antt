@@ -1,10 +1,9 @@
--- `tree_build::plain::has_numbers` meets its contract. Assumes nothing.
+-- `geometry::vec3::Vec3::has_numbers` meets its contract. Assumes nothing.
 use mathlib.Core.Path.{sym, _∙_}
 use mathlib.Core.Bool.{false≢true}
 use Rattle.arithmetic.proofs.Order.{ne-self-is-nan}
-use borrow.Author.Needs.{needs}
-use Rattle.tree_build.proofs.plain.has_numbers.Statement.{statement}
-use Rattle.tree_build.proofs.plain.has_numbers.Tie as tie
+use Rattle.geometry.proofs.vec3.Vec3.has_numbers.Statement.{statement}
+use Rattle.geometry.proofs.vec3.Vec3.has_numbers.Tie as tie
 
 returns : tie.Need-returns
 returns c = λ e. absurd (false≢true e)
@@ -17,7 +16,7 @@ returns-3 c = λ e. absurd (false≢true e)
 
 returns-4 : tie.Need-returns-4
 returns-4 c =
-    let v = c .before .before .before .before .before .before .args .v in
+    let v = c .before .before .before .before .before .before .args .self in
     λ _. record {
       first = sym (ne-self-is-nan (v .x)) ∙ c .before .before .before .before .if1 .left;
       second = sym (ne-self-is-nan (v .y)) ∙ c .before .before .if2 .left;
