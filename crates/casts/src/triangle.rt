@@ -92,7 +92,7 @@ fn triangle_above(
     Reach::At(distance)
 }
 
-// The same, the vectors by their numbers. A call that is not inlined takes numbers in registers; a vector would go through memory, and be read back before it is written.
+// The same, the vectors by their numbers. A call that is not inlined takes numbers in registers; a vector would go through memory, and its reader would wait for the writer.
 fn above_by_numbers(
     ray: Ray,
     offset_x: f64,
