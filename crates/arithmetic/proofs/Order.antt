@@ -1,12 +1,12 @@
 -- The order of floats, for every value: `le` is transitive, total off NaN and the negation of the reversed `lt`; `lt` is irreflexive and transitive, also mixed with `le`; a NaN is below, equal to and at most nothing. Assumes nothing.
 use mathlib.Core.Path.{_≡_, refl, sym, ap, _∙_}
-use mathlib.Core.Bool.{Bool, true, false, not, _&&_, _||_, true≢false, false≢true}
+use mathlib.Core.Bool.{Bool, true, false, not, _&&_, _||_, true≢false, false≢true, and-false, or-true}
 use Prim.Native.Nat.{_*_}
 use native.Mathlib.Omega.{arith}
 use lib.Ieee.{Float, nan, inf, fin, up, down, lt, le, eq, ne, isNan}
 use lib.Ieee.Fits.{down-pos}
 use borrow.Author.Tests.{le-ltb, eq-eqb, not-true, not-false}
-use Rattle.arithmetic.proofs.SignedOrder.{plus, less, and-false, or-true, at-most, through, not-below, below-not}
+use Rattle.arithmetic.proofs.SignedOrder.{plus, less, at-most, through, not-below, below-not}
 
 -- ---- NaN
 pub lt-nan-false : (x : Float) → lt x nan ≡ false

@@ -1,7 +1,7 @@
 -- The order of fractions with a sign as one inequality of natural numbers: ±a is written a⁺ - a⁻. Assumes nothing.
 use mathlib.Core.Path.{_≡_, refl, sym, ap, _∙_}
 use mathlib.Core.Logic.{_⊎_, inl, inr}
-use mathlib.Core.Bool.{Bool, true, false, not, _&&_, _||_}
+use mathlib.Core.Bool.{Bool, true, false, not, _&&_, _||_, and-false, or-true}
 use Prim.Native.Nat.{ℕ, _+_, _*_, _≤_, _<_}
 use native.Mathlib.Nat.{add-mul, mul-right-comm, mul-le-mul-right, le-of-mul-le-mul-right, zero-mul}
 use native.Mathlib.Omega.{arith}
@@ -40,14 +40,6 @@ order a b = go (ltb a b) (ltb b a) (ltb-true a b) (ltb-false a b) (ltb-true b a)
     go true q f g h k = inl (f refl)
     go false true f g h k = inr (inr (h refl))
     go false false f g h k = let x : b ≤ a = g refl in let y : a ≤ b = k refl in inr (inl (omega arith))
-
-pub and-false : (p : Bool) → (p && false) ≡ false
-and-false true = refl
-and-false false = refl
-
-pub or-true : (p : Bool) → (p || true) ≡ true
-or-true true = refl
-or-true false = refl
 
 same-sign : (a b : ℕ) → (ltb a b || (eqb a b && true)) ≡ not (ltb b a)
 same-sign a b = go (order a b)

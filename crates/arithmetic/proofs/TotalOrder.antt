@@ -1,7 +1,7 @@
 -- `totalOrder` is reflexive, total and transitive, and antisymmetric among the values that an f64 holds. And where two numbers are equal it goes by their bit patterns. Assumes nothing.
 use mathlib.Core.Path.{_≡_, refl, sym, ap, _∙_, subst}
 use mathlib.Core.Logic.{_⊎_, inl, inr}
-use mathlib.Core.Bool.{Bool, true, false, not, _||_, cond, true≢false, false≢true}
+use mathlib.Core.Bool.{Bool, true, false, not, _||_, cond, true≢false, false≢true, or-true}
 use Prim.Native.Nat.{ℕ, _+_, _-_, _*_, _/_, _^_, _<_}
 use native.Mathlib.Nat.{mul-one, zero-mul, mul-right-comm, eq-of-mul-eq-mul-right}
 use native.Mathlib.Omega.{arith}
@@ -14,7 +14,6 @@ use lib.Ieee.Nearest.{div-same}
 use borrow.Author.Tests.{ltb-false, leb-true, le-leb, lt-leb}
 use Rattle.arithmetic.specs.Basic.{negative}
 use Rattle.arithmetic.specs.Ordering.{totalOrder}
-use Rattle.arithmetic.proofs.SignedOrder.{or-true}
 use Rattle.arithmetic.proofs.Order.{lt-nan-false, nan-lt-false, le-left-number, le-right-number, le-of-lt, le-of-not-lt, not-lt-of-le, le-transitive, lt-of-lt-le, lt-of-le-lt, le-reflexive, is-nan}
 
 -- ---- equal numbers of one sign have one bit pattern

@@ -1,7 +1,5 @@
 -- What the triangle cast answers, once the first of its tests is made. Definitions only. Assumes nothing.
 use mathlib.Core.Bool.{cond}
-use lib.Ieee.{Float}
-use Rattle.geometry.specs.declared.vec3.Vec3.{Vec3}
 use Rattle.geometry.specs.declared.ray.Ray.{Ray}
 use Rattle.casts.specs.Answer.{Answer, none, refused}
 use Rattle.casts.specs.Triangle.{flat, triangleAbove}
@@ -13,7 +11,3 @@ abbrev pub crossingAnswer : Ray → Crossing → Answer
 crossingAnswer r (Within offset a b determinant inverse u) = cond (flat determinant a b) none (triangleAbove r offset a b inverse u)
 crossingAnswer r Miss = none
 crossingAnswer r (Refused number) = refused number
-
--- a vector by its numbers
-abbrev pub vector : Float → Float → Float → Vec3
-vector x y z = record { x = x; y = y; z = z }

@@ -12,11 +12,11 @@ use geometry::vec3::Vec3;
 ghost use mathlib.Core.Path.{_≡_};
 ghost use mathlib.Core.Bool.{cond};
 ghost use Rattle.casts.specs.Answer.{none, says};
-ghost use Rattle.geometry.specs.Vector.{subOf};
+ghost use Rattle.geometry.specs.Vector.{vector, subOf};
 ghost use Rattle.geometry.specs.Box.{corner};
 ghost use Rattle.geometry.specs.declared.ray.Ray.{Ray as RayOf};
 ghost use Rattle.casts.specs.Reach.{reachOf};
-ghost use Rattle.casts.specs.Crossing.{crossingAnswer, vector};
+ghost use Rattle.casts.specs.Crossing.{crossingAnswer};
 ghost use Rattle.casts.specs.declared.answer.Crossing.the-variants.{Within};
 ghost use Rattle.casts.specs.Triangle.{flat, triangleNormal, triangleFrom, hasNormal, triangleAbove, triangleAt, triangleCast, rayTriangle};
 

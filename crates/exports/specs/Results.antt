@@ -8,6 +8,7 @@ use lib.ListN.{length}
 use lib.Seq.{sets}
 use Rattle.geometry.specs.declared.aabb.Aabb.{Aabb}
 use Rattle.geometry.specs.declared.ray.Ray.{Ray}
+use Rattle.geometry.specs.Vector.{vector}
 use Rattle.geometry.specs.declared.vec3.Vec3.{Vec3}
 use Rattle.casts.specs.Answer.{Answer, hit, none, refused, noRoom}
 use Rattle.casts.specs.Nearest.{Indexed, hitAt, noHit, stopped}
@@ -25,26 +26,23 @@ use Rattle.tree_check.specs.Verdict as Verdict
 abbrev pub version : ℕ
 version = 1
 
-abbrev pub vec : Float → Float → Float → Vec3
-vec x y z = record { x = x; y = y; z = z }
-
 abbrev pub rayOf : Float → Float → Float → Float → Float → Float → Float → Ray
-rayOf ox oy oz dx dy dz maximum = record { origin = vec ox oy oz; direction = vec dx dy dz; «max_distance» = maximum }
+rayOf ox oy oz dx dy dz maximum = record { origin = vector ox oy oz; direction = vector dx dy dz; «max_distance» = maximum }
 
 abbrev pub planeOf : Float → Float → Float → Float → Plane
-planeOf x y z distance = record { normal = vec x y z; distance = distance }
+planeOf x y z distance = record { normal = vector x y z; distance = distance }
 
 abbrev pub cornersOf : Float → Float → Float → Float → Float → Float → Float → Float → Float → List Vec3
-cornersOf ax ay az bx by bz cx cy cz = vec ax ay az ∷ vec bx by bz ∷ vec cx cy cz ∷ []
+cornersOf ax ay az bx by bz cx cy cz = vector ax ay az ∷ vector bx by bz ∷ vector cx cy cz ∷ []
 
 abbrev pub fieldOf : ℕ → ℕ → Float → Float → Field
 fieldOf rows columns x y = record { rows = rows; columns = columns; «spacing_x» = x; «spacing_y» = y }
 
 abbrev pub gridOf : ℕ → ℕ → ℕ → Float → Float → Float → Float → Float → Float → Grid
-gridOf nx ny nz ox oy oz sx sy sz = record { sides = record { x = nx; y = ny; z = nz }; origin = vec ox oy oz; spacing = vec sx sy sz }
+gridOf nx ny nz ox oy oz sx sy sz = record { sides = record { x = nx; y = ny; z = nz }; origin = vector ox oy oz; spacing = vector sx sy sz }
 
 abbrev pub boxOf : Float → Float → Float → Float → Float → Float → Aabb
-boxOf x y z x' y' z' = record { min = vec x y z; max = vec x' y' z' }
+boxOf x y z x' y' z' = record { min = vector x y z; max = vector x' y' z' }
 
 -- ---- codes: "codes that no refusal number can be taken for"
 

@@ -1,7 +1,7 @@
 -- Whether a length is more than 1e-12 from 1 is told by its square: the root grows with the square, and its distance from 1 grows on either side of 1.
 -- So two squares decide, 1 - 2e-12 and 1 + 2e-12 as floats. Their roots and those of the next floats outside are computed. Assumes nothing.
 use mathlib.Core.Path.{_≡_, refl, sym, ap, _∙_, subst}
-use mathlib.Core.Bool.{Bool, true, false, not, _&&_, _||_, true≢false}
+use mathlib.Core.Bool.{Bool, true, false, not, _&&_, true≢false, and-assoc, and-false}
 use Prim.Native.Nat.{zero, suc, _≤_}
 use native.Mathlib.Nat.{zero-lt-suc}
 use lib.IntN.{ℤ, pos}
@@ -14,16 +14,15 @@ use Rattle.arithmetic.specs.Basic.{isFinite, absolute, negative}
 use Rattle.arithmetic.specs.Root.{rootDigits, wholeRoot, rootRound, rootOf}
 use Rattle.arithmetic.proofs.DistanceFromOne.{one, fromOne, nearer-below-one, farther-above-one}
 use Rattle.arithmetic.proofs.Neighbours.{Neighbours, below-upper, above-lower}
-use Rattle.arithmetic.proofs.Order.{lt-nan-false, nan-lt-false, le-nan-false, nan-le-false, le-left-number, le-right-number, le-of-lt, le-is-not-lt, le-of-not-lt, lt-of-not-le, not-lt-of-le, le-transitive, lt-of-lt-le}
+use Rattle.arithmetic.proofs.Order.{le-nan-false, nan-le-false, le-left-number, le-right-number, le-of-lt, le-is-not-lt, le-of-not-lt, lt-of-not-le, not-lt-of-le, le-transitive, lt-of-lt-le}
 use Rattle.arithmetic.proofs.RootLaws.{root-positive, root-grows, positive-unsigned, zero-below}
 use Rattle.arithmetic.proofs.RoundedSigns.{square-not-negative, sum-not-negative}
-use Rattle.arithmetic.proofs.SignedOrder.{and-false, or-true}
 use Rattle.arithmetic.proofs.Signs.{zero-exp}
 use Rattle.geometry.specs.Numbers.{_+ᶠ_, _-ᶠ_, _*ᶠ_, zeroᶠ, oneᶠ, tolerance}
 use Rattle.arithmetic.proofs.RoundedNumbers.{Unbounded, no-number, infinite, square-unbounded, unbounded-sum, sum-unbounded, square-number, positive-sum-number}
 use Rattle.geometry.specs.Vector.{dotOf, lengthOf, finiteVec}
 use Rattle.geometry.specs.Segment.{unitLength, closeToUnitLength, rayAdmitted}
-use Rattle.geometry.proofs.JoinedTests.{and-first, and-second}
+use Rattle.geometry.proofs.FiniteVectors.{finite-x, finite-y, finite-z}
 use Rattle.geometry.specs.declared.vec3.Vec3.{Vec3}
 use Rattle.geometry.specs.declared.ray.Ray.{Ray}
 
@@ -212,15 +211,11 @@ module _ (v : Vec3) where
 
   -- finite components, and a square that is a number
   square-of-finite : finiteVec v ≡ true → isNan (dotOf v v) ≡ false
-  unfolding finiteVec dotOf
+  unfolding dotOf
   square-of-finite h =
-      let p = and-first (isFinite (v .x)) (isFinite (v .y) && isFinite (v .z)) h in
-      let k = and-second (isFinite (v .x)) (isFinite (v .y) && isFinite (v .z)) h in
-      let q = and-first (isFinite (v .y)) (isFinite (v .z)) k in
-      let r = and-second (isFinite (v .y)) (isFinite (v .z)) k in
       positive-sum-number binary64 first-sum (v .z *ᶠ v .z) first-sign (square-sign (v .z))
-      (positive-sum-number binary64 (v .x *ᶠ v .x) (v .y *ᶠ v .y) (square-sign (v .x)) (square-sign (v .y)) (square-number binary64 (v .x) p) (square-number binary64 (v .y) q))
-      (square-number binary64 (v .z) r)
+      (positive-sum-number binary64 (v .x *ᶠ v .x) (v .y *ᶠ v .y) (square-sign (v .x)) (square-sign (v .y)) (square-number binary64 (v .x) (finite-x v h)) (square-number binary64 (v .y) (finite-y v h)))
+      (square-number binary64 (v .z) (finite-z v h))
 
 -- where the square is a number, "not more than" and "within" are one
 same-at-number : (x d : Float) → Place x d → isNan x ≡ false → not (lt tolerance d) ≡ le d tolerance
@@ -242,13 +237,9 @@ finite-and-unit v = go (finiteVec v) refl
         ∙ ap (λ (b : Bool). le leastSquare (dotOf v v) && b) (unbounded-above (dotOf v v) (square-of-infinite v h))
         ∙ and-false (le leastSquare (dotOf v v)))
 
-joined : (a b c : Bool) → (a && (b && c)) ≡ ((a && b) && c)
-joined true b c = refl
-joined false b c = refl
-
 -- not refusal 1, by that test
 pub admitted-is : (r : Ray) → rayAdmitted r ≡ (finiteVec (r .origin) && (closeToUnitLength (r .direction) && (isFinite (r .«max_distance») && not (lt (r .«max_distance») zeroᶠ))))
 unfolding rayAdmitted
 admitted-is r =
     ap (λ (b : Bool). finiteVec (r .origin) && b)
-    (joined (finiteVec (r .direction)) (unitLength (r .direction)) _ ∙ ap (λ (b : Bool). b && (isFinite (r .«max_distance») && not (lt (r .«max_distance») zeroᶠ))) (finite-and-unit (r .direction)))
+    (sym (and-assoc (finiteVec (r .direction)) (unitLength (r .direction)) _) ∙ ap (λ (b : Bool). b && (isFinite (r .«max_distance») && not (lt (r .«max_distance») zeroᶠ))) (finite-and-unit (r .direction)))

@@ -27,6 +27,10 @@ each f v = record { x = f (v .x); y = f (v .y); z = f (v .z) }
 abbrev pub eachOf : (Float → Float → Float) → Vec3 → Vec3 → Vec3
 eachOf f v w = record { x = f (v .x) (w .x); y = f (v .y) (w .y); z = f (v .z) (w .z) }
 
+-- a vector by its numbers
+abbrev pub vector : Float → Float → Float → Vec3
+vector x y z = record { x = x; y = y; z = z }
+
 -- ---- the operations
 
 unfoldable pub finiteVec : Vec3 → Bool

@@ -36,7 +36,7 @@ impl Vec3 {
         basic::is_finite(self.z)
     }
 
-    // Whether no component is NaN.
+    // Whether no component is NaN. Only a yes is promised to be right: after a no the callers take the way for any numbers.
     pub fn has_numbers(self) -> bool
         ensures { λ r. ⌜ (r ≡ true → Numbers self) ⌝ }
     {

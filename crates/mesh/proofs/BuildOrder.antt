@@ -9,33 +9,11 @@ use lib.Ieee.{Float}
 use lib.ListN.{length, getD, take, drop, length-drop, take-append-drop}
 use lib.Seq.{length-take-le}
 use borrow.Author.Tests.{leb-false}
-use Rattle.tree.specs.Lists.{count, insertBy, sortBy}
-use Rattle.tree.proofs.CountLaws.{one, one-same, count-cons, count-append}
-use Rattle.tree.proofs.WithinLaws.{within-length}
+use Rattle.tree.specs.Lists.{count}
+use Rattle.tree.proofs.CountLaws.{one-same, count-cons, count-append}
+use Rattle.tree.proofs.SortLaws.{count-sortBy, same-length}
 use Rattle.tree_build.specs.Shape.{Shape, leaf, branch, shapeWithin, shapeOf, sizeOf, nodesOf}
 use Rattle.tree_build.specs.Ranges.{longestAxis, extentOf, standsBefore, sortedRange, leftRange, rightRange, orderBelow}
-
--- ---- lists
-count-insertBy : (le : ℕ → ℕ → Bool) (x y : ℕ) (l : List ℕ) → count x (insertBy le y l) ≡ one x y + count x l
-unfolding insertBy
-count-insertBy le x y [] = count-cons x y []
-count-insertBy le x y (z ∷ l) = go (le y z) (count-insertBy le x y l)
-  where
-    go : (b : Bool) → count x (insertBy le y l) ≡ one x y + count x l → count x (cond b (y ∷ (z ∷ l)) (z ∷ insertBy le y l)) ≡ one x y + count x (z ∷ l)
-    go true h = count-cons x y (z ∷ l)
-    go false h = omega (arith, count-cons x z (insertBy le y l), count-cons x z l)
-
-count-sortBy : (le : ℕ → ℕ → Bool) (x : ℕ) (l : List ℕ) → count x (sortBy le l) ≡ count x l
-unfolding sortBy
-count-sortBy le x [] = refl
-count-sortBy le x (y ∷ l) = omega (arith, count-insertBy le x y (sortBy le l), count-cons x y l, count-sortBy le x l)
-
--- lists that hold the same numbers are as long
-same-length : (l m : List ℕ) → ((x : ℕ) → count x l ≡ count x m) → length l ≡ length m
-same-length l m h =
-    let a = within-length l m record { at-most = λ (x : ℕ). omega (arith, h x) } in
-    let b = within-length m l record { at-most = λ (x : ℕ). omega (arith, h x) } in
-    omega arith
 
 -- what stands in a list is counted there
 pub listed-at : (l : List ℕ) (i : ℕ) → i < length l → 0 < count (getD l i 0) l

@@ -6,17 +6,9 @@ use mathlib.Core.List.{List}
 use borrow.Author.Tests.{leb-true, eqb-true, ne-eqb}
 use lib.Dec.{leb, eqb}
 use lib.ListN.{length}
+use Rattle.geometry.proofs.JoinedTests.{and-first, and-second}
 use Rattle.records.specs.Fields.{versionOf, kindOf, shapePlace, vertexCount, triangleCount, heightCount, valueCount}
 use Rattle.records.specs.Parse.{longest, meshFills, heightsFill, valuesFill, filled, wellFormed}
-
-and-first : (a b : Bool) → (a && b) ≡ true → a ≡ true
-and-first true b h = refl
-and-first false b h = h
-
-and-second : (a b : Bool) → (a && b) ≡ true → b ≡ true
-and-second true b h = h
-and-second false true h = refl
-and-second false false h = h
 
 -- the only kind that is left
 last-kind : (a b : Bool) → cond a b false ≡ true → b ≡ true
