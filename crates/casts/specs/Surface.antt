@@ -8,7 +8,7 @@ use Rattle.geometry.specs.declared.ray.Ray.{Ray}
 
 -- "below 0 or above the maximum"; NaN is neither: it "passes both comparisons"
 unfoldable pub outOfRange : Ray → Float → Bool
-outOfRange r distance = lt distance zeroᶠ || lt (r .«max_distance») distance
+outOfRange r distance = lt distance (r .near) || lt (r .«max_distance») distance
 
 -- "The normal faces the ray": `along` is its dot with the direction
 unfoldable pub facing : Vec3 → Float → Vec3

@@ -1,11 +1,11 @@
 -- The cast at a triangle, after Möller and Trumbore, each operation rounded once. Definitions only. Assumes nothing.
-use mathlib.Core.Bool.{Bool, _&&_, not, cond}
+use mathlib.Core.Bool.{Bool, cond}
 use mathlib.Core.List.{List}
 use lib.Ieee.{Float, binary64, ofBits, le, lt}
-use Rattle.arithmetic.specs.Basic.{isFinite, absolute}
+use Rattle.arithmetic.specs.Basic.{absolute}
 use Rattle.arithmetic.specs.Extremes.{maximumOf}
-use Rattle.geometry.specs.Numbers.{_+ᶠ_, _*ᶠ_, _/ᶠ_, zeroᶠ, oneᶠ, epsilon, minPositive}
-use Rattle.geometry.specs.Vector.{subOf, crossOf, dotOf, checkedDot, absOf, maxElement, tryNormalize}
+use Rattle.geometry.specs.Numbers.{_+ᶠ_, _*ᶠ_, _/ᶠ_, zeroᶠ, oneᶠ, epsilon}
+use Rattle.geometry.specs.Vector.{subOf, crossOf, dotOf, checkedDot, absOf, maxElement, normalizable, tryNormalize}
 use Rattle.geometry.specs.Box.{corner}
 use Rattle.geometry.specs.Segment.{rayAdmitted}
 use Rattle.geometry.specs.declared.vec3.Vec3.{Vec3}
@@ -37,7 +37,7 @@ triangleFrom r a b (Refused number) = refused number
 
 -- whether the edges' normal can be told: "fails unless dot is finite and at least 2^-1022"
 unfoldable pub hasNormal : Vec3 → Vec3 → Bool
-hasNormal a b = isFinite (dotOf (crossOf a b) (crossOf a b)) && not (lt (dotOf (crossOf a b) (crossOf a b)) minPositive)
+hasNormal a b = normalizable (crossOf a b)
 
 -- v below 0 or u + v above 1 is a miss (a NaN v is not); "A distance equal to the maximum is kept", "A NaN distance passes both comparisons"
 unfoldable pub triangleAbove : Ray → Vec3 → Vec3 → Vec3 → Float → Float → Answer

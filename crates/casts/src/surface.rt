@@ -7,7 +7,7 @@ ghost use Rattle.casts.specs.Surface.{outOfRange, facing};
 pub fn out_of_range(ray: Ray, distance: f64) -> bool
     ensures { λ r. ⌜ r ≡ outOfRange ray distance ⌝ }
 {
-    if distance < 0.0 {
+    if distance < ray.near {
         return true;
     }
     distance > ray.max_distance

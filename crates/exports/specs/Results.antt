@@ -9,6 +9,7 @@ use lib.Seq.{sets}
 use Rattle.geometry.specs.declared.aabb.Aabb.{Aabb}
 use Rattle.geometry.specs.declared.ray.Ray.{Ray}
 use Rattle.geometry.specs.Vector.{vector}
+use Rattle.geometry.specs.Numbers.{zeroᶠ}
 use Rattle.geometry.specs.declared.vec3.Vec3.{Vec3}
 use Rattle.casts.specs.Answer.{Answer, hit, none, refused, noRoom}
 use Rattle.casts.specs.Nearest.{Indexed, hitAt, noHit, stopped}
@@ -27,7 +28,7 @@ abbrev pub version : ℕ
 version = 1
 
 abbrev pub rayOf : Float → Float → Float → Float → Float → Float → Float → Ray
-rayOf ox oy oz dx dy dz maximum = record { origin = vector ox oy oz; direction = vector dx dy dz; «max_distance» = maximum }
+rayOf ox oy oz dx dy dz maximum = record { origin = vector ox oy oz; direction = vector dx dy dz; «max_distance» = maximum; near = zeroᶠ }
 
 abbrev pub planeOf : Float → Float → Float → Float → Plane
 planeOf x y z distance = record { normal = vector x y z; distance = distance }

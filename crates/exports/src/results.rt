@@ -54,6 +54,7 @@ pub fn ray_of(
             z: direction_z,
         },
         max_distance: max_distance,
+        near: 0.0,
     }
 }
 

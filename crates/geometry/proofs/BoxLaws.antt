@@ -14,7 +14,7 @@ use Rattle.arithmetic.proofs.ExtremesOrder.{minimum-finite, maximum-finite, min
 use Rattle.geometry.specs.Numbers.{zeroᶠ}
 use Rattle.geometry.specs.Vector.{finiteVec, minOf, maxOf}
 use Rattle.geometry.specs.Box.{everySides, validSide, validBox, touchSide, touches, withinSide, encloses, sameSide, sameBox, unionOf, corner, cornersBox}
-use Rattle.geometry.specs.Segment.{rayAdmitted, unitLength, segmentEnd, segmentBox}
+use Rattle.geometry.specs.Segment.{rayAdmitted, rangeAdmitted, unitLength, segmentEnd, segmentBox}
 use Rattle.geometry.specs.declared.vec3.Vec3.{Vec3}
 use Rattle.geometry.specs.declared.aabb.Aabb.{Aabb}
 use Rattle.geometry.specs.declared.ray.Ray.{Ray}
@@ -166,7 +166,7 @@ corners-box-valid vs p q r =
 -- the origin of an admitted ray is finite
 pub origin-finite : (r : Ray) → rayAdmitted r ≡ true → finiteVec (r .origin) ≡ true
 unfolding rayAdmitted
-origin-finite r = and-first (finiteVec (r .origin)) (finiteVec (r .direction) && (unitLength (r .direction) && (isFinite (r .«max_distance») && not (lt (r .«max_distance») zeroᶠ))))
+origin-finite r = and-first (finiteVec (r .origin)) (finiteVec (r .direction) && (unitLength (r .direction) && rangeAdmitted r))
 
 pub segment-box-valid : (r : Ray) → rayAdmitted r ≡ true → finiteVec (segmentEnd r) ≡ true → validBox (segmentBox r) ≡ true
 unfolding segmentBox

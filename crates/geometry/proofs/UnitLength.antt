@@ -21,7 +21,7 @@ use Rattle.arithmetic.proofs.Signs.{zero-exp}
 use Rattle.geometry.specs.Numbers.{_+ᶠ_, _-ᶠ_, _*ᶠ_, zeroᶠ, oneᶠ, tolerance}
 use Rattle.arithmetic.proofs.RoundedNumbers.{Unbounded, no-number, infinite, square-unbounded, unbounded-sum, sum-unbounded, square-number, positive-sum-number}
 use Rattle.geometry.specs.Vector.{dotOf, lengthOf, finiteVec}
-use Rattle.geometry.specs.Segment.{unitLength, closeToUnitLength, rayAdmitted}
+use Rattle.geometry.specs.Segment.{unitLength, closeToUnitLength, rangeAdmitted, rayAdmitted}
 use Rattle.geometry.proofs.FiniteVectors.{finite-x, finite-y, finite-z}
 use Rattle.geometry.specs.declared.vec3.Vec3.{Vec3}
 use Rattle.geometry.specs.declared.ray.Ray.{Ray}
@@ -238,8 +238,9 @@ finite-and-unit v = go (finiteVec v) refl
         ∙ and-false (le leastSquare (dotOf v v)))
 
 -- not refusal 1, by that test
-pub admitted-is : (r : Ray) → rayAdmitted r ≡ (finiteVec (r .origin) && (closeToUnitLength (r .direction) && (isFinite (r .«max_distance») && not (lt (r .«max_distance») zeroᶠ))))
+pub admitted-is : (r : Ray) → rayAdmitted r ≡ (finiteVec (r .origin) && (closeToUnitLength (r .direction) && rangeAdmitted r))
 unfolding rayAdmitted
 admitted-is r =
     ap (λ (b : Bool). finiteVec (r .origin) && b)
-    (sym (and-assoc (finiteVec (r .direction)) (unitLength (r .direction)) _) ∙ ap (λ (b : Bool). b && (isFinite (r .«max_distance») && not (lt (r .«max_distance») zeroᶠ))) (finite-and-unit (r .direction)))
+    (sym (and-assoc (finiteVec (r .direction)) (unitLength (r .direction)) _)
+    ∙ ap (λ (b : Bool). b && rangeAdmitted r) (finite-and-unit (r .direction)))

@@ -16,11 +16,18 @@ unitLength direction = not (lt tolerance (absolute (lengthOf direction -ᶠ one�
 abbrev pub closeToUnitLength : Vec3 → Bool
 closeToUnitLength vector = le (absolute (lengthOf vector -ᶠ oneᶠ)) tolerance
 
+-- the range's part of refusal 1: not "maximum not finite, maximum below 0", and a near distance "finite, from 0 to the maximum"
+abbrev pub rangeAdmitted : Ray → Bool
+rangeAdmitted r =
+    isFinite (r .«max_distance»)
+    && (not (lt (r .«max_distance») zeroᶠ)
+    && (isFinite (r .near) && (not (lt (r .near) zeroᶠ) && not (lt (r .«max_distance») (r .near)))))
+
 -- not refusal 1: "origin or maximum not finite, maximum below 0, direction not finite, or its length more than 1e-12 from 1"
 unfoldable pub rayAdmitted : Ray → Bool
 rayAdmitted r =
     finiteVec (r .origin)
-    && (finiteVec (r .direction) && (unitLength (r .direction) && (isFinite (r .«max_distance») && not (lt (r .«max_distance») zeroᶠ))))
+    && (finiteVec (r .direction) && (unitLength (r .direction) && rangeAdmitted r))
 
 -- "A segment's end is origin + direction·maximum, product and then sum rounded once per component"
 unfoldable pub segmentEnd : Ray → Vec3

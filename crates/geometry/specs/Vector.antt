@@ -86,6 +86,10 @@ crossOf v w = record {
 unfoldable pub lengthOf : Vec3 → Float
 lengthOf v = rootOf (dotOf v v)
 
+-- whether a vector can be normalised: not "fails unless dot is finite and at least 2^-1022"
+abbrev pub normalizable : Vec3 → Bool
+normalizable v = isFinite (dotOf v v) && not (lt (dotOf v v) minPositive)
+
 -- "Normalising divides each component by the length, and fails unless dot is finite and at least 2^-1022"
 unfoldable pub tryNormalize : Vec3 → Normalized
 tryNormalize v = cond (isFinite (dotOf v v)) (cond (lt (dotOf v v) minPositive) Degenerate (UnitOf (each (λ (c : Float). c /ᶠ lengthOf v) v))) Degenerate

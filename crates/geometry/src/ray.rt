@@ -3,13 +3,14 @@ use crate::vec3::Vec3;
 use arithmetic::basic;
 ghost use mathlib.Core.Path.{_≡_};
 ghost use mathlib.Core.Bool.{true};
-ghost use Rattle.geometry.specs.Segment.{closeToUnitLength, rayAdmitted, segmentEnd, segmentBox};
+ghost use Rattle.geometry.specs.Segment.{closeToUnitLength, rangeAdmitted, rayAdmitted, segmentEnd, segmentBox};
 ghost use Rattle.geometry.specs.Vector.{finiteVec};
 
 pub struct Ray {
     pub origin: Vec3,
     pub direction: Vec3,
     pub max_distance: f64,
+    pub near: f64,
 }
 
 // The least and the greatest square whose root is not more than 1e-12 from 1. The roots of the next floats outside are.
@@ -40,10 +41,26 @@ impl Ray {
         if !close_to_unit_length(self.direction) {
             return false;
         }
+        self.range_admitted()
+    }
+
+    // Whether the maximum and the near distance are admitted: each finite and at least 0, near not above the maximum.
+    pub fn range_admitted(self) -> bool
+        ensures { λ r. ⌜ r ≡ rangeAdmitted self ⌝ }
+    {
         if !basic::is_finite(self.max_distance) {
             return false;
         }
-        !(self.max_distance < 0.0)
+        if self.max_distance < 0.0 {
+            return false;
+        }
+        if !basic::is_finite(self.near) {
+            return false;
+        }
+        if self.near < 0.0 {
+            return false;
+        }
+        !(self.near > self.max_distance)
     }
 
     // origin + direction·maximum.

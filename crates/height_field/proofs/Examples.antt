@@ -45,6 +45,7 @@ down x = record {
   origin = record { x = x; y = quarter; z = oneᶠ };
   direction = record { x = zeroᶠ; y = zeroᶠ; z = ofBits binary64 0xbff0_0000_0000_0000 };
   «max_distance» = two;
+  near = zeroᶠ;
 }
 
 -- two rows of some columns with spacing 1 along y

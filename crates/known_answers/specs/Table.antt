@@ -61,7 +61,7 @@ abbrev vec : Float → Float → Float → Vec3
 vec a b c = record { x = a; y = b; z = c }
 
 abbrev ray : Vec3 → Vec3 → Float → Ray
-ray from along reach = record { origin = from; direction = along; «max_distance» = reach }
+ray from along reach = record { origin = from; direction = along; «max_distance» = reach; near = zero }
 
 abbrev corners : Vec3 → Vec3 → Vec3 → List Vec3
 corners a b c = a ∷ (b ∷ (c ∷ []))

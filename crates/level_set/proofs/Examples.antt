@@ -44,6 +44,7 @@ ray₁₃ = record {
   origin = record { x = halfᶠ; y = halfᶠ; z = twoᶠ };
   direction = record { x = zeroᶠ; y = zeroᶠ; z = ofBits binary64 0xbff0_0000_0000_0000 };
   «max_distance» = five;
+  near = zeroᶠ;
 }
 
 abbrev grid₁₃ : Grid

@@ -40,7 +40,7 @@ rayAabbInterval r b =
     started
     (slab
     (slab
-    (slab (Within zeroᶠ (r .«max_distance»)) (r .origin .x) (r .direction .x) (b .min .x) (b .max .x))
+    (slab (Within (r .near) (r .«max_distance»)) (r .origin .x) (r .direction .x) (b .min .x) (b .max .x))
     (r .origin .y) (r .direction .y) (b .min .y) (b .max .y))
     (r .origin .z) (r .direction .z) (b .min .z) (b .max .z))
     (r .«max_distance»)

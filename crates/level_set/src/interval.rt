@@ -83,7 +83,7 @@ pub fn ray_aabb_interval(ray: Ray, bounds: Aabb) -> Interval
     ensures { λ r. ⌜ r ≡ rayAabbInterval ray bounds ⌝ }
 {
     let whole = Interval::Within {
-        entry: 0.0,
+        entry: ray.near,
         exit: ray.max_distance,
     };
     let first = slab(

@@ -39,7 +39,7 @@ three = ofBits binary64 0x4008_0000_0000_0000
 
 -- a ray along the third axis over the column of two triangles
 abbrev along : Float → Float → Float → Ray
-along height direction maximum = record { origin = record { x = quarter; y = quarter; z = height }; direction = record { x = o; y = o; z = direction }; «max_distance» = maximum }
+along height direction maximum = record { origin = record { x = quarter; y = quarter; z = height }; direction = record { x = o; y = o; z = direction }; «max_distance» = maximum; near = o }
 
 abbrev cast : Ray → Indexed
 cast r = rayMesh r mesh vertices oddTree 3 4

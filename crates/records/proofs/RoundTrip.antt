@@ -59,14 +59,14 @@ vector-back v h =
     vector-of (float-back (v .x) (h .first)) (float-back (v .y) (h .second)) (float-back (v .z) (h .third))
 
 -- the shape's body, with its ray
-ray-of : {a b x y : Vec3} {c z : Float} → a ≡ x → b ≡ y → c ≡ z
-    → _≡_ {A = Ray} record { origin = a; direction = b; «max_distance» = c } record { origin = x; direction = y; «max_distance» = z }
-ray-of p q r = cc
+ray-of : {a b x y : Vec3} {c d z u : Float} → a ≡ x → b ≡ y → c ≡ z → d ≡ u
+    → _≡_ {A = Ray} record { origin = a; direction = b; «max_distance» = c; near = d } record { origin = x; direction = y; «max_distance» = z; near = u }
+ray-of p q r s = cc
 
 ray-back : (r : Ray) (s : Shape) → RayFits r → rayOf (bodyBytes r s) ≡ r
 unfolding rayOf bodyBytes rayBytes vectorAt vectorBytes floatAt floatBytes bitsAt bitsBytes wordAt wordBytes
 ray-back r s h =
-    ray-of (vector-back (r .origin) (h .from)) (vector-back (r .direction) (h .along)) (float-back (r .«max_distance») (h .upTo))
+    ray-of (vector-back (r .origin) (h .from)) (vector-back (r .direction) (h .along)) (float-back (r .«max_distance») (h .upTo)) (sym (h .fromOrigin))
 
 plane-of : {a x : Vec3} {c z : Float} → a ≡ x → c ≡ z → _≡_ {A = Plane} record { normal = a; distance = c } record { normal = x; distance = z }
 plane-of p q = cc

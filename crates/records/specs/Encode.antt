@@ -5,6 +5,7 @@ use mathlib.Core.List.{List, [], _∷_, _++_}
 use lib.Ieee.{Float, binary64, toBits, fits}
 use lib.Dec.{T}
 use lib.ListN.{length}
+use Rattle.geometry.specs.Numbers.{zeroᶠ}
 use Rattle.geometry.specs.declared.vec3.Vec3.{Vec3}
 use Rattle.geometry.specs.declared.ray.Ray.{Ray}
 use Rattle.height_field.specs.declared.field.Field.{Field}
@@ -87,6 +88,7 @@ pub record RayFits (r : Ray) : Type 0 where
   pub from : VectorFits (r .origin)
   pub along : VectorFits (r .direction)
   pub upTo : FloatFits (r .«max_distance»)
+  pub fromOrigin : r .near ≡ zeroᶠ
 
 -- a count or an index is a u32
 abbrev pub WordFits : ℕ → Type 0

@@ -4,6 +4,7 @@ use mathlib.Core.List.{List, [], _∷_}
 use lib.Ieee.{Float}
 use Rattle.geometry.specs.declared.vec3.Vec3.{Vec3}
 use Rattle.geometry.specs.declared.ray.Ray.{Ray}
+use Rattle.geometry.specs.Numbers.{zeroᶠ}
 use Rattle.casts.specs.declared.plane.Plane.{Plane}
 use Rattle.height_field.specs.declared.field.Field.{Field}
 use Rattle.level_set.specs.declared.grid.Grid.{Grid}
@@ -18,7 +19,7 @@ abbrev pub kindOf : List ℕ → ℕ
 kindOf body = byteAt body 1
 
 unfoldable pub rayOf : List ℕ → Ray
-rayOf body = record { origin = vectorAt body 2; direction = vectorAt body 26; «max_distance» = floatAt body 50 }
+rayOf body = record { origin = vectorAt body 2; direction = vectorAt body 26; «max_distance» = floatAt body 50; near = zeroᶠ }
 
 -- where the shape's fields begin
 abbrev pub shapePlace : ℕ

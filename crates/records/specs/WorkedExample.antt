@@ -27,6 +27,7 @@ exampleRecord z maximum =
       origin = record { x = zeroᶠ; y = zeroᶠ; z = two };
       direction = record { x = zeroᶠ; y = zeroᶠ; z = z };
       «max_distance» = maximum;
+      near = zeroᶠ;
     } (plane record { normal = record { x = zeroᶠ; y = zeroᶠ; z = oneᶠ }; distance = zeroᶠ }))
 
 -- "directions (0,0,-1) with maxima 5 and 1, then (0,0,-2) with 5"

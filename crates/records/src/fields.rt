@@ -35,6 +35,7 @@ pub fn ray_of(body: &[u8]) -> Ray
         origin: bytes::vector_at(body, 2),
         direction: bytes::vector_at(body, 26),
         max_distance: bytes::float_at(body, 50),
+        near: 0.0,
     }
 }
 

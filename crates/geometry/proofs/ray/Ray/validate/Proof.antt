@@ -5,28 +5,45 @@ use borrow.Author.Needs.{needs}
 use Rattle.geometry.proofs.UnitLength.{admitted-is}
 use Rattle.geometry.proofs.ray.Ray.validate.Statement.{statement}
 use Rattle.geometry.proofs.ray.Ray.validate.Tie as tie
-use Rattle.geometry.proofs.vec3.Vec3.is_finite.Reads as vec3-Vec3-is-finite-reads
 
-is-finite-requires : tie.Need-is-finite-requires
-is-finite-requires c κs = search needs
-
+-- an origin that is not finite
 returns : tie.Need-returns
-returns c = simp (admitted-is (c .before .before .args .self), sym (c .before .is-finite .ensures), not-true (c .before .is-finite .result) (c .if1 .taken))
+returns c =
+    let (s, f) : tie.Start × tie.After-is-finite = search in
+    simp (admitted-is (s .args .self), sym (f .is-finite .ensures), not-true (f .is-finite .result) (c .if1 .taken))
 
-close-to-unit-length-requires : tie.Need-close-to-unit-length-requires
-close-to-unit-length-requires c κs = search needs
-
+-- a direction that is not close to length 1
 returns-2 : tie.Need-returns-2
-returns-2 c = simp (admitted-is (c .before .before .before .before .args .self), sym (c .before .before .before .is-finite .ensures), not-false (c .before .before .before .is-finite .result) (c .before .before .if1 .left), sym (c .before .close-to-unit-length .ensures), not-true (c .before .close-to-unit-length .result) (c .if2 .taken))
+returns-2 c =
+    let (s, f, one) : tie.Start × tie.After-is-finite × tie.Else1 = search in
+    simp (
+      admitted-is (s .args .self),
+      sym (f .is-finite .ensures),
+      not-false (f .is-finite .result) (one .if1 .left),
+      sym (c .before .close-to-unit-length .ensures),
+      not-true (c .before .close-to-unit-length .result) (c .if2 .taken),
+    )
 
-is-finite-requires-2 : tie.Need-is-finite-requires-2
-is-finite-requires-2 c κs = search needs
-
+-- and else the range decides
 returns-3 : tie.Need-returns-3
-returns-3 c = simp (admitted-is (c .before .before .before .before .before .before .args .self), sym (c .before .before .before .before .before .is-finite .ensures), not-false (c .before .before .before .before .before .is-finite .result) (c .before .before .before .before .if1 .left), sym (c .before .before .before .close-to-unit-length .ensures), not-false (c .before .before .before .close-to-unit-length .result) (c .before .before .if2 .left), sym (c .before .is-finite2 .ensures), not-true (c .before .is-finite2 .result) (c .if3 .taken))
-
-returns-4 : tie.Need-returns-4
-returns-4 c = simp (admitted-is (c .before .before .before .before .before .before .before .args .self), sym (c .before .before .before .before .before .before .is-finite .ensures), not-false (c .before .before .before .before .before .before .is-finite .result) (c .before .before .before .before .before .if1 .left), sym (c .before .before .before .before .close-to-unit-length .ensures), not-false (c .before .before .before .before .close-to-unit-length .result) (c .before .before .before .if2 .left), sym (c .before .before .is-finite2 .ensures), not-false (c .before .before .is-finite2 .result) (c .before .if3 .left))
+returns-3 c =
+    let (s, f, one, l, two) : tie.Start × tie.After-is-finite × tie.Else1 × tie.After-close-to-unit-length × tie.Else2 = search in
+    simp (
+      admitted-is (s .args .self),
+      sym (f .is-finite .ensures),
+      not-false (f .is-finite .result) (one .if1 .left),
+      sym (l .close-to-unit-length .ensures),
+      not-false (l .close-to-unit-length .result) (two .if2 .left),
+      c .range-admitted .ensures,
+    )
 
 pub validate-spec : {M : Type 1} → statement M
-validate-spec = tie.close (tie.spec is-finite-requires returns close-to-unit-length-requires returns-2 is-finite-requires-2 returns-3 returns-4)
+validate-spec =
+    tie.close
+    (tie.spec
+    (search needs)  -- is-finite-requires
+    returns
+    (search needs)  -- close-to-unit-length-requires
+    returns-2
+    (search needs)  -- range-admitted-requires
+    returns-3)
