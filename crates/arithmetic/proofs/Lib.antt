@@ -1,4 +1,5 @@
 -- The laws of the arithmetic, beside the functions' own proofs. Assumes nothing.
+pub mod BelowLaws
 pub mod Casts
 pub mod Differences
 pub mod DistanceFromOne
@@ -7,6 +8,7 @@ pub mod ExtremesOrder
 pub mod Neighbours
 pub mod Numbers
 pub mod Order
+pub mod Patterns
 pub mod RootCases
 pub mod RootClose
 pub mod RootForm
@@ -17,6 +19,10 @@ pub mod RootPatterns
 pub mod RootScaled
 pub mod RootWhole
 pub mod RoundedSigns
+pub mod OwnRounding
+pub mod RoundedOrder
+pub mod SumOrder
+pub mod QuotientOrder
 pub mod RoundedNumbers
 pub mod SignBit
 pub mod SignedOrder

@@ -45,7 +45,7 @@ subnormal-value b h =
     (sym (positive-fields b (omega arith) ∙ ap (λ (z : ℕ). ofFields binary64 false z (b % 2 ^ 52)) e ∙ ap (ofFields binary64 false 0) t ∙ low-field b))
     (subst (λ (a : ℕ). HasValue (odd 53 false b 0 1074) false a (2 ^ 1074)) (mul-one b) (odd-sign 53 false b 0 1074))
 
-normal-value : (b x : ℕ) → b / 2 ^ 52 ≡ suc x → suc x < 2047 → HasValue (ofBits binary64 b) false ((2 ^ 52 + b % 2 ^ 52) * 2 ^ x) (2 ^ 1074)
+pub normal-value : (b x : ℕ) → b / 2 ^ 52 ≡ suc x → suc x < 2047 → HasValue (ofBits binary64 b) false ((2 ^ 52 + b % 2 ^ 52) * 2 ^ x) (2 ^ 1074)
 normal-value b x e h =
     subst (λ (v : Float). HasValue v false ((2 ^ 52 + b % 2 ^ 52) * 2 ^ x) (2 ^ 1074))
     (sym (positive-fields b (omega arith) ∙ ap (λ (z : ℕ). ofFields binary64 false z (b % 2 ^ 52)) e ∙ middle-field x (b % 2 ^ 52) h))

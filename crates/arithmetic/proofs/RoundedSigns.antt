@@ -32,7 +32,7 @@ absolute-not-negative nan = refl
 absolute-not-negative (inf s) = refl
 absolute-not-negative (fin s m e) = refl
 
-round-not-negative : (f : Format) (a c : ℕ) → negative (round f false a c) ≡ false
+pub round-not-negative : (f : Format) (a c : ℕ) → negative (round f false a c) ≡ false
 round-not-negative f a c = ap negative (sym (absolute-round f false a c)) ∙ absolute-not-negative (round f false a c)
 
 mul-finite : (f : Format) (s : Bool) (m : ℕ) (e : ℤ) → mul f (fin s m e) (fin s m e) ≡ round f (unlike s s) (m * up e * (m * up e)) (down e * down e)

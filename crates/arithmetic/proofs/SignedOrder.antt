@@ -10,11 +10,11 @@ use lib.Ieee.{below, level}
 use borrow.Author.Tests.{ltb-true, ltb-false, lt-ltb, le-ltb, eq-eqb, ne-eqb}
 
 -- ---- ±a < ±b as one inequality of naturals: write ±a as a⁺ - a⁻
-pub plus : Bool → ℕ → ℕ
+unfoldable pub plus : Bool → ℕ → ℕ
 plus false a = a
 plus true a = 0
 
-pub less : Bool → ℕ → ℕ
+unfoldable pub less : Bool → ℕ → ℕ
 less false a = 0
 less true a = a
 
@@ -85,12 +85,12 @@ at-most true a true b = backwards
     backwards = ap (λ (x : Bool). ltb b a || (x && true)) (turn a b) ∙ same-sign b a
 
 -- ---- ±x / p ≤ ±y / q ≤ ±z / r, each numerator a difference
-plus-times : (s : Bool) (a k : ℕ) → plus s (a * k) ≡ plus s a * k
+pub plus-times : (s : Bool) (a k : ℕ) → plus s (a * k) ≡ plus s a * k
 unfolding plus
 plus-times false a k = refl
 plus-times true a k = sym (zero-mul k)
 
-less-times : (s : Bool) (a k : ℕ) → less s (a * k) ≡ less s a * k
+pub less-times : (s : Bool) (a k : ℕ) → less s (a * k) ≡ less s a * k
 unfolding less
 less-times false a k = sym (zero-mul k)
 less-times true a k = refl

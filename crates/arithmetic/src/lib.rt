@@ -2,6 +2,8 @@
 
 // Finite, absolute value, sign, clamp.
 pub mod basic;
+// The float just below.
+pub mod below;
 // Minimum and maximum.
 pub mod extremes;
 // The square root.
