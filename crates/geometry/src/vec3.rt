@@ -5,6 +5,8 @@ ghost use mathlib.Core.Path.{_≡_};
 ghost use mathlib.Core.Bool.{true};
 ghost use Rattle.geometry.specs.Vector.{component, finiteVec, Numbers, addOf, subOf, negOf, scaleOf, minOf, maxOf, absOf, maxElement, dotOf, checkedDot, crossOf, lengthOf, tryNormalize};
 
+// Laid out as C does: a part of a cabinet (crates/cabinet) has its origin in it.
+#[repr(C)]
 pub struct Vec3 {
     pub x: f64,
     pub y: f64,
