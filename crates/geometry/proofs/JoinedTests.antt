@@ -1,6 +1,7 @@
--- Two or three joined tests pass exactly where each does. Assumes nothing.
-use mathlib.Core.Path.{_≡_, refl}
-use mathlib.Core.Bool.{Bool, true, false, _&&_, false≢true}
+-- Two or three joined tests pass exactly where each does, and what a test of a call's denied answer says. Assumes nothing.
+use mathlib.Core.Path.{_≡_, refl, sym, _∙_}
+use mathlib.Core.Bool.{Bool, true, false, _&&_, not, false≢true}
+use borrow.Author.Tests.{not-true, not-false}
 
 pub and-both : (a b : Bool) → a ≡ true → b ≡ true → (a && b) ≡ true
 and-both true b p q = q
@@ -16,3 +17,10 @@ and-second false b h = absurd (false≢true h)
 
 pub and-three : (a b c : Bool) → a ≡ true → b ≡ true → c ≡ true → (a && (b && c)) ≡ true
 and-three a b c p q r = and-both a (b && c) p (and-both b c q r)
+
+-- a test `if !f(..)` that was passed, or taken: what f says
+pub test-passed : {r b : Bool} → r ≡ b → not r ≡ false → b ≡ true
+test-passed told left = sym told ∙ not-false _ left
+
+pub test-failed : {r b : Bool} → r ≡ b → not r ≡ true → b ≡ false
+test-failed told taken = sym told ∙ not-true _ taken
