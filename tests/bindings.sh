@@ -39,10 +39,13 @@ echo "the C example prints what the panel's measures say, as C and as C++"
   RUSTDOCFLAGS="-D warnings" cargo doc --offline --no-deps > "$work/doc" 2>&1 || { cat "$work/doc" >&2; exit 1; }
   cargo build --release --offline --quiet --example stl
 )
-awk '/^test result: ok/ { sum += $4 } END { print sum " Rust tests and doc examples passed" }' "$log"
+rust=$(awk '/^test result: ok/ { sum += $4 } END { print sum + 0 }' "$log")
+[ "$rust" -gt 0 ] || { echo "error: the Rust crate has no test" >&2; exit 1; }
+echo "$rust Rust tests and doc examples passed"
 stl=$CARGO_TARGET_DIR/release/examples/stl
 
 # expect STATUS FILE COMMAND..: the command ends with the status and prints the file's lines
+files=0
 expect() {
   local status=$1 file=$2 got=0
   shift 2
@@ -53,6 +56,7 @@ expect() {
     exit 1
   fi
   cat "$work/printed" "$work/error" | diff - "$file"
+  files=$((files + 1))
 }
 
 examples/panel_stl.py | cmp - examples/panel.stl
@@ -64,6 +68,7 @@ expect 0 "$work/hits" "$stl" examples/panel.stl "${words[@]:0:${#words[@]}-7}"
 
 # the same panel in other files, and files that are not right
 tests/stl_files.py "$work"
+shopt -s failglob
 for same in "$work"/same-*.stl; do
   expect 1 examples/panel.hits "$stl" "$same" "${words[@]}"
 done
@@ -72,3 +77,4 @@ for wrong in "$work"/wrong-*.stl; do
   expect 2 "$work/$name.says" "$stl" "$wrong" "${words[@]}"
 done
 echo "the STL example prints what the panel's measures say, from ASCII and binary files"
+echo "bindings: $((2 + rust + files)) tests passed"

@@ -4,4 +4,6 @@
 set -euo pipefail
 cd "$(dirname "$0")/.."
 tools/declarations.py
-tools/declarations.py --self-test
+said=$(tools/declarations.py --self-test)
+echo "$said"
+echo "declarations: $(grep -oE '^[0-9]+' <<< "$said") tests passed"

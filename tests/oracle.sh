@@ -3,4 +3,7 @@
 set -euo pipefail
 cd "$(dirname "$0")/../oracle"
 sha256sum --quiet --check CHECKSUMS
-cargo test --offline --quiet
+log=$(mktemp)
+trap 'rm -f "$log"' EXIT
+cargo test --offline --quiet > "$log" 2>&1 || { cat "$log" >&2; exit 1; }
+echo "oracle: $(awk '/^test result: ok/ { sum += $4 } END { print sum + 0 }' "$log") tests passed"

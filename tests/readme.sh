@@ -38,3 +38,4 @@ for code in "$work"/[0-9]*; do
 done
 [ "$ran" = 4 ] || { echo "error: $ran pieces of README.md's code were found, not 4" >&2; exit 1; }
 echo "$ran pieces of README.md's code do what it says"
+echo "readme: $ran tests passed"

@@ -8,6 +8,11 @@ cases=${1:-40000}
 seed=${2:-1}
 [ -n "${PROBE_RAYS_LIB:-}" ] || rt staticlib exports | tail -n 1
 cd differential
-cargo test --offline --release --quiet
+log=$(mktemp)
+trap 'rm -f "$log"' EXIT
+cargo test --offline --release --quiet > "$log" 2>&1 || { cat "$log" >&2; exit 1; }
+known=$(awk '/^test result: ok/ { sum += $4 } END { print sum + 0 }' "$log")
+[ "$known" -gt 0 ] || { echo "error: no marked input was run" >&2; exit 1; }
 cargo run --offline --release --quiet --bin trees -- "$seed" "$cases"
 cargo run --offline --release --quiet --bin largest
+echo "trees: $((known + cases)) tests passed"
