@@ -45,7 +45,7 @@ gridOf nx ny nz ox oy oz sx sy sz = record { sides = record { x = nx; y = ny; z 
 abbrev pub boxOf : Float → Float → Float → Float → Float → Float → Aabb
 boxOf x y z x' y' z' = record { min = vector x y z; max = vector x' y' z' }
 
--- ---- codes: "codes that no refusal number can be taken for"
+-- ---- codes that no refusal number can be taken for
 
 abbrev pub hitCode : ℕ
 hitCode = 256
