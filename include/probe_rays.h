@@ -60,6 +60,11 @@
  * side of a distance grid, and exactly as many heights or values as the sides multiply to. Spacings are finite and
  * above 0. The length of a plane's normal is within 1e-12 of 1 and its distance finite; a grid's origin is finite.
  * Other values are not scanned: a coordinate, height or value may be infinite or NaN.
+ *
+ * ZERO
+ *
+ * A zero has its sign, to the bit: a normal that is turned turns its zeros, so one component may be -0, and a surface
+ * at the origin may be hit at -0, which is no miss. In a comparison, a tie and a box the two zeros are equal.
  */
 #ifndef PROBE_RAYS_H
 #define PROBE_RAYS_H

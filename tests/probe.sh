@@ -1,6 +1,6 @@
 #!/usr/bin/env bash
-# `probe` against the unchanged Rust: seeded records of all five kinds, every number compared under document 01's agreement, and malformed
-# streams, each kind of damage, compared byte for byte.
+# `probe` against the plain model, byte for byte, and against the unchanged Rust, under the looser agreement that takes a zero for a
+# zero of either sign: the examples, the stored records, seeded records of all five kinds, and malformed streams, each kind of damage.
 # usage: tests/probe.sh [RECORDS [SEED]]   (default 100000 1; PROBE names a program that is then taken as it is)
 set -euo pipefail
 cd "$(dirname "$0")/.."
@@ -13,27 +13,37 @@ oracle=$PWD/oracle/target/release
 work=$(mktemp -d)
 trap 'rm -rf "$work"' EXIT
 
+# rust_agrees OURS RECORDS: the Rust's lines agree with ours, a zero with a zero of either sign
+rust_agrees() {
+  "$oracle/oracle-probe" < "$2" > "$work/theirs"
+  "$oracle/compare" "$1" "$work/theirs" > "$work/found" || { cat "$work/found" >&2; exit 1; }
+}
+
 for example in plane mesh; do
   "$probe" < "examples/$example.records" | cmp - "examples/$example.lines"
-  "$oracle/oracle-probe" < "examples/$example.records" | cmp - "examples/$example.lines"
+  rust_agrees "examples/$example.lines" "examples/$example.records"
 done
 tools/records.py write < examples/mesh.txt | cmp - examples/mesh.records
 # the stored records and their lines are what tests/VECTORS.md says
 { cat examples/plane.records; "$oracle/oracle-gen" 94 2000; } | cmp - crates/probe/stdin
-"$oracle/oracle-probe" < crates/probe/stdin | cmp - crates/probe/stdout
+"$oracle/oracle-probe" --plain < crates/probe/stdin | cmp - crates/probe/stdout
+rust_agrees crates/probe/stdout crates/probe/stdin
 
 "$oracle/oracle-gen" "$seed" "$records" > "$work/records"
 "$probe" < "$work/records" > "$work/ours"
-"$oracle/oracle-probe" < "$work/records" > "$work/theirs"
-"$oracle/compare" "$work/ours" "$work/theirs"
+# to the bit with the plain model, under the looser agreement with the Rust
+"$oracle/oracle-probe" --plain < "$work/records" | cmp - "$work/ours"
+rust_agrees "$work/ours" "$work/records"
+cat "$work/found"
 
 mkdir "$work/bad"
 "$oracle/oracle-gen" --bad "$work/bad"
 streams=0
 for stream in "$work"/bad/*; do
   "$probe" < "$stream" > "$work/ours"
-  "$oracle/oracle-probe" < "$stream" > "$work/theirs"
-  cmp "$work/ours" "$work/theirs" || { echo "error: $(basename "$stream") differs" >&2; exit 1; }
+  "$oracle/oracle-probe" --plain < "$stream" > "$work/plain"
+  cmp "$work/ours" "$work/plain" || { echo "error: $(basename "$stream") differs" >&2; exit 1; }
+  rust_agrees "$work/ours" "$stream"
   streams=$((streams + 1))
 done
 echo "$streams malformed streams agree"

@@ -1,15 +1,15 @@
 //! The casts at a plane, a triangle and the two grids through the library, beside the
-//! Rust's behind document 01's refusals 1 and 2.
+//! Rust's behind document 01's refusals 1 and 2, and beside the plain model to the bit.
 
 use crate::{
-    calls::says,
+    calls::{exact, says},
     lent::same_bits,
     library,
     log::{Log, in_words},
 };
 use oracle::{
     answer::{self, Answer, agree},
-    cases, generate,
+    cases, generate, plain,
     random::Random,
     record::{Record, Shape},
 };
@@ -104,6 +104,7 @@ pub fn cast(log: &mut Log, record: &Record, hit: &[f64], rows_above: Option<usiz
     };
     log.answered(name, number);
     let rows_above = rows_above.filter(|_| matches!(record.shape, Shape::HeightField { .. }));
+    let plainly = hit.len() >= 4 && rows_above.is_none();
     let expected = if hit.len() < 4 {
         log.left_out(name, "a result slice is too short");
         Answer::Refused(3)
@@ -127,5 +128,16 @@ pub fn cast(log: &mut Log, record: &Record, hit: &[f64], rows_above: Option<usiz
         let number = in_words(number);
         let text = format!("answers {number} with {after:?} for {hit:?}, not {expected:?}");
         log.differs(name, text, format!("{record:?}"));
+    }
+    if plainly {
+        log.compared(name, "the model");
+        let expected = plain::answer(record);
+        if !says(number, &after, &expected, exact) {
+            let text = format!(
+                "answers {} with {after:?}, the model {expected:?}",
+                in_words(number)
+            );
+            log.differs(name, text, format!("{record:?}"));
+        }
     }
 }

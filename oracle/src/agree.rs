@@ -1,4 +1,5 @@
-//! Agreement of printed lines: numbers equal under IEEE 754, any two NaN agree.
+//! Agreement of printed lines with the Rust's: numbers equal under IEEE 754, so that a zero agrees with a zero of either
+//! sign, which the Rust leaves open; any two NaN agree.
 
 use crate::answer::agree;
 

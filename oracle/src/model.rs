@@ -7,9 +7,11 @@
 
 use crate::{
     aabb::Aabb,
-    answer::{self, Answer, MOST_TRIANGLES, MOST_VERTICES, Ray},
+    answer::{Answer, MOST_TRIANGLES, MOST_VERTICES, Ray},
     math::Vec3,
-    tree::{FlatTree, segment_box},
+    plain::{self, greatest, least, segment_box, touches},
+    slips::{Slip::*, or, slipped},
+    tree::FlatTree,
 };
 
 /// A tree as it is lent to query, check and cast.
@@ -80,10 +82,6 @@ impl Tree<'_> {
     }
 }
 
-fn touches(a: &[f64], b: &[f64]) -> bool {
-    (0..3).all(|k| a[k] <= b[k + 3] && b[k] <= a[k + 3])
-}
-
 fn encloses(outer: &[f64], inner: &[f64]) -> bool {
     (0..3).all(|k| outer[k] <= inner[k] && inner[k + 3] <= outer[k + 3])
 }
@@ -113,7 +111,7 @@ fn corners(vertices: &[f64], indices: &[u32], triangle: usize) -> Option<[[f64; 
 /// The box of a triangle's three vertices; none if it has no valid one.
 fn vertices_box(corners: [[f64; 3]; 3]) -> Option<Aabb> {
     let [a, b, c] = corners.map(Vec3::from_array);
-    Aabb::new(a.min(b).min(c), a.max(b).max(c)).ok()
+    Aabb::new(least(least(a, b), c), greatest(greatest(a, b), c)).ok()
 }
 
 /// The areas that a build writes.
@@ -137,11 +135,11 @@ pub fn build(
         return Err(2);
     }
     let n = indices.len() / 3;
-    if areas.node_boxes.len() < 12 * n
+    if areas.node_boxes.len() + or(BuildRoom, 0, 1) < 12 * n
         || areas.triangle_boxes.len() < 6 * n
         || areas.node_words.len() < 6 * n
         || areas.order.len() < n
-        || work_length < n
+        || work_length + or(BuildWork, 0, 1) < n
     {
         return Err(3);
     }
@@ -150,7 +148,9 @@ pub fn build(
         areas.node_boxes.fill(0.0);
         areas.triangle_boxes.fill(0.0);
         areas.node_words.fill(0);
-        areas.order.fill(0);
+        if !slipped(BuildZeroed) {
+            areas.order.fill(0);
+        }
     }
     built
 }
@@ -163,13 +163,11 @@ fn build_past_lengths(
     let n = indices.len() / 3;
     let mut boxes = Vec::new();
     for triangle in 0..n {
-        let bounds = corners(vertices, indices, triangle)
-            .and_then(vertices_box)
-            .ok_or(5u32)?;
-        boxes.push(bounds);
+        let corners = corners(vertices, indices, triangle).ok_or(or(BuildIndex, 5u32, 6))?;
+        boxes.push(vertices_box(corners).ok_or(5u32)?);
     }
     if n == 0 {
-        return Err(5);
+        return if slipped(BuildEmpty) { Ok(0) } else { Err(5) };
     }
     let mut build = Build {
         boxes,
@@ -198,37 +196,35 @@ impl Build {
     /// Writes the node over `triangles` and all below it, in preorder.
     fn node(&mut self, mut triangles: Vec<usize>) -> Result<u32, u32> {
         let boxes: Vec<Aabb> = triangles.iter().map(|&t| self.boxes[t]).collect();
-        let bounds = boxes
-            .iter()
-            .copied()
-            .reduce(|a, b| a.union(&b))
-            .expect("no empty node");
+        let bounds = boxes.iter().copied().reduce(union).expect("no empty node");
         let node = self.nodes.len();
         self.nodes.push((bounds, [0; 3]));
-        let words = if triangles.len() <= 4 {
+        let words = if triangles.len() <= or(BuildLeaf, or(BuildThree, 4, 3), 5) {
             let start = self.order.len() as u32;
             self.order.extend(triangles.iter().map(|&t| t as u32));
             [0, start, triangles.len() as u32]
         } else {
-            let centres: Vec<Vec3> = boxes.iter().map(|b| b.center()).collect();
+            let centres: Vec<Vec3> = boxes.iter().map(centre).collect();
             let low = centres
                 .iter()
                 .copied()
-                .reduce(Vec3::min)
+                .reduce(least)
                 .expect("no empty node");
             let high = centres
                 .iter()
                 .copied()
-                .reduce(Vec3::max)
+                .reduce(greatest)
                 .expect("no empty node");
             let extent = high - low;
             if !extent.is_finite() {
-                return Err(6);
+                return Err(or(BuildExtent, 6, 5));
             }
             let axis = longest(extent.to_array());
-            let centre = |&t: &usize| self.boxes[t].center().to_array()[axis];
-            triangles.sort_by(|a, b| centre(a).total_cmp(&centre(b)).then(a.cmp(b)));
-            let right = triangles.split_off(triangles.len() / 2);
+            let key =
+                |&t: &usize| centre(&self.boxes[t]).to_array()[axis] + or(BuildZeros, -0.0, 0.0);
+            let by_index = |a: &usize, b: &usize| or(BuildOrder, a.cmp(b), b.cmp(a));
+            triangles.sort_by(|a, b| key(a).total_cmp(&key(b)).then(by_index(a, b)));
+            let right = triangles.split_off((triangles.len() + or(BuildHalf, 0, 1)) / 2);
             [1, self.node(triangles)?, self.node(right)?]
         };
         self.nodes[node].1 = words;
@@ -236,9 +232,30 @@ impl Build {
     }
 }
 
+fn centre(bounds: &Aabb) -> Vec3 {
+    let (min, max) = (bounds.min(), bounds.max());
+    if slipped(CentreSum) {
+        (min + max) * 0.5
+    } else {
+        min * 0.5 + max * 0.5
+    }
+}
+
+fn union(a: Aabb, b: Aabb) -> Aabb {
+    let (low, high) = (least(a.min(), b.min()), greatest(a.max(), b.max()));
+    Aabb::unchecked(&[low.to_array(), high.to_array()].concat())
+}
+
 /// The first of the axes with the greatest extent.
 fn longest(extent: [f64; 3]) -> usize {
     let [x, y, z] = extent;
+    if slipped(BuildTies) {
+        return if z >= x && z >= y {
+            2
+        } else {
+            usize::from(y >= x)
+        };
+    }
     if x >= y && x >= z {
         0
     } else if y >= z {
@@ -258,23 +275,31 @@ pub fn query(
     list: &mut [u32],
     stack_length: usize,
 ) -> Result<usize, u32> {
-    if !is_valid(&bounds) {
+    if !is_valid(&bounds) && !slipped(QueryBox) {
         return Err(1);
     }
-    if n > MOST_TRIANGLES || tree.node_count > 2 * n {
+    if n > MOST_TRIANGLES
+        || tree.node_count > 2 * n
+        || (slipped(QueryNodes) && tree.node_count == 2 * n)
+    {
         return Err(2);
     }
-    if !tree.is_long_enough(n) || list.len() < n || stack_length < tree.node_count + 1 {
+    let stack = tree.node_count + or(QueryStack, 1, 0);
+    if !tree.is_long_enough(n) || list.len() < n || stack_length < stack {
         return Err(3);
     }
     match walk(tree, n, &bounds) {
         Some(mut listed) => {
-            listed.sort_unstable();
+            if !slipped(QueryUnsorted) {
+                listed.sort_unstable();
+            }
             list[..listed.len()].copy_from_slice(&listed);
             Ok(listed.len())
         }
         None => {
-            list.fill(0);
+            if !slipped(QueryZeros) {
+                list.fill(0);
+            }
             Err(5)
         }
     }
@@ -290,7 +315,7 @@ fn walk(tree: Tree, n: usize, bounds: &[f64]) -> Option<Vec<u32>> {
     let mut taken = 0;
     while let Some(index) = stack.pop() {
         taken += 1;
-        if taken > tree.node_count {
+        if taken > tree.node_count + or(QueryTaken, 0, 1) {
             return None;
         }
         if !touches(tree.node_box(index), bounds) {
@@ -298,19 +323,20 @@ fn walk(tree: Tree, n: usize, bounds: &[f64]) -> Option<Vec<u32>> {
         }
         match tree.node(index) {
             Node::Branch { left, right } => {
+                let above = |child: usize| child > index || (slipped(QueryChild) && child == index);
                 if [left, right]
                     .iter()
-                    .any(|&c| c <= index || c >= tree.node_count)
+                    .any(|&c| !above(c) || c >= tree.node_count)
                 {
                     return None;
                 }
                 stack.extend([right, left]);
             }
             Node::Leaf { start, end } => {
-                if end > n {
+                if end > n && !slipped(QueryLeaf) {
                     return None;
                 }
-                for &triangle in &tree.order[start..end] {
+                for &triangle in &tree.order[start.min(n)..end.min(n)] {
                     if triangle as usize >= n {
                         return None;
                     }
@@ -318,6 +344,10 @@ fn walk(tree: Tree, n: usize, bounds: &[f64]) -> Option<Vec<u32>> {
                         listed.push(triangle);
                     }
                     if listed.len() > n {
+                        if slipped(QueryList) {
+                            listed.pop();
+                            continue;
+                        }
                         return None;
                     }
                 }
@@ -335,11 +365,11 @@ pub fn tree_check(vertices: &[f64], indices: &[u32], tree: Tree, marks_length: u
         return Check::Refused(2);
     }
     let n = indices.len() / 3;
-    if !tree.is_long_enough(n) || marks_length < 3 * n {
+    if !tree.is_long_enough(n) || marks_length < or(CheckMarks, 3, 2) * n {
         return Check::Refused(3);
     }
     let yes = if n == 0 || tree.node_count == 0 || tree.node_count > 2 * n {
-        n == 0 && tree.node_count == 0
+        (n == 0 || slipped(CheckNone)) && tree.node_count == 0
     } else {
         nodes_hold(tree, n) && triangles_hold(vertices, indices, tree)
     };
@@ -360,47 +390,70 @@ fn nodes_hold(tree: Tree, n: usize) -> bool {
     }
     for index in 0..tree.node_count {
         let bounds = tree.node_box(index);
-        if !is_valid(bounds) {
+        if !is_valid(bounds) && !slipped(CheckValid) {
             return false;
         }
         match tree.node(index) {
             Node::Other => return false,
             Node::Branch { left, right } => {
                 let placed = |child| child > index && child < tree.node_count;
-                if left == right || !placed(left) || !placed(right) {
+                if (left == right && !slipped(CheckSame)) || !placed(left) || !placed(right) {
                     return false;
                 }
-                if [left, right]
+                let children = if slipped(CheckChildren) {
+                    vec![left]
+                } else {
+                    vec![left, right]
+                };
+                if children
                     .iter()
                     .any(|&child| !encloses(bounds, tree.node_box(child)))
                 {
                     return false;
                 }
                 named[left] += 1;
-                named[right] += 1;
+                if left != right {
+                    named[right] += 1;
+                }
             }
             Node::Leaf { start, end } => {
-                if end > n || start == end {
+                if end > n || (start == end && !slipped(CheckEmpty)) {
                     return false;
                 }
                 covered[start..end].iter_mut().for_each(|times| *times += 1);
-                let outside = |&t: &u32| !encloses(bounds, tree.triangle_box(t as usize));
+                let outside = |&t: &u32| {
+                    !encloses(bounds, tree.triangle_box(t as usize)) && !slipped(CheckTriangles)
+                };
                 if tree.order[start..end].iter().any(outside) {
                     return false;
                 }
             }
         }
     }
-    let once = |times: &[i32]| times.iter().all(|&t| t == 1);
-    once(&named[1..]) && once(&covered) && once(&ordered)
+    let once = |slip, times: &[i32]| times.iter().all(|&t| t == 1 || (slipped(slip) && t > 0));
+    let ordered = slipped(CheckOrder) || once(CheckOrder, &ordered);
+    once(CheckNamed, &named[1..]) && once(CheckPlaces, &covered) && ordered
 }
 
 /// Each triangle box is valid and equals its vertices' box, under IEEE 754.
 fn triangles_hold(vertices: &[f64], indices: &[u32], tree: Tree) -> bool {
     (0..indices.len() / 3).all(|triangle| {
         let own = corners(vertices, indices, triangle).and_then(vertices_box);
-        own.is_some_and(|own| own.to_array() == *tree.triangle_box(triangle))
+        own.is_some_and(|own| boxes_equal(&own.to_array(), tree.triangle_box(triangle)))
     })
+}
+
+fn boxes_equal(own: &[f64], lent: &[f64]) -> bool {
+    let bits = || {
+        own.iter()
+            .zip(lent)
+            .all(|(a, b)| a.to_bits() == b.to_bits())
+    };
+    match () {
+        () if slipped(CheckBoxes) => is_valid(lent) && encloses(lent, own),
+        () if slipped(CheckBits) => bits(),
+        () => own == lent,
+    }
 }
 
 /// The mesh cast over lent areas. Its list and stack are work areas: unchanged after
@@ -415,7 +468,7 @@ pub fn ray_mesh(
     list_length: usize,
     stack_length: usize,
 ) -> Answer {
-    if !answer::ray_admitted(ray) {
+    if !plain::ray_admitted(ray) {
         return Answer::Refused(1);
     }
     let n = indices.len() / 3;
@@ -426,15 +479,19 @@ pub fn ray_mesh(
     {
         return Answer::Refused(2);
     }
-    if !tree.is_long_enough(n) || list_length < n || stack_length < tree.node_count + 1 {
+    let short = !tree.is_long_enough(n) || list_length < n || stack_length < tree.node_count + 1;
+    if short && !(slipped(PoseFirst) && vertices.len() != cast_vertices.len()) {
         return Answer::Refused(3);
     }
     if vertices.len() != cast_vertices.len() {
         return Answer::Refused(4);
     }
     let Some(segment) = segment_box(ray) else {
-        return Answer::Refused(6);
+        return Answer::Refused(or(SegmentEnd, 6, 5));
     };
+    if slipped(FoldAll) {
+        return nearest(ray, cast_vertices, indices, &Vec::from_iter(0..n as u32));
+    }
     match walk(tree, n, &segment) {
         None => Answer::Refused(5),
         Some(mut candidates) => {
@@ -447,30 +504,11 @@ pub fn ray_mesh(
 /// The fold over candidates in list order: the first refusal, else the first
 /// strictly least distance.
 fn nearest(ray: &Ray, vertices: &[f64], indices: &[u32], candidates: &[u32]) -> Answer {
-    let mut best: Option<(f64, Answer)> = None;
-    for &triangle in candidates {
-        let Some(corners) = corners(vertices, indices, triangle as usize) else {
-            return Answer::Refused(5);
-        };
-        match answer::triangle_of_admitted_ray(ray, corners) {
-            Answer::Refused(number) => return Answer::Refused(number),
-            Answer::None => {}
-            Answer::Hit {
-                normal, distance, ..
-            } => {
-                if best.is_none_or(|(least, _)| distance < least) {
-                    let index = Some(triangle);
-                    let hit = Answer::Hit {
-                        normal,
-                        distance,
-                        index,
-                    };
-                    best = Some((distance, hit));
-                }
-            }
-        }
-    }
-    best.map_or(Answer::None, |(_, hit)| hit)
+    plain::nearest(candidates.iter().map(|&triangle| {
+        let corners = corners(vertices, indices, triangle as usize);
+        let cast = corners.map_or(Answer::Refused(5), |corners| plain::triangle(ray, corners));
+        (Some(triangle), cast)
+    }))
 }
 
 /// The candidates of demand 3: the triangles whose vertices' box in the mesh touches
@@ -489,7 +527,7 @@ pub fn candidates(ray: &Ray, vertices: &[f64], indices: &[u32]) -> Vec<u32> {
 
 /// The answer that demand 3 promises for a checked tree.
 pub fn ray_mesh_without_tree(ray: &Ray, vertices: &[f64], indices: &[u32]) -> Answer {
-    if !answer::ray_admitted(ray) {
+    if !plain::ray_admitted(ray) {
         return Answer::Refused(1);
     }
     if segment_box(ray).is_none() {

@@ -324,12 +324,10 @@ pub fn read_all(mut stream: &[u8]) -> Option<Vec<Record>> {
     }
 }
 
-/// Zero as plus zero, NaN as 7ff8000000000000, else the bits.
+/// NaN as 7ff8000000000000, else the bits.
 pub fn bits(value: f64) -> String {
     let bits = if value.is_nan() {
         0x7ff8_0000_0000_0000
-    } else if value == 0.0 {
-        0
     } else {
         value.to_bits()
     };
@@ -358,8 +356,17 @@ pub fn line(number: u64, answer: &Answer) -> String {
     }
 }
 
+/// The whole output of `probe` for a stream, by the Rust's answers.
+pub fn probe(stream: &[u8], out: impl FnMut(&str, Option<&Record>)) {
+    probe_by(Record::answer, stream, out);
+}
+
 /// The whole output of `probe` for a stream.
-pub fn probe(mut stream: &[u8], mut out: impl FnMut(&str, Option<&Record>)) {
+pub fn probe_by(
+    answer: impl Fn(&Record) -> Answer,
+    mut stream: &[u8],
+    mut out: impl FnMut(&str, Option<&Record>),
+) {
     for number in 1.. {
         match next(stream) {
             Next::End => return,
@@ -368,7 +375,7 @@ pub fn probe(mut stream: &[u8], mut out: impl FnMut(&str, Option<&Record>)) {
                 return;
             }
             Next::Record(record, rest) => {
-                out(&line(number, &record.answer()), Some(&record));
+                out(&line(number, &answer(&record)), Some(&record));
                 stream = rest;
             }
         }

@@ -2,6 +2,7 @@
 pub mod Storing
 pub mod Patterns
 pub mod Places
+pub mod Printing
 pub mod Lengths
 pub mod WellFormed
 pub mod Counts

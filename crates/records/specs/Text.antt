@@ -4,10 +4,9 @@ use mathlib.Core.Path.{_≡_}
 use mathlib.Core.Bool.{cond}
 use mathlib.Core.List.{List, [], _∷_, _++_}
 use lib.Dec.{ltb}
-use lib.Ieee.{Float, binary64, toBits, isNan, eq}
+use lib.Ieee.{Float, binary64, toBits, isNan}
 use lib.ListN.{length, drop}
 use lib.Seq.{sets}
-use Rattle.geometry.specs.Numbers.{zeroᶠ}
 
 -- a digit below 16: `0` to `9`, then `a` to `f`
 unfoldable pub glyph : ℕ → ℕ
@@ -31,9 +30,9 @@ decimal n = digits 10 (placesOf 20 n) n
 unfoldable pub hexadecimal : ℕ → List ℕ
 hexadecimal n = digits 16 16 n
 
--- "Zero prints as plus zero, NaN as 7ff8000000000000"
+-- "`probe` prints the sign of zero."; "NaN as 7ff8000000000000", and else the bits
 unfoldable pub printedBits : Float → ℕ
-printedBits x = cond (isNan x) 0x7ff8_0000_0000_0000 (cond (eq x zeroᶠ) 0 (toBits binary64 x))
+printedBits x = cond (isNan x) 0x7ff8_0000_0000_0000 (toBits binary64 x)
 
 -- a text stored in an area from a place on, and the place behind it
 pub record Put (area : List ℕ) (at : ℕ) (text : List ℕ) (after : List ℕ) (next : ℕ) : Type 0 where

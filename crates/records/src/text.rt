@@ -77,15 +77,12 @@ pub fn put_hexadecimal(out: &mut [u8], at: usize, n: u64) -> usize
     put_digits(out, at, n, 16, 16)
 }
 
-// The bits that are printed for a float: of plus zero for a zero, and of one NaN for every NaN.
+// The bits that are printed for a float: its own, and of one NaN for every NaN.
 pub fn printed_bits(x: f64) -> u64
     ensures { λ r. ⌜ r ≡ printedBits x ⌝ }
 {
     if x != x {
         return 0x7ff8_0000_0000_0000;
-    }
-    if x == 0.0 {
-        return 0;
     }
     f64::to_bits(x)
 }

@@ -1,4 +1,4 @@
-//! Compares two files of lines under document 01's agreement: prints the first
+//! Compares two files of lines under the agreement of runs against the Rust: prints the first
 //! differences and the counts by sort of answer; exit code 1 if any line differs.
 
 use oracle::agree::{lines_agree, sort_of};

@@ -1,29 +1,33 @@
-//! Reads `probe` records from standard input and prints the Rust's answers.
+//! Reads `probe` records from standard input and prints the Rust's answers, or with
+//! `--plain` those of the plain model, which tell the sign of every zero.
 //! With `--constructed`, standard error says what the Rust's constructors make of
 //! the shapes and rays that document 01 admits.
 
 use oracle::{
     answer::{Answer, Constructed, ray_constructed},
-    record,
+    plain,
+    record::{self, Record},
 };
 use std::io::{BufWriter, Read, Write};
 
 fn main() {
-    let counting = match std::env::args().skip(1).collect::<Vec<_>>().as_slice() {
-        [] => false,
-        [option] if option == "--constructed" => true,
-        _ => {
-            eprintln!("usage: oracle-probe [--constructed] < RECORDS");
-            std::process::exit(2);
-        }
-    };
+    let (answer, counting): (fn(&Record) -> Answer, bool) =
+        match std::env::args().skip(1).collect::<Vec<_>>().as_slice() {
+            [] => (Record::answer, false),
+            [option] if option == "--plain" => (plain::answer, false),
+            [option] if option == "--constructed" => (Record::answer, true),
+            _ => {
+                eprintln!("usage: oracle-probe [--plain | --constructed] < RECORDS");
+                std::process::exit(2);
+            }
+        };
     let mut input = Vec::new();
     std::io::stdin()
         .read_to_end(&mut input)
         .expect("standard input");
     let mut out = BufWriter::new(std::io::stdout().lock());
     let mut tally = [[[0u64; 3]; 2]; 6];
-    record::probe(&input, |line, record| {
+    record::probe_by(answer, &input, |line, record| {
         writeln!(out, "{line}").expect("standard output");
         if let Some(record) = record.filter(|_| counting)
             && !matches!(record.answer(), Answer::Refused(1 | 2))

@@ -2,25 +2,28 @@
 use Rattle.arithmetic.proofs.Order.{ne-self-is-nan}
 use Rattle.records.specs.Text.{printedBits}
 use lib.Dec.{T}
-use mathlib.Core.Bool.{Bool, not}
-use mathlib.Core.Path.{sym, subst, _∙_}
+use lib.Ieee.{isNan}
+use mathlib.Core.Bool.{Bool, false, not}
+use mathlib.Core.Path.{_≡_, sym, subst, _∙_}
 use Rattle.records.proofs.text.printed_bits.Statement.{statement}
 use Rattle.records.proofs.text.printed_bits.Tie as tie
 
+-- the NaN's own bits
 returns : tie.Need-returns
 unfolding printedBits
 returns c = simp (sym (ne-self-is-nan (c .before .args .x)) ∙ c .if1 .taken)
 
-returns-2 : tie.Need-returns-2
-unfolding printedBits
-returns-2 c = simp (sym (ne-self-is-nan (c .before .before .args .x)) ∙ c .before .if1 .left, c .if2 .taken)
+-- past the test the float is a number
+number : (e : tie.Else1) → isNan (e .before .args .x) ≡ false
+number e = sym (ne-self-is-nan _) ∙ e .if1 .left
 
 float-to-bits-result : tie.Need-float-to-bits-result
-float-to-bits-result c = subst (λ (b : Bool). T (not b)) (sym (sym (ne-self-is-nan (c .before .before .args .x)) ∙ c .before .if1 .left)) tt
+float-to-bits-result c = subst (λ (b : Bool). T (not b)) (sym (number c)) tt
 
-returns-3 : tie.Need-returns-3
+-- a number's own bits
+returns-2 : tie.Need-returns-2
 unfolding printedBits
-returns-3 c = simp (sym (ne-self-is-nan (c .before .before .args .x)) ∙ c .before .if1 .left, c .if2 .left)
+returns-2 c = simp (number c)
 
 pub printed-bits-spec : {M : Type 1} → statement M
-printed-bits-spec = tie.close (tie.spec returns returns-2 float-to-bits-result returns-3)
+printed-bits-spec = tie.close (tie.spec returns float-to-bits-result returns-2)
