@@ -36,7 +36,7 @@
  *   3    no room         a lent slice shorter than stated                              unchanged
  *   4    wrong pose      the vertices to cast at are not as many as the mesh's         unchanged
  *   5    out of bounds   an index or a box that does not fit, a tree that is broken    build, query: zeros;
- *                        where the walk meets it, a sample outside a distance grid     else unchanged
+ *                        where the walk meets it                                       else unchanged
  *   6    overflow        a number on the way is not finite                             build: zeros; else unchanged
  *   7    no normal       the normal of the surface hit cannot be normalised            unchanged
  *   8    not convergent  the walk through a distance grid ends without an answer, or   unchanged

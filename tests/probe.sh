@@ -1,6 +1,6 @@
 #!/usr/bin/env bash
 # `probe` against the plain model, byte for byte, and against the unchanged Rust, under the looser agreement that takes a zero for a
-# zero of either sign: the examples, the stored records, seeded records of all five kinds, and malformed streams, each kind of damage.
+# zero of either sign, but for distance grids that the Rust refuses with 5 (M-103), which are counted: the examples, the stored records, seeded records of all five kinds, and malformed streams, each kind of damage.
 # usage: tests/probe.sh [RECORDS [SEED]]   (default 100000 1; PROBE names a program that is then taken as it is)
 set -euo pipefail
 cd "$(dirname "$0")/.."

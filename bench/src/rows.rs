@@ -307,7 +307,7 @@ fn height(name: &str, wanted: u32, rays: Vec<Ray>) -> Row {
     )
 }
 
-/// Rays that answer as wanted: a last sample past the box by a rounding, which is 5, is not what is timed.
+/// Rays that the Rust answers as wanted: a last sample past the box by a rounding is 5 in the Rust, and not timed.
 fn distance(name: &str, wanted: u32, mut rays: Vec<Ray>) -> Row {
     let grid = inputs::ball(64);
     let rust_grid = shape::level_set::unchecked(

@@ -115,6 +115,9 @@ pub fn cast(log: &mut Log, record: &Record, hit: &[f64], rows_above: Option<usiz
         } else {
             1
         })
+    } else if let Some(reason) = record.left_out() {
+        log.left_out(name, reason);
+        plain::answer(record)
     } else {
         log.compared(name, "the Rust");
         record.answer()

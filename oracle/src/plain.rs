@@ -661,6 +661,25 @@ impl Grid<'_> {
         Ok((cell, fraction))
     }
 
+    /// The point "drawn onto the box or, if still refused, moved to the nearest it admits" (M-103): on each axis the origin below
+    /// it, above the last node that node, or the float below where the way from the origin to it is not finite.
+    fn drawn(&self, point: Vec3) -> Vec3 {
+        let (origin, last) = (self.origin.to_array(), self.last_node().to_array());
+        let (point, spacing) = (point.to_array(), self.spacing.to_array());
+        Vec3::from_array([0, 1, 2].map(|axis| {
+            let admitted = ((last[axis] - origin[axis]) / spacing[axis]).is_finite();
+            if point[axis] < origin[axis] {
+                origin[axis]
+            } else if point[axis] <= last[axis] {
+                point[axis]
+            } else if admitted {
+                or(SampleOutside, last[axis], origin[axis])
+            } else {
+                last[axis].next_down()
+            }
+        }))
+    }
+
     fn value(&self, x: usize, y: usize, z: usize) -> f64 {
         self.values[(z * self.sides[1] + y) * self.sides[0] + x]
     }
@@ -669,16 +688,7 @@ impl Grid<'_> {
         if !point.is_finite() {
             return refuse(6);
         }
-        let last = self.last_node();
-        let outside = point.x < self.origin.x
-            || point.y < self.origin.y
-            || point.z < self.origin.z
-            || point.x > last.x
-            || point.y > last.y
-            || point.z > last.z;
-        if outside {
-            return refuse(or(SampleOutside, 5, 6));
-        }
+        let point = self.drawn(point);
         let (x, tx) = self.place(0, point.x)?;
         let (y, ty) = self.place(1, point.y)?;
         let (z, tz) = self.place(2, point.z)?;

@@ -118,6 +118,17 @@ impl Record {
         self.write().len() <= LONGEST + 4
     }
 
+    /// Why a request of document 02 leaves the record out of runs against the Rust, if one does.
+    pub fn left_out(&self) -> Option<&'static str> {
+        match self.shape {
+            Shape::LevelSet { .. } if self.answer() == Answer::Refused(5) => {
+                Some("the Rust refuses a distance grid with 5 (M-103)")
+            }
+            _ => None,
+        }
+    }
+
+    /// The Rust's answer.
     pub fn answer(&self) -> Answer {
         let ray = &self.ray;
         match &self.shape {

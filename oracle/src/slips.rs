@@ -149,7 +149,7 @@ slips! {
     RoundEven: "rounding takes half to even",
     BoundaryNear: "a boundary at hand counts though it is within 16 EPS",
     SampleThirds: "the second and third sample are at 1/4 and 3/4",
-    SampleOutside: "a sample outside the box is 6",
+    SampleOutside: "a sample past the last node is taken at the origin",
     SampleDifference: "the gradient's differences may overflow",
     SampleGradient: "a gradient that is not finite does not refuse a sample",
     SampleValue: "the value at the hit may overflow",

@@ -6,6 +6,9 @@ use oracle::{answer::Answer, generate, plain, record};
 fn the_plain_model_answers_as_the_rust() {
     for number in 0..20_000 {
         let given = generate::record(3, number, &[1, 2, 3, 4, 5]);
+        if given.left_out().is_some() {
+            continue;
+        }
         let lines =
             [plain::answer(&given), given.answer()].map(|answer| record::line(number, &answer));
         assert!(

@@ -86,7 +86,7 @@ pub enum Refusal {
     NoRoom,
     /// 4: the vertices to cast at are not as many as the mesh's.
     WrongPose,
-    /// 5: an index or a box that does not fit, a tree that is broken, a sample outside a distance grid.
+    /// 5: an index or a box that does not fit, a tree that is broken.
     OutOfBounds,
     /// 6: a number on the way is not finite.
     Overflow,
@@ -144,7 +144,7 @@ impl fmt::Display for Refusal {
             Refusal::BadShape => "bad shape: a count, length or parameter outside the limits",
             Refusal::NoRoom => "no room: a lent slice is too short",
             Refusal::WrongPose => "wrong pose: not as many vertices as the mesh has",
-            Refusal::OutOfBounds => "out of bounds: an index, box or sample that does not fit",
+            Refusal::OutOfBounds => "out of bounds: an index or a box that does not fit",
             Refusal::Overflow => "overflow: a number on the way is not finite",
             Refusal::NoNormal => "no normal: the surface hit has no unit normal",
             Refusal::NotConvergent => "not convergent: the walk through the grid has no answer",

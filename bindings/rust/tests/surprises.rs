@@ -1,5 +1,5 @@
 //! What a caller would not expect: the inputs that docs/DIFFERENCES.md lists as found in the Rust. The answers are
-//! those that the unchanged Rust gave (oracle/tests/surprises.rs), and the definitions say the same.
+//! those that the unchanged Rust gave (oracle/tests/surprises.rs), and the definitions say the same, but for s6.
 use probe_rays::{
     ray_height_field, ray_level_set, ray_triangle, Cast, HeightField, LevelSet, Mesh, Ray, Refusal,
 };
@@ -88,11 +88,13 @@ fn s5_a_mesh_of_one_triangle_misses_what_the_triangle_cast_hits() {
 }
 
 #[test]
-fn s6_a_distance_grid_is_refused_for_a_sample_a_hair_outside() {
-    assert_eq!(
-        lowest_cell(0.1, 3, 3.0),
-        Cast::Refused(Refusal::OutOfBounds)
-    );
+fn s6_a_sample_a_hair_outside_a_distance_grid_is_drawn_onto_it() {
+    // The Rust refuses with 5; document 02's M-103 asks for the hit. The surface is at half the lowest cell.
+    let Cast::Hit(hit) = lowest_cell(0.1, 3, 3.0) else {
+        panic!("no hit");
+    };
+    assert_eq!(hit.normal, [0.0, 0.0, 1.0]);
+    assert!((hit.distance - 2.95).abs() < 1e-14);
 }
 
 #[test]

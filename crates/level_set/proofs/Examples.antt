@@ -15,8 +15,9 @@ use Rattle.geometry.specs.declared.ray.Ray.{Ray}
 use Rattle.casts.specs.Answer.{hit, refused, notConvergent}
 use Rattle.level_set.specs.Grid.{sideAdmitted, spacingAdmitted, sidesAdmitted, gridAdmitted, lastNode, lastCorner, gridBox}
 use Rattle.level_set.specs.Slab.{kept, cut, slabFrom, slab, started, rayAabbInterval}
-use Rattle.level_set.specs.Cells.{upTo, slack, floorCell, leavesNode, wholeCell, cellAt, cellOnAxis, rayCellIndices, nodeAhead, boundaryDistance, boundaryBy, axisBoundary, nextCellBoundary}
-use Rattle.level_set.specs.Places.{outsideSide, outside, cellBelow, placeOf, placeAt, locateAxis, locateInside, locate}
+use Rattle.level_set.specs.Cells.{upTo, slack, floorCell, leavesNode, wholeCell, cellAt, cellOnAxis, rayCellIndices, nodeAhead}
+use Rattle.level_set.specs.Cells.{boundaryDistance, boundaryBy, axisBoundary, nextCellBoundary}
+use Rattle.level_set.specs.Places.{topOf, drawnTo, drawn, drawnPoint, cellBelow, placeOf, placeAt, locateAxis, locateInside, locate}
 use Rattle.level_set.specs.Faces.{valueAt, faceAt}
 use Rattle.level_set.specs.Steps.{checked, blend, lerp, checkedDifference, over, lerpFace, valueOn, slopeOn}
 use Rattle.level_set.specs.Sampling.{gathered, sampleFaces, sampleCell, sample}
@@ -47,7 +48,7 @@ ray₁₃ = record {
   near = zeroᶠ;
 }
 
-abbrev grid₁₃ : Grid
+abbrev pub grid₁₃ : Grid
 grid₁₃ = record {
   sides = record { x = 2; y = 2; z = 2 };
   origin = record { x = zeroᶠ; y = zeroᶠ; z = zeroᶠ };
@@ -59,16 +60,16 @@ zeros = zeroᶠ ∷ zeroᶠ ∷ zeroᶠ ∷ zeroᶠ ∷ zeroᶠ ∷ zeroᶠ ∷ 
 
 -- "K13 distances 2 by 2 by 2 of zero, grid origin 0, spacing 1, from (0.5,0.5,2), maximum 5: 8."
 pub zeros-have-no-gradient : rayLevelSet ray₁₃ grid₁₃ zeros ≡ refused notConvergent
-unfolding ofBits div neg add sub mul lt le eq ne isNan ofInt toUnsigned isFinite absolute signPositive clampTo minimumOf maximumOf totalOrder negative rootOf rootRound wholeRoot rootDigits wholeBy floorOf roundOf finiteVec addOf scaleOf minOf maxOf dotOf lengthOf tryNormalize validSide validBox unitLength rayAdmitted sideAdmitted spacingAdmitted sidesAdmitted gridAdmitted lastNode lastCorner gridBox kept cut slabFrom slab started rayAabbInterval upTo slack floorCell leavesNode wholeCell cellAt cellOnAxis rayCellIndices nodeAhead boundaryDistance boundaryBy axisBoundary nextCellBoundary outsideSide outside cellBelow placeOf placeAt locateAxis locateInside locate valueAt faceAt checked blend lerp checkedDifference over lerpFace valueOn slopeOn gathered sampleFaces sampleCell sample cubicBy cubicOf finiteCubic evaluate rootTolerance betweenEnds keptPoint keptPoints vertex turningBy turningPoints extrema insert sorted points middleOf halveAt halve halvings settled rootBetween searchOn searchFrom searchList rootOfCubic firstCubicRoot pointAt along hitWith hitAlong touchAt valueAlong samplesOf samplesAlong goesOn cellBy cellCast goesTo walkStep cellLimit walkFrom levelSetCast rayLevelSet
+unfolding ofBits div neg add sub mul lt le eq ne isNan ofInt toUnsigned isFinite absolute signPositive clampTo minimumOf maximumOf totalOrder negative rootOf rootRound wholeRoot rootDigits wholeBy floorOf roundOf finiteVec addOf scaleOf minOf maxOf dotOf lengthOf tryNormalize validSide validBox unitLength rayAdmitted sideAdmitted spacingAdmitted sidesAdmitted gridAdmitted lastNode lastCorner gridBox kept cut slabFrom slab started rayAabbInterval upTo slack floorCell leavesNode wholeCell cellAt cellOnAxis rayCellIndices nodeAhead boundaryDistance boundaryBy axisBoundary nextCellBoundary topOf drawnTo drawn drawnPoint cellBelow placeOf placeAt locateAxis locateInside locate valueAt faceAt checked blend lerp checkedDifference over lerpFace valueOn slopeOn gathered sampleFaces sampleCell sample cubicBy cubicOf finiteCubic evaluate rootTolerance betweenEnds keptPoint keptPoints vertex turningBy turningPoints extrema insert sorted points middleOf halveAt halve halvings settled rootBetween searchOn searchFrom searchList rootOfCubic firstCubicRoot pointAt along hitWith hitAlong touchAt valueAlong samplesOf samplesAlong goesOn cellBy cellCast goesTo walkStep cellLimit walkFrom levelSetCast rayLevelSet
 zeros-have-no-gradient = refl
 
 -- distances to the plane z = 1/2: a hit from above at 3/2, the normal along z
-abbrev heights : List Float
+abbrev pub heights : List Float
 heights =
     ofBits binary64 0xbfe0_0000_0000_0000 ∷ ofBits binary64 0xbfe0_0000_0000_0000 ∷ ofBits binary64 0xbfe0_0000_0000_0000
     ∷ ofBits binary64 0xbfe0_0000_0000_0000
     ∷ halfᶠ ∷ halfᶠ ∷ halfᶠ ∷ halfᶠ ∷ []
 
 pub plane-is-hit : rayLevelSet ray₁₃ grid₁₃ heights ≡ hit record { x = zeroᶠ; y = zeroᶠ; z = oneᶠ } (ofBits binary64 0x3ff8_0000_0000_0000)
-unfolding ofBits div neg add sub mul lt le eq ne isNan ofInt toUnsigned isFinite absolute signPositive clampTo minimumOf maximumOf totalOrder negative rootOf rootRound wholeRoot rootDigits wholeBy floorOf roundOf finiteVec addOf scaleOf minOf maxOf dotOf lengthOf tryNormalize validSide validBox unitLength rayAdmitted sideAdmitted spacingAdmitted sidesAdmitted gridAdmitted lastNode lastCorner gridBox kept cut slabFrom slab started rayAabbInterval upTo slack floorCell leavesNode wholeCell cellAt cellOnAxis rayCellIndices nodeAhead boundaryDistance boundaryBy axisBoundary nextCellBoundary outsideSide outside cellBelow placeOf placeAt locateAxis locateInside locate valueAt faceAt checked blend lerp checkedDifference over lerpFace valueOn slopeOn gathered sampleFaces sampleCell sample cubicBy cubicOf finiteCubic evaluate rootTolerance betweenEnds keptPoint keptPoints vertex turningBy turningPoints extrema insert sorted points middleOf halveAt halve halvings settled rootBetween searchOn searchFrom searchList rootOfCubic firstCubicRoot pointAt along hitWith hitAlong touchAt valueAlong samplesOf samplesAlong goesOn cellBy cellCast goesTo walkStep cellLimit walkFrom levelSetCast rayLevelSet
+unfolding ofBits div neg add sub mul lt le eq ne isNan ofInt toUnsigned isFinite absolute signPositive clampTo minimumOf maximumOf totalOrder negative rootOf rootRound wholeRoot rootDigits wholeBy floorOf roundOf finiteVec addOf scaleOf minOf maxOf dotOf lengthOf tryNormalize validSide validBox unitLength rayAdmitted sideAdmitted spacingAdmitted sidesAdmitted gridAdmitted lastNode lastCorner gridBox kept cut slabFrom slab started rayAabbInterval upTo slack floorCell leavesNode wholeCell cellAt cellOnAxis rayCellIndices nodeAhead boundaryDistance boundaryBy axisBoundary nextCellBoundary topOf drawnTo drawn drawnPoint cellBelow placeOf placeAt locateAxis locateInside locate valueAt faceAt checked blend lerp checkedDifference over lerpFace valueOn slopeOn gathered sampleFaces sampleCell sample cubicBy cubicOf finiteCubic evaluate rootTolerance betweenEnds keptPoint keptPoints vertex turningBy turningPoints extrema insert sorted points middleOf halveAt halve halvings settled rootBetween searchOn searchFrom searchList rootOfCubic firstCubicRoot pointAt along hitWith hitAlong touchAt valueAlong samplesOf samplesAlong goesOn cellBy cellCast goesTo walkStep cellLimit walkFrom levelSetCast rayLevelSet
 plane-is-hit = refl

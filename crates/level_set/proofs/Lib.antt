@@ -8,4 +8,10 @@ pub mod SlabLaws
 pub mod Bounds
 pub mod NearLaws
 pub mod PlaceLaws
+pub mod DrawnLaws
+pub mod DrawnPlaces
+pub mod RefusingLaws
+pub mod FiveLaws
+pub mod AxisLaws
+pub mod DrawnExamples
 pub mod HeightLaws

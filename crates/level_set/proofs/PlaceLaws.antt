@@ -10,8 +10,8 @@ use Rattle.arithmetic.proofs.Order.{le-of-not-lt}
 use Rattle.geometry.specs.Numbers.{_-ᶠ_, _/ᶠ_, zeroᶠ, oneᶠ}
 use Rattle.geometry.specs.Vector.{finiteVec}
 use Rattle.geometry.specs.declared.vec3.Vec3.{Vec3}
-use Rattle.level_set.specs.Grid.{whole, lastCorner, SideStands, SidesStand}
-use Rattle.level_set.specs.Places.{outside, cellBelow, placeOf, placeAt, locateAxis, withPlace, locateInside, locate}
+use Rattle.level_set.specs.Grid.{whole, SideStands, SidesStand}
+use Rattle.level_set.specs.Places.{drawnPoint, cellBelow, placeOf, placeAt, locateAxis, withPlace, locateInside, locate}
 use Rattle.level_set.specs.Heights.{isFraction, Fractions}
 use Rattle.level_set.specs.declared.grid.Sides.{Sides}
 use Rattle.level_set.specs.declared.grid.Grid.{Grid}
@@ -125,11 +125,10 @@ locate-settled : (g : Grid) (p : Vec3) → SidesStand (g .sides) → Settled (g 
 unfolding locate locateInside
 locate-settled g p s =
     chosen-settled (finiteVec p)
-    (chosen-settled (outside p (g .origin) (lastCorner g)) not-settled
     (all-found (g .sides)
-    (axis-found (p .x) (g .origin .x) (g .spacing .x) (g .sides .x) (s .on-x))
-    (axis-found (p .y) (g .origin .y) (g .spacing .y) (g .sides .y) (s .on-y))
-    (axis-found (p .z) (g .origin .z) (g .spacing .z) (g .sides .z) (s .on-z))))
+    (axis-found (drawnPoint g p .x) (g .origin .x) (g .spacing .x) (g .sides .x) (s .on-x))
+    (axis-found (drawnPoint g p .y) (g .origin .y) (g .spacing .y) (g .sides .y) (s .on-y))
+    (axis-found (drawnPoint g p .z) (g .origin .z) (g .spacing .z) (g .sides .z) (s .on-z)))
     not-settled
 
 cell-of : {s : Sides} {x y z : ℕ} {tx ty tz : Float} → Settled s (At x tx y ty z tz) → (x + 1 < s .x) × ((y + 1 < s .y) × (z + 1 < s .z))

@@ -3,9 +3,11 @@ pub mod Grid
 pub mod Slab
 pub mod Cells
 pub mod Places
+pub mod Drawing
 pub mod Faces
 pub mod Steps
 pub mod Sampling
 pub mod Heights
 pub mod Hits
 pub mod Walk
+pub mod Refusing

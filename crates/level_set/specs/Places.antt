@@ -1,13 +1,14 @@
 -- The cell at a point of the grid, and where in it the point lies. Definitions only. Assumes nothing.
 use Prim.Native.Nat.{ℕ, _-_}
-use mathlib.Core.Bool.{Bool, _||_, cond}
+use mathlib.Core.Bool.{cond}
 use lib.Ieee.{Float, lt}
 use Rattle.arithmetic.specs.Basic.{isFinite, clampTo}
+use Rattle.arithmetic.specs.Below.{justBelow}
 use Rattle.geometry.specs.Numbers.{_-ᶠ_, _/ᶠ_, zeroᶠ, oneᶠ}
 use Rattle.geometry.specs.Vector.{finiteVec}
 use Rattle.geometry.specs.declared.vec3.Vec3.{Vec3}
-use Rattle.casts.specs.Answer.{outOfBounds, overflow}
-use Rattle.level_set.specs.Grid.{whole, lastCorner}
+use Rattle.casts.specs.Answer.{overflow}
+use Rattle.level_set.specs.Grid.{whole, lastNode}
 use Rattle.level_set.specs.Cells.{upTo, floorCell}
 use Rattle.level_set.specs.declared.grid.Grid.{Grid}
 use Rattle.level_set.specs.declared.places.Place.{Place}
@@ -15,12 +16,28 @@ use Rattle.level_set.specs.declared.places.Place.the-variants.{At as Pla
 use Rattle.level_set.specs.declared.places.Located.{Located}
 use Rattle.level_set.specs.declared.places.Located.the-variants.{At, Refused}
 
-unfoldable pub outsideSide : Float → Float → Float → Bool
-outsideSide point low high = lt point low || lt high point
+-- ---- drawn onto the box
 
-unfoldable pub outside : Vec3 → Vec3 → Vec3 → Bool
-outside p low high =
-    outsideSide (p .x) (low .x) (high .x) || (outsideSide (p .y) (low .y) (high .y) || outsideSide (p .z) (low .z) (high .z))
+-- The greatest coordinate that is admitted: the last node, or the float just below it where the last node's way from the origin overflows.
+unfoldable pub topOf : Float → Float → Float → Float
+topOf origin spacing last = cond (isFinite ((last -ᶠ origin) /ᶠ spacing)) last (justBelow last)
+
+-- "A coordinate that a sample or the hit's gradient would refuse with 5 is drawn onto the box or .. moved to the nearest it admits":
+-- one axis, whose nodes run from the origin to the last one; a coordinate between them stays.
+unfoldable pub drawnTo : Float → Float → Float → Float → Float
+drawnTo point origin spacing last = cond (lt point origin) origin (cond (lt last point) (topOf origin spacing last) point)
+
+unfoldable pub drawn : Float → Float → Float → ℕ → Float
+drawn point origin spacing side = drawnTo point origin spacing (lastNode origin spacing side)
+
+unfoldable pub drawnPoint : Grid → Vec3 → Vec3
+drawnPoint g p = record {
+  x = drawn (p .x) (g .origin .x) (g .spacing .x) (g .sides .x);
+  y = drawn (p .y) (g .origin .y) (g .spacing .y) (g .sides .y);
+  z = drawn (p .z) (g .origin .z) (g .spacing .z) (g .sides .z);
+}
+
+-- ---- the place
 
 -- the cell of a coordinate, and the rest that is left in it
 unfoldable pub cellBelow : Float → ℕ → ℕ
@@ -49,6 +66,6 @@ locateInside g p =
     withPlace (locateAxis (p .z) (g .origin .z) (g .spacing .z) (g .sides .z))
     (λ (z : ℕ) (tz : Float). At x tx y ty z tz)))
 
--- "A sample outside the box is 5."
+-- "a point that is not finite is still 6": before any coordinate is drawn
 unfoldable pub locate : Grid → Vec3 → Located
-locate g p = cond (finiteVec p) (cond (outside p (g .origin) (lastCorner g)) (Refused outOfBounds) (locateInside g p)) (Refused overflow)
+locate g p = cond (finiteVec p) (locateInside g (drawnPoint g p)) (Refused overflow)

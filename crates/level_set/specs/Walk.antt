@@ -82,6 +82,7 @@ abbrev pub withCells : Cells → (ℕ → ℕ → ℕ → Turn) → Turn
 withCells (CellsAt x y z) k = k x y z
 withCells NoCells k = done (refused overflow)
 
+-- "The walk's cell index and next boundary are taken from the undrawn point."
 unfoldable pub walkStep : Ray → Grid → List Float → Float → Float → Turn
 walkStep r g values current exit =
     cond (lt exit current) (done none)

@@ -2,12 +2,13 @@ use crate::cells;
 use crate::grid;
 use crate::grid::Grid;
 use arithmetic::basic;
+use arithmetic::below;
 use casts::answer;
 use geometry::vec3::Vec3;
 ghost use mathlib.Core.Path.{_≡_};
 ghost use Prim.Native.Nat.{_≤_};
 ghost use Rattle.level_set.specs.Grid.{SidesStand};
-ghost use Rattle.level_set.specs.Places.{outsideSide, outside, cellBelow, locateAxis, locateInside, locate};
+ghost use Rattle.level_set.specs.Places.{topOf, drawn, drawnPoint, cellBelow, locateAxis, locateInside, locate};
 
 // A cell of one axis and where in it a point lies, or that the coordinate is not finite.
 pub enum Place {
@@ -36,27 +37,41 @@ pub struct Near {
     pub z: u32,
 }
 
-// The rule of `outside` on one axis.
-fn outside_side(point: f64, low: f64, high: f64) -> bool
-    ensures { λ r. ⌜ r ≡ outsideSide point low high ⌝ }
+// The greatest coordinate of an axis that is admitted.
+fn top(origin: f64, spacing: f64, last: f64) -> f64
+    ensures { λ r. ⌜ r ≡ topOf origin spacing last ⌝ }
 {
-    if point < low {
-        return true;
+    if basic::is_finite((last - origin) / spacing) {
+        return last;
     }
-    point > high
+    below::just_below(last)
 }
 
-// Whether a point lies outside the grid's box.
-fn outside(point: Vec3, low: Vec3, high: Vec3) -> bool
-    ensures { λ r. ⌜ r ≡ outside point low high ⌝ }
+// A coordinate drawn onto the box on its axis; one inside stays.
+fn draw(point: f64, origin: f64, spacing: f64, side: u32) -> f64
+    requires { ⌜ 2 ≤ side ⌝ }
+    ensures { λ r. ⌜ r ≡ drawn point origin spacing side ⌝ }
 {
-    if outside_side(point.x, low.x, high.x) {
-        return true;
+    if point < origin {
+        return origin;
     }
-    if outside_side(point.y, low.y, high.y) {
-        return true;
+    let last = grid::last_node(origin, spacing, side);
+    if point > last {
+        return top(origin, spacing, last);
     }
-    outside_side(point.z, low.z, high.z)
+    point
+}
+
+// A point drawn onto the box.
+fn draw_point(grid: Grid, point: Vec3) -> Vec3
+    requires { ⌜ SidesStand (grid .sides) ⌝ }
+    ensures { λ r. ⌜ r ≡ drawnPoint grid point ⌝ }
+{
+    Vec3 {
+        x: draw(point.x, grid.origin.x, grid.spacing.x, grid.sides.x),
+        y: draw(point.y, grid.origin.y, grid.spacing.y, grid.sides.y),
+        z: draw(point.z, grid.origin.z, grid.spacing.z, grid.sides.z),
+    }
 }
 
 // The cell of a coordinate. Two comparisons show that a guess is right; else the coordinate's fraction is cut off.
@@ -130,7 +145,7 @@ fn locate_inside(grid: Grid, point: Vec3, near: Near) -> Located
     }
 }
 
-// The cell at any point; one outside the box is refused.
+// The cell at any point that is finite, drawn onto the box.
 pub fn locate(grid: Grid, point: Vec3, near: Near) -> Located
     requires { ⌜ SidesStand (grid .sides) ⌝ }
     ensures { λ r. ⌜ r ≡ locate grid point ⌝ }
@@ -138,8 +153,5 @@ pub fn locate(grid: Grid, point: Vec3, near: Near) -> Located
     if !point.is_finite() {
         return Located::Refused(answer::OVERFLOW);
     }
-    if outside(point, grid.origin, grid::last_corner(grid)) {
-        return Located::Refused(answer::OUT_OF_BOUNDS);
-    }
-    locate_inside(grid, point, near)
+    locate_inside(grid, draw_point(grid, point), near)
 }

@@ -1,5 +1,6 @@
-//! Reads `probe` records from standard input and prints the Rust's answers, or with
-//! `--plain` those of the plain model, which tell the sign of every zero.
+//! Reads `probe` records from standard input and prints the Rust's answers, or why a
+//! record is left out of runs against the Rust; with `--plain` the answers of the plain
+//! model, which tell the sign of every zero.
 //! With `--constructed`, standard error says what the Rust's constructors make of
 //! the shapes and rays that document 01 admits.
 
@@ -11,11 +12,11 @@ use oracle::{
 use std::io::{BufWriter, Read, Write};
 
 fn main() {
-    let (answer, counting): (fn(&Record) -> Answer, bool) =
+    let (answer, plain, counting): (fn(&Record) -> Answer, bool, bool) =
         match std::env::args().skip(1).collect::<Vec<_>>().as_slice() {
-            [] => (Record::answer, false),
-            [option] if option == "--plain" => (plain::answer, false),
-            [option] if option == "--constructed" => (Record::answer, true),
+            [] => (Record::answer, false, false),
+            [option] if option == "--plain" => (plain::answer, true, false),
+            [option] if option == "--constructed" => (Record::answer, false, true),
             _ => {
                 eprintln!("usage: oracle-probe [--plain | --constructed] < RECORDS");
                 std::process::exit(2);
@@ -28,6 +29,11 @@ fn main() {
     let mut out = BufWriter::new(std::io::stdout().lock());
     let mut tally = [[[0u64; 3]; 2]; 6];
     record::probe_by(answer, &input, |line, record| {
+        let left_out = record.filter(|_| !plain).and_then(Record::left_out);
+        let line = match (left_out, line.split_once(' ')) {
+            (Some(reason), Some((number, _))) => format!("{number} left out, {reason}"),
+            _ => line.to_owned(),
+        };
         writeln!(out, "{line}").expect("standard output");
         if let Some(record) = record.filter(|_| counting)
             && !matches!(record.answer(), Answer::Refused(1 | 2))

@@ -51,9 +51,10 @@ fn differing(command: &[String], records: &[Record]) -> Vec<bool> {
     }
     let differs = |(number, record): (usize, &Record)| {
         let own = record::line(number as u64 + 1, &record.answer());
-        lines
-            .get(number)
-            .is_none_or(|line| !lines_agree(&own, line))
+        record.left_out().is_none()
+            && lines
+                .get(number)
+                .is_none_or(|line| !lines_agree(&own, line))
     };
     records.iter().enumerate().map(differs).collect()
 }
