@@ -20,6 +20,7 @@ pub mod shape;
 pub mod shrink;
 pub mod slips;
 pub(crate) mod stubs;
+pub mod telling;
 pub mod tree;
 pub mod trees;
 

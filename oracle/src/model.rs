@@ -323,7 +323,7 @@ fn walk(tree: Tree, n: usize, bounds: &[f64]) -> Option<Vec<u32>> {
         }
         match tree.node(index) {
             Node::Branch { left, right } => {
-                let above = |child: usize| child > index || (slipped(QueryChild) && child == index);
+                let above = |child: usize| child > index || (slipped(QueryChild) && child < index);
                 if [left, right]
                     .iter()
                     .any(|&c| !above(c) || c >= tree.node_count)
@@ -430,9 +430,11 @@ fn nodes_hold(tree: Tree, n: usize) -> bool {
             }
         }
     }
-    let once = |slip, times: &[i32]| times.iter().all(|&t| t == 1 || (slipped(slip) && t > 0));
-    let ordered = slipped(CheckOrder) || once(CheckOrder, &ordered);
-    once(CheckNamed, &named[1..]) && once(CheckPlaces, &covered) && ordered
+    let once = |times: &[i32]| times.iter().all(|&t| t == 1);
+    let placed = |&t: &i32| t == 1 || (slipped(CheckPlaces) && t > 1);
+    (slipped(CheckNamed) || once(&named[1..]))
+        && covered.iter().all(placed)
+        && (slipped(CheckOrder) || once(&ordered))
 }
 
 /// Each triangle box is valid and equals its vertices' box, under IEEE 754.

@@ -284,7 +284,7 @@ fn triangle_cast(ray: &Ray, corners: [Vec3; 3]) -> Step<(Vec3, f64)> {
         largest(a),
     );
     let scale = or(TriangleScale, maximum(edges, 1.0), edges);
-    let threshold = scale * EPS * or(TriangleGrouping, 32.0, 64.0);
+    let threshold = scale * EPS * or(TriangleFactor, 32.0, 64.0);
     let flat = or(
         TriangleStrict,
         determinant.abs() <= threshold,
@@ -701,13 +701,7 @@ impl Grid<'_> {
             lerp(lerp(x00, x10, ty)?, lerp(x01, x11, ty)?, tz)
         };
         let value = value()?;
-        let slope = |a: f64, b: f64, spacing: f64| -> Step<f64> {
-            let difference = a - b;
-            if slipped(SampleDifference) {
-                return Ok(difference / spacing);
-            }
-            Ok(finite(difference, 6)? / spacing)
-        };
+        let slope = |a: f64, b: f64, spacing: f64| -> Step<f64> { Ok(finite(a - b, 6)? / spacing) };
         let flat =
             |a: Step<f64>, b: Step<f64>, c: Step<f64>, d: Step<f64>, s: f64, t: f64| -> Step<f64> {
                 lerp(lerp(a?, b?, s)?, lerp(c?, d?, s)?, t)
@@ -734,30 +728,8 @@ impl Grid<'_> {
         Ok(Sample { value, gradient })
     }
 
-    /// The sample at the hit, of which the gradient is asked.
-    fn sample_at_hit(&self, point: Vec3) -> Step<Sample> {
-        match self.sample(point) {
-            Err(Stop::Refused(6)) if slipped(SampleValue) => self.without_value(point),
-            sample => sample,
-        }
-    }
-
-    /// The gradient at a point whose value overflows: that of the same grid with small values.
-    fn without_value(&self, point: Vec3) -> Step<Sample> {
-        let small: Vec<f64> = self.values.iter().map(|value| value * 0.25).collect();
-        let grid = Grid {
-            values: &small,
-            ..*self
-        };
-        let sample = grid.sample(point)?;
-        Ok(Sample {
-            value: sample.value,
-            gradient: sample.gradient * 4.0,
-        })
-    }
-
     fn hit(&self, ray: &Ray, point: Vec3, distance: f64) -> Step<(Vec3, f64)> {
-        let sample = self.sample_at_hit(point)?;
+        let sample = self.sample(point)?;
         let normal = normalised(sample.gradient).ok_or(Stop::Refused(or(GradientLength, 8, 7)))?;
         let away = slipped(GradientFacing) && dot(normal, Vec3::from_array(ray.direction)) > 0.0;
         Ok((if away { -normal } else { normal }, distance))

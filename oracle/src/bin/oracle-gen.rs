@@ -1,7 +1,7 @@
 //! Writes seeded `probe` records to standard output, or malformed streams into a
 //! directory.
 
-use oracle::generate;
+use oracle::{generate, telling};
 use std::io::{BufWriter, Write};
 
 const USAGE: &str = "usage: oracle-gen SEED COUNT [--kinds 1,2,3,4,5] > RECORDS
@@ -16,7 +16,7 @@ fn usage() -> ! {
 
 fn write_records(seed: u64, count: usize, kinds: &[u8]) -> std::io::Result<()> {
     let mut out = BufWriter::new(std::io::stdout().lock());
-    let mut marked = generate::marked();
+    let mut marked = [generate::marked(), telling::records()].concat();
     marked.retain(|record| kinds.contains(&record.shape.kind()));
     marked.truncate(count);
     for record in &marked {
