@@ -129,6 +129,13 @@ fn grids() -> Vec<Record> {
             5.0,
             grid([2; 3], [1.0; 3], layers(-1e-152, 1e-152)),
         ),
+        // along the face x = 1 by the least step, which is parallel
+        record(
+            [1.0, 0.5, 2.0],
+            [5e-324, 0.0, -1.0],
+            5.0,
+            grid([2; 3], [1.0; 3], layers(-0.5, 0.5)),
+        ),
         // a third difference that is not finite, and no root
         record(
             middle,
