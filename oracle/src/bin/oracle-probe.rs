@@ -1,6 +1,7 @@
 //! Reads `probe` records from standard input and prints the Rust's answers, or why a
 //! record is left out of runs against the Rust; with `--plain` the answers of the plain
-//! model, which tell the sign of every zero.
+//! model, which tell the sign of every zero, and with `--every` the Rust's answers to
+//! every record, left out or not.
 //! With `--constructed`, standard error says what the Rust's constructors make of
 //! the shapes and rays that document 01 admits.
 
@@ -12,13 +13,14 @@ use oracle::{
 use std::io::{BufWriter, Read, Write};
 
 fn main() {
-    let (answer, plain, counting): (fn(&Record) -> Answer, bool, bool) =
+    let (answer, every, counting): (fn(&Record) -> Answer, bool, bool) =
         match std::env::args().skip(1).collect::<Vec<_>>().as_slice() {
             [] => (Record::answer, false, false),
             [option] if option == "--plain" => (plain::answer, true, false),
+            [option] if option == "--every" => (Record::answer, true, false),
             [option] if option == "--constructed" => (Record::answer, false, true),
             _ => {
-                eprintln!("usage: oracle-probe [--plain | --constructed] < RECORDS");
+                eprintln!("usage: oracle-probe [--plain | --every | --constructed] < RECORDS");
                 std::process::exit(2);
             }
         };
@@ -29,7 +31,7 @@ fn main() {
     let mut out = BufWriter::new(std::io::stdout().lock());
     let mut tally = [[[0u64; 3]; 2]; 6];
     record::probe_by(answer, &input, |line, record| {
-        let left_out = record.filter(|_| !plain).and_then(Record::left_out);
+        let left_out = record.filter(|_| !every).and_then(Record::left_out);
         let line = match (left_out, line.split_once(' ')) {
             (Some(reason), Some((number, _))) => format!("{number} left out, {reason}"),
             _ => line.to_owned(),
