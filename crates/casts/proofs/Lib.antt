@@ -1,4 +1,5 @@
 -- Laws about the casts' definitions. Assumes nothing.
+pub mod SegmentBoxLaws
 pub mod AnswerLists
 pub mod NearestRefusals
 pub mod NearestHits

@@ -1,5 +1,6 @@
 -- What a cast answers, the casts at a plane and a triangle, and the nearest of many triangles. Definitions only. Assumes nothing.
 pub mod Answer
+pub mod SegmentBox
 pub mod Reach
 pub mod Surface
 pub mod Plane

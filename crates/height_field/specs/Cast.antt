@@ -4,11 +4,11 @@ use mathlib.Core.Bool.{Bool, _&&_, cond}
 use mathlib.Core.List.{List}
 use lib.Ieee.{Float}
 use Rattle.arithmetic.specs.Basic.{isFinite}
-use Rattle.geometry.specs.Vector.{finiteVec}
-use Rattle.geometry.specs.Box.{validBox}
-use Rattle.geometry.specs.Segment.{rayAdmitted, segmentEnd, segmentBox}
+use Rattle.geometry.specs.Segment.{rayAdmitted}
+use Rattle.geometry.specs.declared.aabb.Aabb.{Aabb}
 use Rattle.geometry.specs.declared.ray.Ray.{Ray}
-use Rattle.casts.specs.Answer.{Answer, refused, invalidInput, badShape, outOfBounds, overflow}
+use Rattle.casts.specs.Answer.{Answer, refused, invalidInput, badShape, overflow}
+use Rattle.casts.specs.SegmentBox.{withSegmentBox}
 use Rattle.casts.specs.Triangle.{triangleCast}
 use Rattle.casts.specs.Nearest.{nearestOf, withoutIndex}
 use Rattle.height_field.specs.declared.field.Field.{Field}
@@ -29,14 +29,11 @@ castListed answer (unlisted number) = refused number
 unfoldable pub spanFinite : Field → Bool
 spanFinite f = isFinite (spanOf (f .«spacing_x») (f .columns - 1)) && isFinite (spanOf (f .«spacing_y») (f .rows - 1))
 
--- the Rust's order: the segment's end (6), its box (5), the span (6), the listing's refusals, the triangles'
+-- the Rust's order: the segment's refusals, the span (6), the listing's refusals, the triangles'
 unfoldable pub heightCast : Ray → Field → List Float → Answer
 heightCast ray f heights =
-    cond (finiteVec (segmentEnd ray))
-    (cond (validBox (segmentBox ray))
-    (cond (spanFinite f) (castListed (answerOf ray f heights) (gridListing f heights (segmentBox ray))) (refused overflow))
-    (refused outOfBounds))
-    (refused overflow)
+    withSegmentBox refused ray (λ (box : Aabb).
+    cond (spanFinite f) (castListed (answerOf ray f heights) (gridListing f heights box)) (refused overflow))
 
 -- refusal 1 before 2, then the cast
 unfoldable pub rayHeightField : Ray → Field → List Float → Answer

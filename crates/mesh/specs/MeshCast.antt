@@ -5,11 +5,11 @@ use mathlib.Core.List.{List}
 use lib.Dec.{leb, eqb}
 use lib.Ieee.{Float}
 use lib.ListN.{length}
-use Rattle.geometry.specs.Vector.{finiteVec}
-use Rattle.geometry.specs.Box.{validBox}
-use Rattle.geometry.specs.Segment.{rayAdmitted, segmentEnd, segmentBox}
+use Rattle.geometry.specs.Segment.{rayAdmitted}
+use Rattle.geometry.specs.declared.aabb.Aabb.{Aabb}
 use Rattle.geometry.specs.declared.ray.Ray.{Ray}
-use Rattle.casts.specs.Answer.{invalidInput, badShape, noRoom, wrongPose, outOfBounds, overflow}
+use Rattle.casts.specs.Answer.{invalidInput, badShape, noRoom, wrongPose, outOfBounds}
+use Rattle.casts.specs.SegmentBox.{withSegmentBox}
 use Rattle.casts.specs.Nearest.{Indexed, stopped, nearestOf}
 use Rattle.tree.specs.Layout.{Tree}
 use Rattle.tree.specs.Mesh.{Mesh, thirds, lengthsAdmitted, triangleAnswer}
@@ -36,12 +36,10 @@ unfoldable pub overWalk : Ray → List Float → List ℕ → Walking → Indexe
 overWalk r pose triangles broken = stopped outOfBounds
 overWalk r pose triangles (walking stack list) = nearestOf (triangleAnswer r pose triangles) list
 
--- the Rust's order: segment end 6, its box 5, the query's 5, then the triangles'
+-- the Rust's order: the segment's refusals, the query's 5, then the triangles'
 unfoldable pub meshCast : Ray → Mesh → List Float → Tree → Indexed
 meshCast r m pose t =
-    cond (finiteVec (segmentEnd r))
-    (cond (validBox (segmentBox r)) (overWalk r pose (m .triangles) (walkOf t (thirds (length (m .triangles))) (segmentBox r))) (stopped outOfBounds))
-    (stopped overflow)
+    withSegmentBox stopped r (λ (box : Aabb). overWalk r pose (m .triangles) (walkOf t (thirds (length (m .triangles))) box))
 
 -- whether refusals 1 to 4 let the call pass; until then the lent areas are unchanged, and after it "work areas .. may hold anything"
 unfoldable pub testsPass : Ray → Mesh → List Float → Tree → ℕ → ℕ → Bool
