@@ -164,8 +164,8 @@ uint32_t probe_ray_plane(
 /* Casts a ray at the triangle of corners a, b and c, from either side.
  *
  * Answers PROBE_HIT, PROBE_NONE, or refuses with 1, 3, 6 or 7. The normal written faces the ray. A triangle that is
- * flat for the ray (parallel to it, or too small) is none. A distance equal to the maximum is a hit. Corners far
- * apart may give a hit whose distance is NaN: it passes the comparisons.
+ * flat for the ray (parallel to it, or too small) is none. A distance equal to the maximum is a hit. A
+ * distance that is not a number, as corners far apart may give, is 6.
  */
 uint32_t probe_ray_triangle(
     double origin_x,
@@ -248,9 +248,8 @@ uint32_t probe_ray_level_set(
  *
  * Answers PROBE_HIT, PROBE_NONE, or refuses with 1 to 7. A hit is the nearest; of equally near ones, that of the
  * lowest index. At the mesh's own vertices, through a tree for which probe_tree_check says PROBE_YES, no triangle
- * whose box touches is missed, as long as none of them gives a distance that is NaN. Any other tree may be passed
- * too: the call ends, and touches nothing past an area's end, but a surface that such a tree does not enclose may be
- * missed, and nothing tells that none from a right one.
+ * whose box touches is missed. Any other tree may be passed too: the call ends, and touches nothing past an area's
+ * end, but a surface that such a tree does not enclose may be missed, and nothing tells that none from a right one.
  */
 uint32_t probe_ray_mesh(
     double origin_x,

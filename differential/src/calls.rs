@@ -9,6 +9,7 @@ use crate::{
 use oracle::{
     answer::{self, Answer, agree},
     model::{self, BuildAreas},
+    plain,
     tree::{self, FlatTree},
 };
 use probe_rays::sys;
@@ -362,9 +363,10 @@ pub fn cast(log: &mut Log, call: &Cast) {
         return;
     };
     let short = call.hit.len() < 4 || call.index.is_empty();
-    let expected = if short {
-        Answer::Refused(3)
-    } else {
+    let (expected, reason) = plain::beside_the_rust(|| {
+        if short {
+            return Answer::Refused(3);
+        }
         model::ray_mesh(
             &call.ray,
             call.vertices,
@@ -374,7 +376,7 @@ pub fn cast(log: &mut Log, call: &Cast) {
             call.list.len(),
             call.stack.len(),
         )
-    };
+    });
     answer_is(held, &done, &expected, exact, MODEL);
     // Only a hit writes its places, and none writes behind them.
     let (values, indices) = if done.number == sys::HIT && !short {
@@ -391,7 +393,10 @@ pub fn cast(log: &mut Log, call: &Cast) {
     if short {
         held.left_out(SHORT_RESULT);
     } else {
-        cast_beside_the_rust(held, call, &done);
+        match reason {
+            Some(reason) => held.left_out(reason),
+            None => cast_beside_the_rust(held, call, &done),
+        }
         cast_beside_demand_3(held, call, &done);
     }
 }

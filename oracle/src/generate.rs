@@ -12,7 +12,8 @@ const UP: Point = [0.0, 0.0, 1.0];
 const DOWN: Point = [0.0, 0.0, -1.0];
 const T: [Point; 3] = [[0.0, 0.0, 0.0], [1.0, 0.0, 0.0], [0.0, 1.0, 0.0]];
 
-/// K1 to K13 of document 01, then the slips that document 01 warns of.
+/// K1 to K13 of document 01, then the slips that document 01 warns of, then a distance
+/// that is not a number behind a hit.
 pub fn marked() -> Vec<Record> {
     let down = |origin, maximum| Ray {
         origin,
@@ -75,7 +76,25 @@ pub fn marked() -> Vec<Record> {
         overflow_after_no_normal(f64::NAN),
         overflow_after_no_normal(0.0),
         huge_middle(),
+        not_a_number([0, 1]),
+        not_a_number([1, 0]),
     ]
+}
+
+/// Two triangles along one ray: one that is hit, and farther off a long thin one whose
+/// distance is not a number, in either order.
+fn not_a_number(order: [usize; 2]) -> Record {
+    let near = [[-1e3, -1e3, 5e199], [1e3, -1e3, 5e199], [0.0, 1e3, 5e199]];
+    let thin = [[0.0; 3], [1e120, 1e120, 0.0], [0.0, 1e-7, 0.0]];
+    let (vertices, indices) = soup(order.map(|place| [near, thin][place]).to_vec());
+    Record {
+        ray: Ray {
+            origin: [1.0, 1.0, 1e200],
+            direction: DOWN,
+            maximum: 2e200,
+        },
+        shape: Shape::Mesh { vertices, indices },
+    }
 }
 
 /// A height grid whose row 0 gives 7; the last node of row 1 decides on 6.
@@ -447,6 +466,31 @@ fn refusing(random: &mut Random) -> Record {
     }
 }
 
+/// Long thin triangles seen from far away, which give a distance that is not a number,
+/// among ordinary ones that are hit, in any order and on either side of them.
+fn seen_from_far(random: &mut Random) -> Record {
+    let far = random.pick(&[1e190, 1e200, 1e205]);
+    let mut triangles = Vec::new();
+    for _ in 0..random.within(1, 6) {
+        let z = far * random.within(-3, 3) as f64 / 4.0;
+        triangles.push(match random.below(3) {
+            0 => [[0.0, 0.0, z], [1e120, 1e120, z], [0.0, 1e-7, z]],
+            1 => [[-1e3, -1e3, z], [1e3, -1e3, z], [0.0, 1e3, z]],
+            // One that the ray passes by, and whose box it does not touch.
+            _ => [[2.0, 2.0, z], [1e120, 1e120, z], [2.0, 2.0 + 1e-7, z]],
+        });
+    }
+    let (vertices, indices) = soup(triangles);
+    Record {
+        ray: Ray {
+            origin: [random.pick(&[1.0, 1.0, 0.5]), 1.0, far],
+            direction: DOWN,
+            maximum: far * random.pick(&[0.5, 1.0, 2.0, 2.0]),
+        },
+        shape: Shape::Mesh { vertices, indices },
+    }
+}
+
 fn mesh(random: &mut Random) -> Record {
     if random.once_in(16) {
         return refusing(random);
@@ -754,6 +798,7 @@ pub fn record(seed: u64, number: u64, kinds: &[u8]) -> Record {
         let mut record = match random.pick(kinds) {
             1 => plane(random),
             2 => triangle(random),
+            3 if number % 61 == 17 => seen_from_far(random),
             3 => mesh(random),
             4 => height_field(random),
             5 => level_set(random),

@@ -9,8 +9,24 @@ use crate::{
     slips::{Slip::*, or, slipped},
     tree::FlatTree,
 };
+use std::cell::Cell;
 
 const EPS: f64 = f64::EPSILON;
+
+/// Document 02, M-102: 'Runs against the Rust leave out inputs where any triangle gives NaN.'
+pub const NAN: &str = "a triangle's distance is not a number";
+
+thread_local! {
+    static CHANGED: Cell<Option<&'static str>> = const { Cell::new(None) };
+}
+
+/// Runs a cast of this model, and says why its input is not held against the Rust, if it is not: a rule of document 02 was met
+/// on the way, whatever the answer is.
+pub fn beside_the_rust<T>(cast: impl FnOnce() -> T) -> (T, Option<&'static str>) {
+    CHANGED.set(None);
+    let answer = cast();
+    (answer, CHANGED.get())
+}
 
 /// A cast stops at a miss or at a refusal's number.
 enum Stop {
@@ -327,6 +343,12 @@ fn triangle_cast(ray: &Ray, corners: [Vec3; 3]) -> Step<(Vec3, f64)> {
     } else {
         a.cross(b)
     };
+    if distance.is_nan() {
+        CHANGED.set(Some(NAN));
+        if !slipped(NanKept) && !(slipped(NanAfterNormal) && normalised(across).is_none()) {
+            return refuse(or(NanSeven, 6, 7));
+        }
+    }
     let normal = normalised(across).ok_or(Stop::Refused(7))?;
     let faces_away = dot(direction, normal) > 0.0 && !slipped(TriangleNormal);
     Ok((

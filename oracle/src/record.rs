@@ -1,6 +1,9 @@
 //! Records and lines of the program `probe` (document 01, 'Printed result').
 
-use crate::answer::{self, Answer, Constructed, Ray};
+use crate::{
+    answer::{self, Answer, Constructed, Ray},
+    plain,
+};
 
 pub const LONGEST: usize = 8_192;
 
@@ -124,7 +127,7 @@ impl Record {
             Shape::LevelSet { .. } if self.answer() == Answer::Refused(5) => {
                 Some("the Rust refuses a distance grid with 5 (M-103)")
             }
-            _ => None,
+            _ => plain::beside_the_rust(|| plain::answer(self)).1,
         }
     }
 

@@ -4,6 +4,7 @@ use oracle::{
     answer::{self, Answer, Ray, agree},
     cases, generate,
     model::{self, BuildAreas, Check},
+    plain,
     random::Random,
     record::Shape,
     tree::{self, FlatTree},
@@ -112,7 +113,11 @@ fn built_and_other_trees_pass_and_give_the_rusts_answers() {
             continue;
         };
         let n = indices.len() / 3;
-        let plain = model::ray_mesh_without_tree(&ray, &vertices, &indices);
+        let (plain, reason) =
+            plain::beside_the_rust(|| model::ray_mesh_without_tree(&ray, &vertices, &indices));
+        if reason.is_some() {
+            continue;
+        }
         assert!(same(&plain, &answer::mesh(&ray, &vertices, &indices)));
         hits += i32::from(matches!(plain, Answer::Hit { .. }));
         for lent in [built.clone().padded(n), trees::valid(random, &built)] {
@@ -157,7 +162,12 @@ fn a_cast_at_other_vertices_is_the_rusts() {
         }
         let lent = built.padded(n);
         let stack = lent.node_count + 1;
-        let cast = model::ray_mesh(&ray, &vertices, &indices, &posed, (&lent).into(), n, stack);
+        let (cast, reason) = plain::beside_the_rust(|| {
+            model::ray_mesh(&ray, &vertices, &indices, &posed, (&lent).into(), n, stack)
+        });
+        if reason.is_some() {
+            continue;
+        }
         let rust = answer::mesh_with_tree(&ray, &vertices, &indices, &posed, &lent);
         assert!(same(&cast, &rust), "{cast:?} {rust:?}");
     }

@@ -8,7 +8,7 @@ use std::fmt;
 pub struct Hit {
     /// The surface's unit normal. A zero of it may be -0.0: a normal that is turned turns its zeros.
     pub normal: [f64; 3],
-    /// How far along the ray; at the origin 0.0 or -0.0. Triangles of extreme size may give NaN.
+    /// How far along the ray: a number, never NaN; at the origin 0.0 or -0.0.
     pub distance: f64,
 }
 
@@ -17,7 +17,7 @@ pub struct Hit {
 pub struct MeshHit {
     /// The triangle's unit normal, which faces the ray. A zero of it may be -0.0.
     pub normal: [f64; 3],
-    /// How far along the ray; at the origin 0.0 or -0.0. Triangles of extreme size may give NaN.
+    /// How far along the ray: a number, never NaN; at the origin 0.0 or -0.0.
     pub distance: f64,
     /// The triangle's index, from 0.
     pub triangle: u32,

@@ -197,8 +197,7 @@ pub fn tree_check(
 ///
 /// A hit is the nearest; of equally near ones, that of the lowest index. Refuses with 1 to 7. At the mesh's own
 /// vertices, through a tree that passes [`tree_check`], no triangle whose box touches that of the ray's segment is
-/// missed, as long as none of them gives a distance that is NaN. Through any other tree the call ends too, but may
-/// miss a surface.
+/// missed. Through any other tree the call ends too, but may miss a surface.
 pub fn ray_mesh(
     ray: &Ray,
     vertices: &[f64],

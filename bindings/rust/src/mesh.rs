@@ -70,8 +70,7 @@ impl Scratch {
 }
 
 /// A mesh and a tree that fits it: built here, or somebody else's that passed the check. So a cast at the mesh's own
-/// vertices misses no triangle whose box touches that of the ray's segment, as long as none of them gives a distance
-/// that is NaN.
+/// vertices misses no triangle whose box touches that of the ray's segment.
 ///
 /// ```
 /// use probe_rays::{Cast, Mesh, Ray, Refusal, Scratch};

@@ -22,12 +22,19 @@ AnswersNone answer j = answer j ≡ none
 abbrev pub NotRefused : (ℕ → Answer) → ℕ → Type 0
 NotRefused answer j = (number : ℕ) → answer j ≡ refused number → ⊥
 
--- if it is hit, the distance is such
+-- if an answer is a hit, the distance is such
+abbrev pub OfHit : (Float → Type 0) → Answer → Type 0
+OfHit P a = (normal : Vec3) (distance : Float) → a ≡ hit normal distance → P distance
+
 abbrev pub HitSuch : (Float → Type 0) → (ℕ → Answer) → ℕ → Type 0
-HitSuch P answer j = (normal : Vec3) (distance : Float) → answer j ≡ hit normal distance → P distance
+HitSuch P answer j = OfHit P (answer j)
 
 abbrev pub IsNumber : Float → Type 0
 IsNumber distance = isNan distance ≡ false
+
+-- no triangle is hit at a distance that is not a number
+abbrev pub HitsAreNumbers : (ℕ → Answer) → Type 0
+HitsAreNumbers answer = (j : ℕ) → HitSuch IsNumber answer j
 
 abbrev pub AtLeast : Float → Float → Type 0
 AtLeast d distance = le d distance ≡ true

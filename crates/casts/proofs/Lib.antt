@@ -6,6 +6,7 @@ pub mod NearestHits
 pub mod NearestLaws
 pub mod KeptLaws
 pub mod ReachLaws
+pub mod HitLaws
 pub mod SummaryOrder
 pub mod SummaryLaws
 pub mod SummaryMembers

@@ -2,7 +2,7 @@
 use Prim.Native.Nat.{ℕ}
 use mathlib.Core.Path.{_≡_, refl, sym, ap, _∙_}
 use mathlib.Core.Bool.{Bool, true, false, _&&_, not, cond, true≢false}
-use lib.Ieee.{Float, nan, lt, le}
+use lib.Ieee.{Float, nan, lt, le, isNan}
 use Rattle.arithmetic.specs.Basic.{isFinite}
 use Rattle.geometry.specs.Numbers.{_+ᶠ_, _*ᶠ_, _/ᶠ_, zeroᶠ, oneᶠ, minPositive}
 use Rattle.geometry.specs.Vector.{subOf, crossOf, dotOf, checkedDot, tryNormalize}
@@ -11,7 +11,7 @@ use Rattle.geometry.specs.declared.vec3.Checked.{Checked}
 use Rattle.geometry.specs.declared.vec3.Checked.the-variants.{Value, Overflow}
 use Rattle.geometry.specs.declared.vec3.Normalized.the-variants.{Unit as UnitOf, Degenerate}
 use Rattle.geometry.specs.declared.ray.Ray.{Ray}
-use Rattle.casts.specs.Answer.{Answer, hit, none, refused, withValue, withNormal, noNormal}
+use Rattle.casts.specs.Answer.{Answer, hit, none, refused, withValue, withNormal, overflow, noNormal}
 use Rattle.casts.specs.Nearest.{Indexed, hitAt, noHit, stopped, nextOf, givesWay}
 use Rattle.casts.specs.Surface.{facing, outOfRange}
 use Rattle.casts.specs.Reach.{reachOf}
@@ -101,10 +101,13 @@ unfolding triangleAbove
 told-above r offset a b inverse u =
     let v = dotOf (r .direction) (crossOf offset a) *ᶠ inverse in
     let distance = dotOf b (crossOf offset a) *ᶠ inverse in
-    let in-range = cond (outOfRange r distance) none (triangleNormal r a b distance) in
+    let number = cond (isNan distance) (refused overflow) (triangleNormal r a b distance) in
+    let in-range = cond (outOfRange r distance) none number in
     told-cond r a b (lt v zeroᶠ) none (cond (lt oneᶠ (u +ᶠ v)) none in-range) (told-none r a b)
     (told-cond r a b (lt oneᶠ (u +ᶠ v)) none in-range (told-none r a b)
-    (told-cond r a b (outOfRange r distance) none (triangleNormal r a b distance) (told-none r a b) (told-normal r a b distance)))
+    (told-cond r a b (outOfRange r distance) none number (told-none r a b)
+    (told-cond r a b (isNan distance) (refused overflow) (triangleNormal r a b distance) (told-refused r a b overflow)
+    (told-normal r a b distance))))
 
 told-at : (r : Ray) (offset a b p : Vec3) (determinant : Float) → Told r a b (triangleAt r offset a b p determinant)
 unfolding triangleAt

@@ -1,18 +1,17 @@
--- The nearest hit by the summary of a list, whatever its order, is that of the fold over the same list ascending. Assumes nothing.
+-- The nearest hit by the summary of a list, whatever its order, is that of the fold over the same list ascending. Assumes, for another order, that those hit are hit at numbers.
 use Prim.Native.Nat.{ℕ, _≤_}
 use mathlib.Core.Path.{_≡_, refl, sym, ap, _∙_}
-use mathlib.Core.Bool.{Bool, true, false, cond, true≢false}
+use mathlib.Core.Bool.{Bool, true, false, cond}
 use mathlib.Core.List.{List, [], _∷_, List·Memᴰ, List·Memᴰ·head}
 use native.Mathlib.Omega.{arith}
 use borrow.Author.Tests.{le-ltb}
-use lib.Ieee.{Float, lt, isNan}
-use Rattle.arithmetic.proofs.Order.{is-nan, lt-nan-false, nan-lt-false}
+use lib.Ieee.{Float, lt}
 use Rattle.geometry.specs.declared.vec3.Vec3.{Vec3}
 use Rattle.casts.specs.Answer.{Answer, hit, none, refused}
 use Rattle.casts.specs.Nearest.{Indexed, hitAt, noHit, stopped, nextOf, foldFrom, nearestOf}
 use Rattle.casts.specs.Reach.{reachOf}
 use Rattle.casts.specs.Summary.{Kept, nobody, kept, keepOf, Found, found, lower, nearer, Summary, nothing, noteOf, summaryFrom, winnerOf, winner, answerAt, nearestNoted}
-use Rattle.casts.proofs.AnswerLists.{Each, Rising}
+use Rattle.casts.proofs.AnswerLists.{Each, Rising, HitsAreNumbers}
 use Rattle.casts.proofs.KeptLaws.{nearer-by-distance, stays-nearest}
 use Rattle.casts.proofs.SummaryOrder.{Reordered, summary-order-free}
 
@@ -20,31 +19,22 @@ module _ (answer : ℕ → Answer) where
   -- what the summary holds where the fold has come to an answer, all of it up to an index
   data Tells (up : ℕ) : Indexed → Summary → Type 0 where
     by-nobody : Tells up noHit nothing
-    by-refuser : (i number : ℕ) (first least : Kept (Found Float)) → i ≤ up
-        → Tells up (stopped number) (record { refuser = kept (found i number); first = first; least = least })
-    by-first : (i : ℕ) (normal : Vec3) (distance : Float) (least : Kept (Found Float)) → i ≤ up → answer i ≡ hit normal distance → isNan distance ≡ true
-        → Tells up (hitAt normal distance i) (record { refuser = nobody; first = kept (found i distance); least = least })
-    by-least : (first : Found Float) (i : ℕ) (normal : Vec3) (distance : Float) → first .index ≤ up → isNan (first .value) ≡ false → i ≤ up → answer i ≡ hit normal distance
-        → Tells up (hitAt normal distance i) (record { refuser = nobody; first = kept first; least = kept (found i distance) })
+    by-refuser : (i number : ℕ) (least : Kept (Found Float)) → i ≤ up
+        → Tells up (stopped number) (record { refuser = kept (found i number); least = least })
+    by-least : (i : ℕ) (normal : Vec3) (distance : Float) → i ≤ up → answer i ≡ hit normal distance
+        → Tells up (hitAt normal distance i) (record { refuser = nobody; least = kept (found i distance) })
 
   tells-answer : (up : ℕ) (best : Indexed) (s : Summary) → Tells up best s → best ≡ answerAt answer (winner s)
   unfolding winnerOf answerAt nextOf
   tells-answer up best s by-nobody = refl
-  tells-answer up best s (by-refuser i number first least below) = refl
-  tells-answer up best s (by-first i normal distance least below e n) = simp (n, e)
-  tells-answer up best s (by-least first i normal distance below n below' e) = simp (n, e)
-
-  nothing-below-nan : (d d' : Float) → isNan d' ≡ true → lt d d' ≡ false
-  nothing-below-nan d d' n = ap (lt d) (is-nan d' n) ∙ lt-nan-false d
-
-  nan-not-below : (d d' : Float) → isNan d ≡ true → lt d d' ≡ false
-  nan-not-below d d' n = ap (λ (z : Float). lt z d') (is-nan d n) ∙ nan-lt-false d'
+  tells-answer up best s (by-refuser i number least below) = refl
+  tells-answer up best s (by-least i normal distance below e) = simp e
 
   -- one more triangle, of an index not below
   module _ (up x : ℕ) (h : up ≤ x) where
-    first-stays : {A : Type 0} (first : Found A) (d : A) → first .index ≤ up → keepOf lower (kept first) (found x d) ≡ kept first
+    refuser-stays : (i number k : ℕ) → i ≤ up → keepOf lower (kept (found i number)) (found x k) ≡ kept (found i number)
     unfolding keepOf lower
-    first-stays first d below = simp (le-ltb x (first .index) (omega arith))
+    refuser-stays i number k below = simp (le-ltb x i (omega arith))
 
     least-moves : (i : ℕ) (distance d : Float) → lt d distance ≡ true → keepOf nearer (kept (found i distance)) (found x d) ≡ kept (found x d)
     unfolding keepOf
@@ -56,53 +46,33 @@ module _ (answer : ℕ → Answer) where
 
     over-nobody : (a : Answer) → answer x ≡ a → Tells x (nextOf noHit x a) (noteOf nothing x (reachOf a))
     unfolding nextOf noteOf reachOf keepOf
-    over-nobody (hit n d) e = go (isNan d) refl
-      where
-        go : (p : Bool) → isNan d ≡ p → Tells x (hitAt n d x) (record { refuser = nobody; first = kept (found x d); least = cond p nobody (kept (found x d)) })
-        go true m = by-first x n d nobody (omega arith) e m
-        go false m = by-least (found x d) x n d (omega arith) m (omega arith) e
+    over-nobody (hit n d) e = by-least x n d (omega arith) e
     over-nobody none e = by-nobody
-    over-nobody (refused number) e = by-refuser x number nobody nobody (omega arith)
+    over-nobody (refused number) e = by-refuser x number nobody (omega arith)
 
-    over-refuser : (i number : ℕ) (first least : Kept (Found Float)) → i ≤ up
-        → (a : Answer) → Tells x (nextOf (stopped number) x a) (noteOf (record { refuser = kept (found i number); first = first; least = least }) x (reachOf a))
+    over-refuser : (i number : ℕ) (least : Kept (Found Float)) → i ≤ up
+        → (a : Answer) → Tells x (nextOf (stopped number) x a) (noteOf (record { refuser = kept (found i number); least = least }) x (reachOf a))
     unfolding nextOf noteOf reachOf
-    over-refuser i number first least below (hit n d) =
-        by-refuser i number (keepOf lower first (found x d)) (cond (isNan d) least (keepOf nearer least (found x d))) (omega arith)
-    over-refuser i number first least below none = by-refuser i number first least (omega arith)
-    over-refuser i number first least below (refused k) = rw (first-stays (found i number) k below) (by-refuser i number first least (omega arith))
+    over-refuser i number least below (hit n d) = by-refuser i number (keepOf nearer least (found x d)) (omega arith)
+    over-refuser i number least below none = by-refuser i number least (omega arith)
+    over-refuser i number least below (refused k) = rw (refuser-stays i number k below) (by-refuser i number least (omega arith))
 
-    over-first : (i : ℕ) (normal : Vec3) (distance : Float) (least : Kept (Found Float)) → i ≤ up → answer i ≡ hit normal distance → isNan distance ≡ true
-        → (a : Answer) → answer x ≡ a
-        → Tells x (nextOf (hitAt normal distance i) x a) (noteOf (record { refuser = nobody; first = kept (found i distance); least = least }) x (reachOf a))
+    over-least : (i : ℕ) (normal : Vec3) (distance : Float) → i ≤ up → answer i ≡ hit normal distance → (a : Answer) → answer x ≡ a
+        → Tells x (nextOf (hitAt normal distance i) x a) (noteOf (record { refuser = nobody; least = kept (found i distance) }) x (reachOf a))
     unfolding nextOf noteOf reachOf keepOf
-    over-first i normal distance least below e m (hit n d) f =
-        rw (nothing-below-nan d distance m, first-stays (found i distance) d below)
-        (by-first i normal distance (cond (isNan d) least (keepOf nearer least (found x d))) (omega arith) e m)
-    over-first i normal distance least below e m none f = by-first i normal distance least (omega arith) e m
-    over-first i normal distance least below e m (refused k) f = by-refuser x k (kept (found i distance)) least (omega arith)
-
-    over-least : (first : Found Float) (i : ℕ) (normal : Vec3) (distance : Float) → first .index ≤ up → isNan (first .value) ≡ false → i ≤ up → answer i ≡ hit normal distance
-        → (a : Answer) → answer x ≡ a
-        → Tells x (nextOf (hitAt normal distance i) x a) (noteOf (record { refuser = nobody; first = kept first; least = kept (found i distance) }) x (reachOf a))
-    unfolding nextOf noteOf reachOf keepOf
-    over-least first i normal distance below m below' e (hit n d) f = rw (first-stays first d below) (go (isNan d) refl (lt d distance) refl)
+    over-least i normal distance below e (hit n d) f = go (lt d distance) refl
       where
-        go : (p : Bool) → isNan d ≡ p → (q : Bool) → lt d distance ≡ q
-            → Tells x (cond q (hitAt n d x) (hitAt normal distance i))
-            (record { refuser = nobody; first = kept first; least = cond p (kept (found i distance)) (keepOf nearer (kept (found i distance)) (found x d)) })
-        go true p true q = absurd (true≢false (sym q ∙ nan-not-below d distance p))
-        go true p false q = by-least first i normal distance (omega arith) m (omega arith) e
-        go false p true q = rw (least-moves i distance d q) (by-least first x n d (omega arith) m (omega arith) f)
-        go false p false q = rw (least-stays i distance d below' q) (by-least first i normal distance (omega arith) m (omega arith) e)
-    over-least first i normal distance below m below' e none f = by-least first i normal distance (omega arith) m (omega arith) e
-    over-least first i normal distance below m below' e (refused k) f = by-refuser x k (kept first) (kept (found i distance)) (omega arith)
+        go : (q : Bool) → lt d distance ≡ q
+            → Tells x (cond q (hitAt n d x) (hitAt normal distance i)) (record { refuser = nobody; least = keepOf nearer (kept (found i distance)) (found x d) })
+        go true q = rw (least-moves i distance d q) (by-least x n d (omega arith) f)
+        go false q = rw (least-stays i distance d below q) (by-least i normal distance (omega arith) e)
+    over-least i normal distance below e none f = by-least i normal distance (omega arith) e
+    over-least i normal distance below e (refused k) f = by-refuser x k (kept (found i distance)) (omega arith)
 
     tells-next : (best : Indexed) (s : Summary) → Tells up best s → Tells x (nextOf best x (answer x)) (noteOf s x (reachOf (answer x)))
     tells-next best s by-nobody = over-nobody (answer x) refl
-    tells-next best s (by-refuser i number first least below) = over-refuser i number first least below (answer x)
-    tells-next best s (by-first i normal distance least below e n) = over-first i normal distance least below e n (answer x) refl
-    tells-next best s (by-least first i normal distance below n below' e) = over-least first i normal distance below n below' e (answer x) refl
+    tells-next best s (by-refuser i number least below) = over-refuser i number least below (answer x)
+    tells-next best s (by-least i normal distance below e) = over-least i normal distance below e (answer x) refl
 
   -- all of a list that does not fall
   tells-all : (up : ℕ) (best : Indexed) (s : Summary) (l : List ℕ) → Tells up best s → Each (λ (y : ℕ). up ≤ y) l → Rising l → foldFrom answer best l ≡ answerAt answer (winner (summaryFrom answer s l))
@@ -115,5 +85,6 @@ module _ (answer : ℕ → Answer) where
   nearest-of-ascending l r = tells-all 0 noHit nothing l by-nobody (λ (y : ℕ) (m : List·Memᴰ y l). omega arith) r
 
   -- the answer depends only on which triangles there are
-  pub nearest-of-any-order : {l m : List ℕ} → Reordered l m → Rising m → nearestNoted answer l ≡ nearestOf answer m
-  nearest-of-any-order {l} {m} o r = ap (λ (s : Summary). answerAt answer (winner s)) (summary-order-free answer o nothing) ∙ sym (nearest-of-ascending m r)
+  pub nearest-of-any-order : HitsAreNumbers answer → {l m : List ℕ} → Reordered l m → Rising m → nearestNoted answer l ≡ nearestOf answer m
+  nearest-of-any-order numbers {l} {m} o r =
+      ap (λ (s : Summary). answerAt answer (winner s)) (summary-order-free answer numbers o nothing) ∙ sym (nearest-of-ascending m r)

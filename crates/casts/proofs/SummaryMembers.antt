@@ -3,7 +3,7 @@ use Prim.Native.Nat.{ℕ}
 use mathlib.Core.Path.{refl}
 use mathlib.Core.Bool.{Bool, true, false, cond}
 use mathlib.Core.List.{List, [], _∷_, List·Memᴰ·head}
-use lib.Ieee.{Float, isNan}
+use lib.Ieee.{Float}
 use Rattle.casts.specs.Answer.{Answer}
 use Rattle.casts.specs.Reach.{reachOf}
 use Rattle.casts.specs.Summary.{Kept, nobody, kept, keepOf, Found, found, lower, nearer, Summary, nothing, noteOf, summaryFrom, struckOf, winnerOf, winner}
@@ -38,7 +38,6 @@ module _ (P : ℕ → Reach → Type 0) where
 
   record OfSummary (s : Summary) : Type 0 where
     refuser : OfKept OfRefuser (s .refuser)
-    first : OfKept OfStruck (s .first)
     least : OfKept OfStruck (s .least)
 
   note-of : (s : Summary) (i : ℕ) (a : Reach) → P i a → OfSummary s → OfSummary (noteOf s i a)
@@ -46,18 +45,12 @@ module _ (P : ℕ → Reach → Type 0) where
   note-of s i Miss p h = h
   note-of s i (Refused number) p h = record {
     refuser = keep-of OfRefuser lower (s .refuser) (found i number) (h .refuser) p;
-    first = h .first;
     least = h .least;
   }
   note-of s i (At d) p h = record {
     refuser = h .refuser;
-    first = keep-of OfStruck lower (s .first) (found i d) (h .first) p;
-    least = go (isNan d);
+    least = keep-of OfStruck nearer (s .least) (found i d) (h .least) p;
   }
-    where
-      go : (b : Bool) → OfKept OfStruck (cond b (s .least) (keepOf nearer (s .least) (found i d)))
-      go true = h .least
-      go false = keep-of OfStruck nearer (s .least) (found i d) (h .least) p
 
   -- of the winner: some triangle refuses with its number, or its own triangle is hit at its distance
   abbrev pub OfOutcome : Outcome → Type 0
@@ -69,15 +62,10 @@ module _ (P : ℕ → Reach → Type 0) where
   struck-of nobody h = tt
   struck-of (kept s) h = h
 
-  winner-of : (r : Kept (Found ℕ)) (f l : Kept (Found Float)) → OfKept OfRefuser r → OfKept OfStruck f → OfKept OfStruck l → OfOutcome (winnerOf r f l)
+  winner-of : (r : Kept (Found ℕ)) (l : Kept (Found Float)) → OfKept OfRefuser r → OfKept OfStruck l → OfOutcome (winnerOf r l)
   unfolding winnerOf
-  winner-of (kept r) f l p q s = (r .index, p)
-  winner-of nobody nobody l p q s = tt
-  winner-of nobody (kept first) l p q s = go (isNan (first .value))
-    where
-      go : (b : Bool) → OfOutcome (cond b (Struck (first .index) (first .value)) (struckOf l))
-      go true = q
-      go false = struck-of l s
+  winner-of (kept r) l p s = (r .index, p)
+  winner-of nobody l p s = struck-of l s
 
   module _ (answer : ℕ → Answer) where
     abbrev OfAnswer : ℕ → Type 0
@@ -91,5 +79,5 @@ module _ (P : ℕ → Reach → Type 0) where
 
     pub winner-of-list : (l : List ℕ) → Each OfAnswer l → OfOutcome (winner (summaryFrom answer nothing l))
     winner-of-list l each =
-        let h = summary-of nothing l each (record { refuser = tt; first = tt; least = tt }) in
-        winner-of (summaryFrom answer nothing l .refuser) (summaryFrom answer nothing l .first) (summaryFrom answer nothing l .least) (h .refuser) (h .first) (h .least)
+        let h = summary-of nothing l each (record { refuser = tt; least = tt }) in
+        winner-of (summaryFrom answer nothing l .refuser) (summaryFrom answer nothing l .least) (h .refuser) (h .least)

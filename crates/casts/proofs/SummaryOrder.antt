@@ -1,14 +1,16 @@
--- The summary of a list of triangles does not depend on their order. Assumes nothing.
+-- The summary of a list of triangles does not depend on their order. Assumes that those hit are hit at numbers.
 use Prim.Native.Nat.{ℕ}
 use mathlib.Core.Path.{_≡_, refl, ap, _∙_}
-use mathlib.Core.Bool.{Bool, true, false, cond}
+use mathlib.Core.Bool.{false}
 use mathlib.Core.List.{List, _∷_}
 use lib.Ieee.{Float, isNan}
-use Rattle.casts.specs.Answer.{Answer}
+use Rattle.geometry.specs.declared.vec3.Vec3.{Vec3}
+use Rattle.casts.specs.Answer.{Answer, hit, none, refused}
 use Rattle.casts.specs.Reach.{reachOf}
 use Rattle.casts.specs.Summary.{Kept, keepOf, Found, found, lower, nearer, Summary, noteOf, summaryFrom}
 use Rattle.casts.specs.declared.answer.Reach.{Reach}
 use Rattle.casts.specs.declared.answer.Reach.the-variants.{At, Miss, Refused}
+use Rattle.casts.proofs.AnswerLists.{OfHit, IsNumber, HitsAreNumbers}
 use Rattle.casts.proofs.KeptLaws.{keep-commutes, lower-goes, lower-apart, nearer-goes, nearer-apart}
 
 -- the same triangles in another order
@@ -24,38 +26,45 @@ same-reach d e h = cc
 same-refusal : (m n : ℕ) → Refused m ≡ Refused n → m ≡ n
 same-refusal m n h = cc
 
--- the nearest of two that are hit, a NaN left out
-least-commutes : (k : Kept (Found Float)) (i j : ℕ) (d e : Float) → (i ≡ j → d ≡ e) → (p : Bool) → isNan d ≡ p → (q : Bool) → isNan e ≡ q
-    → cond q (cond p k (keepOf nearer k (found i d))) (keepOf nearer (cond p k (keepOf nearer k (found i d))) (found j e))
-    ≡ cond p (cond q k (keepOf nearer k (found j e))) (keepOf nearer (cond q k (keepOf nearer k (found j e))) (found i d))
-least-commutes k i j d e same true n true m = refl
-least-commutes k i j d e same true n false m = refl
-least-commutes k i j d e same false n true m = refl
-least-commutes k i j d e same false n false m = keep-commutes nearer nearer-goes (found i d) (found j e) (nearer-apart i j d e n m same) k
+-- what is reached is reached at a number
+abbrev AtNumber : Reach → Type 0
+AtNumber (At distance) = isNan distance ≡ false
+AtNumber Miss = Unit
+AtNumber (Refused number) = Unit
+
+reached-at-number : (a : Answer) → OfHit IsNumber a → AtNumber (reachOf a)
+unfolding reachOf
+reached-at-number (hit normal distance) h = h normal distance refl
+reached-at-number none h = tt
+reached-at-number (refused number) h = tt
 
 -- two triangles, in either order; an index has one answer
-note-commutes : (s : Summary) (i j : ℕ) (a b : Reach) → (i ≡ j → a ≡ b) → noteOf (noteOf s i a) j b ≡ noteOf (noteOf s j b) i a
+note-commutes : (s : Summary) (i j : ℕ) (a b : Reach) → AtNumber a → AtNumber b → (i ≡ j → a ≡ b)
+    → noteOf (noteOf s i a) j b ≡ noteOf (noteOf s j b) i a
 unfolding noteOf
-note-commutes s i j Miss b same = refl
-note-commutes s i j (Refused m) Miss same = refl
-note-commutes s i j (Refused m) (Refused n) same =
+note-commutes s i j Miss b p q same = refl
+note-commutes s i j (Refused m) Miss p q same = refl
+note-commutes s i j (Refused m) (Refused n) p q same =
     let number : i ≡ j → m ≡ n = λ h. same-refusal m n (same h) in
-    ap (λ (k : Kept (Found ℕ)). record { refuser = k; first = s .first; least = s .least })
+    ap (λ (k : Kept (Found ℕ)). record { refuser = k; least = s .least })
     (keep-commutes lower lower-goes (found i m) (found j n) (lower-apart i j m n number) (s .refuser))
-note-commutes s i j (Refused m) (At e) same = refl
-note-commutes s i j (At d) Miss same = refl
-note-commutes s i j (At d) (Refused n) same = refl
-note-commutes s i j (At d) (At e) same =
+note-commutes s i j (Refused m) (At e) p q same = refl
+note-commutes s i j (At d) Miss p q same = refl
+note-commutes s i j (At d) (Refused n) p q same = refl
+note-commutes s i j (At d) (At e) p q same =
     let reach : i ≡ j → d ≡ e = λ h. same-reach d e (same h) in
-    let first = keep-commutes lower lower-goes (found i d) (found j e) (lower-apart i j d e reach) (s .first) in
-    let least = least-commutes (s .least) i j d e reach (isNan d) refl (isNan e) refl in
-    simp (first, least)
+    ap (λ (k : Kept (Found Float)). record { refuser = s .refuser; least = k })
+    (keep-commutes nearer nearer-goes (found i d) (found j e) (nearer-apart i j d e p q reach) (s .least))
 
-pub summary-order-free : (answer : ℕ → Answer) {l m : List ℕ} → Reordered l m → (s : Summary) → summaryFrom answer s l ≡ summaryFrom answer s m
-unfolding summaryFrom
-summary-order-free answer unchanged s = refl
-summary-order-free answer (exchanged x y rest) s =
-    ap (λ (t : Summary). summaryFrom answer t rest)
-    (note-commutes s x y (reachOf (answer x)) (reachOf (answer y)) (λ h. ap (λ (i : ℕ). reachOf (answer i)) h))
-summary-order-free answer (behind x r) s = summary-order-free answer r (noteOf s x (reachOf (answer x)))
-summary-order-free answer (through a b) s = summary-order-free answer a s ∙ summary-order-free answer b s
+module _ (answer : ℕ → Answer) (numbers : HitsAreNumbers answer) where
+  at-number : (i : ℕ) → AtNumber (reachOf (answer i))
+  at-number i = reached-at-number (answer i) (numbers i)
+
+  pub summary-order-free : {l m : List ℕ} → Reordered l m → (s : Summary) → summaryFrom answer s l ≡ summaryFrom answer s m
+  unfolding summaryFrom
+  summary-order-free unchanged s = refl
+  summary-order-free (exchanged x y rest) s =
+      ap (λ (t : Summary). summaryFrom answer t rest)
+      (note-commutes s x y (reachOf (answer x)) (reachOf (answer y)) (at-number x) (at-number y) (λ h. ap (λ (i : ℕ). reachOf (answer i)) h))
+  summary-order-free (behind x r) s = summary-order-free r (noteOf s x (reachOf (answer x)))
+  summary-order-free (through a b) s = summary-order-free a s ∙ summary-order-free b s

@@ -18,7 +18,7 @@ parallel = ofBits binary64 0x3d00_0000_0000_0000
 unfoldable pub planeAdmitted : Plane → Bool
 planeAdmitted plane = closeToUnitLength (plane .normal) && isFinite (plane .distance)
 
--- "a distance that is not finite is 6; below 0 or above the maximum is none"
+-- "a distance that is not finite is 6; below 0 or above the maximum is none", below near in place of 0
 unfoldable pub planeAt : Plane → Ray → Float → Float → Answer
 planeAt plane r denominator distance =
     cond (isFinite distance) (cond (outOfRange r distance) none (hit (facing (plane .normal) denominator) distance)) (refused overflow)

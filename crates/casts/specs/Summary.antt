@@ -3,7 +3,7 @@ use Prim.Native.Nat.{ℕ}
 use mathlib.Core.Bool.{Bool, _&&_, _||_, cond}
 use mathlib.Core.List.{List, [], _∷_}
 use lib.Dec.{ltb}
-use lib.Ieee.{Float, lt, le, isNan}
+use lib.Ieee.{Float, lt, le}
 use Rattle.casts.specs.Answer.{Answer}
 use Rattle.casts.specs.Nearest.{Indexed, noHit, stopped, nextOf}
 use Rattle.casts.specs.Reach.{reachOf}
@@ -46,23 +46,17 @@ nearer a b = lt (a .value) (b .value) || (le (a .value) (b .value) && ltb (a .in
 pub record Summary : Type 0 where
   -- of those that refuse "the lowest-indexed one", with its number
   pub refuser : Kept (Found ℕ)
-  -- of those that are hit the lowest-indexed one, whose distance may be NaN
-  pub first : Kept (Found Float)
-  -- of those that are hit at a number: every other one "lies at least as far, and farther if its index is lower"
+  -- of those that are hit: every other one "lies at least as far, and farther if its index is lower"
   pub least : Kept (Found Float)
 
 abbrev pub nothing : Summary
-nothing = record { refuser = nobody; first = nobody; least = nobody }
+nothing = record { refuser = nobody; least = nobody }
 
 -- one more triangle
 unfoldable pub noteOf : Summary → ℕ → Reach → Summary
 noteOf s index Miss = s
-noteOf s index (Refused number) = record { refuser = keepOf lower (s .refuser) (found index number); first = s .first; least = s .least }
-noteOf s index (At distance) = record {
-  refuser = s .refuser;
-  first = keepOf lower (s .first) (found index distance);
-  least = cond (isNan distance) (s .least) (keepOf nearer (s .least) (found index distance));
-}
+noteOf s index (Refused number) = record { refuser = keepOf lower (s .refuser) (found index number); least = s .least }
+noteOf s index (At distance) = record { refuser = s .refuser; least = keepOf nearer (s .least) (found index distance) }
 
 -- all triangles of a list, on top of those noted before
 unfoldable pub summaryFrom : (ℕ → Answer) → Summary → List ℕ → Summary
@@ -73,14 +67,13 @@ abbrev pub struckOf : Kept (Found Float) → Outcome
 struckOf nobody = Nobody
 struckOf (kept s) = Struck (s .index) (s .value)
 
--- whose answer it is: a refuser's before any hit's; a first hit whose distance is NaN stays, since nothing is less than NaN
-unfoldable pub winnerOf : Kept (Found ℕ) → Kept (Found Float) → Kept (Found Float) → Outcome
-winnerOf (kept refuser) first least = RefusedBy (refuser .value)
-winnerOf nobody nobody least = Nobody
-winnerOf nobody (kept first) least = cond (isNan (first .value)) (Struck (first .index) (first .value)) (struckOf least)
+-- whose answer it is: a refuser's before any hit's
+unfoldable pub winnerOf : Kept (Found ℕ) → Kept (Found Float) → Outcome
+winnerOf (kept refuser) least = RefusedBy (refuser .value)
+winnerOf nobody least = struckOf least
 
 abbrev pub winner : Summary → Outcome
-winner s = winnerOf (s .refuser) (s .first) (s .least)
+winner s = winnerOf (s .refuser) (s .least)
 
 -- the winner's answer, a hit's with its index
 unfoldable pub answerAt : (ℕ → Answer) → Outcome → Indexed
@@ -103,4 +96,4 @@ saysChosenHit (AtHit index distance) = kept (found index distance)
 
 abbrev pub saysNotes : Notes → Summary
 saysNotes notes =
-    record { refuser = saysChosenRefusal (notes .refuser); first = saysChosenHit (notes .first); least = saysChosenHit (notes .least) }
+    record { refuser = saysChosenRefusal (notes .refuser); least = saysChosenHit (notes .least) }

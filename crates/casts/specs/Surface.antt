@@ -6,7 +6,7 @@ use Rattle.geometry.specs.Vector.{negOf}
 use Rattle.geometry.specs.declared.vec3.Vec3.{Vec3}
 use Rattle.geometry.specs.declared.ray.Ray.{Ray}
 
--- "below 0 or above the maximum"; NaN is neither: it "passes both comparisons"
+-- "Every cast treats a distance below near as it treated one below 0"; "above the maximum" is out of range too, and NaN is neither
 unfoldable pub outOfRange : Ray → Float → Bool
 outOfRange r distance = lt distance (r .near) || lt (r .«max_distance») distance
 

@@ -1,7 +1,7 @@
 -- The cast at a triangle, after Möller and Trumbore, each operation rounded once. Definitions only. Assumes nothing.
 use mathlib.Core.Bool.{Bool, cond}
 use mathlib.Core.List.{List}
-use lib.Ieee.{Float, binary64, ofBits, le, lt}
+use lib.Ieee.{Float, binary64, ofBits, le, lt, isNan}
 use Rattle.arithmetic.specs.Basic.{absolute}
 use Rattle.arithmetic.specs.Extremes.{maximumOf}
 use Rattle.geometry.specs.Numbers.{_+ᶠ_, _*ᶠ_, _/ᶠ_, zeroᶠ, oneᶠ, epsilon}
@@ -10,7 +10,7 @@ use Rattle.geometry.specs.Box.{corner}
 use Rattle.geometry.specs.Segment.{rayAdmitted}
 use Rattle.geometry.specs.declared.vec3.Vec3.{Vec3}
 use Rattle.geometry.specs.declared.ray.Ray.{Ray}
-use Rattle.casts.specs.Answer.{Answer, hit, none, refused, withValue, withNormal, invalidInput, noNormal}
+use Rattle.casts.specs.Answer.{Answer, hit, none, refused, withValue, withNormal, invalidInput, overflow, noNormal}
 use Rattle.casts.specs.declared.answer.Reach.{Reach}
 use Rattle.casts.specs.declared.answer.Reach.the-variants.{At, Miss, Refused}
 use Rattle.casts.specs.Surface.{outOfRange, facing}
@@ -39,13 +39,15 @@ triangleFrom r a b (Refused number) = refused number
 unfoldable pub hasNormal : Vec3 → Vec3 → Bool
 hasNormal a b = normalizable (crossOf a b)
 
--- v below 0 or u + v above 1 is a miss (a NaN v is not); "A distance equal to the maximum is kept", "A NaN distance passes both comparisons"
+-- v below 0 or u + v above 1 is a miss (a NaN v is not); "A distance equal to the maximum is kept";
+-- "A triangle cast whose distance is NaN is now refused"; "number 6, after the maximum test and before the normal"
 unfoldable pub triangleAbove : Ray → Vec3 → Vec3 → Vec3 → Float → Float → Answer
 triangleAbove r offset a b inverse u =
     cond (lt (dotOf (r .direction) (crossOf offset a) *ᶠ inverse) zeroᶠ) none
     (cond (lt oneᶠ (u +ᶠ (dotOf (r .direction) (crossOf offset a) *ᶠ inverse))) none
     (cond (outOfRange r (dotOf b (crossOf offset a) *ᶠ inverse)) none
-    (triangleNormal r a b (dotOf b (crossOf offset a) *ᶠ inverse))))
+    (cond (isNan (dotOf b (crossOf offset a) *ᶠ inverse)) (refused overflow)
+    (triangleNormal r a b (dotOf b (crossOf offset a) *ᶠ inverse)))))
 
 -- u outside 0 to 1 is a miss, and so is a NaN u
 unfoldable pub triangleAt : Ray → Vec3 → Vec3 → Vec3 → Vec3 → Float → Answer

@@ -1,8 +1,6 @@
 use crate::answer::Reach;
 ghost use mathlib.Core.Path.{_≡_};
-ghost use mathlib.Core.Bool.{cond};
-ghost use lib.Ieee.{isNan};
-ghost use Rattle.casts.specs.Summary.{keepOf, found, lower, nearer, nothing, noteOf, nobody, struckOf, winnerOf, winner, saysChosenRefusal, saysChosenHit, saysNotes};
+ghost use Rattle.casts.specs.Summary.{keepOf, found, lower, nearer, nothing, noteOf, struckOf, winner, saysChosenRefusal, saysChosenHit, saysNotes};
 
 // An index with the number of its refusal, or nobody yet.
 pub enum ChosenRefusal {
@@ -23,10 +21,9 @@ pub enum Outcome {
     Struck { index: u32, distance: f64 },
 }
 
-// What of many triangles decides the nearest hit, in whatever order they come: the lowest that refuses, the lowest that is hit, and the nearest of those hit at a number.
+// What of many triangles decides the nearest hit, in whatever order they come: the lowest that refuses, and the nearest that is hit.
 pub struct Notes {
     pub refuser: ChosenRefusal,
-    pub first: ChosenHit,
     pub least: ChosenHit,
 }
 
@@ -36,7 +33,6 @@ pub fn empty() -> Notes
 {
     Notes {
         refuser: ChosenRefusal::Nobody,
-        first: ChosenHit::Nobody,
         least: ChosenHit::Nobody,
     }
 }
@@ -70,35 +66,6 @@ fn lower_refusal(chosen: ChosenRefusal, index: u32, number: u32) -> ChosenRefusa
     }
 }
 
-// The hit of the lower index.
-fn lower_hit(chosen: ChosenHit, index: u32, distance: f64) -> ChosenHit
-    ensures { λ r. ⌜ saysChosenHit r ≡ keepOf lower (saysChosenHit chosen) (found index distance) ⌝ }
-{
-    match chosen {
-        ChosenHit::Nobody => {
-            return ChosenHit::At {
-                index: index,
-                distance: distance,
-            };
-        }
-        ChosenHit::At {
-            index: other,
-            distance: reach,
-        } => {
-            if index < other {
-                return ChosenHit::At {
-                    index: index,
-                    distance: distance,
-                };
-            }
-            return ChosenHit::At {
-                index: other,
-                distance: reach,
-            };
-        }
-    }
-}
-
 // Whether a hit is nearer than another, or as near and of a lower index.
 fn is_nearer(index: u32, distance: f64, other: u32, reach: f64) -> bool
     ensures { λ r. ⌜ r ≡ nearer (found index distance) (found other reach) ⌝ }
@@ -112,13 +79,10 @@ fn is_nearer(index: u32, distance: f64, other: u32, reach: f64) -> bool
     false
 }
 
-// The nearer hit; a NaN is none.
+// The nearer hit.
 fn nearer_hit(chosen: ChosenHit, index: u32, distance: f64) -> ChosenHit
-    ensures { λ r. ⌜ saysChosenHit r ≡ cond (isNan distance) (saysChosenHit chosen) (keepOf nearer (saysChosenHit chosen) (found index distance)) ⌝ }
+    ensures { λ r. ⌜ saysChosenHit r ≡ keepOf nearer (saysChosenHit chosen) (found index distance) ⌝ }
 {
-    if distance != distance {
-        return chosen;
-    }
     match chosen {
         ChosenHit::Nobody => {
             return ChosenHit::At {
@@ -149,7 +113,6 @@ pub fn note(notes: Notes, index: u32, reach: Reach) -> Notes
     ensures { λ r. ⌜ saysNotes r ≡ noteOf (saysNotes notes) index reach ⌝ }
 {
     let refuser = notes.refuser;
-    let first = notes.first;
     let least = notes.least;
     match reach {
         Reach::Miss => {
@@ -159,16 +122,13 @@ pub fn note(notes: Notes, index: u32, reach: Reach) -> Notes
             let lowest = lower_refusal(refuser, index, number);
             return Notes {
                 refuser: lowest,
-                first: first,
                 least: least,
             };
         }
         Reach::At(distance) => {
-            let lowest = lower_hit(first, index, distance);
             let nearest = nearer_hit(least, index, distance);
             return Notes {
                 refuser: refuser,
-                first: lowest,
                 least: nearest,
             };
         }
@@ -192,39 +152,18 @@ fn struck(chosen: ChosenHit) -> Outcome
     }
 }
 
-// The winner where nobody refuses: the first hit if its distance is NaN, which nothing is nearer than, else the nearest.
-fn hit_winner(first: ChosenHit, least: ChosenHit) -> Outcome
-    ensures { λ r. ⌜ r ≡ winnerOf nobody (saysChosenHit first) (saysChosenHit least) ⌝ }
-{
-    match first {
-        ChosenHit::Nobody => {
-            return Outcome::Nobody;
-        }
-        ChosenHit::At { index, distance } => {
-            if distance != distance {
-                return Outcome::Struck {
-                    index: index,
-                    distance: distance,
-                };
-            }
-            return struck(least);
-        }
-    }
-}
-
 // Whose answer is the answer of all.
 pub fn winner(notes: Notes) -> Outcome
     ensures { λ r. ⌜ r ≡ winner (saysNotes notes) ⌝ }
 {
     let refuser = notes.refuser;
-    let first = notes.first;
     let least = notes.least;
     match refuser {
         ChosenRefusal::At { index: _, number } => {
             return Outcome::Refused(number);
         }
         ChosenRefusal::Nobody => {
-            return hit_winner(first, least);
+            return struck(least);
         }
     }
 }

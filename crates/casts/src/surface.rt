@@ -3,7 +3,7 @@ use geometry::vec3::Vec3;
 ghost use mathlib.Core.Path.{_≡_};
 ghost use Rattle.casts.specs.Surface.{outOfRange, facing};
 
-// Whether a distance is below 0 or above the maximum; NaN is neither.
+// Whether a distance is below near or above the maximum; NaN is neither.
 pub fn out_of_range(ray: Ray, distance: f64) -> bool
     ensures { λ r. ⌜ r ≡ outOfRange ray distance ⌝ }
 {

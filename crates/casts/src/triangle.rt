@@ -62,7 +62,8 @@ fn has_normal(a: Vec3, b: Vec3) -> bool
 }
 
 // The distance where u is in range: v, the sum of both, and the distance are tested; the normal is left.
-// A flat determinant is a miss like what is tested here, so the test for it, which takes longest, comes last.
+// A flat determinant is a miss like what is tested before it, so the test for it, which takes longest, comes after them.
+// A NaN distance of a flat triangle is a miss too, and else 6, so NaN is tested last.
 fn triangle_above(
     ray: Ray,
     offset: Vec3,
@@ -88,6 +89,9 @@ fn triangle_above(
     }
     if is_flat(determinant, a, b) {
         return Reach::Miss;
+    }
+    if distance != distance {
+        return Reach::Refused(answer::OVERFLOW);
     }
     Reach::At(distance)
 }

@@ -3,4 +3,5 @@ pub mod Sizes
 pub mod CellPass
 pub mod ListingPass
 pub mod Ranges
+pub mod HitDistances
 pub mod Examples

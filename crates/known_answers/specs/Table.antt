@@ -4,7 +4,7 @@ use Prim.Native.Nat as Nat
 use mathlib.Core.Bool.{Bool, true, _&&_}
 use mathlib.Core.List.{List, [], _∷_, _++_}
 use lib.Dec.{eqb}
-use lib.Ieee.{Float, binary64, ofBits, eq, isNan}
+use lib.Ieee.{Float, binary64, ofBits, eq}
 use lib.ListN.{replicate}
 use Rattle.geometry.specs.declared.vec3.Vec3.{Vec3}
 use Rattle.geometry.specs.declared.ray.Ray.{Ray}
@@ -114,7 +114,7 @@ table =
     entry (atTriangle unit (ray (vec half half one) (vec zero zero minusOne) one)) (aHit (λ d i. true)) ∷
     entry (atTriangle unit (ray (vec threeQuarters half one) (vec zero zero minusOne) one)) aNone ∷
     entry (atTriangle (corners (vec zero zero zero) (vec vast zero zero) (vec zero one zero)) (ray (vec quarterVast quarter one) (vec zero zero minusOne) ten)) (aRefusal 7) ∷
-    entry (atTriangle (corners (vec zero zero zero) (vec vast vast zero) (vec zero tiny zero)) (ray (vec halfVast halfVast one) (vec zero zero minusOne) ten)) (aHit (λ d i. isNan d)) ∷
+    entry (atTriangle (corners (vec zero zero zero) (vec vast vast zero) (vec zero tiny zero)) (ray (vec halfVast halfVast one) (vec zero zero minusOne) ten)) (aRefusal 6) ∷
     entry (atMesh (meshOf 2) (ray (vec quarter quarter one) (vec zero zero minusOne) one)) (aHit (λ d i. eqb i 0)) ∷
     entry (buildOfMesh (meshOf 0)) (aRefusal 5) ∷
     entry (buildOfMesh (meshOf 4)) (aNumber 1) ∷

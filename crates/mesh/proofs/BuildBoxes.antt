@@ -143,10 +143,10 @@ module _ (b c : Aabb) (p : validBox b ≡ true) (q : validBox c ≡ true) where
         ),
       )
 
-  union-first : encloses (unionOf b c) b ≡ true
+  pub union-first : encloses (unionOf b c) b ≡ true
   union-first = enclosing (unionOf b c) b (λ (a : Axis). union-on a .0)
 
-  union-second : encloses (unionOf b c) c ≡ true
+  pub union-second : encloses (unionOf b c) c ≡ true
   union-second = enclosing (unionOf b c) c (λ (a : Axis). union-on a .1)
 
 -- what holds of both operands holds of their minimum and of their maximum
@@ -167,7 +167,7 @@ union-within b c d h k = enclosing d (unionOf b c) on-axis
           rw (union-high a b c) (maximum-keeps (λ (z : Float). le z (on a (d .max)) ≡ true) (on a (b .max)) (on a (c .max)) (u .1) (v .1)),
         )
 
-union-valid : (b c : Aabb) → validBox b ≡ true → validBox c ≡ true → validBox (unionOf b c) ≡ true
+pub union-valid : (b c : Aabb) → validBox b ≡ true → validBox c ≡ true → validBox (unionOf b c) ≡ true
 union-valid b c p q = valid-box (unionOf b c) on-axis
   where
     on-axis : (a : Axis) → ValidOn a (unionOf b c)

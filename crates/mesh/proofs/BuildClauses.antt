@@ -22,18 +22,18 @@ use Rattle.mesh.proofs.BuildNodes.{Written, Kind, is-leaf, is-branch, N
 use Rattle.mesh.proofs.BuildCounts.{branch-is-branch, branch-is-no-leaf, branch-names, branch-places, leaf-is-leaf, leaf-is-no-branch, leaf-names, leaf-holds, named-below, places-below}
 
 -- ---- tests over a list and over a range
-every-of-listed : (p : ℕ → Bool) (l : List ℕ) → ((x : ℕ) → 0 < count x l → p x ≡ true) → every p l ≡ true
+pub every-of-listed : (p : ℕ → Bool) (l : List ℕ) → ((x : ℕ) → 0 < count x l → p x ≡ true) → every p l ≡ true
 unfolding every
 every-of-listed p [] h = refl
 every-of-listed p (y ∷ l) h =
     and-both (p y) (every p l) (h y (omega (arith, count-cons y y l, one-same y y refl)))
     (every-of-listed p l (λ (x : ℕ) (k : 0 < count x l). h x (omega (arith, count-cons x y l))))
 
-every-of-range : (p : ℕ → Bool) (start size : ℕ) → ((x : ℕ) → start ≤ x → x < start + size → p x ≡ true) → every p (range start size) ≡ true
+pub every-of-range : (p : ℕ → Bool) (start size : ℕ) → ((x : ℕ) → start ≤ x → x < start + size → p x ≡ true) → every p (range start size) ≡ true
 every-of-range p start size h =
     every-of-listed p (range start size) (λ (x : ℕ) (k : 0 < count x (range start size)). let b = range-bounds x start size k in h x (b .0) (b .1))
 
-every-below : (p : ℕ → Bool) (size : ℕ) → ((x : ℕ) → x < size → p x ≡ true) → every p (range 0 size) ≡ true
+pub every-below : (p : ℕ → Bool) (size : ℕ) → ((x : ℕ) → x < size → p x ≡ true) → every p (range 0 size) ≡ true
 every-below p size h = every-of-range p 0 size (λ (x : ℕ) (a : 0 ≤ x) (b : x < 0 + size). h x (omega arith))
 
 every-nil : (p : ℕ → Bool) (l : List ℕ) → l ≡ [] → every p l ≡ true
@@ -49,7 +49,7 @@ every-two p l a b e h k = ap (every p) e ∙ two
     two = unfold every in and-both (p a) (p b && true) h (and-both (p b) true k refl)
 
 -- ---- tests that are joined
-or-first : (a b : Bool) → a ≡ true → (a || b) ≡ true
+pub or-first : (a b : Bool) → a ≡ true → (a || b) ≡ true
 or-first true b h = refl
 or-first false b h = absurd (false≢true h)
 

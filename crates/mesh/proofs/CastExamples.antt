@@ -1,4 +1,4 @@
--- Casts at a mesh through a tree that no builder of ours would write, computed from the definitions alone. Assumes nothing.
+-- Casts at a mesh through a tree that no builder of ours would write, computed from the definitions alone, and demand 3 at that tree. Assumes nothing.
 use Prim.Native.Nat.{ℕ}
 use mathlib.Core.Path.{_≡_, refl}
 use mathlib.Core.List.{List, [], _∷_}
@@ -7,17 +7,21 @@ use Rattle.arithmetic.specs.Basic.{isFinite, absolute}
 use Rattle.arithmetic.specs.Extremes.{minimumOf, maximumOf}
 use Rattle.arithmetic.specs.Root.{rootDigits, wholeRoot, rootRound, rootOf}
 use Rattle.geometry.specs.Vector.{component, finiteVec, addOf, subOf, negOf, scaleOf, minOf, maxOf, absOf, maxElement, dotOf, checkedDot, crossOf, lengthOf, tryNormalize}
-use Rattle.geometry.specs.Box.{validSide, validBox, touchSide, touches}
+use Rattle.geometry.specs.Box.{validSide, validBox, touchSide, touches, withinSide, encloses, sameSide, sameBox}
 use Rattle.geometry.specs.Segment.{unitLength, rayAdmitted, segmentEnd, segmentBox}
 use Rattle.geometry.specs.declared.ray.Ray.{Ray}
 use Rattle.casts.specs.Surface.{outOfRange, facing}
 use Rattle.casts.specs.Triangle.{flat, triangleNormal, triangleAbove, triangleAt, triangleOf}
 use Rattle.casts.specs.Nearest.{Indexed, hitAt, noHit, stopped, nextOf, foldFrom}
-use Rattle.tree.specs.Lists.{range, insertBy, sortBy}
+use Rattle.tree.specs.Lists.{range, insertBy, sortBy, count, every, gather}
 use Rattle.tree.specs.Layout.{vectorAt, boxAt}
-use Rattle.tree.specs.Mesh.{Mesh, lengthsAdmitted, cornersInside, cornerAt, triangleAnswer}
+use Rattle.tree.specs.Mesh.{Mesh, lengthsAdmitted, cornersInside, cornerAt, triangleBox, triangleAnswer}
+use Rattle.tree_check.specs.Check.{childrenOf, placesOf, kindsKnown, childrenAbove, leavesInside, namedOnce, placedOnce, orderedOnce, leavesFilled, cornersKnown, boxesSame, boxesValid, nodeEncloses, enclosed, clausesHold, treePasses}
+use Rattle.tree_check.specs.Verdict.{yes, checkOf, roomFor as check-roomFor}
 use Rattle.tree_query.specs.Walk.{times, takePlace, takePlaces, atLeaf, childFits, atBranch, atNode, takeNode, start, ended, walkOf}
 use Rattle.tree_query.proofs.QueryExamples.{o, i, quarter, ten, eleven, lower, oddTree}
+use Rattle.mesh.specs.Demand3.{Admitted, MeetsDemand}
+use Rattle.mesh.proofs.Demand3.{demand3}
 use Rattle.mesh.specs.MeshCast.{shapeAdmitted, treeFits, roomFor, overWalk, meshCast, rayMesh}
 
 -- the three triangles of that tree: one at height 0, one beside it, one below it
@@ -50,3 +54,18 @@ pub casts-answered :
     ≡ hitAt (record { x = o; y = o; z = i }) i 0 ∷ (hitAt (record { x = minusZero; y = minusZero; z = lower }) two 2 ∷ (noHit ∷ (stopped 1 ∷ [])))
 unfolding rayMesh meshCast overWalk roomFor treeFits shapeAdmitted walkOf ended start takeNode atNode atBranch childFits atLeaf takePlaces takePlace times triangleAnswer cornerAt cornersInside lengthsAdmitted boxAt vectorAt sortBy insertBy range foldFrom nextOf triangleOf triangleAt triangleAbove triangleNormal flat facing outOfRange segmentBox segmentEnd rayAdmitted unitLength touches touchSide validBox validSide tryNormalize lengthOf crossOf checkedDot dotOf maxElement absOf maxOf minOf scaleOf negOf subOf addOf finiteVec component rootOf rootRound wholeRoot rootDigits maximumOf minimumOf absolute isFinite ofBits ofFields isNan ne le eq lt div mul sub add sum neg round units odd size climb span
 casts-answered = refl
+
+-- ---- demand 3 at that tree
+
+-- the check itself says yes to it
+pub odd-passes : checkOf mesh oddTree 9 ≡ yes
+unfolding rayMesh meshCast overWalk roomFor treeFits shapeAdmitted walkOf ended start takeNode atNode atBranch childFits atLeaf takePlaces takePlace times triangleAnswer cornerAt cornersInside lengthsAdmitted boxAt vectorAt sortBy insertBy range foldFrom nextOf triangleOf triangleAt triangleAbove triangleNormal flat facing outOfRange segmentBox segmentEnd rayAdmitted unitLength touches touchSide validBox validSide tryNormalize lengthOf crossOf checkedDot dotOf maxElement absOf maxOf minOf scaleOf negOf subOf addOf finiteVec component rootOf rootRound wholeRoot rootDigits maximumOf minimumOf absolute isFinite ofBits ofFields isNan ne le eq lt div mul sub add sum neg round units odd size climb span checkOf check-roomFor treePasses clausesHold kindsKnown childrenAbove leavesInside namedOnce placedOnce orderedOnce leavesFilled cornersKnown boxesSame boxesValid nodeEncloses enclosed childrenOf placesOf count every gather triangleBox withinSide encloses sameSide sameBox
+odd-passes = refl
+
+-- so that the ray from above meets what demand 3 asks
+pub odd-admitted : Admitted (along i lower three) mesh oddTree 3 4
+unfolding rayMesh meshCast overWalk roomFor treeFits shapeAdmitted walkOf ended start takeNode atNode atBranch childFits atLeaf takePlaces takePlace times triangleAnswer cornerAt cornersInside lengthsAdmitted boxAt vectorAt sortBy insertBy range foldFrom nextOf triangleOf triangleAt triangleAbove triangleNormal flat facing outOfRange segmentBox segmentEnd rayAdmitted unitLength touches touchSide validBox validSide tryNormalize lengthOf crossOf checkedDot dotOf maxElement absOf maxOf minOf scaleOf negOf subOf addOf finiteVec component rootOf rootRound wholeRoot rootDigits maximumOf minimumOf absolute isFinite ofBits ofFields isNan ne le eq lt div mul sub add sum neg round units odd size climb span
+odd-admitted = record { mesh = refl; ray = refl; end = refl; tree = record { marks = 9; says-yes = odd-passes }; areas = refl }
+
+pub odd-meets : MeetsDemand (along i lower three) mesh (cast (along i lower three))
+odd-meets = demand3 (along i lower three) mesh oddTree 3 4 odd-admitted

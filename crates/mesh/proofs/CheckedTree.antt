@@ -7,8 +7,8 @@ use mathlib.Core.List.{List, [], _∷_}
 use native.Mathlib.Omega.{arith}
 use lib.Dec.{leb, ltb, eqb}
 use lib.ListN.{length, take, getD}
-use borrow.Author.Tests.{leb-true, ltb-true, eqb-true}
-use Rattle.geometry.specs.Box.{encloses, sameBox}
+use borrow.Author.Tests.{leb-true, ltb-true, eqb-true, eqb-false, not-true}
+use Rattle.geometry.specs.Box.{validBox, encloses, sameBox}
 use Rattle.geometry.proofs.JoinedTests.{and-first, and-second}
 use Rattle.tree.specs.Lists.{range, count, every, gather}
 use Rattle.tree.specs.Layout.{Tree, wordAt, boxAt, firstAt, secondAt}
@@ -16,7 +16,7 @@ use Rattle.tree.specs.Mesh.{Mesh, thirds, cornersInside, triangleBox}
 use Rattle.tree.proofs.CountLaws.{count-nil, every-at, member-of-count, count-range-inside}
 use Rattle.tree_check.specs.Check.{triangleCount, nodes, isLeaf, isBranch, childrenOf, placesOf, kindsKnown, childrenAbove, leavesInside, namedOnce, placedOnce, orderedOnce, leavesFilled, cornersKnown, boxesSame, boxesValid, nodeEncloses, enclosed, clausesHold, treePasses}
 
-every-in-range : (p : ℕ → Bool) (start size : ℕ) → every p (range start size) ≡ true → (x : ℕ) → start ≤ x → x < start + size → p x ≡ true
+pub every-in-range : (p : ℕ → Bool) (start size : ℕ) → every p (range start size) ≡ true → (x : ℕ) → start ≤ x → x < start + size → p x ≡ true
 every-in-range p start size h x a b =
     every-at p (range start size) h x (member-of-count x (range start size) (omega (arith, count-range-inside x start size a b)))
 
@@ -45,6 +45,10 @@ pub record Checked (m : Mesh) (t : Tree) : Type 0 where
   pub known : (i : ℕ) → i < t .nodeCount → (isLeaf m t i || isBranch m t i) ≡ true
   pub above : (i k : ℕ) → i < t .nodeCount → 0 < count k (childrenOf m t i) → (i < k) × (k < t .nodeCount)
   pub inside : (i : ℕ) → i < t .nodeCount → isLeaf m t i ≡ true → firstAt (t .nodeWords) i + secondAt (t .nodeWords) i ≤ triangleCount m t
+  pub differ : (i : ℕ) → i < t .nodeCount → isBranch m t i ≡ true → firstAt (t .nodeWords) i ≡ secondAt (t .nodeWords) i → ⊥
+  pub filled : (i : ℕ) → i < t .nodeCount → isLeaf m t i ≡ true → 0 < secondAt (t .nodeWords) i
+  pub node-valid : (i : ℕ) → i < t .nodeCount → validBox (boxAt (t .nodeBoxes) i) ≡ true
+  pub triangle-valid : (x : ℕ) → x < triangleCount m t → validBox (boxAt (t .triangleBoxes) x) ≡ true
   pub named : (i : ℕ) → 0 < i → i < t .nodeCount → count i (gather (childrenOf m t) (nodes m t)) ≡ 1
   pub placed : (p : ℕ) → p < triangleCount m t → count p (gather (placesOf m t) (nodes m t)) ≡ 1
   pub ordered : (x : ℕ) → x < triangleCount m t → count x (take (triangleCount m t) (t .order)) ≡ 1
@@ -94,12 +98,24 @@ module _ (m : Mesh) (t : Tree) (h : clausesHold m t ≡ true) where
           (ltb-true i k (and-first (ltb i k) (ltb k (t .nodeCount)) fits), ltb-true k (t .nodeCount) (and-second (ltb i k) (ltb k (t .nodeCount)) fits))
       go false e = absurd (omega (arith, ap (count k) (no-children m t i e), count-nil k))
 
+  children-differ : (i : ℕ) → i < t .nodeCount → isBranch m t i ≡ true → firstAt (t .nodeWords) i ≡ secondAt (t .nodeWords) i → ⊥
+  unfolding clauses childrenAbove
+  children-differ i below e =
+      let rule = passes-where (isBranch m t i) _ (every-in-range _ 0 (t .nodeCount) (clause 2) i (omega arith) (omega arith)) e in
+      let same = eqb (firstAt (t .nodeWords) i) (secondAt (t .nodeWords) i) in
+      eqb-false (firstAt (t .nodeWords) i) (secondAt (t .nodeWords) i) (not-true same (and-first (not same) _ rule))
+
+  boxes-valid : (every (λ (i : ℕ). validBox (boxAt (t .nodeBoxes) i)) (nodes m t)
+      && every (λ (x : ℕ). validBox (boxAt (t .triangleBoxes) x)) (range 0 (triangleCount m t))) ≡ true
+  unfolding clauses boxesValid
+  boxes-valid = clause 10
+
   enclosing : (i : ℕ) → i < t .nodeCount → nodeEncloses m t i ≡ true
   unfolding clauses enclosed
   enclosing i below = every-in-range (nodeEncloses m t) 0 (t .nodeCount) (clause 11) i (omega arith) (omega arith)
 
   pub checked : Checked m t
-  unfolding clauses kindsKnown leavesInside namedOnce placedOnce orderedOnce cornersKnown boxesSame nodeEncloses
+  unfolding clauses kindsKnown leavesInside leavesFilled namedOnce placedOnce orderedOnce cornersKnown boxesSame nodeEncloses
   checked = record {
     few = leb-true (t .nodeCount) (2 * triangleCount m t) (clause 0);
     known = λ (i : ℕ) (below : i < t .nodeCount). every-in-range _ 0 (t .nodeCount) (clause 1) i (omega arith) (omega arith);
@@ -108,6 +124,19 @@ module _ (m : Mesh) (t : Tree) (h : clausesHold m t ≡ true) where
         λ (i : ℕ) (below : i < t .nodeCount) (leaf : isLeaf m t i ≡ true).
         leb-true (firstAt (t .nodeWords) i + secondAt (t .nodeWords) i) (triangleCount m t)
         (passes-where (isLeaf m t i) _ (every-in-range _ 0 (t .nodeCount) (clause 3) i (omega arith) (omega arith)) leaf);
+    differ = children-differ;
+    filled =
+        λ (i : ℕ) (below : i < t .nodeCount) (leaf : isLeaf m t i ≡ true).
+        ltb-true 0 (secondAt (t .nodeWords) i)
+        (passes-where (isLeaf m t i) _ (every-in-range _ 0 (t .nodeCount) (clause 7) i (omega arith) (omega arith)) leaf);
+    node-valid =
+        λ (i : ℕ) (below : i < t .nodeCount).
+        every-in-range (λ (i : ℕ). validBox (boxAt (t .nodeBoxes) i)) 0 (t .nodeCount)
+        (and-first (every (λ (i : ℕ). validBox (boxAt (t .nodeBoxes) i)) (nodes m t)) _ boxes-valid) i (omega arith) (omega arith);
+    triangle-valid =
+        λ (x : ℕ) (below : x < triangleCount m t).
+        every-in-range (λ (x : ℕ). validBox (boxAt (t .triangleBoxes) x)) 0 (triangleCount m t)
+        (and-second (every (λ (i : ℕ). validBox (boxAt (t .nodeBoxes) i)) (nodes m t)) _ boxes-valid) x (omega arith) (omega arith);
     named = λ (i : ℕ) (p : 0 < i) (q : i < t .nodeCount). eqb-true _ 1 (every-in-range _ 1 (t .nodeCount - 1) (clause 4) i (omega arith) (omega arith));
     placed = λ (p : ℕ) (below : p < triangleCount m t). eqb-true _ 1 (every-in-range _ 0 (triangleCount m t) (clause 5) p (omega arith) (omega arith));
     ordered = λ (x : ℕ) (below : x < triangleCount m t). eqb-true _ 1 (every-in-range _ 0 (triangleCount m t) (clause 6) x (omega arith) (omega arith));

@@ -22,13 +22,13 @@ use Rattle.casts.proofs.NearestLaws.{LowestRefusal, LowestNearest, stopped-by-l
 use Rattle.tree.specs.Lists.{range, count}
 use Rattle.tree.specs.Layout.{Tree}
 use Rattle.tree.specs.Mesh.{Mesh, thirds, cornersInside, triangleBox, triangleAnswer, candidates}
-use Rattle.tree.proofs.Corners.{corners-answer}
+use Rattle.tree.proofs.Corners.{corners-answer, answers-are-numbers}
 use Rattle.tree.proofs.CountLaws.{count-of-member, member-of-count, count-keep, range-bounds, count-range-inside}
 use Rattle.tree.proofs.SortLaws.{range-ascends, keep-ascends}
 use Rattle.tree_check.specs.Check.{triangleCount, treePasses}
 use Rattle.tree_check.proofs.Answers.{yes-passes}
 use Rattle.mesh.specs.MeshCast.{shapeAdmitted, overWalk, meshCast, rayMesh}
-use Rattle.mesh.specs.Demand3.{Admitted, Candidate, answerOf, Refuses, IsHit, DistancesAreNumbers, LowestRefuses, NearestHit, MeetsDemand, Demand3}
+use Rattle.mesh.specs.Demand3.{Admitted, Candidate, answerOf, Refuses, IsHit, LowestRefuses, NearestHit, MeetsDemand, Demand3}
 use Rattle.mesh.proofs.CheckedTree.{Checked, checked-or-empty}
 use Rattle.mesh.proofs.WalkLists.{walk-lists-candidates}
 
@@ -40,7 +40,7 @@ module _ (r : Ray) (m : Mesh) where
   abbrev listed : List ℕ
   listed = candidates m (segmentBox r)
 
-  candidates-count : (i : ℕ) (b : Bool) → near i ≡ b → count i listed ≡ cond b (count i (range 0 (thirds (length (m .triangles))))) 0
+  pub candidates-count : (i : ℕ) (b : Bool) → near i ≡ b → count i listed ≡ cond b (count i (range 0 (thirds (length (m .triangles))))) 0
   unfolding candidates
   candidates-count i b e = count-keep near i (range 0 (thirds (length (m .triangles)))) ∙ ap (λ (b : Bool). cond b (count i (range 0 (thirds (length (m .triangles))))) 0) e
 
@@ -79,14 +79,14 @@ corners-inside m t h i below = go (checked-or-empty m t h)
     go (inr e) = absurd (omega arith)
 
 module _ (r : Ray) (m : Mesh) (t : Tree) (list stack : ℕ) (a : Admitted r m t list stack) where
-  passes : treePasses m t ≡ true
+  pub passes : treePasses m t ≡ true
   passes = yes-passes m t (a .tree .marks) (a .tree .says-yes)
 
   -- ---- the cast is the fold over the candidates
   abbrev foldedAnswer : ℕ → Answer
   foldedAnswer = triangleAnswer r (m .vertices) (m .triangles)
 
-  shape-admitted : shapeAdmitted m (m .vertices) t ≡ true
+  pub shape-admitted : shapeAdmitted m (m .vertices) t ≡ true
   unfolding shapeAdmitted
   shape-admitted = simp (a .mesh, le-leb (t .nodeCount) (2 * triangleCount m t) (few-nodes m t passes))
 
@@ -95,7 +95,7 @@ module _ (r : Ray) (m : Mesh) (t : Tree) (list stack : ℕ) (a : Admitted r m t 
   cast-is-fold =
       simp (a .ray, shape-admitted, a .areas, eq-eqb (length (m .vertices)) (length (m .vertices)) refl, a .end, segment-box-valid r (a .ray) (a .end), walk-lists-candidates m t (segmentBox r) passes)
 
-  answers-same : (i : ℕ) → Candidate r m i → foldedAnswer i ≡ answerOf r m i
+  pub answers-same : (i : ℕ) → Candidate r m i → foldedAnswer i ≡ answerOf r m i
   unfolding answerOf rayTriangle
   answers-same i c = simp (a .ray) (sym (corners-answer r (m .vertices) (m .triangles) i (corners-inside m t passes i (c .triangle))))
 
@@ -117,42 +117,40 @@ module _ (r : Ray) (m : Mesh) (t : Tree) (list stack : ℕ) (a : Admitted r m t 
       c : Candidate r m (l .index)
       c = listed-candidate r m (l .index) (l .member)
 
-  module _ (numbers : DistancesAreNumbers r m) where
-    lowest-nearest : (normal : Vec3) (distance : Float) (i : ℕ) → folded ≡ hitAt normal distance i → LowestNearest foldedAnswer (candidates m (segmentBox r)) normal distance i
-    lowest-nearest normal distance i =
-        hit-of-lowest-nearest foldedAnswer (candidates m (segmentBox r)) (candidates-ascend r m) normal distance i
-        (λ (j : ℕ) (h : List·Memᴰ j (candidates m (segmentBox r))) (n : Vec3) (d : Float) (e : foldedAnswer j ≡ hit n d).
-        let c = listed-candidate r m j h in numbers j n d (record { candidate = c; answers = sym (answers-same j c) ∙ e }))
+  lowest-nearest : (normal : Vec3) (distance : Float) (i : ℕ) → folded ≡ hitAt normal distance i → LowestNearest foldedAnswer (candidates m (segmentBox r)) normal distance i
+  lowest-nearest normal distance i =
+      hit-of-lowest-nearest foldedAnswer (candidates m (segmentBox r)) (candidates-ascend r m) normal distance i
+      (λ (j : ℕ) (h : List·Memᴰ j (candidates m (segmentBox r))). answers-are-numbers r (m .vertices) (m .triangles) j)
 
-    nearest-hit : (normal : Vec3) (distance : Float) (i : ℕ) → folded ≡ hitAt normal distance i → NearestHit r m i normal distance
-    nearest-hit normal distance i h = record {
-      is-hit = record { candidate = c; answers = sym (answers-same i c) ∙ l .answers };
-      as-far =
-          λ (j : ℕ) (n : Vec3) (d : Float) (f : IsHit r m j n d). l .nearest j (candidate-listed r m j (f .candidate)) n d (answers-same j (f .candidate) ∙ f .answers);
-      farther =
-          λ (j : ℕ) (n : Vec3) (d : Float) (f : IsHit r m j n d) (lower : j < i).
-          l .farther-below j (candidate-listed r m j (f .candidate)) lower n d (answers-same j (f .candidate) ∙ f .answers);
-    }
-      where
-        l : LowestNearest foldedAnswer (candidates m (segmentBox r)) normal distance i
-        l = lowest-nearest normal distance i h
+  nearest-hit : (normal : Vec3) (distance : Float) (i : ℕ) → folded ≡ hitAt normal distance i → NearestHit r m i normal distance
+  nearest-hit normal distance i h = record {
+    is-hit = record { candidate = c; answers = sym (answers-same i c) ∙ l .answers };
+    as-far =
+        λ (j : ℕ) (n : Vec3) (d : Float) (f : IsHit r m j n d). l .nearest j (candidate-listed r m j (f .candidate)) n d (answers-same j (f .candidate) ∙ f .answers);
+    farther =
+        λ (j : ℕ) (n : Vec3) (d : Float) (f : IsHit r m j n d) (lower : j < i).
+        l .farther-below j (candidate-listed r m j (f .candidate)) lower n d (answers-same j (f .candidate) ∙ f .answers);
+  }
+    where
+      l : LowestNearest foldedAnswer (candidates m (segmentBox r)) normal distance i
+      l = lowest-nearest normal distance i h
 
-        c : Candidate r m i
-        c = listed-candidate r m i (l .member)
+      c : Candidate r m i
+      c = listed-candidate r m i (l .member)
 
-    fold-meets-demand : MeetsDemand r m folded
-    fold-meets-demand = record {
-      refuses-if =
-          λ (i number : ℕ) (f : Refuses r m i number).
-          refusal-stops foldedAnswer noHit (candidates m (segmentBox r)) i number (candidate-listed r m i (f .candidate)) (answers-same i (f .candidate) ∙ f .answers);
-      refuses-only-if = lowest-refuses;
-      none-if =
-          λ h. none-of-nones foldedAnswer (candidates m (segmentBox r))
-          (λ (i : ℕ) (k : List·Memᴰ i (candidates m (segmentBox r))). let c = listed-candidate r m i k in answers-same i c ∙ h i c);
-      none-only-if =
-          λ h i c. sym (answers-same i c) ∙ nones-of-none foldedAnswer (candidates m (segmentBox r)) h i (candidate-listed r m i c);
-      hit-only-if = nearest-hit;
-    }
+  fold-meets-demand : MeetsDemand r m folded
+  fold-meets-demand = record {
+    refuses-if =
+        λ (i number : ℕ) (f : Refuses r m i number).
+        refusal-stops foldedAnswer noHit (candidates m (segmentBox r)) i number (candidate-listed r m i (f .candidate)) (answers-same i (f .candidate) ∙ f .answers);
+    refuses-only-if = lowest-refuses;
+    none-if =
+        λ h. none-of-nones foldedAnswer (candidates m (segmentBox r))
+        (λ (i : ℕ) (k : List·Memᴰ i (candidates m (segmentBox r))). let c = listed-candidate r m i k in answers-same i c ∙ h i c);
+    none-only-if =
+        λ h i c. sym (answers-same i c) ∙ nones-of-none foldedAnswer (candidates m (segmentBox r)) h i (candidate-listed r m i c);
+    hit-only-if = nearest-hit;
+  }
 
 pub demand3 : Demand3
-demand3 r m t list stack a numbers = rw (cast-is-fold r m t list stack a) (fold-meets-demand r m t list stack a numbers)
+demand3 r m t list stack a = rw (cast-is-fold r m t list stack a) (fold-meets-demand r m t list stack a)

@@ -1,4 +1,4 @@
--- The notes of the listed triangles: what is left of them gives the whole, and the winner's answer is that of the fold over the same list ascending. Assumes nothing.
+-- The notes of the listed triangles: what is left of them gives the whole, and the winner's answer is that of the fold over the same list ascending. Assumes that those hit are hit at numbers.
 use Prim.Native.Nat.{ℕ, zero, suc, _+_, _<_, _≤_}
 use mathlib.Core.Path.{_≡_, refl, sym, ap, _∙_}
 use mathlib.Core.Bool.{Bool, true, false, cond}
@@ -18,7 +18,7 @@ use Rattle.casts.specs.declared.answer.Reach.{Reach}
 use Rattle.casts.specs.declared.answer.Reach.the-variants.{At}
 use Rattle.casts.specs.declared.summary.Outcome.{Outcome}
 use Rattle.casts.specs.declared.summary.Outcome.the-variants.{Nobody, Refused, Struck}
-use Rattle.casts.proofs.AnswerLists.{Each, each-cons}
+use Rattle.casts.proofs.AnswerLists.{Each, HitsAreNumbers, each-cons}
 use Rattle.casts.proofs.SummaryOrder.{Reordered, unchanged, exchanged, behind, through}
 use Rattle.casts.proofs.SummaryLaws.{nearest-of-any-order}
 use Rattle.casts.proofs.SummaryMembers.{winner-of-list}
@@ -83,7 +83,7 @@ insert-reorders x (y ∷ l) = go (leb x y) (insert-reorders x l)
     go true rest = unchanged
     go false rest = through (exchanged x y l) (behind y rest)
 
-sorted-reorders : (l : List ℕ) → Reordered l (sorted l)
+pub sorted-reorders : (l : List ℕ) → Reordered l (sorted l)
 unfolding sortBy
 sorted-reorders [] = unchanged
 sorted-reorders (x ∷ l) = through (behind x (sorted-reorders l)) (insert-reorders x (sorted l))
@@ -93,12 +93,13 @@ sorted-reorders (x ∷ l) = through (behind x (sorted-reorders l)) (insert-reord
 abbrev pub Below : ℕ → (ℕ → Answer) → ℕ → Reach → Type 0
 Below n answer i a = (i < n) × (reachOf (answer i) ≡ a)
 
-module _ (answer : ℕ → Answer) (l : List ℕ) (notes : Summary) (h : notes ≡ summaryFrom answer nothing l) (outcome : Outcome) (w : outcome ≡ winner notes) where
+module _ (answer : ℕ → Answer) (numbers : HitsAreNumbers answer) (l : List ℕ) (notes : Summary) (h : notes ≡ summaryFrom answer nothing l)
+    (outcome : Outcome) (w : outcome ≡ winner notes) where
   wins : outcome ≡ winner (summaryFrom answer nothing l)
   wins = w ∙ ap winner h
 
   nearest : answerAt answer outcome ≡ nearestOf answer (sorted l)
-  nearest = ap (answerAt answer) wins ∙ nearest-of-any-order answer (sorted-reorders l) (sorted-rises l)
+  nearest = ap (answerAt answer) wins ∙ nearest-of-any-order answer numbers (sorted-reorders l) (sorted-rises l)
 
   pub nobody-wins : outcome ≡ Nobody → noHit ≡ nearestOf answer (sorted l)
   unfolding answerAt

@@ -1,13 +1,14 @@
 -- Laws about the mesh cast, up to demand 3, and about the trees that the build writes. Assumes nothing.
 pub mod Folding
 pub mod Casting
-pub mod CastExamples
+pub mod HitDistances
 pub mod CheckedTree
 pub mod TreeCounts
 pub mod WalkState
 pub mod WalkStep
 pub mod WalkLists
 pub mod Demand3
+pub mod CastExamples
 pub mod Contract
 pub mod BuildBoxes
 pub mod BuildOrder
@@ -16,3 +17,4 @@ pub mod BuildNodes
 pub mod BuildCounts
 pub mod BuildClauses
 pub mod BuildPasses
+pub mod BuilderInstance

@@ -23,14 +23,14 @@ placedAt t place = wordAt (t .order) place ∷ []
 abbrev pub trianglesOf : Mesh → Tree → ℕ → List ℕ
 trianglesOf m t node = gather (placedAt t) (placesOf m t node)
 
-count-zero : (n : ℕ) → (0 < n → ⊥) → n ≡ 0
+pub count-zero : (n : ℕ) → (0 < n → ⊥) → n ≡ 0
 count-zero zero h = refl
 count-zero (suc n) h = absurd (h (omega arith))
 
 count-range : (x size : ℕ) → x < size → count x (range 0 size) ≡ 1
 count-range x size h = count-range-inside x 0 size (omega arith) (omega arith)
 
-below-or-not : (x n : ℕ) → (x < n) ⊎ (n ≤ x)
+pub below-or-not : (x n : ℕ) → (x < n) ⊎ (n ≤ x)
 below-or-not x n = go (ltb x n) refl
   where
     go : (b : Bool) → ltb x n ≡ b → (x < n) ⊎ (n ≤ x)
@@ -39,7 +39,7 @@ below-or-not x n = go (ltb x n) refl
 
 module _ (m : Mesh) (t : Tree) (c : Checked m t) where
   -- ---- nodes
-  child-bounds : (i : ℕ) → 0 < count i (gather (childrenOf m t) (nodes m t)) → (0 < i) × (i < t .nodeCount)
+  pub child-bounds : (i : ℕ) → 0 < count i (gather (childrenOf m t) (nodes m t)) → (0 < i) × (i < t .nodeCount)
   child-bounds i h =
       let f = gathered-from (childrenOf m t) (nodes m t) i h in
       let below = range-bounds (f .source) 0 (t .nodeCount) (f .listed) in
@@ -75,7 +75,7 @@ module _ (m : Mesh) (t : Tree) (c : Checked m t) where
       record { node = f .source; lower = fits .0; child = f .given }
 
   -- ---- triangles
-  place-bound : (p : ℕ) → 0 < count p (gather (placesOf m t) (nodes m t)) → p < triangleCount m t
+  pub place-bound : (p : ℕ) → 0 < count p (gather (placesOf m t) (nodes m t)) → p < triangleCount m t
   place-bound p h = go (isLeaf m t (f .source)) refl
     where
       f : From (placesOf m t) (nodes m t) p
@@ -111,12 +111,12 @@ module _ (m : Mesh) (t : Tree) (c : Checked m t) where
           count-zero (count x (range 0 (triangleCount m t))) (λ h. omega (arith, range-bounds x 0 (triangleCount m t) h)) in
           omega arith
 
-  words-are-order : gather (placedAt t) (range 0 (triangleCount m t)) ≡ take (triangleCount m t) (t .order)
+  pub words-are-order : gather (placedAt t) (range 0 (triangleCount m t)) ≡ take (triangleCount m t) (t .order)
   words-are-order =
       let long = within-length (range 0 (triangleCount m t)) (take (triangleCount m t) (t .order)) order-full in
       gather-words (t .order) 0 (triangleCount m t) (omega (arith, length-range 0 (triangleCount m t), length-take (triangleCount m t) (t .order)))
 
-  order-within : Within (gather (placedAt t) (range 0 (triangleCount m t))) (range 0 (triangleCount m t))
+  pub order-within : Within (gather (placedAt t) (range 0 (triangleCount m t))) (range 0 (triangleCount m t))
   order-within =
       rw words-are-order
       (within-of-full (range 0 (triangleCount m t)) (take (triangleCount m t) (t .order)) order-full

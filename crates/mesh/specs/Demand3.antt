@@ -2,7 +2,7 @@
 use Prim.Native.Nat.{ℕ, _<_, _≤_}
 use mathlib.Core.Path.{_≡_}
 use mathlib.Core.Bool.{true, false}
-use lib.Ieee.{Float, isNan, le, lt}
+use lib.Ieee.{Float, le, lt}
 use lib.ListN.{length}
 use Rattle.geometry.specs.Vector.{finiteVec}
 use Rattle.geometry.specs.Box.{touches}
@@ -48,10 +48,6 @@ module _ (r : Ray) (m : Mesh) where
     pub candidate : Candidate i
     pub answers : answerOf i ≡ hit normal distance
 
-  -- "Let no candidate give a distance that is not a number."
-  abbrev pub DistancesAreNumbers : Type 0
-  DistancesAreNumbers = (i : ℕ) (normal : Vec3) (distance : Float) → IsHit i normal distance → isNan distance ≡ false
-
   -- "the lowest-indexed one that does"
   pub record LowestRefuses (number : ℕ) : Type 0 where
     pub index : ℕ
@@ -75,7 +71,8 @@ module _ (r : Ray) (m : Mesh) where
     -- ".. and else a hit with one candidate's distance, normal and index: .."
     pub hit-only-if : (normal : Vec3) (distance : Float) (i : ℕ) → answer ≡ hitAt normal distance i → NearestHit i normal distance
 
--- the demand, but for its last sentence, on the builder, which is Builder.antt
+-- the demand, but for its last sentence, on the builder, which is Builder.antt;
+-- "The mission's statement on meshes loses its condition about NaN"
 abbrev pub Demand3 : Type 0
 Demand3 =
-    (r : Ray) (m : Mesh) (t : Tree) (list stack : ℕ) → Admitted r m t list stack → DistancesAreNumbers r m → MeetsDemand r m (rayMesh r m (m .vertices) t list stack)
+    (r : Ray) (m : Mesh) (t : Tree) (list stack : ℕ) → Admitted r m t list stack → MeetsDemand r m (rayMesh r m (m .vertices) t list stack)

@@ -21,7 +21,7 @@ ghost use Rattle.tree.specs.Mesh.{thirds, triangleAnswer};
 ghost use Rattle.tree_query.specs.Areas.{allBelow};
 
 // The answer of one triangle without its normal, for an admitted ray: an index past the vertices is 5.
-fn triangle_reach(ray: Ray, pose: &[f64], triangles: &[u32], index: usize) -> Reach
+pub fn triangle_reach(ray: Ray, pose: &[f64], triangles: &[u32], index: usize) -> Reach
     requires { ⌜ 3 * index + 3 ≤ length (now triangles) ⌝ }
     ensures { λ r. ⌜ r ≡ reachOf (triangleAnswer ray (now (pose .entry)) (now (triangles .entry)) index) ⌝ }
 {

@@ -16,10 +16,10 @@ ghost use Rattle.casts.specs.Nearest.{saysIndexed};
 ghost use Rattle.tree.specs.Mesh.{thirds, lengthsAdmitted};
 ghost use Rattle.tree_query.specs.Areas.{treeOf, WalkRoom};
 ghost use Rattle.mesh.specs.MeshCast.{mesh, testsPass, meshCast, rayMesh};
-ghost use Rattle.mesh.specs.Demand3.{Admitted, DistancesAreNumbers, MeetsDemand};
+ghost use Rattle.mesh.specs.Demand3.{Admitted, MeetsDemand};
 
 // Whether the lengths of the mesh and of the vertices to cast at, and the node count, are admitted.
-fn shape_admitted(vertices: usize, triangles: usize, pose: usize, nodes: usize) -> bool
+pub fn shape_admitted(vertices: usize, triangles: usize, pose: usize, nodes: usize) -> bool
     ensures { λ r. ⌜ r ≡ (lengthsAdmitted vertices triangles && (lengthsAdmitted pose triangles && leb nodes (2 * thirds triangles))) ⌝ }
 {
     if !mesh::lengths_admitted(vertices, triangles) {
@@ -89,7 +89,7 @@ pub fn ray_mesh(
 ) -> IndexedCast
     ensures { λ r. ⌜ saysIndexed r ≡ rayMesh ray (mesh (now (vertices .entry)) (now (triangles .entry))) (now (pose .entry)) (treeOf nodes (now («node_boxes» .entry)) (now («triangle_boxes» .entry)) (now («node_words» .entry)) (now (order .entry))) (length (now (list .entry))) (length (now (stack .entry))) ⌝ }
     ensures { λ r. ⌜ (testsPass ray (mesh (now (vertices .entry)) (now (triangles .entry))) (now (pose .entry)) (treeOf nodes (now («node_boxes» .entry)) (now («triangle_boxes» .entry)) (now («node_words» .entry)) (now (order .entry))) (length (now (list .entry))) (length (now (stack .entry))) ≡ false → (now (list .exit) ≡ now (list .entry)) × (now (stack .exit) ≡ now (stack .entry))) ⌝ }
-    ensures { λ r. ⌜ (now (pose .entry) ≡ now (vertices .entry) → Admitted ray (mesh (now (vertices .entry)) (now (triangles .entry))) (treeOf nodes (now («node_boxes» .entry)) (now («triangle_boxes» .entry)) (now («node_words» .entry)) (now (order .entry))) (length (now (list .entry))) (length (now (stack .entry))) → DistancesAreNumbers ray (mesh (now (vertices .entry)) (now (triangles .entry))) → MeetsDemand ray (mesh (now (vertices .entry)) (now (triangles .entry))) (saysIndexed r)) ⌝ }
+    ensures { λ r. ⌜ (now (pose .entry) ≡ now (vertices .entry) → Admitted ray (mesh (now (vertices .entry)) (now (triangles .entry))) (treeOf nodes (now («node_boxes» .entry)) (now («triangle_boxes» .entry)) (now («node_words» .entry)) (now (order .entry))) (length (now (list .entry))) (length (now (stack .entry))) → MeetsDemand ray (mesh (now (vertices .entry)) (now (triangles .entry))) (saysIndexed r)) ⌝ }
 {
     if !ray.validate() {
         return IndexedCast::Refused(answer::INVALID_INPUT);

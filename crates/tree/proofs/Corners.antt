@@ -15,10 +15,12 @@ use Rattle.geometry.specs.declared.ray.Ray.{Ray}
 pub use Rattle.geometry.proofs.JoinedTests.{and-first, and-second}
 use Rattle.casts.specs.Answer.{Answer, refused, outOfBounds}
 use Rattle.casts.specs.Reach.{reachOf}
-use Rattle.casts.specs.Triangle.{triangleNormal, triangleCast}
+use Rattle.casts.specs.Triangle.{triangleNormal, triangleOf, triangleCast}
 use Rattle.casts.specs.declared.answer.Reach.the-variants.{At, Refused}
+use Rattle.casts.proofs.AnswerLists.{OfHit, HitsAreNumbers}
 use Rattle.casts.proofs.ReachLaws.{told-by-distance}
-use Rattle.tree.specs.Mesh.{cornerIndex, cornersInside, cornersOf, triangleBox, triangleAnswer, thirds}
+use Rattle.casts.proofs.HitLaws.{Measured, of-cond, of-refused, triangle-hit-measured}
+use Rattle.tree.specs.Mesh.{cornerIndex, cornersInside, cornerAt, cornersOf, triangleBox, triangleAnswer, thirds}
 
 fits : (c l : ℕ) → ltb c (l / 3) ≡ true → 3 * c + 3 ≤ l
 fits c l h = let k : c < l / 3 = ltb-true c (l / 3) h in omega arith
@@ -73,3 +75,15 @@ hit-answer r vertices triangles index distance h corners e =
     let same : triangleCast r corners ≡ triangleAnswer r vertices triangles index =
     ap (triangleCast r) e ∙ corners-answer r vertices triangles index (hit-inside r vertices triangles index distance h) in
     told-by-distance r (corner corners 0) (corner corners 1) (corner corners 2) distance (ap reachOf same ∙ h) ∙ same
+
+-- its distance is a number and in the ray's range
+module _ (r : Ray) (vertices : List Float) (triangles : List ℕ) where
+  pub answers-measured : (index : ℕ) → OfHit (Measured r) (triangleAnswer r vertices triangles index)
+  unfolding triangleAnswer
+  answers-measured index =
+      let at = cornerAt vertices triangles index in
+      of-cond (Measured r) (cornersInside (thirds (length vertices)) triangles index) (triangleOf r (at 0) (at 1) (at 2)) (refused outOfBounds)
+      (λ _. triangle-hit-measured r (at 0) (at 1) (at 2)) (λ _. of-refused (Measured r) outOfBounds)
+
+  pub answers-are-numbers : HitsAreNumbers (triangleAnswer r vertices triangles)
+  answers-are-numbers index normal distance h = answers-measured index normal distance h .number

@@ -25,15 +25,12 @@ returns-2 c = simp (c .before .before .reach .given .1, sym (c .lower-refusal .e
 enum-known-reach-2 : tie.Need-enum-known-reach-2
 enum-known-reach-2 c = search needs
 
-lower-hit-requires : tie.Need-lower-hit-requires
-lower-hit-requires c κs = search needs
-
 nearer-hit-requires : tie.Need-nearer-hit-requires
 nearer-hit-requires c κs = search needs
 
 returns-3 : tie.Need-returns-3
 unfolding noteOf
-returns-3 c = simp (c .before .before .before .reach2 .given .1, sym (c .before .lower-hit .ensures), sym (c .nearer-hit .ensures))
+returns-3 c = simp (c .before .before .reach2 .given .1, sym (c .nearer-hit .ensures))
 
 pub note-spec : {M : Type 1} → statement M
 note-spec =
@@ -45,6 +42,5 @@ note-spec =
     lower-refusal-requires
     returns-2
     enum-known-reach-2
-    lower-hit-requires
     nearer-hit-requires
     returns-3)

@@ -15,13 +15,13 @@ returns c = simp (c .before .refuser .given .1)
 enum-told : tie.Need-enum-told
 enum-told c = search needs
 
-hit-winner-requires : tie.Need-hit-winner-requires
-hit-winner-requires c κs = search needs
+struck-requires : tie.Need-struck-requires
+struck-requires c κs = search needs
 
 returns-2 : tie.Need-returns-2
 unfolding winnerOf
-returns-2 c = simp (c .before .enum-told .given .1, sym (c .hit-winner .ensures))
+returns-2 c = simp (c .before .enum-told .given .1, sym (c .struck .ensures))
 
 pub winner-spec : {M : Type 1} → statement M
 winner-spec =
-    tie.close (tie.spec enum-known-refuser returns enum-told hit-winner-requires returns-2)
+    tie.close (tie.spec enum-known-refuser returns enum-told struck-requires returns-2)
