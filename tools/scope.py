@@ -8,6 +8,7 @@ usage: tools/scope.py [--self-test]
   quotes the row's sentence; where the row is amended, a sentence of the request will do.
 - Every call that a row names is a function of crates/*/src.
 - A request that a row is amended by has a table of its own. A row of a table has four cells, and its sentence is in quotes.
+- A request that docs/CHANGES.md has a note on has landed: none of its rows waits.
 --self-test: each of a list of faults is reported.
 """
 import collections
@@ -75,7 +76,7 @@ def definitions_of(specs, path, name):
     return None
 
 
-def compare(specs, functions, scope):
+def compare(specs, functions, scope, landed):
     """Every fault, and the numbers of quotations and of definitions compared."""
     faults, quoted, named = [], 0, 0
     rows = rows_of(scope, faults)
@@ -88,6 +89,8 @@ def compare(specs, functions, scope):
                     faults.append(f'{path}:{number}: no row of docs/SCOPE.md holds "{" .. ".join(quote)}"')
     for row in rows:
         what = row.sentence[:60]
+        if row.part in landed and row.definitions == "waits":
+            faults.append(f'docs/SCOPE.md: "{what}": {row.part} has landed, and its row waits')
         bare = re.sub(r"\([^)]*\)", "", row.definitions)
         also = [other.sentence for other in rows if other.part in row.amended]
         faults += [f'docs/SCOPE.md: "{what}": {part} has no table' for part in row.amended if part not in parts]
@@ -108,11 +111,12 @@ def read(home):
     files = sorted(home.glob("crates/*/specs/*.antt"))
     specs = {str(file.relative_to(home)): file.read_text().splitlines() for file in files}
     code = "".join(file.read_text() for file in home.glob("crates/*/src/*.rt"))
-    return specs, set(re.findall(r"\bfn (\w+)", code)), (home / "docs/SCOPE.md").read_text()
+    landed = set(re.findall(r"^## (M-\d+)", (home / "docs/CHANGES.md").read_text(), re.M))
+    return specs, set(re.findall(r"\bfn (\w+)", code)), (home / "docs/SCOPE.md").read_text(), landed
 
 
 def self_test(home):
-    specs, functions, scope = read(home)
+    specs, functions, scope, landed = read(home)
     box = "crates/geometry/specs/Box.antt"
     row = next(line for line in scope.splitlines() if "geometry/Box.centre" in line)
     changed = {
@@ -125,10 +129,12 @@ def self_test(home):
         "a quotation taken out": ({**specs, box: [line.replace('"', "") for line in specs[box]]}, scope),
         "a call that is gone": (specs, scope.replace("| `center` |", "| `centre_of` |")),
         "a request without a table": (specs, scope.replace(row, row[:-2] + "M-999 |")),
+        "a row that waits though its request has landed": (specs, scope.replace("`records/Text.printedBits` | `printed_bits` | |", "waits | | |")),
         "a row of three cells": (specs, scope.replace(row, "|".join(row.split("|")[:4]) + "|")),
     }
-    before = set(compare(specs, functions, scope)[0])
-    missed = [what for what, (altered, text) in changed.items() if not set(compare(altered, functions, text)[0]) - before]
+    before = set(compare(specs, functions, scope, landed)[0])
+    faults_of = lambda altered, text: set(compare(altered, functions, text, landed)[0]) - before
+    missed = [what for what, (altered, text) in changed.items() if not faults_of(altered, text)]
     for what in missed:
         print(f"self-test: {what}: nothing is reported", file=sys.stderr)
     if missed:
