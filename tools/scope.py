@@ -94,7 +94,7 @@ def compare(specs, functions, scope, landed):
         bare = re.sub(r"\([^)]*\)", "", row.definitions)
         also = [other.sentence for other in rows if other.part in row.amended]
         faults += [f'docs/SCOPE.md: "{what}": {part} has no table' for part in row.amended if part not in parts]
-        for crate, file, name in re.findall(r"`(\w+)/(\w+)\.([\w-]+)`", row.definitions):
+        for crate, file, name in re.findall(r"`(\w+)/([\w/]+)\.([\w-]+)`", row.definitions):
             named += 1
             path = f"crates/{crate}/specs/{file}.antt"
             quotes = definitions_of(specs, path, name) if path in specs else None
@@ -108,9 +108,9 @@ def compare(specs, functions, scope, landed):
 
 
 def read(home):
-    files = sorted(home.glob("crates/*/specs/*.antt"))
+    files = sorted(home.glob("crates/*/specs/**/*.antt"))
     specs = {str(file.relative_to(home)): file.read_text().splitlines() for file in files}
-    code = "".join(file.read_text() for file in home.glob("crates/*/src/*.rt"))
+    code = "".join(file.read_text() for file in home.glob("crates/*/src/**/*.rt"))
     landed = set(re.findall(r"^## (M-\d+)", (home / "docs/CHANGES.md").read_text(), re.M))
     return specs, set(re.findall(r"\bfn (\w+)", code)), (home / "docs/SCOPE.md").read_text(), landed
 
