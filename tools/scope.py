@@ -94,7 +94,7 @@ def compare(specs, functions, scope, landed):
         bare = re.sub(r"\([^)]*\)", "", row.definitions)
         also = [other.sentence for other in rows if other.part in row.amended]
         faults += [f'docs/SCOPE.md: "{what}": {part} has no table' for part in row.amended if part not in parts]
-        for crate, file, name in re.findall(r"`(\w+)/([\w/]+)\.([\w-]+)`", row.definitions):
+        for crate, file, name in re.findall(r"`(\w+)/((?:[A-Z]\w*/)*[A-Z]\w*)\.([\w-]+)`", row.definitions):
             named += 1
             path = f"crates/{crate}/specs/{file}.antt"
             quotes = definitions_of(specs, path, name) if path in specs else None
