@@ -1,7 +1,7 @@
 #!/usr/bin/env python3
 """Why each must-fail edit was refused: because a fact fails, or only because the proof no longer fits the code.
 
-usage: tools/refusals.py [--self-test]
+usage: tools/refusals.py [--self-test | CRATE..]   (CRATE..: just the edits of these crates)
 
 Reads the first error of target/must-fail/CRATE/EDIT/.log, which `rt ci` and `rt must-fail` leave, for every
 crates/CRATE/must-fail/EDIT.edit. A proof that names a call, a test or a need that the edited code does not have would be refused
@@ -86,10 +86,11 @@ def self_test():
 def main():
     if sys.argv[1:] == ["--self-test"]:
         return self_test()
-    if sys.argv[1:]:
-        sys.exit(__doc__)
     home = pathlib.Path(__file__).resolve().parent.parent
-    edits = sorted(home.glob("crates/*/must-fail/*.edit"))
+    crates = sys.argv[1:]
+    if not all((home / "crates" / crate).is_dir() for crate in crates):
+        sys.exit(__doc__)
+    edits = [edit for edit in sorted(home.glob("crates/*/must-fail/*.edit")) if not crates or edit.parent.parent.name in crates]
     faults = []
     for edit in edits:
         name = f"{edit.parent.parent.name}/{edit.stem}"
@@ -104,7 +105,7 @@ def main():
         if not found and name in KNOWN:
             faults.append(f"{name}: a fact fails, so it need not be listed as known")
     names = {f"{edit.parent.parent.name}/{edit.stem}" for edit in edits}
-    faults += [f"{name}: listed as known, and there is no such edit" for name in KNOWN if name not in names]
+    faults += [f"{name}: listed as known, and there is no such edit" for name in KNOWN if not crates and name not in names]
     for fault in faults:
         print(fault, file=sys.stderr)
     if faults:
