@@ -45,8 +45,8 @@
  * Or one of the codes PROBE_HIT, PROBE_NONE, PROBE_YES, PROBE_NO and PROBE_DONE, which no refusal has.
  * Numbers from 9 on may be added to the refusals; all stay below 256.
  *
- * Tested first is that the result slices hit, index, nodes (of probe_build) and found are long enough: else 3,
- * whatever the rest is. Then 1, 2, 3 and 4 in this order, then the others as the cast meets them.
+ * Tested first (but by probe_ray_mesh_plain, which says its own order) is that the result slices hit, index, nodes
+ * (of probe_build) and found are long enough: else 3, whatever the rest is. Then 1, 2, 3 and 4 in this order, then the others as the cast meets them.
  * The result slices hit, index, nodes and found are written only with PROBE_HIT and PROBE_DONE; their places past
  * those stated are unchanged.
  * 'Zeros' fill every place of the build's node_boxes, triangle_boxes, node_words and order, or of the query's list,
@@ -278,6 +278,35 @@ uint32_t probe_ray_mesh(
     size_t list_length,
     uint32_t *stack,
     size_t stack_length,
+    double *hit,
+    size_t hit_length,
+    uint32_t *index,
+    size_t index_length
+);
+
+/* Casts a ray at a mesh without a tree: for parts of few triangles, such as a drawer front of a dozen. Nothing is lent
+ * but the mesh and the result slices. Every triangle is looked at by its index, and those whose box does not touch the
+ * box of the ray's segment are skipped. Surfaces nearer than near_distance are passed over; it is finite, from 0 to
+ * max_distance, else 1.
+ *
+ * Answers PROBE_HIT, PROBE_NONE, or refuses with 1, 2, 3, 5, 6 or 7, as probe_ray_mesh does at the mesh's own vertices
+ * through any tree for which probe_tree_check says PROBE_YES: that the two agree is proved. No triangles is none.
+ * Tested are 1, then 2, then 3 (hit, index), then that the segment's end is finite (6), and then, before any triangle
+ * is cast at, that every triangle of the mesh has a valid box (5): one whose index is past the vertices has none.
+ */
+uint32_t probe_ray_mesh_plain(
+    double origin_x,
+    double origin_y,
+    double origin_z,
+    double direction_x,
+    double direction_y,
+    double direction_z,
+    double max_distance,
+    double near_distance,
+    const double *vertices,
+    size_t vertices_length,
+    const uint32_t *triangles,
+    size_t triangles_length,
     double *hit,
     size_t hit_length,
     uint32_t *index,

@@ -191,6 +191,50 @@ pub fn front_rays(count: usize) -> Vec<Ray> {
         .collect()
 }
 
+/// The front and the back of a drawer front alone, each cut into columns · rows rectangles of two triangles.
+pub fn plates(columns: usize, rows: usize) -> Mesh {
+    let mut mesh = Mesh {
+        vertices: Vec::new(),
+        triangles: Vec::new(),
+    };
+    for z in [0.0, 19.0] {
+        let first = (mesh.vertices.len() / 3) as u32;
+        let across = columns as u32 + 1;
+        for row in 0..=rows {
+            for column in 0..=columns {
+                let part = |k: usize, of: usize| k as f64 / of as f64;
+                let (x, y) = (597.0 * part(column, columns), 140.0 * part(row, rows));
+                mesh.vertices.extend([x, y, z]);
+            }
+        }
+        for row in 0..rows as u32 {
+            for column in 0..columns as u32 {
+                let a = first + row * across + column;
+                let c = a + across;
+                mesh.triangles.extend([a, a + 1, c + 1, a, c + 1, c]);
+            }
+        }
+    }
+    mesh
+}
+
+/// Rays that pass 1 mm over the edge of a drawer front, so that their segment's box touches that of its face.
+pub fn over_the_edge(count: usize) -> Vec<Ray> {
+    let mut random = random(12);
+    let ray = |_| {
+        let y = random.between(20.0, 120.0);
+        toward([-10.0, y, 10.0], [10.0, y + 1.0, 30.0])
+    };
+    (0..count).map(ray).collect()
+}
+
+/// The rays into a drawer front, far off it.
+pub fn far_from_front(count: usize) -> Vec<Ray> {
+    let mut rays = front_rays(count);
+    rays.iter_mut().for_each(|ray| ray.origin[2] += 500.0);
+    rays
+}
+
 fn wave(x: f64, y: f64) -> f64 {
     (0.7 * x).sin() + (0.9 * y).cos()
 }

@@ -10,7 +10,7 @@ use crate::{
         mesh::{MeshQueryWorkspace, TriangleBvh},
         query::{QueryScratch, Ray as RustRay, timed},
     },
-    inputs, records,
+    inputs, plain, records,
     shape::{self, TriangleMesh},
     timing::Row,
 };
@@ -61,7 +61,7 @@ fn compare(name: &str, wanted: u32, ours: (u32, [f64; 4]), rust: (u32, [f64; 4])
 }
 
 /// A row of casts: `ours` and `rust` cast one item, given as each side holds it. A `wanted` of 0 admits any answer.
-fn casts<A: 'static, B: 'static>(
+pub fn casts<A: 'static, B: 'static>(
     name: &str,
     wanted: u32,
     ours_items: Vec<A>,
@@ -93,7 +93,7 @@ fn casts<A: 'static, B: 'static>(
     }
 }
 
-fn rust_rays(rays: &[Ray]) -> Vec<RustRay> {
+pub fn rust_rays(rays: &[Ray]) -> Vec<RustRay> {
     rays.iter().map(rust_ray).collect()
 }
 
@@ -135,10 +135,10 @@ fn plane(name: &str) -> Row {
 
 /// A mesh and its tree as each side holds them.
 pub struct Both {
-    mesh: Mesh,
+    pub mesh: Mesh,
     tree: Tree,
-    rust_mesh: TriangleMesh,
-    rust_tree: TriangleBvh,
+    pub rust_mesh: TriangleMesh,
+    pub rust_tree: TriangleBvh,
 }
 
 impl Both {
@@ -205,7 +205,7 @@ pub fn check(name: &str, both: &Rc<Both>) -> Row {
 }
 
 /// The index, which the Rust does not return: its triangle alone must give the same hit.
-fn index_agrees(name: &str, both: &Both, ray: &Ray, lent: &Lent) {
+pub fn index_agrees(name: &str, both: &Both, ray: &Ray, lent: &Lent) {
     let mut hit = [0.0; 4];
     let corners = both.mesh.corners(lent.index[0] as usize);
     assert_eq!(
@@ -335,7 +335,7 @@ pub struct Planned {
     pub make: Box<dyn FnOnce(&str) -> Row>,
 }
 
-fn plan(name: &str, make: impl FnOnce(&str) -> Row + 'static) -> Planned {
+pub fn plan(name: &str, make: impl FnOnce(&str) -> Row + 'static) -> Planned {
     Planned {
         name: name.to_owned(),
         make: Box::new(make),
@@ -436,7 +436,7 @@ fn grids() -> Vec<Planned> {
 
 pub fn all() -> Vec<Planned> {
     let stream = plan("probe, a record", records::row);
-    let parts = [shapes(), meshes(), grids(), vec![stream]];
+    let parts = [shapes(), meshes(), plain::rows(), grids(), vec![stream]];
     parts.into_iter().flatten().collect()
 }
 

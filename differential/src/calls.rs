@@ -20,11 +20,11 @@ pub const CHECK: &str = "check";
 pub const QUERY: &str = "query";
 pub const CAST: &str = "mesh cast";
 
-const MODEL: &str = "the model";
-const RUST: &str = "the Rust";
+pub(crate) const MODEL: &str = "the model";
+pub(crate) const RUST: &str = "the Rust";
 const DEMAND: &str = "demand 3 without a tree";
 
-const SHORT_RESULT: &str = "a result slice is too short";
+pub(crate) const SHORT_RESULT: &str = "a result slice is too short";
 const REFUSED_1: &str = "1: the Rust's boxes are valid where they are made";
 const REFUSED_2: &str = "2: the Rust has no such limit";
 const REFUSED_3: &str = "3: the Rust's areas grow";
@@ -41,26 +41,26 @@ fn all_agree(a: &[f64], b: &[f64]) -> bool {
 }
 
 /// One call under comparison.
-struct Held<'a> {
-    log: &'a mut Log,
-    name: &'static str,
-    call: &'a dyn Debug,
+pub(crate) struct Held<'a> {
+    pub log: &'a mut Log,
+    pub name: &'static str,
+    pub call: &'a dyn Debug,
 }
 
 impl Held<'_> {
-    fn differs(&mut self, text: String) {
+    pub(crate) fn differs(&mut self, text: String) {
         self.log
             .differs(self.name, text, format!("{:?}", self.call));
     }
 
-    fn number(&mut self, number: u32, expected: u32, by: &str) {
+    pub(crate) fn number(&mut self, number: u32, expected: u32, by: &str) {
         if number != expected {
             let (number, expected) = (in_words(number), in_words(expected));
             self.differs(format!("answers {number}, {by} {expected}"));
         }
     }
 
-    fn slice<T: Word + Debug>(&mut self, what: &str, holds: &[T], expected: &[T]) {
+    pub(crate) fn slice<T: Word + Debug>(&mut self, what: &str, holds: &[T], expected: &[T]) {
         if same_bits(holds, expected) {
             return;
         }
@@ -75,23 +75,27 @@ impl Held<'_> {
         ));
     }
 
-    fn that(&mut self, holds: bool, text: &str) {
+    pub(crate) fn that(&mut self, holds: bool, text: &str) {
         if !holds {
             self.differs(text.to_owned());
         }
     }
 
-    fn compared(&mut self, with: &'static str) {
+    pub(crate) fn compared(&mut self, with: &'static str) {
         self.log.compared(self.name, with);
     }
 
-    fn left_out(&mut self, reason: &'static str) {
+    pub(crate) fn left_out(&mut self, reason: &'static str) {
         self.log.left_out(self.name, reason);
     }
 }
 
 /// Runs a call and counts its answer; none if it wrote where it must not.
-fn run<T>(held: &mut Held, done: Result<T, String>, number: impl Fn(&T) -> u32) -> Option<T> {
+pub(crate) fn run<T>(
+    held: &mut Held,
+    done: Result<T, String>,
+    number: impl Fn(&T) -> u32,
+) -> Option<T> {
     match done {
         Ok(done) => {
             held.log.answered(held.name, number(&done));
@@ -401,7 +405,7 @@ pub fn cast(log: &mut Log, call: &Cast) {
     }
 }
 
-fn answer_is(
+pub(crate) fn answer_is(
     held: &mut Held,
     done: &library::Hit,
     expected: &Answer,

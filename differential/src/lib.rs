@@ -7,5 +7,6 @@ pub mod library;
 pub mod log;
 pub mod other_trees;
 pub mod panel;
+pub mod plain;
 pub mod run;
 pub mod shapes;

@@ -78,9 +78,9 @@ pub struct Hit {
 }
 
 /// What a call did outside of its slices, or to those lent for reading.
-type Fault = String;
+pub(crate) type Fault = String;
 
-fn written<T: Word>(name: &str, lent: &Lent<T>) -> Result<Vec<T>, Fault> {
+pub(crate) fn written<T: Word>(name: &str, lent: &Lent<T>) -> Result<Vec<T>, Fault> {
     if lent.margins_hold() {
         Ok(lent.contents().to_vec())
     } else {
@@ -88,7 +88,7 @@ fn written<T: Word>(name: &str, lent: &Lent<T>) -> Result<Vec<T>, Fault> {
     }
 }
 
-fn only_read<T: Word>(name: &str, lent: &Lent<T>, given: &[T]) -> Result<(), Fault> {
+pub(crate) fn only_read<T: Word>(name: &str, lent: &Lent<T>, given: &[T]) -> Result<(), Fault> {
     if same_bits(&written(name, lent)?, given) {
         Ok(())
     } else {

@@ -7,7 +7,7 @@ use crate::{
     library::{Build, Cast, Check, Query},
     log::Log,
     other_trees::{any_words, one_clause},
-    panel, shapes,
+    panel, plain, shapes,
 };
 use oracle::{
     answer::{self, Constructed, MOST_TRIANGLES, MOST_VERTICES, Ray},
@@ -103,6 +103,7 @@ pub fn compare(log: &mut Log, seed: u64, number: u64, mesh: &Mesh) {
         with_tree(log, random, &another, sound, None);
     }
     shapes::compare(log, random, seed, number);
+    plain::compare(log, seed, number, mesh);
 }
 
 fn count_constructed(log: &mut Log, mesh: &Mesh) {
@@ -117,7 +118,7 @@ fn count_constructed(log: &mut Log, mesh: &Mesh) {
 }
 
 /// A result slice of `places` places: now and then too short, or longer.
-fn result<T>(random: &mut Random, places: usize, value: fn(&mut Random) -> T) -> Vec<T> {
+pub(crate) fn result<T>(random: &mut Random, places: usize, value: fn(&mut Random) -> T) -> Vec<T> {
     let length = match random.below(24) {
         0 => random.below(places),
         1..5 => places + random.within(1, 3) as usize,
@@ -191,7 +192,7 @@ fn sizes(random: &mut Random, case: &cases::Case) -> (usize, FlatTree) {
 }
 
 /// The mesh with one coordinate or one index changed.
-fn changed(random: &mut Random, mesh: &Mesh) -> Mesh {
+pub(crate) fn changed(random: &mut Random, mesh: &Mesh) -> Mesh {
     let mut other = mesh.clone();
     let place = random.below(other.vertices.len());
     match random.below(4) {
@@ -327,7 +328,7 @@ fn crossed(random: &mut Random, bounds: &mut [f64; 6]) {
 }
 
 /// A ray at a corner or an edge of some triangle, or between them.
-fn aimed_ray(random: &mut Random, mesh: &Mesh) -> Ray {
+pub(crate) fn aimed_ray(random: &mut Random, mesh: &Mesh) -> Ray {
     let triangle = random.below(mesh.indices.len() / 3);
     let corner = |k: usize| {
         let vertex = 3 * mesh.indices[3 * triangle + k] as usize;

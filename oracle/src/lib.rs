@@ -12,6 +12,7 @@ pub mod cases;
 pub(crate) mod collision;
 pub mod generate;
 pub mod math;
+pub mod mesh_plain;
 pub mod model;
 pub mod plain;
 pub mod random;

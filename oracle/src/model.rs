@@ -90,16 +90,16 @@ fn is_valid(b: &[f64]) -> bool {
     b.iter().all(|x| x.is_finite()) && (0..3).all(|k| b[k] <= b[k + 3])
 }
 
-fn vertices_admitted(vertices: &[f64]) -> bool {
+pub(crate) fn vertices_admitted(vertices: &[f64]) -> bool {
     vertices.len().is_multiple_of(3) && vertices.len() <= 3 * MOST_VERTICES
 }
 
-fn indices_admitted(indices: &[u32]) -> bool {
+pub(crate) fn indices_admitted(indices: &[u32]) -> bool {
     indices.len().is_multiple_of(3) && indices.len() <= 3 * MOST_TRIANGLES
 }
 
 /// The corners of a triangle; none for an index past the vertices.
-fn corners(vertices: &[f64], indices: &[u32], triangle: usize) -> Option<[[f64; 3]; 3]> {
+pub(crate) fn corners(vertices: &[f64], indices: &[u32], triangle: usize) -> Option<[[f64; 3]; 3]> {
     let mut corners = [[0.0; 3]; 3];
     for (k, corner) in corners.iter_mut().enumerate() {
         let vertex = indices[3 * triangle + k] as usize;
@@ -109,7 +109,7 @@ fn corners(vertices: &[f64], indices: &[u32], triangle: usize) -> Option<[[f64; 
 }
 
 /// The box of a triangle's three vertices; none if it has no valid one.
-fn vertices_box(corners: [[f64; 3]; 3]) -> Option<Aabb> {
+pub(crate) fn vertices_box(corners: [[f64; 3]; 3]) -> Option<Aabb> {
     let [a, b, c] = corners.map(Vec3::from_array);
     Aabb::new(least(least(a, b), c), greatest(greatest(a, b), c)).ok()
 }
@@ -505,7 +505,7 @@ pub fn ray_mesh(
 
 /// The fold over candidates in list order: the first refusal, else the first
 /// strictly least distance.
-fn nearest(ray: &Ray, vertices: &[f64], indices: &[u32], candidates: &[u32]) -> Answer {
+pub(crate) fn nearest(ray: &Ray, vertices: &[f64], indices: &[u32], candidates: &[u32]) -> Answer {
     plain::nearest(candidates.iter().map(|&triangle| {
         let corners = corners(vertices, indices, triangle as usize);
         let cast = corners.map_or(Answer::Refused(5), |corners| plain::triangle(ray, corners));

@@ -134,6 +134,12 @@ slips! {
     CheckNone: "a tree of no node passes for any n",
     CheckMarks: "marks of 2n are room enough",
     PoseFirst: "4 is tested before 3",
+    // the mesh without a tree
+    PlainEmpty: "without a tree no triangles is 5",
+    PlainIndex: "without a tree an index past the vertices is skipped",
+    PlainUnfit: "without a tree a triangle without a valid box is skipped",
+    PlainLate: "without a tree 5 is found while casting",
+    PlainEnd: "without a tree 5 goes before the segment end's 6",
     // the height grid
     HeightSpan: "a span that is not finite is none",
     HeightEarly: "the first cell is not one early",

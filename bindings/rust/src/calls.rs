@@ -174,6 +174,38 @@ pub fn ray_mesh(
     }
 }
 
+/// The mesh cast without a tree; `index` has one place.
+#[inline]
+pub fn ray_mesh_plain(
+    ray: &Ray,
+    vertices: &[f64],
+    triangles: &[u32],
+    hit: &mut [f64],
+    index: &mut [u32],
+) -> u32 {
+    // SAFETY: every pointer and length is a slice's, and Rust lets no mutable one overlap another.
+    unsafe {
+        sys::probe_ray_mesh_plain(
+            ray.origin[0],
+            ray.origin[1],
+            ray.origin[2],
+            ray.direction[0],
+            ray.direction[1],
+            ray.direction[2],
+            ray.max_distance,
+            0.0,
+            vertices.as_ptr(),
+            vertices.len(),
+            triangles.as_ptr(),
+            triangles.len(),
+            hit.as_mut_ptr(),
+            hit.len(),
+            index.as_mut_ptr(),
+            index.len(),
+        )
+    }
+}
+
 /// The build; `nodes` has one place, the node count.
 #[inline]
 pub fn build(

@@ -220,12 +220,27 @@ pub fn ray_mesh(
         &mut places,
         &mut index,
     );
-    Cast::of(answer, || {
-        let hit = placed(&places);
-        MeshHit {
-            normal: hit.normal,
-            distance: hit.distance,
-            triangle: index[0],
-        }
-    })
+    Cast::of(answer, || mesh_hit(&places, &index))
+}
+
+/// Casts a ray at a mesh without a tree: for parts of few triangles. Nothing is lent but the mesh.
+///
+/// Answers what [`ray_mesh`] answers at the mesh's own vertices through any tree that passes [`tree_check`]: that the
+/// two agree is proved. Refuses with 1, 2, 5 (a triangle has no valid box, or an index past the vertices), 6 or 7. No
+/// triangles is none.
+pub fn ray_mesh_plain(ray: &Ray, vertices: &[f64], triangles: &[u32]) -> Cast<MeshHit> {
+    let mut places: Places = [0.0; 4];
+    let mut index = [0_u32];
+    let answer = calls::ray_mesh_plain(ray, vertices, triangles, &mut places, &mut index);
+    Cast::of(answer, || mesh_hit(&places, &index))
+}
+
+/// A mesh's hit from the result slices.
+fn mesh_hit(places: &Places, index: &[u32; 1]) -> MeshHit {
+    let hit = placed(places);
+    MeshHit {
+        normal: hit.normal,
+        distance: hit.distance,
+        triangle: index[0],
+    }
 }

@@ -19,7 +19,7 @@
 //! }
 //! ```
 //!
-//! A [`Mesh`] owns a mesh and a tree that fits it:
+//! A [`PlainMesh`] has no tree, for parts of few triangles. A [`Mesh`] owns a mesh and a tree that fits it:
 //!
 //! ```
 //! use probe_rays::{Cast, Mesh, Ray, Refusal};
@@ -40,12 +40,14 @@ mod answer;
 pub mod calls;
 pub mod lent;
 mod mesh;
+mod plain;
 mod ray;
 mod shapes;
 pub mod sys;
 
 pub use answer::{Cast, Hit, MeshHit, Refusal};
 pub use mesh::{Mesh, Scratch, Tree, TreeError};
+pub use plain::PlainMesh;
 pub use ray::Ray;
 pub use shapes::{
     ray_height_field, ray_level_set, ray_plane, ray_triangle, HeightField, LevelSet, Plane,

@@ -124,6 +124,26 @@ extern "C" {
         index_length: usize,
     ) -> u32;
 
+    /// Casts a ray at a mesh without a tree.
+    pub fn probe_ray_mesh_plain(
+        origin_x: f64,
+        origin_y: f64,
+        origin_z: f64,
+        direction_x: f64,
+        direction_y: f64,
+        direction_z: f64,
+        max_distance: f64,
+        near_distance: f64,
+        vertices: *const f64,
+        vertices_length: usize,
+        triangles: *const u32,
+        triangles_length: usize,
+        hit: *mut f64,
+        hit_length: usize,
+        index: *mut u32,
+        index_length: usize,
+    ) -> u32;
+
     /// Builds a mesh's tree.
     pub fn probe_build(
         vertices: *const f64,

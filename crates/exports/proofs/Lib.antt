@@ -1,3 +1,4 @@
 -- Laws about what the calls answer and leave. Assumes nothing.
 pub mod Kept
 pub mod Counts
+pub mod PlainCalls

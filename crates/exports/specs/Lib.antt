@@ -1,2 +1,3 @@
 -- What the calls for other languages answer and write. Definitions only. Assumes nothing.
 pub mod Results
+pub mod Plain

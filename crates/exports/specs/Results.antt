@@ -30,6 +30,14 @@ version = 1
 abbrev pub rayOf : Float → Float → Float → Float → Float → Float → Float → Ray
 rayOf ox oy oz dx dy dz maximum = record { origin = vector ox oy oz; direction = vector dx dy dz; «max_distance» = maximum; near = zeroᶠ }
 
+abbrev pub rayFrom : Float → Float → Float → Float → Float → Float → Float → Float → Ray
+rayFrom ox oy oz dx dy dz maximum near = record {
+  origin = vector ox oy oz;
+  direction = vector dx dy dz;
+  «max_distance» = maximum;
+  near = near;
+}
+
 abbrev pub planeOf : Float → Float → Float → Float → Plane
 planeOf x y z distance = record { normal = vector x y z; distance = distance }
 

@@ -8,3 +8,5 @@ mod results;
 pub mod shapes;
 // The mesh cast, build, query and tree check.
 pub mod meshes;
+// The mesh cast without a tree.
+pub mod plain;

@@ -16,7 +16,7 @@ ghost use Rattle.casts.specs.Nearest.{saysIndexed};
 ghost use Rattle.tree_build.specs.Build.{says as saysBuilt};
 ghost use Rattle.tree_check.specs.Verdict.{says as saysVerdict};
 ghost use Rattle.tree_query.specs.Query.{saysListed};
-ghost use Rattle.exports.specs.Results.{rayOf, answered, toldIndexed, toldNodes, toldFound, toldVerdict};
+ghost use Rattle.exports.specs.Results.{rayOf, rayFrom, answered, toldIndexed, toldNodes, toldFound, toldVerdict};
 
 // What a call answers where it does not refuse. Refusals, document 02's among them, stay below 256.
 pub const HIT: u32 = 256;
@@ -55,6 +55,35 @@ pub fn ray_of(
         },
         max_distance: max_distance,
         near: 0.0,
+    }
+}
+
+// A ray from its eight numbers.
+pub fn ray_from(
+    origin_x: f64,
+    origin_y: f64,
+    origin_z: f64,
+    direction_x: f64,
+    direction_y: f64,
+    direction_z: f64,
+    max_distance: f64,
+    near_distance: f64,
+) -> Ray
+    ensures { λ r. ⌜ r ≡ rayFrom «origin_x» «origin_y» «origin_z» «direction_x» «direction_y» «direction_z» «max_distance» «near_distance» ⌝ }
+{
+    Ray {
+        origin: Vec3 {
+            x: origin_x,
+            y: origin_y,
+            z: origin_z,
+        },
+        direction: Vec3 {
+            x: direction_x,
+            y: direction_y,
+            z: direction_z,
+        },
+        max_distance: max_distance,
+        near: near_distance,
     }
 }
 

@@ -1,0 +1,72 @@
+//! A mesh that has no tree.
+use crate::answer::{Cast, MeshHit, Refusal};
+use crate::{lent, Mesh, Ray};
+
+/// A mesh without a tree, for parts of few triangles: nothing is built, and a cast looks at every triangle.
+///
+/// A cast answers what [`Mesh::cast`] answers: that the two agree, refusals included, is proved for every tree that
+/// passes the check. docs/BENCHMARKS.md says for how many casts it is the faster way.
+///
+/// ```
+/// use probe_rays::{Cast, PlainMesh, Ray, Refusal};
+///
+/// let square = [[0.0, 0.0, 0.0], [4.0, 0.0, 0.0], [4.0, 4.0, 0.0], [0.0, 4.0, 0.0]];
+/// let part = PlainMesh::new(square, [[0, 1, 2], [0, 2, 3]]);
+/// let down = Ray::new([1.0, 3.0, 5.0], [0.0, 0.0, -1.0], 10.0);
+/// let Cast::Hit(hit) = part.cast(&down) else { panic!() };
+/// assert_eq!((hit.distance, hit.triangle), (5.0, 1));
+///
+/// // the same mesh with a tree
+/// assert_eq!(part.clone().build()?.cast(&down), part.cast(&down));
+///
+/// // there is no vertex 4: refused before anything is cast at, however far the triangle is
+/// let wrong = PlainMesh::new(square, [[0, 1, 2], [0, 2, 4]]);
+/// assert_eq!(wrong.cast(&down), Cast::Refused(Refusal::OutOfBounds));
+/// # Ok::<(), Refusal>(())
+/// ```
+#[derive(Clone, Debug, Default, PartialEq)]
+pub struct PlainMesh {
+    vertices: Vec<[f64; 3]>,
+    triangles: Vec<[u32; 3]>,
+}
+
+impl PlainMesh {
+    /// A mesh of these vertices and triangles, each of three vertex indices, as they are: a cast refuses what is not
+    /// admitted.
+    pub fn new(
+        vertices: impl Into<Vec<[f64; 3]>>,
+        triangles: impl Into<Vec<[u32; 3]>>,
+    ) -> PlainMesh {
+        PlainMesh {
+            vertices: vertices.into(),
+            triangles: triangles.into(),
+        }
+    }
+
+    /// The nearest triangle that a ray hits; of equally near ones, that of the lowest index. No triangles is none.
+    ///
+    /// Refuses with 1, 2 (more than 65,536 vertices or triangles), 5 (an index past the vertices, a triangle whose box
+    /// is not finite), 6 or 7. It needs no work area, so that threads may share the mesh.
+    pub fn cast(&self, ray: &Ray) -> Cast<MeshHit> {
+        lent::ray_mesh_plain(
+            ray,
+            self.vertices.as_flattened(),
+            self.triangles.as_flattened(),
+        )
+    }
+
+    /// The same mesh with a tree, as [`Mesh::build`] builds it.
+    pub fn build(self) -> Result<Mesh, Refusal> {
+        Mesh::build(self.vertices, self.triangles)
+    }
+
+    /// The vertices.
+    pub fn vertices(&self) -> &[[f64; 3]] {
+        &self.vertices
+    }
+
+    /// The triangles, each of three vertex indices.
+    pub fn triangles(&self) -> &[[u32; 3]] {
+        &self.triangles
+    }
+}

@@ -1,0 +1,6 @@
+-- The pass over the triangles, the agreement of the two mesh casts, and casts computed from the definitions. Assumes nothing.
+pub mod SameBoxes
+pub mod Agreement
+pub mod Passing
+pub mod Casting
+pub mod Examples
