@@ -29,8 +29,9 @@
  *   no.  name            when                                                          result areas afterwards
  *   1    invalid input   a ray's origin or maximum is not finite, its maximum is       unchanged
  *                        below 0, its direction is not finite or has a length more
- *                        than 1e-12 from 1; a query's box has a corner that is not
- *                        finite, or a minimum above its maximum
+ *                        than 1e-12 from 1, its near distance is not finite, below 0
+ *                        or above the maximum; a query's box has a corner that is
+ *                        not finite, or a minimum above its maximum
  *   2    bad shape       a count, length, spacing, normal, plane distance or grid      unchanged
  *                        origin outside the limits below
  *   3    no room         a lent slice shorter than stated                              unchanged
@@ -45,8 +46,8 @@
  * Or one of the codes PROBE_HIT, PROBE_NONE, PROBE_YES, PROBE_NO and PROBE_DONE, which no refusal has.
  * Numbers from 9 on may be added to the refusals; all stay below 256.
  *
- * Tested first (but by probe_ray_mesh_plain, which says its own order) is that the result slices hit, index, nodes
- * (of probe_build) and found are long enough: else 3, whatever the rest is. Then 1, 2, 3 and 4 in this order, then the others as the cast meets them.
+ * Tested are 1, 2, 3 and 4 in this order, then the others as the cast meets them. The result slices hit, index, nodes
+ * (of probe_build) and found are lent slices like the others: one that is too short is 3, after 1 and 2.
  * The result slices hit, index, nodes and found are written only with PROBE_HIT and PROBE_DONE; their places past
  * those stated are unchanged.
  * 'Zeros' fill every place of the build's node_boxes, triangle_boxes, node_words and order, or of the query's list,
@@ -77,7 +78,7 @@ extern "C" {
 #endif
 
 /* The version of these calls: it changes when one of them does. */
-#define PROBE_VERSION 1u
+#define PROBE_VERSION 2u
 
 /* What a call answers where it does not refuse. */
 #define PROBE_HIT 256u  /* a hit: hit, and index of a mesh, are written */
@@ -259,6 +260,128 @@ uint32_t probe_ray_mesh(
     double direction_y,
     double direction_z,
     double max_distance,
+    const double *vertices,
+    size_t vertices_length,
+    const uint32_t *triangles,
+    size_t triangles_length,
+    const double *pose,
+    size_t pose_length,
+    size_t nodes,
+    const double *node_boxes,
+    size_t node_boxes_length,
+    const double *triangle_boxes,
+    size_t triangle_boxes_length,
+    const uint32_t *node_words,
+    size_t node_words_length,
+    const uint32_t *order,
+    size_t order_length,
+    uint32_t *list,
+    size_t list_length,
+    uint32_t *stack,
+    size_t stack_length,
+    double *hit,
+    size_t hit_length,
+    uint32_t *index,
+    size_t index_length
+);
+
+/* The casts of a ray with a near distance, after the maximum: finite, from 0 to the maximum, else 1. A surface nearer
+ * than that is as one behind the origin: not hit, and a triangle's normal is not asked. One at just this distance is
+ * hit. Distances count from the origin all the same, and a mesh's candidates are those of the whole segment, from the
+ * origin on. The hit in a distance grid is the first past the near distance. The calls without `_near` are these with
+ * a near distance of 0.
+ */
+uint32_t probe_ray_plane_near(
+    double origin_x,
+    double origin_y,
+    double origin_z,
+    double direction_x,
+    double direction_y,
+    double direction_z,
+    double max_distance,
+    double near_distance,
+    double normal_x,
+    double normal_y,
+    double normal_z,
+    double distance,
+    double *hit,
+    size_t hit_length
+);
+
+uint32_t probe_ray_triangle_near(
+    double origin_x,
+    double origin_y,
+    double origin_z,
+    double direction_x,
+    double direction_y,
+    double direction_z,
+    double max_distance,
+    double near_distance,
+    double a_x,
+    double a_y,
+    double a_z,
+    double b_x,
+    double b_y,
+    double b_z,
+    double c_x,
+    double c_y,
+    double c_z,
+    double *hit,
+    size_t hit_length
+);
+
+uint32_t probe_ray_height_field_near(
+    double origin_x,
+    double origin_y,
+    double origin_z,
+    double direction_x,
+    double direction_y,
+    double direction_z,
+    double max_distance,
+    double near_distance,
+    size_t rows,
+    size_t columns,
+    double spacing_x,
+    double spacing_y,
+    const double *heights,
+    size_t heights_length,
+    double *hit,
+    size_t hit_length
+);
+
+uint32_t probe_ray_level_set_near(
+    double origin_x,
+    double origin_y,
+    double origin_z,
+    double direction_x,
+    double direction_y,
+    double direction_z,
+    double max_distance,
+    double near_distance,
+    uint32_t side_x,
+    uint32_t side_y,
+    uint32_t side_z,
+    double grid_x,
+    double grid_y,
+    double grid_z,
+    double spacing_x,
+    double spacing_y,
+    double spacing_z,
+    const double *values,
+    size_t values_length,
+    double *hit,
+    size_t hit_length
+);
+
+uint32_t probe_ray_mesh_near(
+    double origin_x,
+    double origin_y,
+    double origin_z,
+    double direction_x,
+    double direction_y,
+    double direction_z,
+    double max_distance,
+    double near_distance,
     const double *vertices,
     size_t vertices_length,
     const uint32_t *triangles,

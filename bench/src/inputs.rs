@@ -25,6 +25,7 @@ pub fn toward(origin: [f64; 3], target: [f64; 3]) -> Ray {
         origin,
         direction: along.map(|c| c / length),
         max_distance: length,
+        near_distance: 0.0,
     }
 }
 
@@ -105,6 +106,7 @@ pub fn short_probes(count: usize) -> Vec<Ray> {
             origin: [random.between(0.0, wide), random.between(0.0, deep), height],
             direction,
             max_distance: random.between(15.0, 30.0),
+            near_distance: 0.0,
         }
     };
     (0..count).map(probe).collect()
@@ -142,6 +144,7 @@ pub fn through_holes(count: usize) -> Vec<Ray> {
         ],
         direction: [0.0, 0.0, -1.0],
         max_distance: 30.0,
+        near_distance: 0.0,
     };
     (0..count).map(ray).collect()
 }
@@ -280,6 +283,7 @@ pub fn from_above(count: usize, wide: f64, deep: f64) -> Vec<Ray> {
         origin: [random.between(0.0, wide), random.between(0.0, deep), 4.0],
         direction: [0.0, 0.0, -1.0],
         max_distance: 8.0,
+        near_distance: 0.0,
     };
     (0..count).map(ray).collect()
 }

@@ -119,7 +119,9 @@ pub fn build(log: &mut Log, call: &Build) -> Option<FlatTree> {
     let mut areas = call.areas.clone();
     let mut nodes = call.nodes.to_vec();
     let expected = if nodes.is_empty() {
-        Err(3)
+        // 2 goes before a result slice that is too short.
+        let admitted = model::mesh_admitted(call.vertices, call.indices);
+        Err(if admitted { 3 } else { 2 })
     } else {
         let areas = &mut BuildAreas {
             node_boxes: &mut areas.node_boxes,
@@ -276,7 +278,9 @@ pub fn query(log: &mut Log, call: &Query) {
     let mut list = call.list.to_vec();
     let mut found = call.found.to_vec();
     let expected = if found.is_empty() {
-        Err(3)
+        // 1 and 2 go before a result slice that is too short.
+        let stated = model::query(call.tree.into(), call.triangles, call.bounds, &mut [], 0);
+        Err(stated.err().filter(|number| *number < 3).unwrap_or(3))
     } else {
         let tree = call.tree.into();
         model::query(
@@ -368,18 +372,26 @@ pub fn cast(log: &mut Log, call: &Cast) {
     };
     let short = call.hit.len() < 4 || call.index.is_empty();
     let (expected, reason) = plain::beside_the_rust(|| {
-        if short {
-            return Answer::Refused(3);
-        }
-        model::ray_mesh(
+        // 1 and 2 go before a result slice that is too short.
+        let lengths = if short {
+            [0; 2]
+        } else {
+            [call.list.len(), call.stack.len()]
+        };
+        let cast = model::ray_mesh(
             &call.ray,
             call.vertices,
             call.indices,
             call.pose,
             call.tree.into(),
-            call.list.len(),
-            call.stack.len(),
-        )
+            lengths[0],
+            lengths[1],
+        );
+        match cast {
+            Answer::Refused(1 | 2) => cast,
+            _ if short => Answer::Refused(3),
+            _ => cast,
+        }
     });
     answer_is(held, &done, &expected, exact, MODEL);
     // Only a hit writes its places, and none writes behind them.

@@ -157,7 +157,7 @@ impl LentTree {
 
 /// The oracle's ray as the library takes it.
 pub fn ray(ray: &Ray) -> probe_rays::Ray {
-    probe_rays::Ray::new(ray.origin, ray.direction, ray.maximum)
+    probe_rays::Ray::new(ray.origin, ray.direction, ray.maximum).with_near(ray.near)
 }
 
 pub fn build(call: &Build) -> Result<Built, Fault> {

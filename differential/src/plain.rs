@@ -6,11 +6,11 @@ use crate::{
     lent::Lent,
     library::{self, Build, Cast, Fault, Hit, only_read, written},
     log::Log,
-    run::{Mesh, aimed_ray, changed, result},
+    run::{Mesh, aimed_ray, changed, near_to, result},
 };
 use oracle::{
     answer::{self, Answer, Ray, agree},
-    mesh_plain,
+    mesh_plain, plain,
     random::Random,
     tree::{self, FlatTree},
 };
@@ -78,12 +78,16 @@ fn casts(log: &mut Log, random: &mut Random, mesh: &Mesh) {
     let built = library_tree(mesh);
     for k in 0..RAYS {
         let aims = k > 0 && mesh.indices.len() >= 3;
+        let mut ray = if aims {
+            aimed_ray(random, mesh)
+        } else {
+            mesh.ray
+        };
+        if aims && random.once_in(3) {
+            ray.near = near_to(random, &ray, &mesh.vertices, &mesh.indices);
+        }
         let call = PlainCast {
-            ray: if aims {
-                aimed_ray(random, mesh)
-            } else {
-                mesh.ray
-            },
+            ray,
             vertices: &mesh.vertices,
             indices: &mesh.indices,
             hit: &result(random, 4, Random::special),
@@ -121,7 +125,10 @@ pub fn cast(log: &mut Log, call: &PlainCast, built: Option<&FlatTree>) {
     };
     let short = call.hit.len() < 4 || call.index.is_empty();
     // 1 and 2 go before the result slices' 3, and that before all others
-    let expected = match mesh_plain::ray_mesh_plain(&call.ray, call.vertices, call.indices) {
+    let (answer, reason) = plain::beside_the_rust(|| {
+        mesh_plain::ray_mesh_plain(&call.ray, call.vertices, call.indices)
+    });
+    let expected = match answer {
         Answer::Refused(number @ 1..=2) => Answer::Refused(number),
         _ if short => Answer::Refused(3),
         answer => answer,
@@ -134,7 +141,10 @@ pub fn cast(log: &mut Log, call: &PlainCast, built: Option<&FlatTree>) {
     if short {
         return held.left_out(SHORT_RESULT);
     }
-    beside_the_rust(held, call, &done);
+    match reason {
+        Some(reason) => held.left_out(reason),
+        None => beside_the_rust(held, call, &done),
+    }
     beside_the_tree(held, call, &done, built);
 }
 

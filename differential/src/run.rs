@@ -10,9 +10,10 @@ use crate::{
     panel, plain, shapes,
 };
 use oracle::{
-    answer::{self, Constructed, MOST_TRIANGLES, MOST_VERTICES, Ray},
+    answer::{self, Answer, Constructed, MOST_TRIANGLES, MOST_VERTICES, Ray},
     cases::{self, about, about_tree, filled},
-    generate::ray_to,
+    generate::{self, ray_to},
+    model, plain as plainly,
     random::Random,
     tree::FlatTree,
     trees,
@@ -263,8 +264,11 @@ fn casts(log: &mut Log, random: &mut Random, mesh: &Mesh, tree: &FlatTree) {
     let n = mesh.indices.len() / 3;
     let pose = cases::pose(random, &mesh.vertices);
     let aimed = aimed_ray(random, mesh);
-    for (ray, pose) in [(mesh.ray, &mesh.vertices), (aimed, &pose)] {
+    for (mut ray, pose) in [(mesh.ray, &mesh.vertices), (aimed, &pose)] {
         let [list, stack] = work_areas(random, n, tree.node_count);
+        if random.once_in(3) {
+            ray.near = near_to(random, &ray, pose, &mesh.indices);
+        }
         let cast = Cast {
             ray,
             vertices: &mesh.vertices,
@@ -278,6 +282,18 @@ fn casts(log: &mut Log, random: &mut Random, mesh: &Mesh, tree: &FlatTree) {
         };
         calls::cast(log, &cast);
     }
+}
+
+/// A near distance about that of some triangle, or any other.
+pub fn near_to(random: &mut Random, ray: &Ray, pose: &[f64], indices: &[u32]) -> f64 {
+    let triangle = random.below(indices.len() / 3);
+    let hit = match model::corners(pose, indices, triangle)
+        .map(|corners| plainly::triangle(ray, corners))
+    {
+        Some(Answer::Hit { distance, .. }) => Some(distance),
+        _ => None,
+    };
+    generate::near(random, ray.maximum, hit)
 }
 
 /// A list and a stack that hold anything.

@@ -30,6 +30,9 @@ pub fn compare(log: &mut Log, random: &mut Random, seed: u64, number: u64) {
             _ => {}
         }
     }
+    if random.once_in(3) {
+        generate::give_near(random, &mut record);
+    }
     let length = random.pick(&[4, 4, 4, 4, 4, 4, 4, 4, 5, 7, 3, 0]);
     let hit = cases::filled_floats(random, length);
     // Rows that only a usize holds.
@@ -105,16 +108,20 @@ pub fn cast(log: &mut Log, record: &Record, hit: &[f64], rows_above: Option<usiz
     log.answered(name, number);
     let rows_above = rows_above.filter(|_| matches!(record.shape, Shape::HeightField { .. }));
     let plainly = hit.len() >= 4 && rows_above.is_none();
-    let expected = if hit.len() < 4 {
-        log.left_out(name, "a result slice is too short");
-        Answer::Refused(3)
-    } else if rows_above.is_some() {
+    let expected = if rows_above.is_some() {
         log.left_out(name, "rows above what the Rust's side of the driver holds");
         Answer::Refused(if answer::ray_admitted(&record.ray) {
             2
         } else {
             1
         })
+    } else if hit.len() < 4 {
+        // 1 and 2 go before a result slice that is too short.
+        log.left_out(name, "a result slice is too short");
+        match plain::answer(record) {
+            Answer::Refused(number @ 1..=2) => Answer::Refused(number),
+            _ => Answer::Refused(3),
+        }
     } else if let Some(reason) = record.left_out() {
         log.left_out(name, reason);
         plain::answer(record)

@@ -4,7 +4,7 @@
 use crate::{
     aabb::Aabb,
     collision::{
-        CollisionError, QueryError,
+        CollisionError, QueryError, height_field,
         mesh::{self as bvh, TriangleBvh},
         query::open,
     },
@@ -18,6 +18,21 @@ pub struct Ray {
     pub origin: [f64; 3],
     pub direction: [f64; 3],
     pub maximum: f64,
+    /// A surface nearer than this is not hit (document 02, M-106); the Rust has no such distance.
+    pub near: f64,
+}
+
+/// 'a near distance, finite, from 0 to the maximum, else 1'
+pub fn near_admitted(ray: &Ray) -> bool {
+    ray.near.is_finite() && !(ray.near < 0.0) && !(ray.near > ray.maximum)
+}
+
+/// The Rust's answer, if its own distance is not below near.
+fn not_below_near(near: f64, answer: Answer) -> Answer {
+    match answer {
+        Answer::Hit { distance, .. } if distance < near => Answer::None,
+        other => other,
+    }
 }
 
 #[derive(Clone, Copy, Debug, PartialEq)]
@@ -87,9 +102,11 @@ fn rust_ray(ray: &Ray) -> RustRay {
 
 /// Refusal 1, then refusal 2, then the cast.
 fn behind_refusals(ray: &Ray, admitted: bool, cast: impl FnOnce(RustRay) -> Answer) -> Answer {
+    let near = near_admitted(ray);
     let ray = rust_ray(ray);
     match ray.validate() {
         Err(error) => Answer::Refused(refusal(error)),
+        Ok(()) if !near => Answer::Refused(1),
         Ok(()) if !admitted => Answer::Refused(2),
         Ok(()) => cast(ray),
     }
@@ -97,7 +114,7 @@ fn behind_refusals(ray: &Ray, admitted: bool, cast: impl FnOnce(RustRay) -> Answ
 
 /// Whether refusal 1 lets the ray pass.
 pub fn ray_admitted(ray: &Ray) -> bool {
-    rust_ray(ray).validate().is_ok()
+    rust_ray(ray).validate().is_ok() && near_admitted(ray)
 }
 
 /// Whether the Rust's own constructor admits the ray, and keeps its direction.
@@ -117,8 +134,10 @@ fn spacing_admitted(spacing: &[f64]) -> bool {
 pub fn plane(ray: &Ray, normal: [f64; 3], distance: f64) -> Answer {
     let normal = Vec3::from_array(normal);
     let admitted = (normal.length() - 1.0).abs() <= 1.0e-12 && distance.is_finite();
+    let near = ray.near;
     behind_refusals(ray, admitted, |ray| {
-        answer(open::plane(&shape::plane::unchecked(normal, distance), ray))
+        let cast = answer(open::plane(&shape::plane::unchecked(normal, distance), ray));
+        not_below_near(near, cast)
     })
 }
 
@@ -139,8 +158,10 @@ fn kept<T, E>(made: Result<T, E>) -> Constructed {
 }
 
 pub fn triangle(ray: &Ray, corners: [[f64; 3]; 3]) -> Answer {
+    let near = ray.near;
     behind_refusals(ray, true, |ray| {
-        answer(open::triangle(corners.map(Vec3::from_array), ray))
+        let cast = answer(open::triangle(corners.map(Vec3::from_array), ray));
+        not_below_near(near, cast)
     })
 }
 
@@ -165,11 +186,12 @@ fn mesh_admitted(vertices: &[f64], indices: &[u32]) -> bool {
 /// The mesh cast at the mesh's own vertices, over the tree that the Rust builds
 /// after the refusals 1 and 2. A refusal of the build is the answer.
 pub fn mesh(ray: &Ray, vertices: &[f64], indices: &[u32]) -> Answer {
+    let near = ray.near;
     behind_refusals(ray, mesh_admitted(vertices, indices), |ray| {
         let mesh = tree::rust_mesh(vertices, indices);
         match tree::rust_tree(&mesh) {
             Err(number) => Answer::Refused(number),
-            Ok(bvh) => mesh_over(&mesh, mesh.vertices(), &bvh, ray),
+            Ok(bvh) => mesh_over(&mesh, mesh.vertices(), &bvh, ray, near),
         }
     })
 }
@@ -184,10 +206,11 @@ pub fn mesh_with_tree(
     tree: &FlatTree,
 ) -> Answer {
     let admitted = mesh_admitted(vertices, indices) && mesh_admitted(cast_vertices, &[]);
+    let near = ray.near;
     behind_refusals(ray, admitted, |ray| {
         let mesh = tree::rust_mesh(vertices, indices);
         let bvh = bvh::from_flat(tree, indices.len() / 3);
-        mesh_over(&mesh, &tree::points(cast_vertices), &bvh, ray)
+        mesh_over(&mesh, &tree::points(cast_vertices), &bvh, ray, near)
     })
 }
 
@@ -200,12 +223,30 @@ pub fn mesh_constructed(vertices: &[f64], indices: &[u32]) -> Constructed {
 
 /// The Rust's answer with the triangle's index, which the Rust does not return:
 /// found by the same fold over the Rust's own list, and held against its answer.
-fn mesh_over(mesh: &TriangleMesh, vertices: &[Vec3], tree: &TriangleBvh, ray: RustRay) -> Answer {
+///
+/// With a near distance above 0 the fold over the Rust's answers at each triangle of
+/// its list is the answer, those nearer left out.
+fn mesh_over(
+    mesh: &TriangleMesh,
+    vertices: &[Vec3],
+    tree: &TriangleBvh,
+    ray: RustRay,
+    near: f64,
+) -> Answer {
     match answer(open::mesh(mesh, vertices, tree, ray)) {
+        Answer::Hit { .. } if near > 0.0 => first_least(mesh, vertices, tree, ray, near).map_or(
+            Answer::None,
+            |(index, normal, distance)| Answer::Hit {
+                normal,
+                distance,
+                index: Some(index),
+            },
+        ),
         Answer::Hit {
             normal, distance, ..
         } => {
-            let (index, own_normal, own_distance) = first_least(mesh, vertices, tree, ray);
+            let (index, own_normal, own_distance) =
+                first_least(mesh, vertices, tree, ray, near).expect("the Rust hit one");
             assert!(agree(distance, own_distance), "distance of the fold");
             assert!(
                 (0..3).all(|axis| agree(normal[axis], own_normal[axis])),
@@ -226,7 +267,8 @@ fn first_least(
     vertices: &[Vec3],
     tree: &TriangleBvh,
     ray: RustRay,
-) -> (u32, [f64; 3], f64) {
+    near: f64,
+) -> Option<(u32, [f64; 3], f64)> {
     let end = ray.origin() + ray.direction() * ray.max_distance();
     let bounds = Aabb::new(ray.origin().min(end), ray.origin().max(end)).expect("segment box");
     let mut best: Option<(u32, [f64; 3], f64)> = None;
@@ -234,12 +276,13 @@ fn first_least(
         let corners = mesh.triangles()[triangle].map(|vertex| vertices[vertex]);
         let (normal, distance) = open::triangle(corners, ray).expect("the Rust cast it");
         if let Some(normal) = normal
+            && !(distance < near)
             && best.is_none_or(|(_, _, least)| distance < least)
         {
             best = Some((triangle as u32, normal.to_array(), distance));
         }
     }
-    best.expect("the Rust hit one")
+    best
 }
 
 /// Equal under IEEE 754; any two NaN agree.
@@ -254,6 +297,7 @@ pub fn height_field(
     spacing: [f64; 2],
     heights: &[f64],
 ) -> Answer {
+    let near = ray.near;
     let sides = [rows, columns].map(|side| side as usize);
     let admitted = sides.iter().all(|side| (2..=1_024).contains(side))
         && spacing_admitted(&spacing)
@@ -265,8 +309,35 @@ pub fn height_field(
             Vec2::new(spacing[0], spacing[1]),
             heights.to_vec(),
         );
-        answer(open::height_field(&field, ray))
+        match answer(open::height_field(&field, ray)) {
+            Answer::Hit { .. } if near > 0.0 => height_over(&field, ray, near),
+            cast => cast,
+        }
     })
+}
+
+/// The same fold over the Rust's own list, triangles nearer than near left out.
+fn height_over(field: &shape::HeightField, ray: RustRay, near: f64) -> Answer {
+    let end = ray.origin() + ray.direction() * ray.max_distance();
+    let bounds = Aabb::new(ray.origin().min(end), ray.origin().max(end)).expect("segment box");
+    let mut best = Answer::None;
+    for corners in height_field::listed(field, bounds).expect("the Rust listed it") {
+        let cast = not_below_near(near, answer(open::triangle(corners, ray)));
+        let nearer = match (&best, &cast) {
+            (
+                Answer::Hit {
+                    distance: least, ..
+                },
+                Answer::Hit { distance, .. },
+            ) => distance < least,
+            (_, Answer::Hit { .. }) => true,
+            _ => false,
+        };
+        if nearer {
+            best = cast;
+        }
+    }
+    best
 }
 
 pub fn height_field_constructed(

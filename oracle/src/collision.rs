@@ -13,6 +13,16 @@ pub use error::{CollisionError, QueryError};
 #[allow(dead_code)]
 pub mod height_field {
     include!("../kapitsa/crates/kapitsa-core/src/collision/height_field.rs");
+
+    /// The Rust's own listing, its triangles' corners in a new vector.
+    pub(crate) fn listed(
+        field: &HeightField,
+        bounds: Aabb,
+    ) -> Result<Vec<[Vec3; 3]>, CollisionError> {
+        let mut output = Vec::new();
+        query_triangles(field, bounds, &mut output)?;
+        Ok(output.iter().map(|triangle| triangle.vertices).collect())
+    }
 }
 
 #[allow(dead_code)]

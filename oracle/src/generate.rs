@@ -19,6 +19,7 @@ pub fn marked() -> Vec<Record> {
         origin,
         direction: DOWN,
         maximum,
+        near: 0.0,
     };
     let plane = |maximum| Record {
         ray: down([0.0, 0.0, 2.0], maximum),
@@ -92,6 +93,7 @@ fn not_a_number(order: [usize; 2]) -> Record {
             origin: [1.0, 1.0, 1e200],
             direction: DOWN,
             maximum: 2e200,
+            near: 0.0,
         },
         shape: Shape::Mesh { vertices, indices },
     }
@@ -104,6 +106,7 @@ fn overflow_after_no_normal(last: f64) -> Record {
             origin: [2.5e159, 1.0, 1.0],
             direction: DOWN,
             maximum: 2.0,
+            near: 0.0,
         },
         shape: Shape::HeightField {
             rows: 3,
@@ -126,6 +129,7 @@ fn huge_middle() -> Record {
             origin: [1.0e308, 0.25, 0.25],
             direction: [1.0, 0.0, 0.0],
             maximum: 7.0e307,
+            near: 0.0,
         },
         shape: Shape::Mesh {
             vertices,
@@ -266,6 +270,7 @@ pub fn ray_to(random: &mut Random, target: Point, scale: f64) -> Ray {
         origin,
         direction,
         maximum,
+        near: 0.0,
     }
 }
 
@@ -461,6 +466,7 @@ fn refusing(random: &mut Random) -> Record {
             origin: [across, across, 2.0],
             direction: DOWN,
             maximum: random.pick(&[1.0, 1.5, 2.0, 10.0]),
+            near: 0.0,
         },
         shape: Shape::Mesh { vertices, indices },
     }
@@ -486,6 +492,7 @@ fn seen_from_far(random: &mut Random) -> Record {
             origin: [random.pick(&[1.0, 1.0, 0.5]), 1.0, far],
             direction: DOWN,
             maximum: far * random.pick(&[0.5, 1.0, 2.0, 2.0]),
+            near: 0.0,
         },
         shape: Shape::Mesh { vertices, indices },
     }
@@ -772,6 +779,30 @@ fn maximum_at_the_hit(random: &mut Random, record: &mut Record) {
             _ => distance,
         };
     }
+}
+
+/// A near distance for a ray: about a hit's distance, between 0 and the maximum or at
+/// either, and at times one that is refused.
+pub fn near(random: &mut Random, maximum: f64, hit: Option<f64>) -> f64 {
+    match (random.below(12), hit) {
+        (0..3, Some(distance)) => distance,
+        (3, Some(distance)) => distance.next_up(),
+        (4, Some(distance)) => distance.next_down(),
+        (5, _) => maximum,
+        (6, _) => -0.0,
+        (7, _) => random.special(),
+        (8, _) => maximum.next_up(),
+        _ => maximum * random.unit(),
+    }
+}
+
+/// Gives a record a near distance.
+pub fn give_near(random: &mut Random, record: &mut Record) {
+    let hit = match record.answer() {
+        Answer::Hit { distance, .. } if distance.is_finite() => Some(distance),
+        _ => None,
+    };
+    record.ray.near = near(random, record.ray.maximum, hit);
 }
 
 fn damage(random: &mut Random, record: &mut Record) {

@@ -98,8 +98,13 @@ pub(crate) fn indices_admitted(indices: &[u32]) -> bool {
     indices.len().is_multiple_of(3) && indices.len() <= 3 * MOST_TRIANGLES
 }
 
+/// Whether refusal 2 lets a mesh's own lengths pass.
+pub fn mesh_admitted(vertices: &[f64], indices: &[u32]) -> bool {
+    vertices_admitted(vertices) && indices_admitted(indices)
+}
+
 /// The corners of a triangle; none for an index past the vertices.
-pub(crate) fn corners(vertices: &[f64], indices: &[u32], triangle: usize) -> Option<[[f64; 3]; 3]> {
+pub fn corners(vertices: &[f64], indices: &[u32], triangle: usize) -> Option<[[f64; 3]; 3]> {
     let mut corners = [[0.0; 3]; 3];
     for (k, corner) in corners.iter_mut().enumerate() {
         let vertex = indices[3 * triangle + k] as usize;

@@ -16,6 +16,10 @@ const EPS: f64 = f64::EPSILON;
 /// Document 02, M-102: 'Runs against the Rust leave out inputs where any triangle gives NaN.'
 pub const NAN: &str = "a triangle's distance is not a number";
 
+/// Document 02, M-106: 'The Rust is compared for near 0'. Its own distance decides at a plane and a triangle for near above 0.
+pub const NEAR_GRID: &str = "a distance grid with a near distance above 0";
+pub const NEAR_NORMAL: &str = "a triangle nearer than near has no normal, which the Rust asks";
+
 thread_local! {
     static CHANGED: Cell<Option<&'static str>> = const { Cell::new(None) };
 }
@@ -121,6 +125,14 @@ pub fn ray_admitted(ray: &Ray) -> bool {
         Vec3::from_array(ray.direction),
     );
     if !(origin.is_finite() || slipped(OriginNotLooked)) || !direction.is_finite() {
+        return false;
+    }
+    let near_above = or(
+        NearAtMaximum,
+        ray.near > ray.maximum,
+        ray.near >= ray.maximum,
+    );
+    if !ray.near.is_finite() || ray.near < 0.0 || near_above {
         return false;
     }
     if !ray.maximum.is_finite()
@@ -229,7 +241,12 @@ pub fn answer(record: &Record) -> Answer {
 // ---- plane and triangle
 
 fn outside_range(ray: &Ray, distance: f64) -> bool {
-    distance < 0.0 || distance > ray.maximum
+    let near = or(
+        NearKept,
+        distance < ray.near,
+        distance < ray.near && ray.near <= 0.0,
+    );
+    near || (slipped(NearLost) && distance == ray.near && ray.near > 0.0) || distance > ray.maximum
 }
 
 fn turned(slip: crate::slips::Slip, normal: Vec3) -> Vec3 {
@@ -332,6 +349,12 @@ fn triangle_cast(ray: &Ray, corners: [Vec3; 3]) -> Step<(Vec3, f64)> {
         return Err(Stop::Miss);
     }
     let distance = dot(b, q) * inverse;
+    if distance >= 0.0 && distance < ray.near && normalised(a.cross(b)).is_none() {
+        CHANGED.set(Some(NEAR_NORMAL));
+        if slipped(NearAfterNormal) {
+            return refuse(7);
+        }
+    }
     if outside_range(ray, distance)
         || (slipped(TriangleMaximum) && distance == ray.maximum)
         || (slipped(TriangleAtOrigin) && distance == 0.0)
@@ -594,7 +617,10 @@ impl Grid<'_> {
             return refuse(5);
         }
         let (low, high) = (low.to_array(), high.to_array());
-        let (mut entry, mut exit) = (0.0, ray.maximum);
+        if ray.near > 0.0 {
+            CHANGED.set(Some(NEAR_GRID));
+        }
+        let (mut entry, mut exit) = (or(NearGrid, ray.near, 0.0), ray.maximum);
         for axis in 0..3 {
             let (origin, direction) = (ray.origin[axis], ray.direction[axis]);
             if direction.abs() <= or(GridParallelZero, f64::MIN_POSITIVE, 0.0) {

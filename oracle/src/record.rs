@@ -99,6 +99,7 @@ impl Record {
             origin: fields.array()?,
             direction: fields.array()?,
             maximum: fields.float()?,
+            near: 0.0,
         };
         let shape = parse_shape(kind, &mut fields)?;
         fields.0.is_empty().then_some(Self { ray, shape })

@@ -17,6 +17,7 @@ fn record(origin: Point, direction: Point, maximum: f64, shape: Shape) -> Record
             origin,
             direction,
             maximum,
+            near: 0.0,
         },
         shape,
     }

@@ -17,6 +17,7 @@ fn thin(wide: f64) -> Record {
             origin: [5e159, 5e159, 1.0],
             direction: [0.0, 0.0, -1.0],
             maximum: 10.0,
+            near: 0.0,
         },
         shape: Shape::Triangle {
             corners: [[0.0; 3], [wide, wide, 0.0], [0.0, 1e-7, 0.0]],

@@ -24,6 +24,7 @@ fn vertical(origin: [f64; 3], down: f64, maximum: f64) -> Ray {
         origin,
         direction: [0.0, 0.0, -down],
         maximum,
+        near: 0.0,
     }
 }
 

@@ -15,6 +15,7 @@ fn down(origin: [f64; 3], maximum: f64) -> Ray {
         origin,
         direction: DOWN,
         maximum,
+        near: 0.0,
     }
 }
 
@@ -95,6 +96,7 @@ fn worked_example_byte_for_byte() {
             origin: [0.0, 0.0, 2.0],
             direction: [0.0, 0.0, z],
             maximum,
+            near: 0.0,
         };
         let shape = Shape::Plane {
             normal: UP,

@@ -245,6 +245,7 @@ fn areas_one_too_short_are_no_room() {
         origin: [0.25, 0.25, 1.0],
         direction: [0.0, 0.0, -1.0],
         maximum: 1.0,
+        near: 0.0,
     };
     let whole = tree::build(&vertices, &indices).unwrap().padded(n);
     let stack = whole.node_count + 1;

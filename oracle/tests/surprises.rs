@@ -8,6 +8,7 @@ fn down(origin: [f64; 3], maximum: f64) -> Ray {
         origin,
         direction: [0.0, 0.0, -1.0],
         maximum,
+        near: 0.0,
     }
 }
 
@@ -70,6 +71,7 @@ fn a_hit_at_a_distance_grid_lies_off_its_surface_behind_an_edge_of_cells() {
         origin: [2.75, -2.0, 6.0],
         direction: [-2.0 / length, 4.0 / length, -3.0 / length],
         maximum: 40.0,
+        near: 0.0,
     };
     let cast = answer::level_set(&ray, [5; 3], [0.0; 3], [1.0; 3], &values);
     let Answer::Hit { distance, .. } = cast else {
@@ -86,6 +88,7 @@ fn the_normal_of_a_distance_grid_does_not_face_the_ray() {
         origin: [0.5, 0.5, 0.25],
         direction: [0.0, 0.0, 1.0],
         maximum: 5.0,
+        near: 0.0,
     };
     let cast = answer::level_set(&ray, [2; 3], [0.0; 3], [1.0; 3], &values);
     assert!(matches!(cast, Answer::Hit { normal: [x, y, z], .. } if [x, y, z] == [0.0, 0.0, 1.0]));

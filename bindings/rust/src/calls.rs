@@ -22,7 +22,7 @@ use crate::{sys, Ray};
 pub fn ray_plane(ray: &Ray, plane: &Plane, hit: &mut [f64]) -> u32 {
     // SAFETY: every pointer and length is a slice's, and Rust lets no mutable one overlap another.
     unsafe {
-        sys::probe_ray_plane(
+        sys::probe_ray_plane_near(
             ray.origin[0],
             ray.origin[1],
             ray.origin[2],
@@ -30,6 +30,7 @@ pub fn ray_plane(ray: &Ray, plane: &Plane, hit: &mut [f64]) -> u32 {
             ray.direction[1],
             ray.direction[2],
             ray.max_distance,
+            ray.near_distance,
             plane.normal[0],
             plane.normal[1],
             plane.normal[2],
@@ -45,7 +46,7 @@ pub fn ray_plane(ray: &Ray, plane: &Plane, hit: &mut [f64]) -> u32 {
 pub fn ray_triangle(ray: &Ray, corners: &[[f64; 3]; 3], hit: &mut [f64]) -> u32 {
     // SAFETY: every pointer and length is a slice's, and Rust lets no mutable one overlap another.
     unsafe {
-        sys::probe_ray_triangle(
+        sys::probe_ray_triangle_near(
             ray.origin[0],
             ray.origin[1],
             ray.origin[2],
@@ -53,6 +54,7 @@ pub fn ray_triangle(ray: &Ray, corners: &[[f64; 3]; 3], hit: &mut [f64]) -> u32 
             ray.direction[1],
             ray.direction[2],
             ray.max_distance,
+            ray.near_distance,
             corners[0][0],
             corners[0][1],
             corners[0][2],
@@ -73,7 +75,7 @@ pub fn ray_triangle(ray: &Ray, corners: &[[f64; 3]; 3], hit: &mut [f64]) -> u32 
 pub fn ray_height_field(ray: &Ray, field: &HeightField<'_>, hit: &mut [f64]) -> u32 {
     // SAFETY: every pointer and length is a slice's, and Rust lets no mutable one overlap another.
     unsafe {
-        sys::probe_ray_height_field(
+        sys::probe_ray_height_field_near(
             ray.origin[0],
             ray.origin[1],
             ray.origin[2],
@@ -81,6 +83,7 @@ pub fn ray_height_field(ray: &Ray, field: &HeightField<'_>, hit: &mut [f64]) -> 
             ray.direction[1],
             ray.direction[2],
             ray.max_distance,
+            ray.near_distance,
             field.rows,
             field.columns,
             field.spacing[0],
@@ -98,7 +101,7 @@ pub fn ray_height_field(ray: &Ray, field: &HeightField<'_>, hit: &mut [f64]) -> 
 pub fn ray_level_set(ray: &Ray, grid: &LevelSet<'_>, hit: &mut [f64]) -> u32 {
     // SAFETY: every pointer and length is a slice's, and Rust lets no mutable one overlap another.
     unsafe {
-        sys::probe_ray_level_set(
+        sys::probe_ray_level_set_near(
             ray.origin[0],
             ray.origin[1],
             ray.origin[2],
@@ -106,6 +109,7 @@ pub fn ray_level_set(ray: &Ray, grid: &LevelSet<'_>, hit: &mut [f64]) -> u32 {
             ray.direction[1],
             ray.direction[2],
             ray.max_distance,
+            ray.near_distance,
             grid.sides[0],
             grid.sides[1],
             grid.sides[2],
@@ -139,7 +143,7 @@ pub fn ray_mesh(
 ) -> u32 {
     // SAFETY: every pointer and length is a slice's, and Rust lets no mutable one overlap another.
     unsafe {
-        sys::probe_ray_mesh(
+        sys::probe_ray_mesh_near(
             ray.origin[0],
             ray.origin[1],
             ray.origin[2],
@@ -147,6 +151,7 @@ pub fn ray_mesh(
             ray.direction[1],
             ray.direction[2],
             ray.max_distance,
+            ray.near_distance,
             vertices.as_ptr(),
             vertices.len(),
             triangles.as_ptr(),
@@ -193,7 +198,7 @@ pub fn ray_mesh_plain(
             ray.direction[1],
             ray.direction[2],
             ray.max_distance,
-            0.0,
+            ray.near_distance,
             vertices.as_ptr(),
             vertices.len(),
             triangles.as_ptr(),

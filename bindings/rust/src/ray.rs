@@ -1,6 +1,6 @@
 //! A ray.
 
-/// A ray: where it starts, its direction, of length 1, and how far it reaches.
+/// A ray: where it starts, its direction, of length 1, how far it reaches, and from where on a surface is hit.
 #[derive(Clone, Copy, Debug, PartialEq)]
 pub struct Ray {
     /// Where it starts.
@@ -9,15 +9,36 @@ pub struct Ray {
     pub direction: [f64; 3],
     /// How far it reaches; a surface at just this distance is hit.
     pub max_distance: f64,
+    /// From where on a surface is hit, at just this distance too: from 0 to `max_distance`.
+    pub near_distance: f64,
 }
 
 impl Ray {
-    /// A ray of these numbers, as they are: a cast refuses it with 1 where it is not admitted.
+    /// A ray of these numbers, as they are, with a near distance of 0: a cast refuses it with 1 where it is not
+    /// admitted.
     pub fn new(origin: [f64; 3], direction: [f64; 3], max_distance: f64) -> Ray {
         Ray {
             origin,
             direction,
             max_distance,
+            near_distance: 0.0,
+        }
+    }
+
+    /// The same ray, with surfaces nearer than a distance ignored. Distances count from the origin all the same.
+    ///
+    /// ```
+    /// use probe_rays::{ray_plane, Cast, Plane, Ray};
+    ///
+    /// let plane = Plane { normal: [0.0, 0.0, 1.0], distance: 0.0 };
+    /// let down = Ray::new([0.0, 0.0, 2.0], [0.0, 0.0, -1.0], 5.0);
+    /// assert!(matches!(ray_plane(&down.with_near(2.0), &plane), Cast::Hit(hit) if hit.distance == 2.0));
+    /// assert_eq!(ray_plane(&down.with_near(2.5), &plane), Cast::None);
+    /// ```
+    pub fn with_near(self, near_distance: f64) -> Ray {
+        Ray {
+            near_distance,
+            ..self
         }
     }
 

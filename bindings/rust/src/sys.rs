@@ -208,10 +208,131 @@ extern "C" {
         marks: *mut u32,
         marks_length: usize,
     ) -> u32;
+
+    /// Casts a ray with a near distance at a plane.
+    pub fn probe_ray_plane_near(
+        origin_x: f64,
+        origin_y: f64,
+        origin_z: f64,
+        direction_x: f64,
+        direction_y: f64,
+        direction_z: f64,
+        max_distance: f64,
+        near_distance: f64,
+        normal_x: f64,
+        normal_y: f64,
+        normal_z: f64,
+        distance: f64,
+        hit: *mut f64,
+        hit_length: usize,
+    ) -> u32;
+
+    /// Casts a ray with a near distance at a triangle.
+    pub fn probe_ray_triangle_near(
+        origin_x: f64,
+        origin_y: f64,
+        origin_z: f64,
+        direction_x: f64,
+        direction_y: f64,
+        direction_z: f64,
+        max_distance: f64,
+        near_distance: f64,
+        a_x: f64,
+        a_y: f64,
+        a_z: f64,
+        b_x: f64,
+        b_y: f64,
+        b_z: f64,
+        c_x: f64,
+        c_y: f64,
+        c_z: f64,
+        hit: *mut f64,
+        hit_length: usize,
+    ) -> u32;
+
+    /// Casts a ray with a near distance at a height grid.
+    pub fn probe_ray_height_field_near(
+        origin_x: f64,
+        origin_y: f64,
+        origin_z: f64,
+        direction_x: f64,
+        direction_y: f64,
+        direction_z: f64,
+        max_distance: f64,
+        near_distance: f64,
+        rows: usize,
+        columns: usize,
+        spacing_x: f64,
+        spacing_y: f64,
+        heights: *const f64,
+        heights_length: usize,
+        hit: *mut f64,
+        hit_length: usize,
+    ) -> u32;
+
+    /// Casts a ray with a near distance at a distance grid.
+    pub fn probe_ray_level_set_near(
+        origin_x: f64,
+        origin_y: f64,
+        origin_z: f64,
+        direction_x: f64,
+        direction_y: f64,
+        direction_z: f64,
+        max_distance: f64,
+        near_distance: f64,
+        side_x: u32,
+        side_y: u32,
+        side_z: u32,
+        grid_x: f64,
+        grid_y: f64,
+        grid_z: f64,
+        spacing_x: f64,
+        spacing_y: f64,
+        spacing_z: f64,
+        values: *const f64,
+        values_length: usize,
+        hit: *mut f64,
+        hit_length: usize,
+    ) -> u32;
+
+    /// Casts a ray with a near distance at a mesh through its tree.
+    pub fn probe_ray_mesh_near(
+        origin_x: f64,
+        origin_y: f64,
+        origin_z: f64,
+        direction_x: f64,
+        direction_y: f64,
+        direction_z: f64,
+        max_distance: f64,
+        near_distance: f64,
+        vertices: *const f64,
+        vertices_length: usize,
+        triangles: *const u32,
+        triangles_length: usize,
+        pose: *const f64,
+        pose_length: usize,
+        nodes: usize,
+        node_boxes: *const f64,
+        node_boxes_length: usize,
+        triangle_boxes: *const f64,
+        triangle_boxes_length: usize,
+        node_words: *const u32,
+        node_words_length: usize,
+        order: *const u32,
+        order_length: usize,
+        list: *mut u32,
+        list_length: usize,
+        stack: *mut u32,
+        stack_length: usize,
+        hit: *mut f64,
+        hit_length: usize,
+        index: *mut u32,
+        index_length: usize,
+    ) -> u32;
 }
 
 /// The version of these calls: it changes when one of them does.
-pub const VERSION: u32 = 1;
+pub const VERSION: u32 = 2;
 
 /// A hit: its values are written.
 pub const HIT: u32 = 256;

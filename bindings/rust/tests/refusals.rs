@@ -299,7 +299,7 @@ fn a_tree_check_refuses_2_and_3() {
 }
 
 #[test]
-fn a_result_slice_that_is_too_short_is_3_before_all() {
+fn refusals_1_and_2_go_before_a_result_slice_that_is_too_short() {
     // a ray that is not admitted, and three places for a hit
     let mut hit = [f64::from(MARK); 3];
     // SAFETY: the slice is as long as said.
@@ -320,7 +320,7 @@ fn a_result_slice_that_is_too_short_is_3_before_all() {
             hit.len(),
         )
     };
-    assert_eq!(answer, sys::REFUSED_NO_ROOM);
+    assert_eq!(answer, sys::REFUSED_INVALID_INPUT);
     assert_eq!(hit, [f64::from(MARK); 3]);
     // and an empty place for the node count, with lengths that are not admitted
     let mut areas = marked(2);
@@ -346,7 +346,7 @@ fn a_result_slice_that_is_too_short_is_3_before_all() {
             nodes.len(),
         )
     };
-    assert_eq!(answer, sys::REFUSED_NO_ROOM);
+    assert_eq!(answer, sys::REFUSED_BAD_SHAPE);
     assert_eq!(areas, marked(2));
 }
 

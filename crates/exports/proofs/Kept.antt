@@ -1,23 +1,32 @@
--- Work areas that a call leaves as they were, once the result slices are long enough. Assumes nothing.
-use Prim.Native.Nat.{ℕ, _≤_}
-use mathlib.Core.Path.{_≡_, sym, subst}
+-- Work areas that a call leaves as they were, and a result slice that is long enough or not. Assumes nothing.
+use Prim.Native.Nat.{ℕ, _≤_, _<_}
+use mathlib.Core.Path.{_≡_, refl, sym}
 use mathlib.Core.Bool.{Bool, true, false, _&&_, true≢false}
 use mathlib.Core.List.{List}
-use borrow.Author.Tests.{le-leb}
+use borrow.Author.Tests.{le-leb, lt-leb}
 use lib.Ieee.{Float}
 use lib.ListN.{length}
-use Rattle.geometry.specs.declared.ray.Ray.{Ray}
-use Rattle.exports.specs.Results.{resultsFit}
+use Rattle.exports.specs.Results.{withRoom, resultsFit}
 
-pub results-fit : (area : List Float) (place : List ℕ) → 4 ≤ length area → 1 ≤ length place → resultsFit area place ≡ true
-unfolding resultsFit
-results-fit area place long there = simp (le-leb 4 (length area) long, le-leb 1 (length place) there)
+module _ (area : List Float) (place : List ℕ) where
+  pub results-fit : 4 ≤ length area → 1 ≤ length place → resultsFit area place ≡ true
+  unfolding resultsFit
+  results-fit long there = simp (le-leb 4 (length area) long, le-leb 1 (length place) there)
+
+  pub hit-short : length area < 4 → resultsFit area place ≡ false
+  unfolding resultsFit
+  hit-short short = simp (lt-leb 4 (length area) short)
+
+  pub index-short : 4 ≤ length area → length place < 1 → resultsFit area place ≡ false
+  unfolding resultsFit
+  index-short long short = simp (le-leb 4 (length area) long, lt-leb 1 (length place) short)
 
 -- where the first of two tests passed, the second one failed
 pub second-failed : (first second : Bool) → first ≡ true → (first && second) ≡ false → second ≡ false
 second-failed true second passed failed = failed
 second-failed false second passed failed = absurd (true≢false (sym passed))
 
--- the same of a test of the ray that the call's numbers make
-pub ray-failed : (test : Ray → Bool) (made ray : Ray) (first : Bool) → made ≡ ray → first ≡ true → (first && test ray) ≡ false → test made ≡ false
-ray-failed test made ray first e passed failed = subst (λ (r : Ray). test r ≡ false) (sym e) (second-failed first (test ray) passed failed)
+-- where the slices are long enough, what is told is told, whatever the tests of 1 and 2 say
+pub room-there : {A : Type 0} (passed fits : Bool) (told short : A) → fits ≡ true → withRoom passed fits told short ≡ told
+room-there true fits told short h = simp h
+room-there false fits told short h = refl

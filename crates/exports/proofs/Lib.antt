@@ -2,3 +2,5 @@
 pub mod Kept
 pub mod Counts
 pub mod PlainCalls
+pub mod MeshTold
+pub mod Demands

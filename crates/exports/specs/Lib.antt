@@ -1,3 +1,4 @@
 -- What the calls for other languages answer and write. Definitions only. Assumes nothing.
 pub mod Results
 pub mod Plain
+pub mod Demands

@@ -2,7 +2,7 @@
 use Prim.Native.Nat.{ℕ}
 use mathlib.Core.Bool.{Bool, _&&_, cond}
 use mathlib.Core.List.{List, [], _∷_}
-use lib.Dec.{leb}
+use lib.Dec.{leb, ltb}
 use lib.Ieee.{Float}
 use lib.ListN.{length}
 use lib.Seq.{sets}
@@ -11,25 +11,28 @@ use Rattle.geometry.specs.declared.ray.Ray.{Ray}
 use Rattle.geometry.specs.Vector.{vector}
 use Rattle.geometry.specs.Numbers.{zeroᶠ}
 use Rattle.geometry.specs.declared.vec3.Vec3.{Vec3}
-use Rattle.casts.specs.Answer.{Answer, hit, none, refused, noRoom}
+use Rattle.geometry.specs.Box.{validBox}
+use Rattle.geometry.specs.Segment.{rayAdmitted}
+use Rattle.casts.specs.Answer.{Answer, hit, none, refused, invalidInput, badShape, noRoom}
 use Rattle.casts.specs.Nearest.{Indexed, hitAt, noHit, stopped}
 use Rattle.casts.specs.declared.plane.Plane.{Plane}
 use Rattle.height_field.specs.declared.field.Field.{Field}
 use Rattle.level_set.specs.declared.grid.Grid.{Grid}
-use Rattle.tree_build.specs.Build.{Areas, Outcome}
+use Rattle.tree.specs.Layout.{Tree}
+use Rattle.tree.specs.Mesh.{Mesh, lengthsAdmitted}
+use Rattle.tree_build.specs.Build.{Areas}
 use Rattle.tree_build.specs.Build as Build
-use Rattle.tree_query.specs.Query.{Queried}
+use Rattle.tree_query.specs.Query.{countsAdmitted}
 use Rattle.tree_query.specs.Query as Query
 use Rattle.tree_check.specs.Verdict as Verdict
+use Rattle.mesh.specs.MeshCast.{shapeAdmitted, rayMesh}
 
 -- ---- what the numbers of a call mean
 
 abbrev pub version : ℕ
-version = 1
+version = 2
 
-abbrev pub rayOf : Float → Float → Float → Float → Float → Float → Float → Ray
-rayOf ox oy oz dx dy dz maximum = record { origin = vector ox oy oz; direction = vector dx dy dz; «max_distance» = maximum; near = zeroᶠ }
-
+-- a ray of eight numbers
 abbrev pub rayFrom : Float → Float → Float → Float → Float → Float → Float → Float → Ray
 rayFrom ox oy oz dx dy dz maximum near = record {
   origin = vector ox oy oz;
@@ -37,6 +40,10 @@ rayFrom ox oy oz dx dy dz maximum near = record {
   «max_distance» = maximum;
   near = near;
 }
+
+-- of seven, whose near distance is +0
+abbrev pub rayOf : Float → Float → Float → Float → Float → Float → Float → Ray
+rayOf ox oy oz dx dy dz maximum = rayFrom ox oy oz dx dy dz maximum zeroᶠ
 
 abbrev pub planeOf : Float → Float → Float → Float → Plane
 planeOf x y z distance = record { normal = vector x y z; distance = distance }
@@ -70,6 +77,22 @@ noCode = 259
 abbrev pub doneCode : ℕ
 doneCode = 260
 
+-- ---- a result slice that is too short
+
+-- "1 is tested before 2, 2 before 3": of a call without work areas, refusals 1 and 2 go before a result slice that is too short
+unfoldable pub shortNumber : Answer → ℕ
+shortNumber (hit n d) = noRoom
+shortNumber none = noRoom
+shortNumber (refused number) = cond (ltb badShape number) noRoom number
+
+-- of one with work areas, by the tests of 1 and 2 themselves: the number is theirs, else 3
+abbrev pub shortOf : Bool → Bool → ℕ
+shortOf one two = cond one (cond two noRoom badShape) invalidInput
+
+-- past the tests of 1 and 2 a result slice that is too short is 3, before anything later
+abbrev pub withRoom : {A : Type 0} → Bool → Bool → A → A → A
+withRoom passed fits told short = cond passed (cond fits told short) told
+
 -- ---- casts
 
 -- the number, and the slice of a hit's normal and distance
@@ -82,9 +105,9 @@ told (hit n d) area = record { number = hitCode; hit = sets area 0 (n .x ∷ n .
 told none area = record { number = noneCode; hit = area }
 told (refused number) area = record { number = number; hit = area }
 
--- a result slice that is too short is refused, and nothing is written
+-- where the slice is too short, nothing is written
 unfoldable pub answered : Answer → List Float → Told
-answered answer area = cond (leb 4 (length area)) (told answer area) record { number = noRoom; hit = area }
+answered answer area = cond (leb 4 (length area)) (told answer area) record { number = shortNumber answer; hit = area }
 
 -- with the slice of the triangle's index
 pub record ToldIndexed : Type 0 where
@@ -100,8 +123,11 @@ toldIndexed (stopped number) area place = record { number = number; hit = area; 
 unfoldable pub resultsFit : List Float → List ℕ → Bool
 resultsFit area place = leb 4 (length area) && leb 1 (length place)
 
-unfoldable pub answeredIndexed : Indexed → List Float → List ℕ → ToldIndexed
-answeredIndexed answer area place = cond (resultsFit area place) (toldIndexed answer area place) record { number = noRoom; hit = area; index = place }
+-- the mesh cast's answer; the lengths of its list and stack stand before the result slices
+unfoldable pub answeredMesh : Ray → Mesh → List Float → Tree → ℕ → ℕ → List Float → List ℕ → ToldIndexed
+answeredMesh r m pose t list stack area place =
+    withRoom (rayAdmitted r && shapeAdmitted m pose t) (resultsFit area place) (toldIndexed (rayMesh r m pose t list stack) area place)
+    record { number = noRoom; hit = area; index = place }
 
 -- ---- build, query and tree check
 
@@ -128,10 +154,11 @@ pub record BuildTold : Type 0 where
   pub told : Counted
   pub after : Areas
 
-unfoldable pub buildTold : Outcome → Areas → List ℕ → BuildTold
-buildTold o before place =
-    cond (leb 1 (length place))
-    record { told = toldNodes (o .answer) place; after = o .after }
+-- the last arguments are the length of the work area and the slice of the node count
+unfoldable pub buildTold : Mesh → Areas → ℕ → List ℕ → BuildTold
+buildTold m before work place =
+    withRoom (lengthsAdmitted (length (m .vertices)) (length (m .triangles))) (leb 1 (length place))
+    record { told = toldNodes (Build.buildOf m before work .answer) place; after = Build.buildOf m before work .after }
     record { told = record { number = noRoom; count = place }; after = before }
 
 -- the query's number and the list's length, and its list
@@ -139,8 +166,9 @@ pub record QueryTold : Type 0 where
   pub told : Counted
   pub list : List ℕ
 
-unfoldable pub queryTold : Queried → List ℕ → List ℕ → QueryTold
-queryTold q before place =
-    cond (leb 1 (length place))
-    record { told = toldFound (q .answer) place; list = q .list }
+-- the last arguments are the list's area, the length of the stack and the slice of the list's length
+unfoldable pub queryTold : Aabb → ℕ → Tree → List ℕ → ℕ → List ℕ → QueryTold
+queryTold box n t before stack place =
+    withRoom (validBox box && countsAdmitted n (t .nodeCount)) (leb 1 (length place))
+    record { told = toldFound (Query.queryOf box n t before stack .answer) place; list = Query.queryOf box n t before stack .list }
     record { told = record { number = noRoom; count = place }; list = before }

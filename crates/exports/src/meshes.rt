@@ -1,6 +1,7 @@
 use crate::results;
 use casts::answer;
 use geometry::aabb::Aabb;
+use geometry::ray::Ray;
 use geometry::vec3::Vec3;
 use mesh::cast;
 use tree_build::build;
@@ -8,16 +9,75 @@ use tree_check::check;
 use tree_query::query;
 ghost use mathlib.Core.Path.{_≡_};
 ghost use mathlib.Core.Bool.{false, _&&_};
+ghost use Prim.Native.Nat.{_*_};
 ghost use lib.Dec.{leb};
 ghost use lib.ListN.{length};
-ghost use Rattle.tree_build.specs.Build.{areas, buildOf, testsPass as buildTestsPass};
+ghost use Rattle.geometry.specs.Box.{validBox};
+ghost use Rattle.geometry.specs.Segment.{rayAdmitted};
+ghost use Rattle.tree.specs.Mesh.{thirds, lengthsAdmitted};
+ghost use Rattle.tree_build.specs.Build.{areas, testsPass as buildTestsPass};
 ghost use Rattle.tree_query.specs.Areas.{treeOf};
-ghost use Rattle.tree_query.specs.Query.{queryOf, testsPass as queryTestsPass};
+ghost use Rattle.tree_query.specs.Query.{countsAdmitted, testsPass as queryTestsPass};
 ghost use Rattle.tree_check.specs.Verdict.{checkOf, marksAfter};
-ghost use Rattle.mesh.specs.MeshCast.{mesh, rayMesh, testsPass};
-ghost use Rattle.exports.specs.Results.{rayOf, boxOf, resultsFit, answeredIndexed, buildTold, queryTold, toldVerdict};
+ghost use Rattle.mesh.specs.MeshCast.{mesh, testsPass};
+ghost use Rattle.exports.specs.Results.{rayFrom, rayOf, boxOf, shortOf, resultsFit, answeredMesh, buildTold, queryTold, toldVerdict};
+
+// The mesh cast's number where a result slice is too short: 1 and 2 go before 3.
+fn short_cast(ray: Ray, vertices: usize, triangles: usize, pose: usize, nodes: usize) -> u32
+    ensures { λ r. ⌜ r ≡ shortOf (rayAdmitted ray) (lengthsAdmitted vertices triangles && (lengthsAdmitted pose triangles && leb nodes (2 * thirds triangles))) ⌝ }
+{
+    if !ray.validate() {
+        return answer::INVALID_INPUT;
+    }
+    if !cast::shape_admitted(vertices, triangles, pose, nodes) {
+        return answer::BAD_SHAPE;
+    }
+    answer::NO_ROOM
+}
+
+// The mesh cast with its answer in the result slices. The list and the stack are unchanged until these and refusals 1 to 4 have let the call pass.
+fn told_mesh(
+    ray: Ray,
+    vertices: &[f64],
+    triangles: &[u32],
+    pose: &[f64],
+    nodes: usize,
+    node_boxes: &[f64],
+    triangle_boxes: &[f64],
+    node_words: &[u32],
+    order: &[u32],
+    list: &mut [u32],
+    stack: &mut [u32],
+    hit: &mut [f64],
+    index: &mut [u32],
+) -> u32
+    ensures { λ r. ⌜ record { number = r; hit = now (hit .exit); index = now (index .exit) } ≡ answeredMesh ray (mesh (now (vertices .entry)) (now (triangles .entry))) (now (pose .entry)) (treeOf nodes (now («node_boxes» .entry)) (now («triangle_boxes» .entry)) (now («node_words» .entry)) (now (order .entry))) (length (now (list .entry))) (length (now (stack .entry))) (now (hit .entry)) (now (index .entry)) ⌝ }
+    ensures { λ r. ⌜ ((resultsFit (now (hit .entry)) (now (index .entry)) && testsPass ray (mesh (now (vertices .entry)) (now (triangles .entry))) (now (pose .entry)) (treeOf nodes (now («node_boxes» .entry)) (now («triangle_boxes» .entry)) (now («node_words» .entry)) (now (order .entry))) (length (now (list .entry))) (length (now (stack .entry)))) ≡ false → (now (list .exit) ≡ now (list .entry)) × (now (stack .exit) ≡ now (stack .entry))) ⌝ }
+{
+    if hit.len() < 4 {
+        return short_cast(ray, vertices.len(), triangles.len(), pose.len(), nodes);
+    }
+    if index.len() < 1 {
+        return short_cast(ray, vertices.len(), triangles.len(), pose.len(), nodes);
+    }
+    let found = cast::ray_mesh(
+        ray,
+        vertices,
+        triangles,
+        pose,
+        nodes,
+        node_boxes,
+        triangle_boxes,
+        node_words,
+        order,
+        list,
+        stack,
+    );
+    results::put_indexed(found, hit, index)
+}
 
 // The mesh cast. The list and the stack are work areas: unchanged until the result slices and refusals 1 to 4 have let the call pass, and then they may hold anything.
+// Demand 3 holds of what is told: `MeshCallMeetsDemand` (specs/Demands.antt).
 #[no_mangle]
 pub extern "C" fn probe_ray_mesh(
     origin_x: f64,
@@ -40,16 +100,10 @@ pub extern "C" fn probe_ray_mesh(
     hit: &mut [f64],
     index: &mut [u32],
 ) -> u32
-    ensures { λ r. ⌜ record { number = r; hit = now (hit .exit); index = now (index .exit) } ≡ answeredIndexed (rayMesh (rayOf «origin_x» «origin_y» «origin_z» «direction_x» «direction_y» «direction_z» «max_distance») (mesh (now (vertices .entry)) (now (triangles .entry))) (now (pose .entry)) (treeOf nodes (now («node_boxes» .entry)) (now («triangle_boxes» .entry)) (now («node_words» .entry)) (now (order .entry))) (length (now (list .entry))) (length (now (stack .entry)))) (now (hit .entry)) (now (index .entry)) ⌝ }
+    ensures { λ r. ⌜ record { number = r; hit = now (hit .exit); index = now (index .exit) } ≡ answeredMesh (rayOf «origin_x» «origin_y» «origin_z» «direction_x» «direction_y» «direction_z» «max_distance») (mesh (now (vertices .entry)) (now (triangles .entry))) (now (pose .entry)) (treeOf nodes (now («node_boxes» .entry)) (now («triangle_boxes» .entry)) (now («node_words» .entry)) (now (order .entry))) (length (now (list .entry))) (length (now (stack .entry))) (now (hit .entry)) (now (index .entry)) ⌝ }
     ensures { λ r. ⌜ ((resultsFit (now (hit .entry)) (now (index .entry)) && testsPass (rayOf «origin_x» «origin_y» «origin_z» «direction_x» «direction_y» «direction_z» «max_distance») (mesh (now (vertices .entry)) (now (triangles .entry))) (now (pose .entry)) (treeOf nodes (now («node_boxes» .entry)) (now («triangle_boxes» .entry)) (now («node_words» .entry)) (now (order .entry))) (length (now (list .entry))) (length (now (stack .entry)))) ≡ false → (now (list .exit) ≡ now (list .entry)) × (now (stack .exit) ≡ now (stack .entry))) ⌝ }
 {
-    if hit.len() < 4 {
-        return answer::NO_ROOM;
-    }
-    if index.len() < 1 {
-        return answer::NO_ROOM;
-    }
-    let ray = results::ray_of(
+    let ray = results::ray_from(
         origin_x,
         origin_y,
         origin_z,
@@ -57,8 +111,9 @@ pub extern "C" fn probe_ray_mesh(
         direction_y,
         direction_z,
         max_distance,
+        0.0,
     );
-    let found = cast::ray_mesh(
+    told_mesh(
         ray,
         vertices,
         triangles,
@@ -70,11 +125,67 @@ pub extern "C" fn probe_ray_mesh(
         order,
         list,
         stack,
+        hit,
+        index,
+    )
+}
+
+// The same of a ray with a near distance.
+#[no_mangle]
+pub extern "C" fn probe_ray_mesh_near(
+    origin_x: f64,
+    origin_y: f64,
+    origin_z: f64,
+    direction_x: f64,
+    direction_y: f64,
+    direction_z: f64,
+    max_distance: f64,
+    near_distance: f64,
+    vertices: &[f64],
+    triangles: &[u32],
+    pose: &[f64],
+    nodes: usize,
+    node_boxes: &[f64],
+    triangle_boxes: &[f64],
+    node_words: &[u32],
+    order: &[u32],
+    list: &mut [u32],
+    stack: &mut [u32],
+    hit: &mut [f64],
+    index: &mut [u32],
+) -> u32
+    ensures { λ r. ⌜ record { number = r; hit = now (hit .exit); index = now (index .exit) } ≡ answeredMesh (rayFrom «origin_x» «origin_y» «origin_z» «direction_x» «direction_y» «direction_z» «max_distance» «near_distance») (mesh (now (vertices .entry)) (now (triangles .entry))) (now (pose .entry)) (treeOf nodes (now («node_boxes» .entry)) (now («triangle_boxes» .entry)) (now («node_words» .entry)) (now (order .entry))) (length (now (list .entry))) (length (now (stack .entry))) (now (hit .entry)) (now (index .entry)) ⌝ }
+    ensures { λ r. ⌜ ((resultsFit (now (hit .entry)) (now (index .entry)) && testsPass (rayFrom «origin_x» «origin_y» «origin_z» «direction_x» «direction_y» «direction_z» «max_distance» «near_distance») (mesh (now (vertices .entry)) (now (triangles .entry))) (now (pose .entry)) (treeOf nodes (now («node_boxes» .entry)) (now («triangle_boxes» .entry)) (now («node_words» .entry)) (now (order .entry))) (length (now (list .entry))) (length (now (stack .entry)))) ≡ false → (now (list .exit) ≡ now (list .entry)) × (now (stack .exit) ≡ now (stack .entry))) ⌝ }
+{
+    let ray = results::ray_from(
+        origin_x,
+        origin_y,
+        origin_z,
+        direction_x,
+        direction_y,
+        direction_z,
+        max_distance,
+        near_distance,
     );
-    results::put_indexed(found, hit, index)
+    told_mesh(
+        ray,
+        vertices,
+        triangles,
+        pose,
+        nodes,
+        node_boxes,
+        triangle_boxes,
+        node_words,
+        order,
+        list,
+        stack,
+        hit,
+        index,
+    )
 }
 
 // Builds a mesh's tree into the result areas and writes its node count. The work area is unchanged after refusals 2 and 3; past their tests nothing is promised of it.
+// What it writes without refusing passes the check: `BuildCallPasses` (specs/Demands.antt).
 #[no_mangle]
 pub extern "C" fn probe_build(
     vertices: &[f64],
@@ -86,11 +197,11 @@ pub extern "C" fn probe_build(
     work: &mut [u32],
     nodes: &mut [usize],
 ) -> u32
-    ensures { λ r. ⌜ record { told = record { number = r; count = now (nodes .exit) }; after = areas (now («node_boxes» .exit)) (now («triangle_boxes» .exit)) (now («node_words» .exit)) (now (order .exit)) } ≡ buildTold (buildOf (mesh (now (vertices .entry)) (now (triangles .entry))) (areas (now («node_boxes» .entry)) (now («triangle_boxes» .entry)) (now («node_words» .entry)) (now (order .entry))) (length (now (work .entry)))) (areas (now («node_boxes» .entry)) (now («triangle_boxes» .entry)) (now («node_words» .entry)) (now (order .entry))) (now (nodes .entry)) ⌝ }
+    ensures { λ r. ⌜ record { told = record { number = r; count = now (nodes .exit) }; after = areas (now («node_boxes» .exit)) (now («triangle_boxes» .exit)) (now («node_words» .exit)) (now (order .exit)) } ≡ buildTold (mesh (now (vertices .entry)) (now (triangles .entry))) (areas (now («node_boxes» .entry)) (now («triangle_boxes» .entry)) (now («node_words» .entry)) (now (order .entry))) (length (now (work .entry))) (now (nodes .entry)) ⌝ }
     ensures { λ r. ⌜ ((leb 1 (length (now (nodes .entry))) && buildTestsPass (mesh (now (vertices .entry)) (now (triangles .entry))) (areas (now («node_boxes» .entry)) (now («triangle_boxes» .entry)) (now («node_words» .entry)) (now (order .entry))) (length (now (work .entry)))) ≡ false → now (work .exit) ≡ now (work .entry)) ⌝ }
 {
     if nodes.len() < 1 {
-        return answer::NO_ROOM;
+        return results::short_build(vertices.len(), triangles.len());
     }
     let built = build::build(
         vertices,
@@ -102,6 +213,19 @@ pub extern "C" fn probe_build(
         work,
     );
     results::put_nodes(built, nodes)
+}
+
+// The query's number where the place of the list's length is not there: 1 and 2 go before 3.
+fn short_query(bounds: Aabb, triangles: usize, nodes: usize) -> u32
+    ensures { λ r. ⌜ r ≡ shortOf (validBox bounds) (countsAdmitted triangles nodes) ⌝ }
+{
+    if !bounds.is_valid() {
+        return answer::INVALID_INPUT;
+    }
+    if !query::counts_admitted(triangles, nodes) {
+        return answer::BAD_SHAPE;
+    }
+    answer::NO_ROOM
 }
 
 // Lists the triangles of a tree whose boxes touch a box, ascending, and writes how many.
@@ -124,12 +248,9 @@ pub extern "C" fn probe_query(
     stack: &mut [u32],
     found: &mut [usize],
 ) -> u32
-    ensures { λ r. ⌜ record { told = record { number = r; count = now (found .exit) }; list = now (list .exit) } ≡ queryTold (queryOf (boxOf «min_x» «min_y» «min_z» «max_x» «max_y» «max_z») triangles (treeOf nodes (now («node_boxes» .entry)) (now («triangle_boxes» .entry)) (now («node_words» .entry)) (now (order .entry))) (now (list .entry)) (length (now (stack .entry)))) (now (list .entry)) (now (found .entry)) ⌝ }
+    ensures { λ r. ⌜ record { told = record { number = r; count = now (found .exit) }; list = now (list .exit) } ≡ queryTold (boxOf «min_x» «min_y» «min_z» «max_x» «max_y» «max_z») triangles (treeOf nodes (now («node_boxes» .entry)) (now («triangle_boxes» .entry)) (now («node_words» .entry)) (now (order .entry))) (now (list .entry)) (length (now (stack .entry))) (now (found .entry)) ⌝ }
     ensures { λ r. ⌜ ((leb 1 (length (now (found .entry))) && queryTestsPass (boxOf «min_x» «min_y» «min_z» «max_x» «max_y» «max_z») triangles (treeOf nodes (now («node_boxes» .entry)) (now («triangle_boxes» .entry)) (now («node_words» .entry)) (now (order .entry))) (length (now (list .entry))) (length (now (stack .entry)))) ≡ false → now (stack .exit) ≡ now (stack .entry)) ⌝ }
 {
-    if found.len() < 1 {
-        return answer::NO_ROOM;
-    }
     let bounds = Aabb {
         min: Vec3 {
             x: min_x,
@@ -142,6 +263,9 @@ pub extern "C" fn probe_query(
             z: max_z,
         },
     };
+    if found.len() < 1 {
+        return short_query(bounds, triangles, nodes);
+    }
     let listed = query::query(
         bounds,
         triangles,

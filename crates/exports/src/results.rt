@@ -3,20 +3,23 @@ use casts::answer::Cast;
 use casts::nearest::IndexedCast;
 use geometry::ray::Ray;
 use geometry::vec3::Vec3;
+use tree::mesh as lengths;
 use tree_build::build::Built;
 use tree_check::check::Verdict;
 use tree_query::query::Listed;
 ghost use mathlib.Core.Path.{_≡_};
+ghost use mathlib.Core.Bool.{cond};
 ghost use mathlib.Core.List.{[], _∷_};
 ghost use Prim.Native.Nat.{_≤_};
 ghost use lib.ListN.{length};
 ghost use lib.Seq.{sets};
-ghost use Rattle.casts.specs.Answer.{says};
+ghost use Rattle.casts.specs.Answer.{says, badShape, noRoom};
 ghost use Rattle.casts.specs.Nearest.{saysIndexed};
+ghost use Rattle.tree.specs.Mesh.{lengthsAdmitted};
 ghost use Rattle.tree_build.specs.Build.{says as saysBuilt};
 ghost use Rattle.tree_check.specs.Verdict.{says as saysVerdict};
 ghost use Rattle.tree_query.specs.Query.{saysListed};
-ghost use Rattle.exports.specs.Results.{rayOf, rayFrom, answered, toldIndexed, toldNodes, toldFound, toldVerdict};
+ghost use Rattle.exports.specs.Results.{rayFrom, shortNumber, answered, toldIndexed, toldNodes, toldFound, toldVerdict};
 
 // What a call answers where it does not refuse. Refusals, document 02's among them, stay below 256.
 pub const HIT: u32 = 256;
@@ -29,34 +32,6 @@ pub const NO: u32 = 259;
 
 // The build wrote a tree, or the query its list.
 pub const DONE: u32 = 260;
-
-// A ray from its seven numbers.
-pub fn ray_of(
-    origin_x: f64,
-    origin_y: f64,
-    origin_z: f64,
-    direction_x: f64,
-    direction_y: f64,
-    direction_z: f64,
-    max_distance: f64,
-) -> Ray
-    ensures { λ r. ⌜ r ≡ rayOf «origin_x» «origin_y» «origin_z» «direction_x» «direction_y» «direction_z» «max_distance» ⌝ }
-{
-    Ray {
-        origin: Vec3 {
-            x: origin_x,
-            y: origin_y,
-            z: origin_z,
-        },
-        direction: Vec3 {
-            x: direction_x,
-            y: direction_y,
-            z: direction_z,
-        },
-        max_distance: max_distance,
-        near: 0.0,
-    }
-}
 
 // A ray from its eight numbers.
 pub fn ray_from(
@@ -98,12 +73,35 @@ fn put_hit(hit: &mut [f64], normal: Vec3, distance: f64)
     hit[3] = distance;
 }
 
+// The number where the hit slice is too short: refusals 1 and 2 go before 3.
+fn short_number(answer: Cast) -> u32
+    ensures { λ r. ⌜ r ≡ shortNumber (says answer) ⌝ }
+{
+    match answer {
+        Cast::Hit {
+            normal: _,
+            distance: _,
+        } => {
+            return answer::NO_ROOM;
+        }
+        Cast::None => {
+            return answer::NO_ROOM;
+        }
+        Cast::Refused(number) => {
+            if number > answer::BAD_SHAPE {
+                return answer::NO_ROOM;
+            }
+            return number;
+        }
+    }
+}
+
 // An answer as its number, a hit's values written; a result slice that is too short is refused.
 pub fn put_answer(answer: Cast, hit: &mut [f64]) -> u32
     ensures { λ r. ⌜ record { number = r; hit = now (hit .exit) } ≡ answered (says answer) (now (hit .entry)) ⌝ }
 {
     if hit.len() < 4 {
-        return answer::NO_ROOM;
+        return short_number(answer);
     }
     match answer {
         Cast::Hit { normal, distance } => {
@@ -141,6 +139,16 @@ pub fn put_indexed(answer: IndexedCast, hit: &mut [f64], index: &mut [u32]) -> u
             return number;
         }
     }
+}
+
+// The build's number where the place of the node count is not there: 2 goes before 3.
+pub fn short_build(vertices: usize, triangles: usize) -> u32
+    ensures { λ r. ⌜ r ≡ cond (lengthsAdmitted vertices triangles) noRoom badShape ⌝ }
+{
+    if !lengths::lengths_admitted(vertices, triangles) {
+        return answer::BAD_SHAPE;
+    }
+    answer::NO_ROOM
 }
 
 // The build's answer as its number, the node count written. Callers show that its place is there.

@@ -20,7 +20,7 @@ ghost use Rattle.exports.specs.Results.{version, rayOf, planeOf, corners
 pub extern "C" fn probe_version() -> u32
     ensures { λ r. ⌜ r ≡ version ⌝ }
 {
-    1
+    2
 }
 
 // The cast at a plane.
@@ -41,7 +41,7 @@ pub extern "C" fn probe_ray_plane(
 ) -> u32
     ensures { λ r. ⌜ record { number = r; hit = now (hit .exit) } ≡ answered (rayPlane (planeOf «normal_x» «normal_y» «normal_z» distance) (rayOf «origin_x» «origin_y» «origin_z» «direction_x» «direction_y» «direction_z» «max_distance»)) (now (hit .entry)) ⌝ }
 {
-    let ray = results::ray_of(
+    let ray = results::ray_from(
         origin_x,
         origin_y,
         origin_z,
@@ -49,6 +49,7 @@ pub extern "C" fn probe_ray_plane(
         direction_y,
         direction_z,
         max_distance,
+        0.0,
     );
     let plane = Plane {
         normal: Vec3 {
@@ -84,7 +85,7 @@ pub extern "C" fn probe_ray_triangle(
 ) -> u32
     ensures { λ r. ⌜ record { number = r; hit = now (hit .exit) } ≡ answered (rayTriangle (rayOf «origin_x» «origin_y» «origin_z» «direction_x» «direction_y» «direction_z» «max_distance») (cornersOf «a_x» «a_y» «a_z» «b_x» «b_y» «b_z» «c_x» «c_y» «c_z»)) (now (hit .entry)) ⌝ }
 {
-    let ray = results::ray_of(
+    let ray = results::ray_from(
         origin_x,
         origin_y,
         origin_z,
@@ -92,6 +93,7 @@ pub extern "C" fn probe_ray_triangle(
         direction_y,
         direction_z,
         max_distance,
+        0.0,
     );
     let a = Vec3 {
         x: a_x,
@@ -130,7 +132,7 @@ pub extern "C" fn probe_ray_height_field(
 ) -> u32
     ensures { λ r. ⌜ record { number = r; hit = now (hit .exit) } ≡ answered (rayHeightField (rayOf «origin_x» «origin_y» «origin_z» «direction_x» «direction_y» «direction_z» «max_distance») (fieldOf rows columns «spacing_x» «spacing_y») (now (heights .entry))) (now (hit .entry)) ⌝ }
 {
-    let ray = results::ray_of(
+    let ray = results::ray_from(
         origin_x,
         origin_y,
         origin_z,
@@ -138,6 +140,7 @@ pub extern "C" fn probe_ray_height_field(
         direction_y,
         direction_z,
         max_distance,
+        0.0,
     );
     let field = Field {
         rows: rows,
@@ -172,7 +175,7 @@ pub extern "C" fn probe_ray_level_set(
 ) -> u32
     ensures { λ r. ⌜ record { number = r; hit = now (hit .exit) } ≡ answered (rayLevelSet (rayOf «origin_x» «origin_y» «origin_z» «direction_x» «direction_y» «direction_z» «max_distance») (gridOf «side_x» «side_y» «side_z» «grid_x» «grid_y» «grid_z» «spacing_x» «spacing_y» «spacing_z») (now (values .entry))) (now (hit .entry)) ⌝ }
 {
-    let ray = results::ray_of(
+    let ray = results::ray_from(
         origin_x,
         origin_y,
         origin_z,
@@ -180,6 +183,7 @@ pub extern "C" fn probe_ray_level_set(
         direction_y,
         direction_z,
         max_distance,
+        0.0,
     );
     let grid = Grid {
         sides: Sides {

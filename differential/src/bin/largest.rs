@@ -99,6 +99,7 @@ fn rays(random: &mut Random, mesh: &Mesh, count: usize) -> Vec<Ray> {
             origin: [x, y, random.pick(&[0.25, 1.0, 8.0])],
             direction: unit(direction),
             maximum,
+            near: 0.0,
         }
     };
     (0..count).map(ray).collect()

@@ -5,9 +5,15 @@ use borrow.Author.Needs.{needs}
 use Rattle.exports.proofs.results.put_answer.Statement.{statement}
 use Rattle.exports.proofs.results.put_answer.Tie as tie
 
+short-number-requires : tie.Need-short-number-requires
+short-number-requires c κs = search needs
+
+-- the slice is too short
 returns : tie.Need-returns
 unfolding answered
-returns c = simp (lt-leb _ _ (c .if1 .taken))
+returns c =
+    let e : tie.Then1 = search in
+    simp (lt-leb _ _ (e .if1 .taken), c .short-number .ensures)
 
 enum-known-answer : tie.Need-enum-known-answer
 enum-known-answer c = search needs
@@ -40,6 +46,7 @@ pub put-answer-spec : {M : Type 1} → statement M
 put-answer-spec =
     tie.close
     (tie.spec
+    short-number-requires
     returns
     enum-known-answer
     put-hit-requires

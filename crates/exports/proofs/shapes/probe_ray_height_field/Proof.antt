@@ -3,11 +3,11 @@ use borrow.Author.Needs.{needs}
 use Rattle.exports.proofs.shapes.probe_ray_height_field.Statement.{statement}
 use Rattle.exports.proofs.shapes.probe_ray_height_field.Tie as tie
 use Rattle.exports.proofs.results.put_answer.Reads as put-answer-reads
-use Rattle.exports.proofs.results.ray_of.Reads as ray-of-reads
+use Rattle.exports.proofs.results.ray_from.Reads as ray-from-reads
 use Rattle.height_field.proofs.cast.ray_height_field.Reads as ray-height-field-reads
 
-ray-of-requires : tie.Need-ray-of-requires
-ray-of-requires c κs = search needs
+ray-from-requires : tie.Need-ray-from-requires
+ray-from-requires c κs = search needs
 
 ray-height-field-requires : tie.Need-ray-height-field-requires
 ray-height-field-requires c κs = search needs
@@ -19,9 +19,9 @@ same-length : tie.Need-same-length
 same-length c = search needs
 
 returns : tie.Need-returns
-returns c = simp (c .before .before .put-answer .ensures, c .before .before .before .before .ray-height-field .ensures, c .before .before .before .before .before .ray-of .ensures)
+returns c = simp (c .before .before .put-answer .ensures, c .before .before .before .before .ray-height-field .ensures, c .before .before .before .before .before .ray-from .ensures)
 
 pub probe-ray-height-field-spec : {M : Type 1} → statement M
 probe-ray-height-field-spec =
     tie.close
-    (tie.spec ray-of-requires ray-height-field-requires put-answer-requires same-length returns)
+    (tie.spec ray-from-requires ray-height-field-requires put-answer-requires same-length returns)

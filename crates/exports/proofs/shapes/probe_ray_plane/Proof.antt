@@ -4,10 +4,10 @@ use Rattle.exports.proofs.shapes.probe_ray_plane.Statement.{statement}
 use Rattle.exports.proofs.shapes.probe_ray_plane.Tie as tie
 use Rattle.casts.proofs.plane.ray_plane.Reads as ray-plane-reads
 use Rattle.exports.proofs.results.put_answer.Reads as put-answer-reads
-use Rattle.exports.proofs.results.ray_of.Reads as ray-of-reads
+use Rattle.exports.proofs.results.ray_from.Reads as ray-from-reads
 
-ray-of-requires : tie.Need-ray-of-requires
-ray-of-requires c κs = search needs
+ray-from-requires : tie.Need-ray-from-requires
+ray-from-requires c κs = search needs
 
 ray-plane-requires : tie.Need-ray-plane-requires
 ray-plane-requires c κs = search needs
@@ -19,8 +19,8 @@ same-length : tie.Need-same-length
 same-length c = search needs
 
 returns : tie.Need-returns
-returns c = simp (c .before .before .put-answer .ensures, c .before .before .before .before .ray-plane .ensures, c .before .before .before .before .before .ray-of .ensures)
+returns c = simp (c .before .before .put-answer .ensures, c .before .before .before .before .ray-plane .ensures, c .before .before .before .before .before .ray-from .ensures)
 
 pub probe-ray-plane-spec : {M : Type 1} → statement M
 probe-ray-plane-spec =
-    tie.close (tie.spec ray-of-requires ray-plane-requires put-answer-requires same-length returns)
+    tie.close (tie.spec ray-from-requires ray-plane-requires put-answer-requires same-length returns)

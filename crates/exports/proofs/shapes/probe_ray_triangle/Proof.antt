@@ -4,10 +4,10 @@ use Rattle.exports.proofs.shapes.probe_ray_triangle.Statement.{statemen
 use Rattle.exports.proofs.shapes.probe_ray_triangle.Tie as tie
 use Rattle.casts.proofs.triangle.ray_triangle.Reads as ray-triangle-reads
 use Rattle.exports.proofs.results.put_answer.Reads as put-answer-reads
-use Rattle.exports.proofs.results.ray_of.Reads as ray-of-reads
+use Rattle.exports.proofs.results.ray_from.Reads as ray-from-reads
 
-ray-of-requires : tie.Need-ray-of-requires
-ray-of-requires c κs = search needs
+ray-from-requires : tie.Need-ray-from-requires
+ray-from-requires c κs = search needs
 
 ray-triangle-requires : tie.Need-ray-triangle-requires
 ray-triangle-requires c κs = search needs
@@ -19,9 +19,9 @@ same-length : tie.Need-same-length
 same-length c = search needs
 
 returns : tie.Need-returns
-returns c = simp (c .before .before .put-answer .ensures, c .before .before .before .before .ray-triangle .ensures, c .before .before .before .before .before .ray-of .ensures)
+returns c = simp (c .before .before .put-answer .ensures, c .before .before .before .before .ray-triangle .ensures, c .before .before .before .before .before .ray-from .ensures)
 
 pub probe-ray-triangle-spec : {M : Type 1} → statement M
 probe-ray-triangle-spec =
     tie.close
-    (tie.spec ray-of-requires ray-triangle-requires put-answer-requires same-length returns)
+    (tie.spec ray-from-requires ray-triangle-requires put-answer-requires same-length returns)
