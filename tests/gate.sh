@@ -13,6 +13,8 @@ fresh() {
   rm -rf "$work/repository"
   mkdir -p "$work"/repository/{tools,tests,bin,crates/one}
   cp tools/test "$work/repository/tools/test"
+  printf '#!/bin/sh\n' > "$work/repository/tools/refusals.py"
+  chmod +x "$work/repository/tools/refusals.py"
   echo "one:" > "$work/repository/crates.txt"
   for suite in $suites; do
     echo "echo '$suite: 1 tests passed'" > "$work/repository/tests/$suite.sh"
@@ -65,6 +67,9 @@ expect 1 "0 passed, 1 failed" "a crate is not listed"
 fresh
 echo "exit 1" > "$work/repository/bin/rt"
 expect 1 "0 passed, 1 failed" "the layout is another"
+fresh
+echo "exit 1" >> "$work/repository/tools/refusals.py"
+expect 1 "0 passed, 1 failed" "an edit does not fit"
 fresh
 sed -i 's/echo "7 passed, 0 failed"/echo "6 passed, 1 failed"; exit 1/' "$work/repository/bin/rt"
 expect 1 "6 passed, 1 failed" "rt refuses"

@@ -1,11 +1,12 @@
 #!/usr/bin/env python3
 """Why each must-fail edit was refused: because a fact fails, or only because the proof no longer fits the code.
 
-usage: tools/refusals.py [--self-test | CRATE..]   (CRATE..: just the edits of these crates)
+usage: tools/refusals.py [--self-test | --fit | CRATE..]   (CRATE..: just the edits of these crates)
 
 Reads the first error of target/must-fail/CRATE/EDIT/.log, which `rt ci` and `rt must-fail` leave, for every
 crates/CRATE/must-fail/EDIT.edit. A proof that names a call, a test or a need that the edited code does not have would be refused
 whatever the edit means, so such an edit shows nothing. --self-test: the rule tells the messages of SAMPLES apart.
+--fit: reads no log; each old text of an edit stands once in its file, as rt asks, so that `rt ci` need not be run to find it gone.
 """
 import pathlib
 import re
@@ -83,10 +84,34 @@ def self_test():
     print(f"{len(SAMPLES)} messages told apart")
 
 
+def fit(home):
+    faults = []
+    for edit in sorted(home.glob("crates/*/must-fail/*.edit")):
+        file, old, texts = None, None, {}
+        for line in edit.read_text().splitlines():
+            if line.startswith("file: "):
+                file = edit.parent.parent / line[6:]
+            elif line.startswith("old: "):
+                old = line[5:]
+            elif line.startswith("new:"):
+                text = texts.get(file) or (file.read_text() if file and file.is_file() else "")
+                if not old or text.count(old) != 1:
+                    times = text.count(old) if old else 0
+                    faults.append(f"{edit.relative_to(home)}: its old text stands {times} times in {file.name if file else 'no file'}: {old}")
+                texts[file] = text.replace(old or "\0", line[4:].removeprefix(" "), 1)
+        if not texts:
+            faults.append(f"{edit.relative_to(home)}: it changes nothing")
+    for fault in faults:
+        print(fault, file=sys.stderr)
+    sys.exit(1 if faults else 0)
+
+
 def main():
     if sys.argv[1:] == ["--self-test"]:
         return self_test()
     home = pathlib.Path(__file__).resolve().parent.parent
+    if sys.argv[1:] == ["--fit"]:
+        return fit(home)
     crates = sys.argv[1:]
     if not all((home / "crates" / crate).is_dir() for crate in crates):
         sys.exit(__doc__)
