@@ -42,14 +42,16 @@
  *   7    no normal       the normal of the surface hit cannot be normalised            unchanged
  *   8    not convergent  the walk through a distance grid ends without an answer, or   unchanged
  *                        the gradient at its hit cannot be normalised
+ *   9    bad range       a range of a visited cell is out of order or not finite       unchanged
  *
- * Or one of the codes PROBE_HIT, PROBE_NONE, PROBE_YES, PROBE_NO and PROBE_DONE, which no refusal has.
- * Numbers from 9 on may be added to the refusals; all stay below 256.
+ * Or one of the codes PROBE_HIT, PROBE_NONE, PROBE_YES, PROBE_NO, PROBE_DONE, PROBE_CLEAR and PROBE_POSSIBLE, which no
+ * refusal has.
+ * Numbers from 10 on may be added to the refusals; all stay below 256.
  *
  * Tested are 1, 2, 3 and 4 in this order, then the others as the cast meets them. The result slices hit, index, nodes
- * (of probe_build) and found are lent slices like the others: one that is too short is 3, after 1 and 2.
- * The result slices hit, index, nodes and found are written only with PROBE_HIT and PROBE_DONE; their places past
- * those stated are unchanged.
+ * (of probe_build), found and cell are lent slices like the others: one that is too short is 3, after 1 and 2.
+ * The result slices hit, index, nodes, found and cell are written only with PROBE_HIT, PROBE_DONE and PROBE_POSSIBLE;
+ * their places past those stated are unchanged.
  * 'Zeros' fill every place of the build's node_boxes, triangle_boxes, node_words and order, or of the query's list,
  * however long they are.
  * Work areas are the mesh cast's list and stack, the query's stack, the build's work and the check's marks: they
@@ -86,6 +88,8 @@ extern "C" {
 #define PROBE_YES 258u  /* the tree fits the mesh */
 #define PROBE_NO 259u   /* the tree does not fit the mesh */
 #define PROBE_DONE 260u /* the build wrote a tree, or the query its list */
+#define PROBE_CLEAR 261u /* no grid within the ranges is touched */
+#define PROBE_POSSIBLE 262u /* a grid within the ranges may be touched: cell is written */
 
 /* The refusals. */
 #define PROBE_REFUSED_INVALID_INPUT 1u
@@ -96,6 +100,7 @@ extern "C" {
 #define PROBE_REFUSED_OVERFLOW 6u
 #define PROBE_REFUSED_NO_NORMAL 7u
 #define PROBE_REFUSED_NOT_CONVERGENT 8u
+#define PROBE_REFUSED_BAD_RANGE 9u
 
 /* Whether an answer is a refusal. */
 #define PROBE_IS_REFUSAL(answer) ((answer) < 256u)
@@ -212,6 +217,35 @@ uint32_t probe_ray_height_field(
     size_t heights_length,
     double *hit,
     size_t hit_length
+);
+
+/* Casts a ray at a height grid of which only a low and a high are known for each node: those of row r and column c
+ * stand at lows[r * columns + c] and highs[r * columns + c].
+ *
+ * Answers PROBE_CLEAR: on every grid within the ranges the height cast is none. Or PROBE_POSSIBLE: on some grid within
+ * the ranges a triangle's box touches that of the ray's segment; cell[0] is then the first such cell, row after row,
+ * row * (columns - 1) + column. Or refuses with 1, 2, 3 (cell has no place), 6 or 9. Only the cells that the height
+ * cast would look at count: a range elsewhere is not looked at. near_distance is tested (1) and has no other effect.
+ */
+uint32_t probe_ray_height_ranges(
+    double origin_x,
+    double origin_y,
+    double origin_z,
+    double direction_x,
+    double direction_y,
+    double direction_z,
+    double max_distance,
+    double near_distance,
+    size_t rows,
+    size_t columns,
+    double spacing_x,
+    double spacing_y,
+    const double *lows,
+    size_t lows_length,
+    const double *highs,
+    size_t highs_length,
+    uint32_t *cell,
+    size_t cell_length
 );
 
 /* Casts a ray at the zero surface of a distance grid: the value of node (i, j, k), at grid + (i, j, k) * spacing,

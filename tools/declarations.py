@@ -8,7 +8,7 @@ Compared are, of every call, its name, its parameters' order, names and types, a
 refusals with their numbers; the version; and the lengths of the areas. The proved source decides:
 
   crates/exports/src/*.rt       the calls, the version, and the codes
-  crates/casts/src/answer.rt    the refusals
+  crates/casts/src/answer.rt    the refusals, and that of the ranges in crates/height_ranges/src/answer.rt
   crates/tree/src/lib.rt        the table of areas
   include/probe_rays.h          for C and C++
   bindings/rust/src/sys.rs      for Rust; src/lent.rs has the lengths
@@ -20,7 +20,7 @@ import sys
 import tempfile
 
 RATTLE = "crates/exports/src"
-REFUSALS = "crates/casts/src/answer.rt"
+REFUSALS = ["crates/casts/src/answer.rt", "crates/height_ranges/src/answer.rt"]
 AREAS = "crates/tree/src/lib.rt"
 HEADER = "include/probe_rays.h"
 RUST = "bindings/rust/src/sys.rs"
@@ -142,7 +142,7 @@ def read(folder):
     """What each side declares: {side: {what: value}}."""
     text = {
         path: re.sub(r"/\*.*?\*/", "", (folder / path).read_text(), flags=re.S)
-        for path in [REFUSALS, AREAS, HEADER, RUST, LENGTHS]
+        for path in [*REFUSALS, AREAS, HEADER, RUST, LENGTHS]
     }
     source = "\n".join(path.read_text() for path in sorted((folder / RATTLE).glob("*.rt")))
     plain = re.sub(r"//.*", "", source)
@@ -151,7 +151,7 @@ def read(folder):
     # the body of the call, past its contract
     version = re.search(r"fn probe_version\(\) -> u32.*?\{\s*(\d+)\s*\}", plain, re.S)
     numbers = r"^pub const (?!VERSION)(\w+): u32 = (\d+);"
-    refusals = constants(re.sub(r"//.*", "", text[REFUSALS]), numbers)
+    refusals = constants(re.sub(r"//.*", "", "\n".join(text[path] for path in REFUSALS)), numbers)
     codes = constants(plain, numbers)
     lengths = re.findall(r"fn (\w+)_length\((?:n|nodes): usize\) -> usize \{([^}]*)\}", text[LENGTHS])
     macros = re.findall(r"^#define PROBE_(\w+)_LENGTH\((?:n|nodes)\) (.*)$", text[HEADER], re.M)
@@ -258,7 +258,7 @@ FAULTS = [
     (RATTLE + "/meshes.rt", "fn probe_query(", "fn probe_list("),
     (RATTLE + "/meshes.rt", "#[no_mangle]\n", ""),
     (RATTLE + "/results.rt", "pub const NO: u32 = 259;", "pub const NO: u32 = 258;"),
-    (REFUSALS, "pub const WRONG_POSE: u32 = 4;", "pub const WRONG_POSE: u32 = 9;"),
+    (REFUSALS[0], "pub const WRONG_POSE: u32 = 4;", "pub const WRONG_POSE: u32 = 9;"),
     (AREAS, "| 12n ", "| 10n "),
 ]
 
@@ -269,7 +269,7 @@ def self_test(folder, loud):
     for file, old, new in [(HEADER, "", "")] + FAULTS:
         with tempfile.TemporaryDirectory() as name:
             copy = pathlib.Path(name)
-            for path in [RATTLE, REFUSALS, AREAS, HEADER, RUST, LENGTHS]:
+            for path in [RATTLE, *REFUSALS, AREAS, HEADER, RUST, LENGTHS]:
                 (copy / path).parent.mkdir(parents=True, exist_ok=True)
                 if (folder / path).is_dir():
                     shutil.copytree(folder / path, copy / path)

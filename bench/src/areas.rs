@@ -2,7 +2,7 @@
 
 pub use probe_rays::Ray;
 use probe_rays::{
-    HeightField, LevelSet, Plane, calls,
+    HeightField, HeightRanges, LevelSet, Plane, calls,
     lent::{TreeAreas, TreeRef},
 };
 
@@ -60,6 +60,14 @@ pub struct Heights {
     pub columns: usize,
     pub spacing: [f64; 2],
     pub heights: Vec<f64>,
+}
+
+pub struct Ranges {
+    pub rows: usize,
+    pub columns: usize,
+    pub spacing: [f64; 2],
+    pub lows: Vec<f64>,
+    pub highs: Vec<f64>,
 }
 
 pub struct Distances {
@@ -162,6 +170,18 @@ pub fn height_field(ray: &Ray, field: &Heights, hit: &mut [f64; 4]) -> u32 {
         heights: &field.heights,
     };
     calls::ray_height_field(ray, &field, hit)
+}
+
+#[inline(always)]
+pub fn height_ranges(ray: &Ray, ranges: &Ranges, cell: &mut [u32; 1]) -> u32 {
+    let ranges = HeightRanges {
+        rows: ranges.rows,
+        columns: ranges.columns,
+        spacing: ranges.spacing,
+        lows: &ranges.lows,
+        highs: &ranges.highs,
+    };
+    calls::ray_height_ranges(ray, &ranges, cell)
 }
 
 #[inline(always)]

@@ -25,6 +25,7 @@ mod collision;
 mod inputs;
 mod plain;
 mod plot;
+mod ranges;
 mod records;
 mod report;
 mod rows;

@@ -10,7 +10,7 @@ use crate::{
         mesh::{MeshQueryWorkspace, TriangleBvh},
         query::{QueryScratch, Ray as RustRay, timed},
     },
-    inputs, plain, records,
+    inputs, plain, ranges, records,
     shape::{self, TriangleMesh},
     timing::Row,
 };
@@ -436,7 +436,14 @@ fn grids() -> Vec<Planned> {
 
 pub fn all() -> Vec<Planned> {
     let stream = plan("probe, a record", records::row);
-    let parts = [shapes(), meshes(), plain::rows(), grids(), vec![stream]];
+    let parts = [
+        shapes(),
+        meshes(),
+        plain::rows(),
+        grids(),
+        ranges::rows(),
+        vec![stream],
+    ];
     parts.into_iter().flatten().collect()
 }
 

@@ -8,5 +8,6 @@ pub mod log;
 pub mod other_trees;
 pub mod panel;
 pub mod plain;
+pub mod ranges;
 pub mod run;
 pub mod shapes;

@@ -37,6 +37,8 @@ pub fn in_words(number: u32) -> String {
         sys::YES => "yes".to_owned(),
         sys::NO => "no".to_owned(),
         sys::DONE => "done".to_owned(),
+        sys::CLEAR => "clear".to_owned(),
+        sys::POSSIBLE => "possible".to_owned(),
         1..256 => format!("refused {number}"),
         _ => format!("the unknown number {number}"),
     }

@@ -7,7 +7,7 @@ use crate::{
     library::{Build, Cast, Check, Query},
     log::Log,
     other_trees::{any_words, one_clause},
-    panel, plain, shapes,
+    panel, plain, ranges, shapes,
 };
 use oracle::{
     answer::{self, Answer, Constructed, MOST_TRIANGLES, MOST_VERTICES, Ray},
@@ -105,6 +105,7 @@ pub fn compare(log: &mut Log, seed: u64, number: u64, mesh: &Mesh) {
     }
     shapes::compare(log, random, seed, number);
     plain::compare(log, seed, number, mesh);
+    ranges::compare(log, random, seed, number);
 }
 
 fn count_constructed(log: &mut Log, mesh: &Mesh) {

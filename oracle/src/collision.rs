@@ -23,6 +23,45 @@ pub mod height_field {
         query_triangles(field, bounds, &mut output)?;
         Ok(output.iter().map(|triangle| triangle.vertices).collect())
     }
+
+    /// The rows and columns of the cells that `query_triangles` visits, in its order; none
+    /// where a span is not finite.
+    pub(crate) fn visited(
+        rows: usize,
+        columns: usize,
+        spacing: [f64; 2],
+        bounds: &[f64; 6],
+    ) -> Option<Vec<[usize; 2]>> {
+        let span = [columns, rows].map(|side| side - 1);
+        let spans = [0, 1].map(|k| spacing[k] * span[k] as f64);
+        if !spans.iter().all(|span| span.is_finite()) {
+            return None;
+        }
+        let range = |k: usize| cell_range(bounds[k], bounds[k + 3], spacing[k], spans[k], span[k]);
+        let (Some((left, right)), Some((first, last))) = (range(0), range(1)) else {
+            return Some(Vec::new());
+        };
+        let row = |row| (left..=right).map(move |column| [row, column]);
+        Some((first..=last).flat_map(row).collect())
+    }
+
+    /// The features that the Rust lists for a box, which are none where it refuses.
+    pub(crate) fn features(
+        rows: usize,
+        columns: usize,
+        spacing: [f64; 2],
+        heights: &[f64],
+        bounds: &[f64; 6],
+    ) -> Vec<u32> {
+        let spacing = Vec2::new(spacing[0], spacing[1]);
+        let heights = heights.to_vec();
+        let field = crate::shape::height_field::unchecked(rows, columns, spacing, heights);
+        let mut listed = Vec::new();
+        match query_triangles(&field, Aabb::unchecked(bounds), &mut listed) {
+            Ok(()) => listed.iter().map(|found| found.feature_id as u32).collect(),
+            Err(_) => Vec::new(),
+        }
+    }
 }
 
 #[allow(dead_code)]

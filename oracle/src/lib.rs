@@ -11,6 +11,7 @@ pub mod answer;
 pub mod cases;
 pub(crate) mod collision;
 pub mod generate;
+pub mod height_ranges;
 pub mod math;
 pub mod mesh_plain;
 pub mod model;

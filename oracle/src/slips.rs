@@ -184,4 +184,12 @@ slips! {
     GradientLength: "a gradient that cannot be normalised is 7",
     GradientFacing: "a distance grid's normal is turned to the ray",
     StoppedValue: "a walk that stands still is none, whatever the value",
+    // ranges of heights
+    RangeLows: "only the lows of the ranges are looked at",
+    RangeHighs: "only the highs of the ranges are looked at",
+    RangeEither: "the grid of the lows or that of the highs touches",
+    RangeEqual: "a range of equal ends is out of order",
+    RangeColumns: "the cells of a range cast run by column",
+    RangeCells: "9 is looked for cell by cell, up to the first that may touch",
+    RangeWhole: "9 is looked for in the whole grid",
 }

@@ -94,6 +94,8 @@ pub enum Refusal {
     NoNormal,
     /// 8: the walk through a distance grid ends without an answer, or the gradient at its hit cannot be normalised.
     NotConvergent,
+    /// 9: a range of heights that counts is out of order or not finite.
+    BadRange,
     /// A number that this crate has no name for: a library newer than it.
     Other(u32),
 }
@@ -105,7 +107,7 @@ impl Refusal {
     /// use probe_rays::Refusal;
     ///
     /// assert_eq!(Refusal::from_number(4), Refusal::WrongPose);
-    /// assert_eq!(Refusal::from_number(9), Refusal::Other(9));
+    /// assert_eq!(Refusal::from_number(200), Refusal::Other(200));
     /// ```
     pub fn from_number(number: u32) -> Refusal {
         match number {
@@ -117,6 +119,7 @@ impl Refusal {
             sys::REFUSED_OVERFLOW => Refusal::Overflow,
             sys::REFUSED_NO_NORMAL => Refusal::NoNormal,
             sys::REFUSED_NOT_CONVERGENT => Refusal::NotConvergent,
+            sys::REFUSED_BAD_RANGE => Refusal::BadRange,
             other => Refusal::Other(other),
         }
     }
@@ -132,6 +135,7 @@ impl Refusal {
             Refusal::Overflow => sys::REFUSED_OVERFLOW,
             Refusal::NoNormal => sys::REFUSED_NO_NORMAL,
             Refusal::NotConvergent => sys::REFUSED_NOT_CONVERGENT,
+            Refusal::BadRange => sys::REFUSED_BAD_RANGE,
             Refusal::Other(number) => number,
         }
     }
@@ -148,6 +152,7 @@ impl fmt::Display for Refusal {
             Refusal::Overflow => "overflow: a number on the way is not finite",
             Refusal::NoNormal => "no normal: the surface hit has no unit normal",
             Refusal::NotConvergent => "not convergent: the walk through the grid has no answer",
+            Refusal::BadRange => "bad range: a range of heights is out of order or not finite",
             Refusal::Other(_) => "a refusal that this version does not know",
         };
         write!(out, "refused {}, {words}", self.number())

@@ -14,6 +14,7 @@
 //! assert_eq!(calls::ray_plane(&ray, &plane, &mut hit[..3]), 3);
 //! ```
 use crate::lent::{TreeAreas, TreeRef};
+use crate::ranges::HeightRanges;
 use crate::shapes::{HeightField, LevelSet, Plane};
 use crate::{sys, Ray};
 
@@ -92,6 +93,34 @@ pub fn ray_height_field(ray: &Ray, field: &HeightField<'_>, hit: &mut [f64]) -> 
             field.heights.len(),
             hit.as_mut_ptr(),
             hit.len(),
+        )
+    }
+}
+
+/// The cast at a height grid with a low and a high for each node; `cell` has one place.
+#[inline]
+pub fn ray_height_ranges(ray: &Ray, ranges: &HeightRanges<'_>, cell: &mut [u32]) -> u32 {
+    // SAFETY: every pointer and length is a slice's, and Rust lets no mutable one overlap another.
+    unsafe {
+        sys::probe_ray_height_ranges(
+            ray.origin[0],
+            ray.origin[1],
+            ray.origin[2],
+            ray.direction[0],
+            ray.direction[1],
+            ray.direction[2],
+            ray.max_distance,
+            ray.near_distance,
+            ranges.rows,
+            ranges.columns,
+            ranges.spacing[0],
+            ranges.spacing[1],
+            ranges.lows.as_ptr(),
+            ranges.lows.len(),
+            ranges.highs.as_ptr(),
+            ranges.highs.len(),
+            cell.as_mut_ptr(),
+            cell.len(),
         )
     }
 }

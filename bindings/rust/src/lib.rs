@@ -41,6 +41,7 @@ pub mod calls;
 pub mod lent;
 mod mesh;
 mod plain;
+mod ranges;
 mod ray;
 mod shapes;
 pub mod sys;
@@ -48,6 +49,7 @@ pub mod sys;
 pub use answer::{Cast, Hit, MeshHit, Refusal};
 pub use mesh::{Mesh, Scratch, Tree, TreeError};
 pub use plain::PlainMesh;
+pub use ranges::{ray_height_ranges, Clearance, HeightRanges};
 pub use ray::Ray;
 pub use shapes::{
     ray_height_field, ray_level_set, ray_plane, ray_triangle, HeightField, LevelSet, Plane,

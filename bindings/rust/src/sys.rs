@@ -66,6 +66,28 @@ extern "C" {
         hit_length: usize,
     ) -> u32;
 
+    /// Casts a ray at a height grid with a low and a high for each node.
+    pub fn probe_ray_height_ranges(
+        origin_x: f64,
+        origin_y: f64,
+        origin_z: f64,
+        direction_x: f64,
+        direction_y: f64,
+        direction_z: f64,
+        max_distance: f64,
+        near_distance: f64,
+        rows: usize,
+        columns: usize,
+        spacing_x: f64,
+        spacing_y: f64,
+        lows: *const f64,
+        lows_length: usize,
+        highs: *const f64,
+        highs_length: usize,
+        cell: *mut u32,
+        cell_length: usize,
+    ) -> u32;
+
     /// Casts a ray at a distance grid.
     pub fn probe_ray_level_set(
         origin_x: f64,
@@ -344,6 +366,10 @@ pub const YES: u32 = 258;
 pub const NO: u32 = 259;
 /// The build wrote a tree, or the query its list.
 pub const DONE: u32 = 260;
+/// The ray is clear of every grid within the ranges.
+pub const CLEAR: u32 = 261;
+/// A grid within the ranges may be touched: `cell` is written.
+pub const POSSIBLE: u32 = 262;
 
 /// Refusal 1.
 pub const REFUSED_INVALID_INPUT: u32 = 1;
@@ -361,3 +387,5 @@ pub const REFUSED_OVERFLOW: u32 = 6;
 pub const REFUSED_NO_NORMAL: u32 = 7;
 /// Refusal 8.
 pub const REFUSED_NOT_CONVERGENT: u32 = 8;
+/// A range of a visited cell is out of order or not finite.
+pub const REFUSED_BAD_RANGE: u32 = 9;

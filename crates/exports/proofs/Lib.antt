@@ -1,5 +1,6 @@
 -- Laws about what the calls answer and leave. Assumes nothing.
 pub mod Kept
+pub mod RangeCalls
 pub mod Counts
 pub mod PlainCalls
 pub mod MeshTold

@@ -2,3 +2,4 @@
 pub mod Results
 pub mod Plain
 pub mod Demands
+pub mod Ranges

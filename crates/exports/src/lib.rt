@@ -12,3 +12,5 @@ pub mod near;
 pub mod meshes;
 // The mesh cast without a tree.
 pub mod plain;
+// The cast at heights known only within ranges.
+pub mod ranges;

@@ -108,7 +108,7 @@ module _ (f : Field) (heights : List Float) where
   corners-finite row column triangle finite =
       either-finite (eqb triangle 0) _ _ (lower-finite _ _ _ _ finite) (upper-finite _ _ _ _ finite)
 
-  feature-valid : (cell feature : ℕ) → feature / 2 ≡ cell → cellFinite f heights (cellRow f cell) (cellColumn f cell) ≡ true
+  pub feature-valid : (cell feature : ℕ) → feature / 2 ≡ cell → cellFinite f heights (cellRow f cell) (cellColumn f cell) ≡ true
       → validBox (featureBox f heights feature) ≡ true
   unfolding featureBox featureCorners
   feature-valid cell feature e finite =
@@ -118,7 +118,7 @@ module _ (f : Field) (heights : List Float) where
 -- ---- the cell of a row and a column
 
 module _ (f : Field) (heights : List Float) (row column : ℕ) (within : column + 1 < f .columns) where
-  corners-of-feature : (feature triangle : ℕ) → feature / 2 ≡ cellAt f row column → feature % 2 ≡ triangle
+  pub corners-of-feature : (feature triangle : ℕ) → feature / 2 ≡ cellAt f row column → feature % 2 ≡ triangle
       → featureCorners f heights feature ≡ cornersAt f heights row column triangle
   unfolding featureCorners
   corners-of-feature feature triangle cell which =

@@ -54,13 +54,13 @@ list-append list [] ys = none-before (listAll list ys)
 list-append list (x ∷ xs) ys = ap (both (list x)) (list-append list xs ys) ∙ sym (both-assoc (list x) (listAll list xs) (listAll list ys))
 
 -- the first of a run, and what is left
-run-cons : (first last : ℕ) → first ≤ last → run first (last + 1 - first) ≡ first ∷ run (first + 1) (last + 1 - (first + 1))
+pub run-cons : (first last : ℕ) → first ≤ last → run first (last + 1 - first) ≡ first ∷ run (first + 1) (last + 1 - (first + 1))
 unfolding run
 run-cons first last h =
     let count : last + 1 - first ≡ suc (last + 1 - (first + 1)) = omega arith in
     ap (run first) count
 
-run-none : (first last : ℕ) → last < first → run first (last + 1 - first) ≡ []
+pub run-none : (first last : ℕ) → last < first → run first (last + 1 - first) ≡ []
 unfolding run
 run-none first last h =
     let count : last + 1 - first ≡ 0 = omega arith in

@@ -1,4 +1,4 @@
--- The range of an axis ends within its cells, and the pass over the grid by the two ranges. Assumes nothing.
+-- The cells that a box visits: a rectangle that stands in the grid, or none; and the pass over them. Assumes nothing.
 use Prim.Native.Nat.{ℕ, _+_, _-_, _≤_}
 use mathlib.Core.Path.{_≡_, refl, ap, _∙_, subst}
 use mathlib.Core.Bool.{Bool, true, false, cond}
@@ -14,8 +14,11 @@ use Rattle.casts.specs.Nearest.{noHit}
 use Rattle.height_field.specs.declared.field.Field.{Field}
 use Rattle.height_field.specs.declared.cells.CellRange.{CellRange}
 use Rattle.height_field.specs.declared.cells.CellRange.the-variants.{Outside, Cells}
+use Rattle.height_field.specs.declared.visited.Visited.{Visited}
+use Rattle.height_field.specs.declared.visited.Visited.the-variants.{None as NoCells, Cells as Rectangle}
 use Rattle.height_field.specs.Grid.{floatOf}
-use Rattle.height_field.specs.Cells.{spanOf, scaledRange, cellRange, run, rangeCells, gridCells, columnRange, rowRange, visitedCells}
+use Rattle.height_field.specs.Cells.{spanOf, scaledRange, cellRange, run, rangeCells, gridCells, columnRange, rowRange}
+use Rattle.height_field.specs.Cells.{visitedCells, visitedBy, visitedRange, cellsOf}
 use Rattle.height_field.specs.Listing.{listCell, listAll, gridListing}
 use Rattle.height_field.specs.Cast.{answerOf}
 use Rattle.height_field.specs.Pass.{going, passFrom, gridPass}
@@ -50,31 +53,101 @@ pub last-within : (low high spacing : Float) (count first last : ℕ) → cellRa
 unfolding EndsBy
 last-within low high spacing count first last e = subst (EndsBy (count - 1)) e (range-ends low high spacing count)
 
--- ---- the pass over the grid
+-- ---- the first cell stands at or before the last
 
-no-columns : (f : Field) (rows : List ℕ) → gridCells f rows [] ≡ []
+Runs : CellRange → Type 0
+Runs Outside = Unit
+Runs (Cells first last) = first ≤ last
+
+either-runs : (test : Bool) (r q : CellRange) → Runs r → Runs q → Runs (cond test r q)
+either-runs true r q a b = a
+either-runs false r q a b = b
+
+range-runs : (low high spacing : Float) (count : ℕ) → Runs (cellRange low high spacing count)
+unfolding cellRange scaledRange Runs
+range-runs low high spacing count =
+    either-runs (lt high zeroᶠ) Outside _ tt
+    (either-runs (lt (spanOf spacing count) low) Outside _ tt
+    (either-runs (isFinite (clampTo (low /ᶠ spacing) zeroᶠ (floatOf (count - 1)))) _ Outside
+    (either-runs (isFinite (clampTo (high /ᶠ spacing) zeroᶠ (floatOf (count - 1)))) _ Outside (min-le-right _ _) tt) tt))
+
+-- ---- the cells of a box
+
+pub no-columns : (f : Field) (rows : List ℕ) → gridCells f rows [] ≡ []
 unfolding gridCells
 no-columns f [] = refl
 no-columns f (row ∷ rows) = no-columns f rows
 
+cells-by : (f : Field) (columns rows : CellRange) → gridCells f (rangeCells rows) (rangeCells columns) ≡ cellsOf f (visitedBy columns rows)
+unfolding rangeCells gridCells cellsOf visitedBy
+cells-by f Outside rows = no-columns f (rangeCells rows)
+cells-by f (Cells left right) Outside = refl
+cells-by f (Cells left right) (Cells first last) = refl
+
+-- the code's ranges hold the visited cells
+pub visited-cells : (f : Field) (box : Aabb) → visitedCells f box ≡ cellsOf f (visitedRange f box)
+unfolding visitedCells visitedRange
+visited-cells f box = cells-by f (columnRange f box) (rowRange f box)
+
+-- a rectangle of cells that stands in the grid
+pub record Standing (f : Field) (first last left right : ℕ) : Type 0 where
+  pub some-rows : first ≤ last
+  pub few-rows : last ≤ f .rows - 1 - 1
+  pub some-columns : left ≤ right
+  pub few-columns : right ≤ f .columns - 1 - 1
+
+Stands : Field → Visited → Type 0
+Stands f NoCells = Unit
+Stands f (Rectangle first last left right) = Standing f first last left right
+
+stands-by : (f : Field) (columns rows : CellRange) → EndsBy (f .columns - 1 - 1) columns → Runs columns → EndsBy (f .rows - 1 - 1) rows
+    → Runs rows → Stands f (visitedBy columns rows)
+unfolding Stands visitedBy EndsBy Runs
+stands-by f Outside rows a b c d = tt
+stands-by f (Cells left right) Outside a b c d = tt
+stands-by f (Cells left right) (Cells first last) a b c d = record { some-rows = d; few-rows = c; some-columns = b; few-columns = a }
+
+pub visited-stands : (f : Field) (box : Aabb) (first last left right : ℕ) → visitedRange f box ≡ Rectangle first last left right
+    → Standing f first last left right
+unfolding visitedRange columnRange rowRange Stands
+visited-stands f box first last left right e =
+    subst (Stands f) e
+    (stands-by f (columnRange f box) (rowRange f box)
+    (range-ends (box .min .x) (box .max .x) (f .«spacing_x») (f .columns - 1))
+    (range-runs (box .min .x) (box .max .x) (f .«spacing_x») (f .columns - 1))
+    (range-ends (box .min .y) (box .max .y) (f .«spacing_y») (f .rows - 1))
+    (range-runs (box .min .y) (box .max .y) (f .«spacing_y») (f .rows - 1)))
+
+-- ---- what the code finds of the two ranges
+module _ (f : Field) (box : Aabb) where
+  pub beside : columnRange f box ≡ Outside → visitedRange f box ≡ NoCells
+  unfolding visitedRange visitedBy
+  beside e = ap (λ (r : CellRange). visitedBy r (rowRange f box)) e
+
+  pub before : (left right : ℕ) → columnRange f box ≡ Cells left right → rowRange f box ≡ Outside → visitedRange f box ≡ NoCells
+  unfolding visitedRange visitedBy
+  before left right columns rows = ap (λ (r : CellRange). visitedBy r (rowRange f box)) columns ∙ ap (visitedBy (Cells left right)) rows
+
+  pub within : (left right first last : ℕ) → columnRange f box ≡ Cells left right → rowRange f box ≡ Cells first last
+      → visitedRange f box ≡ Rectangle first last left right
+  unfolding visitedRange visitedBy
+  within left right first last columns rows =
+      ap (λ (r : CellRange). visitedBy r (rowRange f box)) columns ∙ ap (visitedBy (Cells left right)) rows
+
+-- ---- the pass over the grid
+
 module _ (ray : Ray) (box : Aabb) (f : Field) (heights : List Float) where
-  none-visited : visitedCells f box ≡ [] → gridPass ray box f heights ≡ going noHit
-  unfolding gridPass gridListing listAll
-  none-visited e = pass-done (answerOf ray f heights) noHit _ (ap (listAll (listCell f heights box)) e)
+  pub pass-outside : visitedRange f box ≡ NoCells → gridPass ray box f heights ≡ going noHit
+  unfolding gridPass gridListing listAll cellsOf
+  pass-outside e =
+      pass-done (answerOf ray f heights) noHit _
+      (ap (listAll (listCell f heights box)) (visited-cells f box ∙ ap (cellsOf f) e))
 
-  pub outside-columns : columnRange f box ≡ Outside → gridPass ray box f heights ≡ going noHit
-  unfolding visitedCells rangeCells
-  outside-columns e =
-      none-visited (ap (λ (r : CellRange). gridCells f (rangeCells (rowRange f box)) (rangeCells r)) e ∙ no-columns f (rangeCells (rowRange f box)))
-
-  pub outside-rows : rowRange f box ≡ Outside → gridPass ray box f heights ≡ going noHit
-  unfolding visitedCells rangeCells gridCells
-  outside-rows e = none-visited (ap (λ (r : CellRange). gridCells f (rangeCells r) (rangeCells (columnRange f box))) e)
-
-  pub inside : (left right first last : ℕ) → columnRange f box ≡ Cells left right → rowRange f box ≡ Cells first last
+  pub pass-inside : (first last left right : ℕ) → visitedRange f box ≡ Rectangle first last left right
       → gridPass ray box f heights
-      ≡ passFrom (answerOf ray f heights) noHit (listAll (listCell f heights box) (gridCells f (run first (last + 1 - first)) (run left (right + 1 - left))))
-  unfolding gridPass gridListing visitedCells rangeCells
-  inside left right first last columns rows =
-      ap (λ (r : CellRange). passFrom (answerOf ray f heights) noHit (listAll (listCell f heights box) (gridCells f (rangeCells (rowRange f box)) (rangeCells r)))) columns
-      ∙ ap (λ (r : CellRange). passFrom (answerOf ray f heights) noHit (listAll (listCell f heights box) (gridCells f (rangeCells r) (run left (right + 1 - left))))) rows
+      ≡ passFrom (answerOf ray f heights) noHit
+      (listAll (listCell f heights box) (gridCells f (run first (last + 1 - first)) (run left (right + 1 - left))))
+  unfolding gridPass gridListing cellsOf
+  pass-inside first last left right e =
+      ap (λ (cells : List ℕ). passFrom (answerOf ray f heights) noHit (listAll (listCell f heights box) cells))
+      (visited-cells f box ∙ ap (cellsOf f) e)

@@ -10,6 +10,8 @@ use Rattle.geometry.specs.declared.aabb.Aabb.{Aabb}
 use Rattle.height_field.specs.declared.field.Field.{Field}
 use Rattle.height_field.specs.declared.cells.CellRange.{CellRange}
 use Rattle.height_field.specs.declared.cells.CellRange.the-variants.{Outside, Cells}
+use Rattle.height_field.specs.declared.visited.Visited.{Visited}
+use Rattle.height_field.specs.declared.visited.Visited.the-variants.{None as NoCells, Cells as Rectangle}
 use Rattle.height_field.specs.Grid.{floatOf, cellAt}
 
 -- ---- one axis
@@ -59,3 +61,16 @@ rowRange f box = cellRange (box .min .y) (box .max .y) (f .«spacing_y») (f .ro
 -- the cells that the height listing visits for a box
 unfoldable pub visitedCells : Field → Aabb → List ℕ
 visitedCells f box = gridCells f (rangeCells (rowRange f box)) (rangeCells (columnRange f box))
+
+-- the same as the code has them: the first and last row, the first and last column
+unfoldable pub visitedBy : CellRange → CellRange → Visited
+visitedBy Outside along = NoCells
+visitedBy (Cells left right) Outside = NoCells
+visitedBy (Cells left right) (Cells first last) = Rectangle first last left right
+
+unfoldable pub visitedRange : Field → Aabb → Visited
+visitedRange f box = visitedBy (columnRange f box) (rowRange f box)
+
+unfoldable pub cellsOf : Field → Visited → List ℕ
+cellsOf f NoCells = []
+cellsOf f (Rectangle first last left right) = gridCells f (run first (last + 1 - first)) (run left (right + 1 - left))

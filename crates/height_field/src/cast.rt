@@ -1,9 +1,10 @@
 use crate::cells;
-use crate::cells::CellRange;
 use crate::field;
 use crate::field::Field;
 use crate::pass;
 use crate::pass::Pass;
+use crate::visited;
+use crate::visited::Visited;
 use arithmetic::basic;
 use casts::answer;
 use casts::answer::Cast;
@@ -19,33 +20,26 @@ ghost use Rattle.height_field.specs.Grid.{Sized};
 ghost use Rattle.height_field.specs.Pass.{saysPass, answerOfPass, gridPass};
 ghost use Rattle.height_field.specs.Cast.{spanFinite, heightCast, rayHeightField};
 
-// The pass over the cells that the box covers; a box outside the grid covers none. Callers show that the grid is admitted.
+// The pass over the cells that the box visits. Callers show that the grid is admitted.
 fn grid_pass(ray: Ray, bounds: Aabb, field: Field, heights: &[f64]) -> Pass
     requires { ⌜ Sized field (now heights) ⌝ }
     ensures { λ r. ⌜ saysPass r ≡ gridPass ray bounds field (now (heights .entry)) ⌝ }
 {
-    let across = cells::cell_range(
-        bounds.min.x,
-        bounds.max.x,
-        field.spacing_x,
-        field.columns - 1,
-    );
-    let CellRange::Cells {
-        first: left,
-        last: right,
-    } = across
+    let cells = visited::visited_cells(bounds, field, heights);
+    let Visited::Cells {
+        first,
+        last,
+        left,
+        right,
+    } = cells
     else {
-        return Pass::Going(IndexedCast::None);
-    };
-    let along = cells::cell_range(bounds.min.y, bounds.max.y, field.spacing_y, field.rows - 1);
-    let CellRange::Cells { first, last } = along else {
         return Pass::Going(IndexedCast::None);
     };
     pass::pass_rows(ray, bounds, field, heights, first, last, left, right)
 }
 
 // Whether the grid's extent is finite along both axes. Callers show that the grid is admitted.
-fn span_finite(field: Field, heights: &[f64]) -> bool
+pub fn span_finite(field: Field, heights: &[f64]) -> bool
     requires { ⌜ Sized field (now heights) ⌝ }
     ensures { λ r. ⌜ r ≡ spanFinite field ⌝ }
 {

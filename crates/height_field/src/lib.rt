@@ -4,6 +4,8 @@
 pub mod field;
 // The range of cells that a box covers on one axis.
 pub mod cells;
+// The cells that a box visits.
+pub mod visited;
 // The pass over the cells: what is listed, and the nearest hit so far.
 pub mod pass;
 // The public call.
