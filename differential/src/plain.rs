@@ -55,7 +55,8 @@ fn plain_cast(call: &PlainCast) -> Result<Hit, Fault> {
     })
 }
 
-/// The mesh as it is, one that differs in a coordinate or an index, and now and then one of no triangles.
+/// The mesh as it is, one that differs in a coordinate or an index, and now and then one of no triangles, or one with an
+/// index past the vertices under a ray whose segment has no finite end.
 pub fn compare(log: &mut Log, seed: u64, number: u64, mesh: &Mesh) {
     let random = &mut Random::of_record(seed.rotate_left(32) ^ 0x706c_6169_6e00, number);
     log.context = "as drawn";
@@ -70,6 +71,15 @@ pub fn compare(log: &mut Log, seed: u64, number: u64, mesh: &Mesh) {
         none.indices.clear();
         log.context = "no triangles";
         casts(log, random, &none);
+    }
+    if random.once_in(50) && mesh.indices.len() >= 3 {
+        let mut far = mesh.clone();
+        far.ray.origin = [1.5e308, 0.0, 0.0];
+        far.ray.direction = [1.0, 0.0, 0.0];
+        far.ray.maximum = 1e308;
+        far.indices[0] = u32::MAX;
+        log.context = "an index past the vertices, and a segment's end that is not finite";
+        casts(log, random, &far);
     }
 }
 
