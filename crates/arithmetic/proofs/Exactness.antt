@@ -56,7 +56,7 @@ fits-parts f s (suc m) e t =
     (ltb→lt (suc m) (2 ^ prec f) (and-r a b (and-l (a && b) c (and-l (a && b && c) d t))), (leb→le (down e) (2 ^ low f) (and-r (a && b) c (and-l (a && b && c) d t)), ltb→lt (suc m * up e) (2 ^ suc (emax f) * down e) (and-r (a && b && c) d t)))
 
 -- an exponent that is not too low, in units of the smallest value
-shift : (f : Format) (e : ℤ) → down e ≤ 2 ^ low f → (j : ℕ) × (up e * 2 ^ low f ≡ 2 ^ j * down e)
+pub shift : (f : Format) (e : ℤ) → down e ≤ 2 ^ low f → (j : ℕ) × (up e * 2 ^ low f ≡ 2 ^ j * down e)
 shift f (pos k) h = (k + low f, sym (pow-add 2 k (low f)) ∙ sym (mul-one (2 ^ (k + low f))))
 shift f (negsuc k) h =
     let fit : suc k ≤ low f = le-of-suc-le-suc (lt-of-not-le (λ (g : suc (low f) ≤ suc k). not-le-of-lt (pow-lt g) h)) in

@@ -1,5 +1,6 @@
 -- The laws of the arithmetic, beside the functions' own proofs. Assumes nothing.
 pub mod BelowLaws
+pub mod Bounds
 pub mod Casts
 pub mod Differences
 pub mod DistanceFromOne
@@ -18,15 +19,19 @@ pub mod RootNearest
 pub mod RootPatterns
 pub mod RootScaled
 pub mod RootWhole
+pub mod RoundingError
 pub mod RoundedSigns
 pub mod OwnRounding
 pub mod RoundedOrder
 pub mod SumOrder
 pub mod QuotientOrder
 pub mod RoundedNumbers
+pub mod ScalingLaws
 pub mod SignBit
 pub mod SignedOrder
 pub mod Signs
 pub mod Steps
 pub mod TotalOrder
+pub mod ValueOrder
 pub mod WholeNumbers
+pub mod WholeValues

@@ -114,7 +114,7 @@ pub zero-is-root : (x : Float) → eq x (ofBits binary64 0) ≡ true → x ≡ r
 zero-is-root x h = zero-root x (subst (λ (z : Float). eq x z ≡ true) zero-pattern h)
 
 -- ---- NaN, and what is below zero, has the root NaN
-zero-equal : (s : Bool) (e : ℤ) → eq (fin s zero e) none ≡ true
+pub zero-equal : (s : Bool) (e : ℤ) → eq (fin s zero e) none ≡ true
 unfolding eq
 zero-equal s e =
     let z : zero * up e * 1 ≡ 0 = ap (λ (k : ℕ). k * 1) (zero-mul (up e)) in

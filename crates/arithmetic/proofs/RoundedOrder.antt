@@ -79,7 +79,6 @@ both-zero a c b d C D h k =
 -- rounding keeps the order
 pub rounding-mono : (s : Bool) (a c : ℕ) (t : Bool) (b d : ℕ) → 0 < c → 0 < d → AtMost s a c t b d
     → le (round binary64 s a c) (round binary64 t b d) ≡ true
-unfolding plus less
 rounding-mono false a c false b d C D h = plain-mono a c b d C D (omega arith)
 rounding-mono true a c true b d C D h = turned-mono a c b d C D (omega arith)
 rounding-mono true a c false b d C D h =

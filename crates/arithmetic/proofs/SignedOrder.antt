@@ -10,23 +10,21 @@ use lib.Ieee.{below, level}
 use borrow.Author.Tests.{ltb-true, ltb-false, lt-ltb, le-ltb, eq-eqb, ne-eqb}
 
 -- ---- ±a < ±b as one inequality of naturals: write ±a as a⁺ - a⁻
-unfoldable pub plus : Bool → ℕ → ℕ
+abbrev pub plus : Bool → ℕ → ℕ
 plus false a = a
 plus true a = 0
 
-unfoldable pub less : Bool → ℕ → ℕ
+abbrev pub less : Bool → ℕ → ℕ
 less false a = 0
 less true a = a
 
 below-false : (s : Bool) (a : ℕ) (t : Bool) (b : ℕ) → below s a t b ≡ false → plus t b + less s a ≤ plus s a + less t b
-unfolding plus less
 below-false false a false b h = omega (arith, ltb-false a b h)
 below-false false a true b h = omega arith
 below-false true a false b h = omega (arith, ltb-false 0 (a + b) h)
 below-false true a true b h = omega (arith, ltb-false b a h)
 
 false-below : (s : Bool) (a : ℕ) (t : Bool) (b : ℕ) → plus t b + less s a ≤ plus s a + less t b → below s a t b ≡ false
-unfolding plus less
 false-below false a false b h = le-ltb a b (omega arith)
 false-below false a true b h = refl
 false-below true a false b h = le-ltb 0 (a + b) (omega arith)
@@ -86,12 +84,10 @@ at-most true a true b = backwards
 
 -- ---- ±x / p ≤ ±y / q ≤ ±z / r, each numerator a difference
 pub plus-times : (s : Bool) (a k : ℕ) → plus s (a * k) ≡ plus s a * k
-unfolding plus
 plus-times false a k = refl
 plus-times true a k = sym (zero-mul k)
 
 pub less-times : (s : Bool) (a k : ℕ) → less s (a * k) ≡ less s a * k
-unfolding less
 less-times false a k = sym (zero-mul k)
 less-times true a k = refl
 

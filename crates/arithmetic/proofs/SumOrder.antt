@@ -23,7 +23,6 @@ pub record Rounded (x : Float) (s : Bool) (a : ℕ) (t : Bool) (b c : ℕ) : Typ
   pub exact : plus sign size-of + (less s a + less t b) ≡ plus s a + plus t b + less sign size-of
 
 apart-rounded : (a b c : ℕ) → Rounded (cond (ltb a b) (round binary64 true (b - a) c) (round binary64 false (a - b) c)) false a true b c
-unfolding plus less
 apart-rounded a b c = go (ltb a b) (ltb-true a b) (ltb-false a b)
   where
     go : (k : Bool) → (k ≡ true → a < b) → (k ≡ false → b ≤ a)
@@ -33,7 +32,6 @@ apart-rounded a b c = go (ltb a b) (ltb-true a b) (ltb-false a b)
 
 turned-rounded : (a b c : ℕ)
     → Rounded (cond (ltb a b) (round binary64 false (b - a) c) (round binary64 (ltb b a) (a - b) c)) true a false b c
-unfolding plus less
 turned-rounded a b c = go (ltb a b) (ltb b a) (ltb-true a b) (ltb-false a b) (ltb-true b a) (ltb-false b a)
   where
     go : (k j : Bool) → (k ≡ true → a < b) → (k ≡ false → b ≤ a) → (j ≡ true → b < a) → (j ≡ false → a ≤ b)
@@ -43,7 +41,7 @@ turned-rounded a b c = go (ltb a b) (ltb b a) (ltb-true a b) (ltb-false a b) (lt
     go false false p q r s = let l = q refl in let k = s refl in record { sign = false; size-of = a - b; is = refl; exact = omega arith }
 
 sum-rounded : (s : Bool) (a : ℕ) (t : Bool) (b c : ℕ) → Rounded (sum binary64 s a t b c) s a t b c
-unfolding sum plus less
+unfolding sum
 sum-rounded false a false b c = record { sign = false; size-of = a + b; is = refl; exact = omega arith }
 sum-rounded true a true b c = record { sign = true; size-of = a + b; is = refl; exact = omega arith }
 sum-rounded false a true b c = apart-rounded a b c
@@ -135,14 +133,14 @@ sum-at-least (fin s m e) (fin t n d) (fin u k g) p q r f h =
 
 -- ---- differences
 neg-upper : (x : Float) → upper (neg x) ≡ lower x
-unfolding neg plus less
+unfolding neg
 neg-upper nan = refl
 neg-upper (inf s) = refl
 neg-upper (fin true m e) = refl
 neg-upper (fin false m e) = refl
 
 neg-lower : (x : Float) → lower (neg x) ≡ upper x
-unfolding neg plus less
+unfolding neg
 neg-lower nan = refl
 neg-lower (inf s) = refl
 neg-lower (fin true m e) = refl
@@ -197,7 +195,7 @@ abbrev pub nothing : Float
 nothing = fin false 0 (pos 0)
 
 lower-none : (x : Float) → negative x ≡ false → lower x ≡ 0
-unfolding negative less
+unfolding negative
 lower-none nan h = refl
 lower-none (inf s) h = refl
 lower-none (fin true m e) h = absurd (true≢false h)

@@ -5,3 +5,4 @@ pub mod Extremes
 pub mod Root
 pub mod Rounding
 pub mod Ordering
+pub mod Scaling

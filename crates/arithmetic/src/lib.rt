@@ -12,3 +12,5 @@ pub mod square_root;
 pub mod rounding;
 // totalOrder.
 pub mod ordering;
+// A float times the power of two that another one tells.
+pub mod scaling;

@@ -1,11 +1,10 @@
--- Whether a hit's normal can be told is decided by a dot alone, without the root; and a miss is a miss, whether flat or not. Assumes nothing.
+-- Whether a hit's normal can be told is decided by the edges' cross alone, without the root; and a miss is a miss, whether flat or not. Assumes nothing.
 use Prim.Native.Nat.{ℕ}
 use mathlib.Core.Path.{_≡_, refl, sym, ap, _∙_}
-use mathlib.Core.Bool.{Bool, true, false, _&&_, not, cond, true≢false}
+use mathlib.Core.Bool.{Bool, true, false, cond, true≢false}
 use lib.Ieee.{Float, nan, lt, le, isNan}
-use Rattle.arithmetic.specs.Basic.{isFinite}
-use Rattle.geometry.specs.Numbers.{_+ᶠ_, _*ᶠ_, _/ᶠ_, zeroᶠ, oneᶠ, minPositive}
-use Rattle.geometry.specs.Vector.{subOf, crossOf, dotOf, checkedDot, tryNormalize}
+use Rattle.geometry.specs.Numbers.{_+ᶠ_, _*ᶠ_, _/ᶠ_, zeroᶠ, oneᶠ}
+use Rattle.geometry.specs.Vector.{subOf, crossOf, dotOf, checkedDot, normalizable, tryNormalize}
 use Rattle.geometry.specs.declared.vec3.Vec3.{Vec3}
 use Rattle.geometry.specs.declared.vec3.Checked.{Checked}
 use Rattle.geometry.specs.declared.vec3.Checked.the-variants.{Value, Overflow}
@@ -21,14 +20,13 @@ use Rattle.casts.specs.declared.answer.Reach.the-variants.{At, Miss, Ref
 
 pub reach-by-normal : (r : Ray) (a b : Vec3) (distance : Float) → reachOf (triangleNormal r a b distance) ≡ cond (hasNormal a b) (At distance) (Refused noNormal)
 unfolding reachOf triangleNormal hasNormal tryNormalize
-reach-by-normal r a b distance = go (isFinite (dotOf (crossOf a b) (crossOf a b))) (lt (dotOf (crossOf a b) (crossOf a b)) minPositive) _
+reach-by-normal r a b distance = go (normalizable (crossOf a b)) _
   where
-    go : (p q : Bool) (normal : Vec3)
-        → reachOf (withNormal (cond p (cond q Degenerate (UnitOf normal)) Degenerate) noNormal (λ (n : Vec3). hit (facing n (dotOf (r .direction) n)) distance))
-        ≡ cond (p && not q) (At distance) (Refused noNormal)
-    go true true normal = refl
-    go true false normal = refl
-    go false q normal = refl
+    go : (p : Bool) (normal : Vec3)
+        → reachOf (withNormal (cond p (UnitOf normal) Degenerate) noNormal (λ (n : Vec3). hit (facing n (dotOf (r .direction) n)) distance))
+        ≡ cond p (At distance) (Refused noNormal)
+    go true normal = refl
+    go false normal = refl
 
 pub none-either-way : (flat : Bool) → cond flat none none ≡ none
 none-either-way true = refl

@@ -35,7 +35,7 @@ triangleFrom r a b (At distance) = triangleNormal r a b distance
 triangleFrom r a b Miss = none
 triangleFrom r a b (Refused number) = refused number
 
--- whether the edges' normal can be told: "fails unless dot is finite and at least 2^-1022"
+-- whether the edges' normal can be told: "It fails only for a zero vector or a component that is not finite."
 unfoldable pub hasNormal : Vec3 → Vec3 → Bool
 hasNormal a b = normalizable (crossOf a b)
 

@@ -45,20 +45,11 @@ fn triangle_normal(ray: Ray, a: Vec3, b: Vec3, distance: f64) -> Cast
     }
 }
 
-// Whether the edges' normal can be told: decided by a dot alone, without the root.
+// Whether the edges' normal can be told: decided by their cross alone, without the root.
 fn has_normal(a: Vec3, b: Vec3) -> bool
     ensures { λ r. ⌜ r ≡ hasNormal a b ⌝ }
 {
-    let normal = a.cross(b);
-    let dot = normal.dot(normal);
-    if !basic::is_finite(dot) {
-        return false;
-    }
-    // 2^-1022
-    if dot < 2.2250738585072014e-308 {
-        return false;
-    }
-    true
+    a.cross(b).is_normalizable()
 }
 
 // The distance where u is in range: v, the sum of both, and the distance are tested; the normal is left.

@@ -6,13 +6,14 @@ use native.Mathlib.Nat.{mul-pos, mul-le-mul-right, mul-right-comm, mul-comm}
 use native.Mathlib.Omega.{arith}
 use lib.Dec.{T, ltb}
 use lib.IntN.{ℤ, pos, negsuc}
-use lib.Ieee.{Float, nan, inf, fin, binary64, ofBits, up, down, odd, units, round, sum, add, mul, fits, isNan, lt, le, prec, emax, low}
-use lib.Ieee.Fits.{round-is, down-pos, mul-fits, add-fits}
+use lib.Ieee.{Float, nan, inf, fin, binary64, ofBits, up, down, round, sum, add, mul, fits, isNan, lt, le}
+use lib.Ieee.Fits.{down-pos, mul-fits, add-fits}
 use lib.Ieee.Order.{round-mono}
 use borrow.Author.Tests.{ltb-true, ltb-false}
 use lib.Ieee.Bits.{is-true}
 use Rattle.arithmetic.specs.Basic.{isFinite, absolute, signPositive}
 use Rattle.arithmetic.proofs.Order.{not-lt-of-le}
+use Rattle.arithmetic.proofs.Bounds.{plain, round-plain}
 use Rattle.geometry.specs.Numbers.{_+ᶠ_, _*ᶠ_, zeroᶠ, oneᶠ, halfᶠ}
 use Rattle.cubic.specs.Polynomial.{cubicBy, cubicOf, evaluate, finiteCubic}
 use Rattle.cubic.specs.Turns.{betweenEnds}
@@ -28,27 +29,6 @@ pub data Below : ℕ → Float → Type 0 where
   below : {k : ℕ} (m : ℕ) (e : ℤ) → m * up e * k ≤ down e → Below k (fin false m e)
 
 -- ---- a rounded fraction that is not negative, and at most 1 / k for a k whose 1 / k is a float
-unfoldable pub plain : Float → Type 0
-plain nan = ⊥
-plain (inf s) = s ≡ false
-plain (fin s m e) = s ≡ false
-
-odd-plain : (d q k l : ℕ) → plain (odd d false q k l)
-unfolding odd plain
-odd-plain d zero k l = refl
-odd-plain d (suc q) k l = refl
-
-units-plain : (q k : ℕ) → plain (units binary64 false q k)
-unfolding units
-units-plain q k = go (ltb (q * 2 ^ k) (2 ^ (low binary64 + suc (emax binary64))))
-  where
-    go : (b : Bool) → plain (cond b (odd (suc (prec binary64)) false q k (low binary64)) (inf false))
-    go true = odd-plain (suc (prec binary64)) q k (low binary64)
-    go false = unfold plain in refl
-
-pub round-plain : (num den : ℕ) → plain (round binary64 false num den)
-round-plain num den = subst plain (sym (round-is binary64 false num den)) (units-plain _ _)
-
 below-one : (x : Float) → plain x → lt (fin false 1 (pos 0)) x ≡ false → Below 1 x
 unfolding plain lt
 below-one nan p h = absurd p

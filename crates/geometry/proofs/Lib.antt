@@ -3,3 +3,4 @@ pub mod JoinedTests
 pub mod FiniteVectors
 pub mod BoxLaws
 pub mod UnitLength
+pub mod NormalLaws

@@ -189,17 +189,17 @@ unbounded-above nan no-number = refl
 unbounded-above (inf false) infinite = refl
 
 module _ (v : Vec3) where
-  abbrev first-sum : Float
+  abbrev pub first-sum : Float
   first-sum = (v .x *ᶠ v .x) +ᶠ (v .y *ᶠ v .y)
 
-  square-sign : (a : Float) → negative (a *ᶠ a) ≡ false
+  pub square-sign : (a : Float) → negative (a *ᶠ a) ≡ false
   square-sign a = square-not-negative binary64 a
 
-  first-sign : negative first-sum ≡ false
+  pub first-sign : negative first-sum ≡ false
   first-sign = sum-not-negative binary64 (v .x *ᶠ v .x) (v .y *ᶠ v .y) (square-sign (v .x)) (square-sign (v .y))
 
   -- a component that is not finite, and a square that no number bounds
-  square-of-infinite : finiteVec v ≡ false → Unbounded (dotOf v v)
+  pub square-of-infinite : finiteVec v ≡ false → Unbounded (dotOf v v)
   unfolding finiteVec dotOf
   square-of-infinite h = go (isFinite (v .x)) (isFinite (v .y)) (isFinite (v .z)) refl refl refl h
     where
@@ -210,7 +210,7 @@ module _ (v : Vec3) where
       go true true true p q r h = absurd (true≢false h)
 
   -- finite components, and a square that is a number
-  square-of-finite : finiteVec v ≡ true → isNan (dotOf v v) ≡ false
+  pub square-of-finite : finiteVec v ≡ true → isNan (dotOf v v) ≡ false
   unfolding dotOf
   square-of-finite h =
       positive-sum-number binary64 first-sum (v .z *ᶠ v .z) first-sign (square-sign (v .z))

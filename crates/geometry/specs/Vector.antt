@@ -3,11 +3,12 @@ use Prim.Native.Nat.{ℕ}
 use mathlib.Core.Path.{_≡_}
 use mathlib.Core.Bool.{Bool, false, _&&_, not, cond}
 use lib.Dec.{eqb}
-use lib.Ieee.{Float, lt, neg, isNan}
+use lib.Ieee.{Float, lt, eq, neg, isNan}
 use Rattle.arithmetic.specs.Extremes.{minimumOf, maximumOf}
 use Rattle.arithmetic.specs.Basic.{isFinite, absolute}
 use Rattle.arithmetic.specs.Root.{rootOf}
-use Rattle.geometry.specs.Numbers.{_+ᶠ_, _-ᶠ_, _*ᶠ_, _/ᶠ_, minPositive}
+use Rattle.arithmetic.specs.Scaling.{digitsOf, scaledBy}
+use Rattle.geometry.specs.Numbers.{_+ᶠ_, _-ᶠ_, _*ᶠ_, _/ᶠ_, zeroᶠ, minPositive}
 use Rattle.geometry.specs.declared.vec3.Vec3.{Vec3}
 use Rattle.geometry.specs.declared.vec3.Checked.{Checked}
 use Rattle.geometry.specs.declared.vec3.Checked.the-variants.{Value, Overflow}
@@ -86,10 +87,26 @@ crossOf v w = record {
 unfoldable pub lengthOf : Vec3 → Float
 lengthOf v = rootOf (dotOf v v)
 
--- whether a vector can be normalised: not "fails unless dot is finite and at least 2^-1022"
-abbrev pub normalizable : Vec3 → Bool
-normalizable v = isFinite (dotOf v v) && not (lt (dotOf v v) minPositive)
+-- all components are 0, of either sign
+unfoldable pub zeroVec : Vec3 → Bool
+zeroVec v = eq (v .x) zeroᶠ && (eq (v .y) zeroᶠ && eq (v .z) zeroᶠ)
 
--- "Normalising divides each component by the length, and fails unless dot is finite and at least 2^-1022"
+-- whether a vector can be normalised: "It fails only for a zero vector or a component that is not finite."
+unfoldable pub normalizable : Vec3 → Bool
+normalizable v = finiteVec v && not (zeroVec v)
+
+-- not "Where the dot is not finite or below 2^-1022"
+unfoldable pub dotTells : Vec3 → Bool
+dotTells v = isFinite (dotOf v v) && not (lt (dotOf v v) minPositive)
+
+-- "the power of two that brings its largest absolute component to at least 1 and below 2, each component rounded once"
+unfoldable pub scaledToOne : Vec3 → Vec3
+scaledToOne v = each (scaledBy (digitsOf (maxElement (absOf v)))) v
+
+-- "Normalising divides each component by the length"
+unfoldable pub overLength : Vec3 → Vec3
+overLength v = each (λ (c : Float). c /ᶠ lengthOf v) v
+
+-- "Where the dot is not finite or below 2^-1022, normalising first scales the vector .. and then proceeds."
 unfoldable pub tryNormalize : Vec3 → Normalized
-tryNormalize v = cond (isFinite (dotOf v v)) (cond (lt (dotOf v v) minPositive) Degenerate (UnitOf (each (λ (c : Float). c /ᶠ lengthOf v) v))) Degenerate
+tryNormalize v = cond (normalizable v) (UnitOf (overLength (cond (dotTells v) v (scaledToOne v)))) Degenerate

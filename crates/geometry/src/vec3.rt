@@ -1,9 +1,11 @@
 use arithmetic::basic;
 use arithmetic::extremes;
+use arithmetic::scaling;
 use arithmetic::square_root;
 ghost use mathlib.Core.Path.{_≡_};
-ghost use mathlib.Core.Bool.{true};
-ghost use Rattle.geometry.specs.Vector.{component, finiteVec, Numbers, addOf, subOf, negOf, scaleOf, minOf, maxOf, absOf, maxElement, dotOf, checkedDot, crossOf, lengthOf, tryNormalize};
+ghost use mathlib.Core.Bool.{true, cond};
+ghost use Rattle.geometry.specs.Vector.{component, finiteVec, Numbers, addOf, subOf, negOf, scaleOf, minOf, maxOf, absOf, maxElement, dotOf, checkedDot, crossOf, lengthOf, normalizable, scaledToOne, overLength, tryNormalize};
+ghost use Rattle.geometry.specs.declared.vec3.Normalized.the-variants.{Unit as UnitOf, Degenerate};
 
 // Laid out as C does: a part of a cabinet (crates/cabinet) has its origin in it.
 #[repr(C)]
@@ -186,22 +188,71 @@ impl Vec3 {
         square_root::root(self.dot(self))
     }
 
+    // Whether the vector can be normalised: it is finite, and not zero.
+    pub fn is_normalizable(self) -> bool
+        ensures { λ r. ⌜ r ≡ normalizable self ⌝ }
+    {
+        if !self.is_finite() {
+            return false;
+        }
+        if self.x != 0.0 {
+            return true;
+        }
+        if self.y != 0.0 {
+            return true;
+        }
+        self.z != 0.0
+    }
+
+    // The vector times the power of two that brings its largest component to at least 1 and below 2. Callers show that it is finite and not zero.
+    fn scaled_to_one(self) -> Vec3
+        requires { ⌜ normalizable self ≡ true ⌝ }
+        ensures { λ r. ⌜ r ≡ scaledToOne self ⌝ }
+    {
+        let largest = self.abs().max_element();
+        Vec3 {
+            x: scaling::scaled(self.x, largest),
+            y: scaling::scaled(self.y, largest),
+            z: scaling::scaled(self.z, largest),
+        }
+    }
+
+    // The vector divided by its length, where its dot with itself is `square`.
+    fn over_length(self, square: f64) -> Vec3
+        requires { ⌜ square ≡ dotOf self self ⌝ }
+        ensures { λ r. ⌜ r ≡ overLength self ⌝ }
+    {
+        let length = square_root::root(square);
+        Vec3 {
+            x: self.x / length,
+            y: self.y / length,
+            z: self.z / length,
+        }
+    }
+
+    // What is left where the dot does not tell: the vector is scaled first.
+    fn normalize_scaled(self) -> Normalized
+        ensures { λ r. ⌜ r ≡ cond (normalizable self) (UnitOf (overLength (scaledToOne self))) Degenerate ⌝ }
+    {
+        if !self.is_normalizable() {
+            return Normalized::Degenerate;
+        }
+        let scaled = self.scaled_to_one();
+        Normalized::Unit(scaled.over_length(scaled.dot(scaled)))
+    }
+
+    // A dot that tells the length, which nearly all do, is told without the test for zero.
     pub fn try_normalize(self) -> Normalized
         ensures { λ r. ⌜ r ≡ tryNormalize self ⌝ }
     {
         let dot = self.dot(self);
         if !basic::is_finite(dot) {
-            return Normalized::Degenerate;
+            return self.normalize_scaled();
         }
         // 2^-1022
         if dot < 2.2250738585072014e-308 {
-            return Normalized::Degenerate;
+            return self.normalize_scaled();
         }
-        let length = square_root::root(dot);
-        Normalized::Unit(Vec3 {
-            x: self.x / length,
-            y: self.y / length,
-            z: self.z / length,
-        })
+        Normalized::Unit(self.over_length(dot))
     }
 }

@@ -9,7 +9,8 @@ use Rattle.arithmetic.specs.Extremes.{minimumOf, maximumOf}
 use Rattle.arithmetic.specs.Root.{rootDigits, wholeRoot, rootRound, rootOf}
 use Rattle.arithmetic.specs.Rounding.{wholeBy, floorOf, roundOf}
 use Rattle.arithmetic.specs.Ordering.{totalOrder}
-use Rattle.geometry.specs.Vector.{component, finiteVec, addOf, subOf, negOf, scaleOf, minOf, maxOf, absOf, maxElement, dotOf, checkedDot, crossOf, lengthOf, tryNormalize}
+use Rattle.arithmetic.specs.Scaling.{unit, digitsOf, scaledBy}
+use Rattle.geometry.specs.Vector.{component, finiteVec, addOf, subOf, negOf, scaleOf, minOf, maxOf, absOf, maxElement, dotOf, checkedDot, crossOf, lengthOf, normalizable, zeroVec, dotTells, scaledToOne, overLength, tryNormalize}
 use Rattle.geometry.specs.Box.{validSide, validBox, touchSide, touches, withinSide, encloses, sameSide, sameBox, unionOf, centre, cornersBox}
 use Rattle.geometry.specs.Segment.{unitLength, rayAdmitted, segmentEnd, segmentBox}
 use Rattle.casts.specs.Surface.{outOfRange, facing}
@@ -47,7 +48,7 @@ use Rattle.known_answers.specs.Cases.{outcome, areasFor, built, throughT
 use Rattle.known_answers.specs.Table.{Entry, table, right, allRight, repeated}
 
 pub known-answers-hold : allRight table ≡ true
-unfolding table right allRight repeated outcome areasFor built throughTree ofBuilt span climb size odd units round neg sum add sub mul div lt eq le ne ofInt toUnsigned isNan ofFields ofBits toBits isFinite absolute negative signPositive clampTo minimumOf maximumOf rootDigits wholeRoot rootRound rootOf wholeBy floorOf roundOf totalOrder component finiteVec addOf subOf negOf scaleOf minOf maxOf absOf maxElement dotOf checkedDot crossOf lengthOf tryNormalize validSide validBox touchSide touches withinSide encloses sameSide sameBox unionOf centre cornersBox unitLength rayAdmitted segmentEnd segmentBox outOfRange facing planeAdmitted planeAt planeCast rayPlane flat triangleNormal hasNormal triangleAbove triangleAt triangleOf rayTriangle nextOf foldFrom withoutIndex sideAdmitted spacingAdmitted fieldAdmitted floatOf vertexAt cellAt cellRow cellColumn cornersAt featureCorners scaledRange spanOf cellRange run rangeCells gridCells columnRange rowRange visitedCells both listAll keep allFinite cellFinite featureBox listCell gridListing answerOf castListed spanFinite heightCast rayHeightField cubicBy cubicOf finiteCubic evaluate rootTolerance betweenEnds keptPoint keptPoints vertex turningBy turningPoints extrema middleOf halveAt halve halvings settled insert sorted points rootBetween searchOn searchFrom searchList rootOfCubic firstCubicRoot levelset-sideAdmitted levelset-spacingAdmitted sidesAdmitted gridAdmitted lastNode lastCorner gridBox kept cut slabFrom slab started rayAabbInterval upTo slack floorCell leavesNode wholeCell levelset-cellAt cellOnAxis rayCellIndices nodeAhead boundaryDistance boundaryBy axisBoundary nextCellBoundary topOf drawnTo drawn drawnPoint cellBelow placeOf placeAt locateAxis locateInside locate valueAt faceAt checked blend lerp checkedDifference over lerpFace valueOn slopeOn gathered sampleFaces sampleCell sample across cellValue isFraction smallValue smallFace fairSide fairSpacing pointAt along hitWith hitAlong touchAt valueAlong samplesOf samplesAlong goesOn cellBy cellCast goesTo walkStep cellLimit walkFrom levelSetCast rayLevelSet range count tree-keep every gather insertBy sortBy vectorAt boxAt lengthsAdmitted cornersInside cornerAt cornersOf triangleBox triangleAnswer candidates shapeWithin shapeOf sizeOf nodesOf wordsOf boxNumbers folded longestAxis laneOf hullOf centreOf extentOf keyOf standsBefore sortedRange leftRange rightRange extentsFinite orderBelow boxesBelow zeroed roomFor eachBox triangleFits trianglesFit boxesWritten treeWritten builtOf buildOf times takePlace takePlaces atLeaf childFits atBranch atNode takeNode start ended walkOf treeFits walkFits shapeAdmitted mesh-roomFor overWalk meshCast rayMesh
+unfolding table right allRight repeated outcome areasFor built throughTree ofBuilt span climb size odd units round neg sum add sub mul div lt eq le ne ofInt toUnsigned isNan ofFields ofBits toBits isFinite absolute negative signPositive clampTo minimumOf maximumOf rootDigits wholeRoot rootRound rootOf wholeBy floorOf roundOf totalOrder component finiteVec addOf subOf negOf scaleOf minOf maxOf absOf maxElement dotOf checkedDot crossOf lengthOf normalizable zeroVec dotTells scaledToOne overLength tryNormalize digitsOf scaledBy unit validSide validBox touchSide touches withinSide encloses sameSide sameBox unionOf centre cornersBox unitLength rayAdmitted segmentEnd segmentBox outOfRange facing planeAdmitted planeAt planeCast rayPlane flat triangleNormal hasNormal triangleAbove triangleAt triangleOf rayTriangle nextOf foldFrom withoutIndex sideAdmitted spacingAdmitted fieldAdmitted floatOf vertexAt cellAt cellRow cellColumn cornersAt featureCorners scaledRange spanOf cellRange run rangeCells gridCells columnRange rowRange visitedCells both listAll keep allFinite cellFinite featureBox listCell gridListing answerOf castListed spanFinite heightCast rayHeightField cubicBy cubicOf finiteCubic evaluate rootTolerance betweenEnds keptPoint keptPoints vertex turningBy turningPoints extrema middleOf halveAt halve halvings settled insert sorted points rootBetween searchOn searchFrom searchList rootOfCubic firstCubicRoot levelset-sideAdmitted levelset-spacingAdmitted sidesAdmitted gridAdmitted lastNode lastCorner gridBox kept cut slabFrom slab started rayAabbInterval upTo slack floorCell leavesNode wholeCell levelset-cellAt cellOnAxis rayCellIndices nodeAhead boundaryDistance boundaryBy axisBoundary nextCellBoundary topOf drawnTo drawn drawnPoint cellBelow placeOf placeAt locateAxis locateInside locate valueAt faceAt checked blend lerp checkedDifference over lerpFace valueOn slopeOn gathered sampleFaces sampleCell sample across cellValue isFraction smallValue smallFace fairSide fairSpacing pointAt along hitWith hitAlong touchAt valueAlong samplesOf samplesAlong goesOn cellBy cellCast goesTo walkStep cellLimit walkFrom levelSetCast rayLevelSet range count tree-keep every gather insertBy sortBy vectorAt boxAt lengthsAdmitted cornersInside cornerAt cornersOf triangleBox triangleAnswer candidates shapeWithin shapeOf sizeOf nodesOf wordsOf boxNumbers folded longestAxis laneOf hullOf centreOf extentOf keyOf standsBefore sortedRange leftRange rightRange extentsFinite orderBelow boxesBelow zeroed roomFor eachBox triangleFits trianglesFit boxesWritten treeWritten builtOf buildOf times takePlace takePlaces atLeaf childFits atBranch atNode takeNode start ended walkOf treeFits walkFits shapeAdmitted mesh-roomFor overWalk meshCast rayMesh
 known-answers-hold = refl
 
 -- e stands in a table

@@ -113,7 +113,7 @@ table =
     entry (atTriangle unit (ray (vec quarter quarter one) (vec zero zero minusOne) one)) (hitAt one) ∷
     entry (atTriangle unit (ray (vec half half one) (vec zero zero minusOne) one)) (aHit (λ d i. true)) ∷
     entry (atTriangle unit (ray (vec threeQuarters half one) (vec zero zero minusOne) one)) aNone ∷
-    entry (atTriangle (corners (vec zero zero zero) (vec vast zero zero) (vec zero one zero)) (ray (vec quarterVast quarter one) (vec zero zero minusOne) ten)) (aRefusal 7) ∷
+    entry (atTriangle (corners (vec zero zero zero) (vec vast zero zero) (vec zero one zero)) (ray (vec quarterVast quarter one) (vec zero zero minusOne) ten)) (hitAt one) ∷
     entry (atTriangle (corners (vec zero zero zero) (vec vast vast zero) (vec zero tiny zero)) (ray (vec halfVast halfVast one) (vec zero zero minusOne) ten)) (aRefusal 6) ∷
     entry (atMesh (meshOf 2) (ray (vec quarter quarter one) (vec zero zero minusOne) one)) (aHit (λ d i. eqb i 0)) ∷
     entry (buildOfMesh (meshOf 0)) (aRefusal 5) ∷

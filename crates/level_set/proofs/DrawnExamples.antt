@@ -9,7 +9,8 @@ use Rattle.arithmetic.specs.Ordering.{totalOrder}
 use Rattle.arithmetic.specs.Root.{rootOf, rootRound, wholeRoot, rootDigits}
 use Rattle.arithmetic.specs.Rounding.{wholeBy, floorOf, roundOf}
 use Rattle.geometry.specs.Numbers.{_/ᶠ_, zeroᶠ, oneᶠ, halfᶠ}
-use Rattle.geometry.specs.Vector.{finiteVec, addOf, scaleOf, minOf, maxOf, dotOf, lengthOf, tryNormalize}
+use Rattle.arithmetic.specs.Scaling.{unit, digitsOf, scaledBy}
+use Rattle.geometry.specs.Vector.{finiteVec, addOf, scaleOf, minOf, maxOf, dotOf, lengthOf, normalizable, zeroVec, dotTells, scaledToOne, overLength, tryNormalize}
 use Rattle.geometry.specs.Box.{validSide, validBox}
 use Rattle.geometry.specs.Segment.{unitLength, rayAdmitted}
 use Rattle.geometry.specs.declared.ray.Ray.{Ray}
@@ -45,11 +46,11 @@ grazing = record {
 
 pub grazing-is-hit : rayLevelSet grazing grid₁₃ heights
     ≡ hit record { x = zeroᶠ; y = zeroᶠ; z = oneᶠ } (ofBits binary64 0x3ff8_0000_0000_0000)
-unfolding ofBits div neg add sub mul lt le eq ne isNan ofInt toUnsigned isFinite absolute signPositive clampTo minimumOf maximumOf totalOrder negative rootOf rootRound wholeRoot rootDigits wholeBy floorOf roundOf finiteVec addOf scaleOf minOf maxOf dotOf lengthOf tryNormalize validSide validBox unitLength rayAdmitted sideAdmitted spacingAdmitted sidesAdmitted gridAdmitted lastNode lastCorner gridBox kept cut slabFrom slab started rayAabbInterval upTo slack floorCell leavesNode wholeCell cellAt cellOnAxis rayCellIndices nodeAhead boundaryDistance boundaryBy axisBoundary nextCellBoundary topOf drawnTo drawn drawnPoint cellBelow placeOf placeAt locateAxis locateInside locate valueAt faceAt checked blend lerp checkedDifference over lerpFace valueOn slopeOn gathered sampleFaces sampleCell sample cubicBy cubicOf finiteCubic evaluate rootTolerance betweenEnds keptPoint keptPoints vertex turningBy turningPoints extrema insert sorted points middleOf halveAt halve halvings settled rootBetween searchOn searchFrom searchList rootOfCubic firstCubicRoot pointAt along hitWith hitAlong touchAt valueAlong samplesOf samplesAlong goesOn cellBy cellCast goesTo walkStep cellLimit walkFrom levelSetCast rayLevelSet
+unfolding ofBits div neg add sub mul lt le eq ne isNan ofInt toUnsigned isFinite absolute signPositive clampTo minimumOf maximumOf totalOrder negative rootOf rootRound wholeRoot rootDigits wholeBy floorOf roundOf finiteVec addOf scaleOf minOf maxOf dotOf lengthOf normalizable zeroVec dotTells scaledToOne overLength tryNormalize digitsOf scaledBy unit validSide validBox unitLength rayAdmitted sideAdmitted spacingAdmitted sidesAdmitted gridAdmitted lastNode lastCorner gridBox kept cut slabFrom slab started rayAabbInterval upTo slack floorCell leavesNode wholeCell cellAt cellOnAxis rayCellIndices nodeAhead boundaryDistance boundaryBy axisBoundary nextCellBoundary topOf drawnTo drawn drawnPoint cellBelow placeOf placeAt locateAxis locateInside locate valueAt faceAt checked blend lerp checkedDifference over lerpFace valueOn slopeOn gathered sampleFaces sampleCell sample cubicBy cubicOf finiteCubic evaluate rootTolerance betweenEnds keptPoint keptPoints vertex turningBy turningPoints extrema insert sorted points middleOf halveAt halve halvings settled rootBetween searchOn searchFrom searchList rootOfCubic firstCubicRoot pointAt along hitWith hitAlong touchAt valueAlong samplesOf samplesAlong goesOn cellBy cellCast goesTo walkStep cellLimit walkFrom levelSetCast rayLevelSet
 grazing-is-hit = refl
 
 pub grazing-was-five : rayLevelSetRefusing grazing grid₁₃ heights ≡ refused outOfBounds
-unfolding ofBits div neg add sub mul lt le eq ne isNan ofInt toUnsigned isFinite absolute signPositive clampTo minimumOf maximumOf totalOrder negative rootOf rootRound wholeRoot rootDigits wholeBy floorOf roundOf finiteVec addOf scaleOf minOf maxOf dotOf lengthOf tryNormalize validSide validBox unitLength rayAdmitted sideAdmitted spacingAdmitted sidesAdmitted gridAdmitted lastNode lastCorner gridBox kept cut slabFrom slab started rayAabbInterval upTo slack floorCell leavesNode wholeCell cellAt cellOnAxis rayCellIndices nodeAhead boundaryDistance boundaryBy axisBoundary nextCellBoundary topOf drawnTo drawn drawnPoint cellBelow placeOf placeAt locateAxis locateInside valueAt faceAt checked blend lerp checkedDifference over lerpFace valueOn slopeOn gathered sampleFaces sampleCell sample cubicBy cubicOf finiteCubic evaluate rootTolerance betweenEnds keptPoint keptPoints vertex turningBy turningPoints extrema insert sorted points middleOf halveAt halve halvings settled rootBetween searchOn searchFrom searchList rootOfCubic firstCubicRoot pointAt along outsideSide outside locateRefusing sampleRefusing hitBy touchBy valueBy samplesBy cellCastBy goesToBy walkStepBy walkBy castBy rayLevelSetRefusing hitWith hitAlong touchAt valueAlong samplesOf samplesAlong goesOn cellBy cellCast goesTo walkStep cellLimit walkFrom levelSetCast rayLevelSet
+unfolding ofBits div neg add sub mul lt le eq ne isNan ofInt toUnsigned isFinite absolute signPositive clampTo minimumOf maximumOf totalOrder negative rootOf rootRound wholeRoot rootDigits wholeBy floorOf roundOf finiteVec addOf scaleOf minOf maxOf dotOf lengthOf normalizable zeroVec dotTells scaledToOne overLength tryNormalize digitsOf scaledBy unit validSide validBox unitLength rayAdmitted sideAdmitted spacingAdmitted sidesAdmitted gridAdmitted lastNode lastCorner gridBox kept cut slabFrom slab started rayAabbInterval upTo slack floorCell leavesNode wholeCell cellAt cellOnAxis rayCellIndices nodeAhead boundaryDistance boundaryBy axisBoundary nextCellBoundary topOf drawnTo drawn drawnPoint cellBelow placeOf placeAt locateAxis locateInside valueAt faceAt checked blend lerp checkedDifference over lerpFace valueOn slopeOn gathered sampleFaces sampleCell sample cubicBy cubicOf finiteCubic evaluate rootTolerance betweenEnds keptPoint keptPoints vertex turningBy turningPoints extrema insert sorted points middleOf halveAt halve halvings settled rootBetween searchOn searchFrom searchList rootOfCubic firstCubicRoot pointAt along outsideSide outside locateRefusing sampleRefusing hitBy touchBy valueBy samplesBy cellCastBy goesToBy walkStepBy walkBy castBy rayLevelSetRefusing hitWith hitAlong touchAt valueAlong samplesOf samplesAlong goesOn cellBy cellCast goesTo walkStep cellLimit walkFrom levelSetCast rayLevelSet
 grazing-was-five = refl
 
 -- ---- two nodes, the largest float apart, from -3 * 2 ^ 970: the way to the last node overflows

@@ -5,7 +5,6 @@ pub mod SampleLaws
 pub mod WalkLaws
 pub mod Examples
 pub mod SlabLaws
-pub mod Bounds
 pub mod NearLaws
 pub mod PlaceLaws
 pub mod DrawnLaws

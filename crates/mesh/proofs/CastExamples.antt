@@ -6,7 +6,8 @@ use lib.Ieee.{Float, binary64, span, climb, size, odd, units, round, neg, sum, a
 use Rattle.arithmetic.specs.Basic.{isFinite, absolute}
 use Rattle.arithmetic.specs.Extremes.{minimumOf, maximumOf}
 use Rattle.arithmetic.specs.Root.{rootDigits, wholeRoot, rootRound, rootOf}
-use Rattle.geometry.specs.Vector.{component, finiteVec, addOf, subOf, negOf, scaleOf, minOf, maxOf, absOf, maxElement, dotOf, checkedDot, crossOf, lengthOf, tryNormalize}
+use Rattle.arithmetic.specs.Scaling.{unit, digitsOf, scaledBy}
+use Rattle.geometry.specs.Vector.{component, finiteVec, addOf, subOf, negOf, scaleOf, minOf, maxOf, absOf, maxElement, dotOf, checkedDot, crossOf, lengthOf, normalizable, zeroVec, dotTells, scaledToOne, overLength, tryNormalize}
 use Rattle.geometry.specs.Box.{validSide, validBox, touchSide, touches, withinSide, encloses, sameSide, sameBox}
 use Rattle.geometry.specs.Segment.{unitLength, rayAdmitted, segmentEnd, segmentBox}
 use Rattle.geometry.specs.declared.ray.Ray.{Ray}
@@ -52,19 +53,19 @@ cast r = rayMesh r mesh vertices oddTree 3 4
 pub casts-answered :
     cast (along i lower three) ∷ (cast (along (ofBits binary64 0xc008_0000_0000_0000) i three) ∷ (cast (along i lower quarter) ∷ (cast (along i two three) ∷ [])))
     ≡ hitAt (record { x = o; y = o; z = i }) i 0 ∷ (hitAt (record { x = minusZero; y = minusZero; z = lower }) two 2 ∷ (noHit ∷ (stopped 1 ∷ [])))
-unfolding rayMesh meshCast overWalk roomFor treeFits shapeAdmitted walkOf ended start takeNode atNode atBranch childFits atLeaf takePlaces takePlace times triangleAnswer cornerAt cornersInside lengthsAdmitted boxAt vectorAt sortBy insertBy range foldFrom nextOf triangleOf triangleAt triangleAbove triangleNormal flat facing outOfRange segmentBox segmentEnd rayAdmitted unitLength touches touchSide validBox validSide tryNormalize lengthOf crossOf checkedDot dotOf maxElement absOf maxOf minOf scaleOf negOf subOf addOf finiteVec component rootOf rootRound wholeRoot rootDigits maximumOf minimumOf absolute isFinite ofBits ofFields isNan ne le eq lt div mul sub add sum neg round units odd size climb span
+unfolding rayMesh meshCast overWalk roomFor treeFits shapeAdmitted walkOf ended start takeNode atNode atBranch childFits atLeaf takePlaces takePlace times triangleAnswer cornerAt cornersInside lengthsAdmitted boxAt vectorAt sortBy insertBy range foldFrom nextOf triangleOf triangleAt triangleAbove triangleNormal flat facing outOfRange segmentBox segmentEnd rayAdmitted unitLength touches touchSide validBox validSide normalizable zeroVec dotTells scaledToOne overLength tryNormalize digitsOf scaledBy unit lengthOf crossOf checkedDot dotOf maxElement absOf maxOf minOf scaleOf negOf subOf addOf finiteVec component rootOf rootRound wholeRoot rootDigits maximumOf minimumOf absolute isFinite ofBits ofFields isNan ne le eq lt div mul sub add sum neg round units odd size climb span
 casts-answered = refl
 
 -- ---- demand 3 at that tree
 
 -- the check itself says yes to it
 pub odd-passes : checkOf mesh oddTree 9 ≡ yes
-unfolding rayMesh meshCast overWalk roomFor treeFits shapeAdmitted walkOf ended start takeNode atNode atBranch childFits atLeaf takePlaces takePlace times triangleAnswer cornerAt cornersInside lengthsAdmitted boxAt vectorAt sortBy insertBy range foldFrom nextOf triangleOf triangleAt triangleAbove triangleNormal flat facing outOfRange segmentBox segmentEnd rayAdmitted unitLength touches touchSide validBox validSide tryNormalize lengthOf crossOf checkedDot dotOf maxElement absOf maxOf minOf scaleOf negOf subOf addOf finiteVec component rootOf rootRound wholeRoot rootDigits maximumOf minimumOf absolute isFinite ofBits ofFields isNan ne le eq lt div mul sub add sum neg round units odd size climb span checkOf check-roomFor treePasses clausesHold kindsKnown childrenAbove leavesInside namedOnce placedOnce orderedOnce leavesFilled cornersKnown boxesSame boxesValid nodeEncloses enclosed childrenOf placesOf count every gather triangleBox withinSide encloses sameSide sameBox
+unfolding rayMesh meshCast overWalk roomFor treeFits shapeAdmitted walkOf ended start takeNode atNode atBranch childFits atLeaf takePlaces takePlace times triangleAnswer cornerAt cornersInside lengthsAdmitted boxAt vectorAt sortBy insertBy range foldFrom nextOf triangleOf triangleAt triangleAbove triangleNormal flat facing outOfRange segmentBox segmentEnd rayAdmitted unitLength touches touchSide validBox validSide normalizable zeroVec dotTells scaledToOne overLength tryNormalize digitsOf scaledBy unit lengthOf crossOf checkedDot dotOf maxElement absOf maxOf minOf scaleOf negOf subOf addOf finiteVec component rootOf rootRound wholeRoot rootDigits maximumOf minimumOf absolute isFinite ofBits ofFields isNan ne le eq lt div mul sub add sum neg round units odd size climb span checkOf check-roomFor treePasses clausesHold kindsKnown childrenAbove leavesInside namedOnce placedOnce orderedOnce leavesFilled cornersKnown boxesSame boxesValid nodeEncloses enclosed childrenOf placesOf count every gather triangleBox withinSide encloses sameSide sameBox
 odd-passes = refl
 
 -- so that the ray from above meets what demand 3 asks
 pub odd-admitted : Admitted (along i lower three) mesh oddTree 3 4
-unfolding rayMesh meshCast overWalk roomFor treeFits shapeAdmitted walkOf ended start takeNode atNode atBranch childFits atLeaf takePlaces takePlace times triangleAnswer cornerAt cornersInside lengthsAdmitted boxAt vectorAt sortBy insertBy range foldFrom nextOf triangleOf triangleAt triangleAbove triangleNormal flat facing outOfRange segmentBox segmentEnd rayAdmitted unitLength touches touchSide validBox validSide tryNormalize lengthOf crossOf checkedDot dotOf maxElement absOf maxOf minOf scaleOf negOf subOf addOf finiteVec component rootOf rootRound wholeRoot rootDigits maximumOf minimumOf absolute isFinite ofBits ofFields isNan ne le eq lt div mul sub add sum neg round units odd size climb span
+unfolding rayMesh meshCast overWalk roomFor treeFits shapeAdmitted walkOf ended start takeNode atNode atBranch childFits atLeaf takePlaces takePlace times triangleAnswer cornerAt cornersInside lengthsAdmitted boxAt vectorAt sortBy insertBy range foldFrom nextOf triangleOf triangleAt triangleAbove triangleNormal flat facing outOfRange segmentBox segmentEnd rayAdmitted unitLength touches touchSide validBox validSide normalizable zeroVec dotTells scaledToOne overLength tryNormalize digitsOf scaledBy unit lengthOf crossOf checkedDot dotOf maxElement absOf maxOf minOf scaleOf negOf subOf addOf finiteVec component rootOf rootRound wholeRoot rootDigits maximumOf minimumOf absolute isFinite ofBits ofFields isNan ne le eq lt div mul sub add sum neg round units odd size climb span
 odd-admitted = record { mesh = refl; ray = refl; end = refl; tree = record { marks = 9; says-yes = odd-passes }; areas = refl }
 
 pub odd-meets : MeetsDemand (along i lower three) mesh (cast (along i lower three))

@@ -6,9 +6,11 @@ use mathlib.Core.List.{List, [], _∷_}
 use lib.Ieee.{Float, binary64, span, climb, size, odd, units, round, neg, sum, add, sub, mul, div, lt, eq, le, ne, isNan, ofFields, ofBits}
 use Rattle.arithmetic.specs.Basic.{isFinite, absolute}
 use Rattle.arithmetic.specs.Extremes.{minimumOf, maximumOf}
+use Rattle.arithmetic.specs.Scaling.{unit, digitsOf, scaledBy}
 use Rattle.arithmetic.specs.Root.{rootDigits, wholeRoot, rootRound, rootOf}
 use Rattle.geometry.specs.Vector.{component, finiteVec, addOf, subOf, negOf, scaleOf, minOf, maxOf, absOf, maxElement}
-use Rattle.geometry.specs.Vector.{dotOf, checkedDot, crossOf, lengthOf, tryNormalize}
+use Rattle.geometry.specs.Vector.{dotOf, checkedDot, crossOf, lengthOf}
+use Rattle.geometry.specs.Vector.{normalizable, zeroVec, dotTells, scaledToOne, overLength, tryNormalize}
 use Rattle.geometry.specs.Box.{validSide, validBox, touchSide, touches, withinSide, encloses, sameSide, sameBox}
 use Rattle.geometry.specs.Segment.{unitLength, rayAdmitted, segmentEnd, segmentBox}
 use Rattle.geometry.specs.declared.ray.Ray.{Ray}
@@ -78,7 +80,8 @@ pub casts-answered :
     ∷ (noHit ∷ [])))))
 unfolding rayMeshPlain plainCast overTriangles trianglesFit triangleFits every candidates keep range triangleBox triangleAnswer cornerAt
     cornersInside lengthsAdmitted vectorAt foldFrom nextOf triangleOf triangleAt triangleAbove triangleNormal flat facing outOfRange
-    segmentBox segmentEnd rayAdmitted unitLength touches touchSide validBox validSide tryNormalize lengthOf crossOf checkedDot dotOf
+    segmentBox segmentEnd rayAdmitted unitLength touches touchSide validBox validSide normalizable zeroVec
+    dotTells scaledToOne overLength tryNormalize digitsOf scaledBy unit lengthOf crossOf checkedDot dotOf
     maxElement absOf maxOf minOf scaleOf negOf subOf addOf finiteVec component rootOf rootRound wholeRoot rootDigits maximumOf minimumOf
     absolute isFinite ofBits ofFields isNan ne le eq lt div mul sub add sum neg round units odd size climb span
 casts-answered = refl

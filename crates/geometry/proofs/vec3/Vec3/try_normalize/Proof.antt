@@ -1,42 +1,46 @@
-use Rattle.geometry.specs.Vector.{tryNormalize, lengthOf}
-use mathlib.Core.Path.{sym}
-use borrow.Author.Tests.{not-true, not-false}
+-- `geometry::vec3::Vec3::try_normalize` meets its contract: a dot that tells the length tells that there is one. Assumes nothing.
 use borrow.Author.Needs.{needs}
+use Rattle.geometry.proofs.JoinedTests.{test-passed, test-failed}
+use Rattle.geometry.proofs.NormalLaws.{not-finite-scaled, small-scaled, told-unit}
+use mathlib.Core.Path.{_∙_}
 use Rattle.geometry.proofs.vec3.Vec3.try_normalize.Statement.{statement}
 use Rattle.geometry.proofs.vec3.Vec3.try_normalize.Tie as tie
-use Rattle.geometry.proofs.vec3.Vec3.try_normalize.Reads as reads
-use Rattle.geometry.proofs.vec3.Vec3.try_normalize.Lts as lts
-use Rattle.arithmetic.proofs.basic.is_finite.Reads as is-finite-reads
-use Rattle.arithmetic.proofs.square_root.root.Reads as root-reads
-use Rattle.geometry.proofs.vec3.Vec3.dot.Reads as dot-reads
 
--- src/vec3.rt:163:13
-dot-requires : tie.Need-dot-requires
-dot-requires c κs = search needs
-
--- src/vec3.rt:164:13
-is-finite-requires : tie.Need-is-finite-requires
-is-finite-requires c κs = search needs
-
--- src/vec3.rt:165:13
+-- the dot is not finite
 returns : tie.Need-returns
-unfolding tryNormalize lengthOf
-returns c = simp (sym (c .before .before .dot .ensures), sym (c .before .is-finite .ensures), not-true (c .before .is-finite .result) (c .if1 .taken))
+returns c =
+    let (s, d, f, t) : tie.Start × tie.After-dot × tie.After-is-finite × tie.Then1 = search in
+    c .normalize-scaled .ensures
+    ∙ not-finite-scaled (s .args .self) (d .dot .result) (d .dot .ensures) (test-failed (f .is-finite .ensures) (t .if1 .taken))
 
--- src/vec3.rt:169:13
+-- it is below 2^-1022
 returns-2 : tie.Need-returns-2
-unfolding tryNormalize lengthOf
-returns-2 c = simp (sym (c .before .before .before .dot .ensures), sym (c .before .before .is-finite .ensures), not-false (c .before .before .is-finite .result) (c .before .if1 .left), c .if2 .taken)
+returns-2 c =
+    let (s, d, t) : tie.Start × tie.After-dot × tie.Then2 = search in
+    c .normalize-scaled2 .ensures ∙ small-scaled (s .args .self) (d .dot .result) (d .dot .ensures) (t .if2 .taken)
 
--- src/vec3.rt:171:13
-root-requires : tie.Need-root-requires
-root-requires c κs = search needs
+over-length-requires : tie.Need-over-length-requires
+over-length-requires c κs =
+    let d : tie.After-dot = search in
+    d .dot .ensures
 
--- src/vec3.rt:160:5
+-- it tells
 returns-3 : tie.Need-returns-3
-unfolding tryNormalize lengthOf
-returns-3 c = simp (sym (c .before .before .before .before .before .before .before .dot .ensures), sym (c .before .before .before .before .before .before .is-finite .ensures), not-false (c .before .before .before .before .before .before .is-finite .result) (c .before .before .before .before .before .if1 .left), c .before .before .before .before .if2 .left, sym (c .before .before .before .root .ensures))
+returns-3 c =
+    let (s, d, f, e, g) : tie.Start × tie.After-dot × tie.After-is-finite × tie.Else1 × tie.Else2 = search in
+    let u : tie.After-over-length = search in
+    told-unit (s .args .self) (d .dot .result) (u .over-length .result) (d .dot .ensures)
+    (test-passed (f .is-finite .ensures) (e .if1 .left)) (g .if2 .left) (u .over-length .ensures)
 
 pub try-normalize-spec : {M : Type 1} → statement M
 try-normalize-spec =
-    tie.close (tie.spec dot-requires is-finite-requires returns returns-2 root-requires returns-3)
+    tie.close
+    (tie.spec
+    (search needs)  -- dot-requires
+    (search needs)  -- is-finite-requires
+    (search needs)  -- normalize-scaled-requires
+    returns
+    (search needs)  -- normalize-scaled-requires-2
+    returns-2
+    over-length-requires
+    returns-3)
