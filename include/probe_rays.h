@@ -39,9 +39,9 @@
  *   5    out of bounds   an index or a box that does not fit, a tree that is broken    build, query: zeros;
  *                        where the walk meets it                                       else unchanged
  *   6    overflow        a number on the way is not finite                             build: zeros; else unchanged
- *   7    no normal       the normal of the surface hit cannot be normalised            unchanged
+ *   7    no normal       the cross of the hit triangle's edges is zero or not finite   unchanged
  *   8    not convergent  the walk through a distance grid ends without an answer, or   unchanged
- *                        the gradient at its hit cannot be normalised
+ *                        the gradient at its hit is zero or not finite
  *   9    bad range       a range of a visited cell is out of order or not finite       unchanged
  *
  * Or one of the codes PROBE_HIT, PROBE_NONE, PROBE_YES, PROBE_NO, PROBE_DONE, PROBE_CLEAR and PROBE_POSSIBLE, which no

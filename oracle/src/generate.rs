@@ -75,7 +75,7 @@ pub fn marked() -> Vec<Record> {
             },
         },
         overflow_after_no_normal(f64::NAN),
-        overflow_after_no_normal(0.0),
+        overflow_after_no_normal(1e160),
         huge_middle(),
         not_a_number([0, 1]),
         not_a_number([1, 0]),
@@ -99,20 +99,20 @@ fn not_a_number(order: [usize; 2]) -> Record {
     }
 }
 
-/// A height grid whose row 0 gives 7; the last node of row 1 decides on 6.
+/// A height grid whose first cell gives 7, since its edges' cross is infinite; the last node of the second decides on 6.
 fn overflow_after_no_normal(last: f64) -> Record {
     Record {
         ray: Ray {
-            origin: [2.5e159, 1.0, 1.0],
+            origin: [1e160, 1e-60, 2e50],
             direction: DOWN,
-            maximum: 2.0,
+            maximum: 4e50,
             near: 0.0,
         },
         shape: Shape::HeightField {
-            rows: 3,
-            columns: 2,
-            spacing: [1e160, 1.0],
-            heights: vec![0.0, 0.0, 0.0, 0.0, 0.0, last],
+            rows: 2,
+            columns: 3,
+            spacing: [1e160, 1e50],
+            heights: vec![0.0, 0.0, 0.0, 1e160, 1e160, last],
         },
     }
 }

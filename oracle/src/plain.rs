@@ -98,18 +98,62 @@ fn dot(a: Vec3, b: Vec3) -> f64 {
     a.x * b.x + a.y * b.y + a.z * b.z
 }
 
+/// Document 02, M-104: where the dot is not finite or below 2^-1022 the vector is scaled first.
 fn normalised(v: Vec3) -> Option<Vec3> {
     let square = dot(v, v);
-    let least = or(
-        NormalZero,
-        or(NormalLeast, f64::MIN_POSITIVE, 2f64.powi(-1000)),
-        5e-324,
-    );
-    if !square.is_finite() || square < least {
+    let least = or(NormalLeast, f64::MIN_POSITIVE, 5e-324);
+    if square.is_finite() && square >= least {
+        return Some(over(v, square.sqrt()));
+    }
+    let largest = v.x.abs().max(v.y.abs()).max(v.z.abs());
+    if !v.is_finite() || largest == 0.0 || (slipped(NormalZero) && square == 0.0) {
         return None;
     }
-    let length = square.sqrt();
-    Some(Vec3::new(v.x / length, v.y / length, v.z / length))
+    let e = exponent(largest) - or(NormalHalf, 0, -1);
+    let scaled = Vec3::new(times_two_to_minus(e, v.x), times_two_to_minus(e, v.y), times_two_to_minus(e, v.z));
+    Some(over(scaled, dot(scaled, scaled).sqrt()))
+}
+
+fn over(v: Vec3, length: f64) -> Vec3 {
+    Vec3::new(v.x / length, v.y / length, v.z / length)
+}
+
+/// The digits and the exponent of a finite number's size: it is digits times 2 to the exponent.
+fn parts(x: f64) -> (u64, i32) {
+    let digits = x.to_bits() & ((1 << 52) - 1);
+    match (x.to_bits() >> 52) as i32 & 0x7ff {
+        0 => (digits, -1074),
+        field => (digits | 1 << 52, field - 1075),
+    }
+}
+
+/// The e of a number from 2^e to below 2^(e+1) in size.
+fn exponent(x: f64) -> i32 {
+    let (digits, exponent) = parts(x);
+    exponent + 63 - digits.leading_zeros() as i32
+}
+
+/// x times 2^-e, rounded once: by whole numbers.
+fn times_two_to_minus(e: i32, x: f64) -> f64 {
+    let (digits, exponent) = parts(x);
+    if digits == 0 {
+        return x;
+    }
+    let exponent = exponent - e;
+    // the last of 53 digits, or the least unit
+    let lowest = (exponent + 11 - digits.leading_zeros() as i32).max(-1074);
+    let size = match lowest - exponent {
+        places @ ..=0 => digits << -places,
+        places @ 1..=63 => {
+            let (kept, rest) = (digits >> places, digits & ((1 << places) - 1));
+            let half = 1 << (places - 1);
+            kept + u64::from(rest > half || rest == half && kept % 2 == 1)
+        }
+        _ => 0,
+    };
+    // the leading digit adds one to the exponent's field
+    let sign = x.to_bits() >> 63 << 63;
+    f64::from_bits(sign | (((lowest + 1074) as u64) << 52) + size)
 }
 
 /// Ties away from zero.

@@ -87,6 +87,9 @@ impl Fields<'_> {
     }
 }
 
+/// M-104: 'Where the old rule succeeded, the bits are as before, and the Rust is compared there.'
+pub const NORMAL: &str = "the Rust refuses with 7 or 8, where normalising may now scale (M-104)";
+
 impl Record {
     /// The record in a body without its length bytes; none if it is malformed.
     pub fn parse(body: &[u8]) -> Option<Self> {
@@ -124,10 +127,11 @@ impl Record {
 
     /// Why a request of document 02 leaves the record out of runs against the Rust, if one does.
     pub fn left_out(&self) -> Option<&'static str> {
-        match self.shape {
-            Shape::LevelSet { .. } if self.answer() == Answer::Refused(5) => {
+        match (&self.shape, self.answer()) {
+            (Shape::LevelSet { .. }, Answer::Refused(5)) => {
                 Some("the Rust refuses a distance grid with 5 (M-103)")
             }
+            (_, Answer::Refused(7 | 8)) => Some(NORMAL),
             _ => plain::beside_the_rust(|| plain::answer(self)).1,
         }
     }

@@ -89,8 +89,9 @@ slips! {
     NanAfterNormal: "a distance that is not a number is asked after the normal",
     NanSeven: "a distance that is not a number is 7",
     TriangleEdges: "the normal is the cross of the edges in the other order",
-    NormalLeast: "normalising fails below 2^-1000",
-    NormalZero: "normalising fails at a dot of 0 alone",
+    NormalLeast: "a dot below 2^-1022 tells a length",
+    NormalZero: "normalising fails at a dot of 0",
+    NormalHalf: "the largest component is brought to at least 1/2 and below 1",
     // the fold over triangles
     FoldTies: "of equal distances the last one wins",
     FoldFirst: "the first hit wins",

@@ -43,6 +43,18 @@ fn legs(x: f64, y: f64) -> Record {
     )
 }
 
+/// A triangle whose edges' cross is infinite, its determinant not, seen along x.
+fn infinite_cross(y: f64) -> Record {
+    let (x, p) = (2f64.powi(610), 2f64.powi(-10));
+    let corners = [[0.0; 3], [x, 0.0, p], [0.0, x, 0.0]];
+    record(
+        [x / 4.0, y, p / 4.0],
+        [1.0, 0.0, 0.0],
+        1.0,
+        Shape::Triangle { corners },
+    )
+}
+
 /// A walk along x that crosses layer after layer at a slant. The distance so far is rounded so coarsely that about every third
 /// crossing takes two steps.
 fn slanted(layers: u32, height: f64, direction: Point) -> Record {
@@ -89,6 +101,22 @@ fn planes_and_triangles() -> Vec<Record> {
         // a determinant of 32 EPS, just flat, and one of 48 EPS
         legs(2f64.powi(-23), 2f64.powi(-24)),
         legs(1.5 * 2f64.powi(-23), 2f64.powi(-24)),
+        // a component that is rounded as its vector is scaled: to 1 of the least floats, and not to 2
+        record(
+            [2f64.powi(268), 2f64.powi(268), 1.0],
+            DOWN,
+            2.0,
+            Shape::Triangle {
+                corners: [
+                    [0.0; 3],
+                    [2f64.powi(270), 0.0, 1.25 * 2f64.powi(-804)],
+                    [0.0, 2f64.powi(270), 0.0],
+                ],
+            },
+        ),
+        // a cross that is not finite, at a distance of 0 and at one that is no number
+        infinite_cross(2f64.powi(210)),
+        infinite_cross(2f64.powi(608)),
         // a segment's end that is not finite
         record(far, right, 1e308, t),
         record(far, right, 1e308, flat),
@@ -123,12 +151,12 @@ fn grids() -> Vec<Record> {
         3.971250089343619e307,
     ];
     vec![
-        // a gradient whose dot lies from 2^-1022 to 2^-1000
+        // a gradient whose dot is below 2^-1022
         record(
             [0.5, 0.5, 2.0],
             DOWN,
             5.0,
-            grid([2; 3], [1.0; 3], layers(-1e-152, 1e-152)),
+            grid([2; 3], [1.0; 3], layers(-1e-158, 1e-158)),
         ),
         // along the face x = 1 by the least step, which is parallel
         record(

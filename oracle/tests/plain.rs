@@ -35,3 +35,17 @@ fn a_zero_is_printed_with_its_sign() {
     assert_ne!(plus, minus);
     assert!(oracle::agree::lines_agree(&plus, &minus));
 }
+
+/// M-104: K7's normal is found once it is scaled, and the Rust alone refuses it.
+#[test]
+fn a_large_triangle_has_a_normal() {
+    let k7 = &generate::marked()[6];
+    assert_eq!(k7.answer(), Answer::Refused(7));
+    let normal = [0.0, 0.0, 1.0];
+    let hit = Answer::Hit {
+        normal,
+        distance: 1.0,
+        index: None,
+    };
+    assert_eq!(plain::answer(k7), hit);
+}

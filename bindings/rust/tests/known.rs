@@ -73,9 +73,18 @@ fn k6_triangle_missed() {
 }
 
 #[test]
-fn k7_triangle_without_a_normal() {
+fn k7_large_triangle_hit() {
     let corners = [[0.0, 0.0, 0.0], [1e160, 0.0, 0.0], [0.0, 1.0, 0.0]];
     let ray = down([2.5e159, 0.25, 1.0], 10.0);
+    same!(ray_triangle(&ray, &corners), hit_at(1.0));
+}
+
+/// The cross of the edges is infinite, and the determinant is not.
+#[test]
+fn triangle_without_a_normal() {
+    let (x, y, p) = (2f64.powi(610), 2f64.powi(210), 2f64.powi(-10));
+    let corners = [[0.0, 0.0, 0.0], [x, 0.0, p], [0.0, x, 0.0]];
+    let ray = Ray::new([x / 4.0, y, p / 4.0], [1.0, 0.0, 0.0], 1.0);
     same!(
         ray_triangle(&ray, &corners),
         Cast::Refused(Refusal::NoNormal)
