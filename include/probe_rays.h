@@ -43,10 +43,11 @@
  *   8    not convergent  the walk through a distance grid ends without an answer, or   unchanged
  *                        the gradient at its hit is zero or not finite
  *   9    bad range       a range of a visited cell is out of order or not finite       unchanged
+ *   10   limit reached   the next node of a cabinet's walks would exceed the limit     unchanged but for spent
  *
  * Or one of the codes PROBE_HIT, PROBE_NONE, PROBE_YES, PROBE_NO, PROBE_DONE, PROBE_CLEAR and PROBE_POSSIBLE, which no
  * refusal has.
- * Numbers from 10 on may be added to the refusals; all stay below 256.
+ * Numbers from 11 on may be added to the refusals; all stay below 256.
  *
  * Tested are 1, 2, 3 and 4 in this order, then the others as the cast meets them. The result slices hit, index, nodes
  * (of probe_build), found and cell are lent slices like the others: one that is too short is 3, after 1 and 2.
@@ -101,6 +102,7 @@ extern "C" {
 #define PROBE_REFUSED_NO_NORMAL 7u
 #define PROBE_REFUSED_NOT_CONVERGENT 8u
 #define PROBE_REFUSED_BAD_RANGE 9u
+#define PROBE_REFUSED_LIMIT_REACHED 10u
 
 /* Whether an answer is a refusal. */
 #define PROBE_IS_REFUSAL(answer) ((answer) < 256u)
@@ -126,6 +128,7 @@ extern "C" {
  *   hit             double    4               normal x, y, z, then the distance
  *   index           uint32_t  1               the index of the triangle hit
  *   nodes, found    size_t    1               the build's node count; how many triangles the query listed
+ *   part, spent     size_t    1               the part hit, from 0; the nodes spent on a cabinet
  *
  * Node 0 is the root. A node count is at most 2n (more is 2), so a stack of 2n + 1 does for every tree.
  */
@@ -548,6 +551,85 @@ uint32_t probe_tree_check(
     size_t order_length,
     uint32_t *marks,
     size_t marks_length
+);
+
+/* A range of an area: its first element and how many. */
+typedef struct probe_span {
+    size_t start;
+    size_t length;
+} probe_span;
+
+typedef struct probe_vec3 {
+    double x;
+    double y;
+    double z;
+} probe_vec3;
+
+/* A part of a cabinet, 128 bytes: where it stands, its tree's node count, and the ranges of its mesh and its tree in
+ * the six areas that all parts share. Parts may share ranges. */
+typedef struct probe_part {
+    probe_vec3 origin;
+    size_t nodes;
+    probe_span vertices;
+    probe_span triangles;
+    probe_span node_boxes;
+    probe_span triangle_boxes;
+    probe_span node_words;
+    probe_span order;
+} probe_part;
+
+/* Casts a ray at a cabinet: at each part in list order, through its tree, the ray moved by the part's origin (the
+ * difference is rounded once a component). Every node that is taken from a stack costs one of the limit, which all
+ * parts share; a node whose box does not touch costs one too. A surface nearer than near_distance is passed.
+ *
+ * Answers PROBE_HIT, PROBE_NONE, or refuses with 1, 2 (a range leaves its area, or the mesh cast would refuse the
+ * part's mesh with 2), 3 (a range shorter than the table above says for its mesh; list and stack are as long as the
+ * largest part asks; a result slice), 5, 6 (the moved origin is not finite, or as the mesh cast), 7, or 10: the limit
+ * is used up and a node is left to take. 1 goes before 2 of any part, 2 before 3 of any part, and then the parts'
+ * refusals and 10 as they are met. A hit is the nearest of all parts; of equally near ones, that of the lowest part,
+ * and of its lowest triangle. It does not stand against a later part's refusal or 10.
+ *
+ * With PROBE_HIT hit, index and part[0] are written; spent[0], the nodes spent, with PROBE_HIT, PROBE_NONE and the
+ * refusals met from the first part on, 5, 6, 7 and 10. It is never above the limit, and equals it with 10. An empty
+ * list is PROBE_NONE with 0 spent. A larger limit never changes a hit or a none. Through trees for which
+ * probe_tree_check says PROBE_YES the sum of the node counts suffices, and the answer is then that of casting at each
+ * part alone; SIZE_MAX is no limit. */
+uint32_t probe_ray_cabinet(
+    double origin_x,
+    double origin_y,
+    double origin_z,
+    double direction_x,
+    double direction_y,
+    double direction_z,
+    double max_distance,
+    double near_distance,
+    const probe_part *parts,
+    size_t parts_length,
+    const double *vertices,
+    size_t vertices_length,
+    const uint32_t *triangles,
+    size_t triangles_length,
+    const double *node_boxes,
+    size_t node_boxes_length,
+    const double *triangle_boxes,
+    size_t triangle_boxes_length,
+    const uint32_t *node_words,
+    size_t node_words_length,
+    const uint32_t *order,
+    size_t order_length,
+    size_t limit,
+    uint32_t *list,
+    size_t list_length,
+    uint32_t *stack,
+    size_t stack_length,
+    double *hit,
+    size_t hit_length,
+    uint32_t *index,
+    size_t index_length,
+    size_t *part,
+    size_t part_length,
+    size_t *spent,
+    size_t spent_length
 );
 
 #ifdef __cplusplus

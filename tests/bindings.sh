@@ -31,7 +31,13 @@ g++ "$work/panel.o" "$archive" -o "$work/panel-c++"
 for panel in "$work/panel-c" "$work/panel-c++"; do
   "$panel" | diff - examples/panel.expected
 done
-echo "the C example prints what the panel's measures say, as C and as C++"
+gcc -std=c99 $strict examples/cabinet.c "$archive" -o "$work/cabinet-c"
+g++ -x c++ -std=c++98 $strict -c examples/cabinet.c -o "$work/cabinet.o"
+g++ "$work/cabinet.o" "$archive" -o "$work/cabinet-c++"
+for cabinet in "$work/cabinet-c" "$work/cabinet-c++"; do
+  "$cabinet" | diff - examples/cabinet.expected
+done
+echo "the C examples print what the panels' measures say, as C and as C++"
 
 (
   cd bindings/rust
@@ -77,4 +83,4 @@ for wrong in "$work"/wrong-*.stl; do
   expect 2 "$work/$name.says" "$stl" "$wrong" "${words[@]}"
 done
 echo "the STL example prints what the panel's measures say, from ASCII and binary files"
-echo "bindings: $((2 + rust + files)) tests passed"
+echo "bindings: $((4 + rust + files)) tests passed"

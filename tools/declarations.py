@@ -5,10 +5,13 @@
   declarations.py --self-test   changes copies, one fault each, and sees that each one is reported; with --loud, how
 
 Compared are, of every call, its name, its parameters' order, names and types, and what it returns; the codes and the
-refusals with their numbers; the version; and the lengths of the areas. The proved source decides:
+refusals with their numbers; the version; the lengths of the areas; and of every struct that a call reads through a
+pointer its size, and its fields' names, types and offsets. The proved source decides:
 
   crates/exports/src/*.rt       the calls, the version, and the codes
-  crates/casts/src/answer.rt    the refusals, and that of the ranges in crates/height_ranges/src/answer.rt
+  crates/casts/src/answer.rt    the refusals, and that of the ranges in crates/height_ranges/src/answer.rt,
+                                and of a limit in crates/cabinet/src/cast.rt
+  crates/cabinet/src/part.rt    the structs; crates/geometry/src/vec3.rt has the vector in them
   crates/tree/src/lib.rt        the table of areas
   include/probe_rays.h          for C and C++
   bindings/rust/src/sys.rs      for Rust; src/lent.rs has the lengths
@@ -20,7 +23,8 @@ import sys
 import tempfile
 
 RATTLE = "crates/exports/src"
-REFUSALS = ["crates/casts/src/answer.rt", "crates/height_ranges/src/answer.rt"]
+REFUSALS = ["crates/casts/src/answer.rt", "crates/height_ranges/src/answer.rt", "crates/cabinet/src/cast.rt"]
+STRUCTS = ["crates/cabinet/src/part.rt", "crates/geometry/src/vec3.rt"]
 AREAS = "crates/tree/src/lib.rt"
 HEADER = "include/probe_rays.h"
 RUST = "bindings/rust/src/sys.rs"
@@ -29,8 +33,12 @@ LENGTHS = "bindings/rust/src/lent.rs"
 # the areas whose lengths have a macro and a function; the table of the source has more rows
 SIZED = ["node_boxes", "triangle_boxes", "node_words", "order", "work", "list", "stack", "marks"]
 
-NUMBERS = {"f64": "f64", "u32": "u32", "usize": "usize"}
-C_TYPES = {"double": "f64", "uint32_t": "u32", "size_t": "usize"}
+NUMBERS = {"f64": "f64", "u32": "u32", "usize": "usize", "Part": "Part"}
+C_TYPES = {"double": "f64", "uint32_t": "u32", "size_t": "usize", "probe_part": "Part"}
+
+# the structs that calls read, and what stands in them, by the header's names
+C_STRUCTS = {"probe_part": "Part", "probe_span": "Span", "probe_vec3": "Vec3"}
+SIZES = {"f64": 8, "u32": 4, "usize": 8}
 
 
 class Unreadable(Exception):
@@ -113,12 +121,62 @@ def rust_calls(text):
 
 def c_calls(text):
     body = re.sub(r"^\s*#.*(?:\\\n.*)*$", "", text, flags=re.M)
+    body = re.sub(C_STRUCT, "", body)
     body = body.replace('extern "C" {', "").replace("}", "")
     pattern = r"(?P<returns>\w+)\s+(?P<name>\w+)\s*\((?P<parameters>[^)]*)\)\s*;"
     rest = re.sub(pattern, "", body).strip()
     if rest:
         raise Unreadable(f"{HEADER}: in a form that is not read here: {rest.splitlines()[0]}")
     return calls(body, pattern, from_c, C_TYPES, HEADER)
+
+
+def laid_out(name, structs, place):
+    """A struct as C lays it out: its size, its alignment, and (path, type, offset) of each number in it."""
+    offset, align, flat = 0, 1, []
+    for field, kind in structs[name]:
+        if kind in SIZES:
+            size, own, inner = SIZES[kind], SIZES[kind], [("", kind, 0)]
+        elif kind in structs:
+            size, own, inner = laid_out(kind, structs, place)
+        else:
+            raise Unreadable(f"{place}: struct {name}: no type that is read here: {kind}")
+        offset += -offset % own
+        align = max(align, own)
+        flat += [(f"{field}.{path}".rstrip("."), number, offset + at) for path, number, at in inner]
+        offset += size
+    return offset + -offset % align, align, flat
+
+
+def layouts(structs, place):
+    """(size, fields) of every struct."""
+    missing = sorted(set(C_STRUCTS.values()) - structs.keys())
+    if missing:
+        raise Unreadable(f"{place}: no struct {', '.join(missing)} that C can read")
+    found = {name: laid_out(name, structs, place) for name in structs}
+    return {name: (size, fields) for name, (size, _, fields) in found.items()}
+
+
+def rust_structs(text):
+    """Those with #[repr(C)], in Rattle and in Rust."""
+    pattern = r"#\[repr\(C\)\]\s*(?:#\[derive[^\]]*\]\s*)?pub struct (\w+) \{([^}]*)\}"
+    field = r"pub (\w+): (\w+)"
+    return {match[1]: re.findall(field, match[2]) for match in re.finditer(pattern, text)}
+
+
+C_STRUCT = r"typedef struct (\w+) \{([^}]*)\} (\w+);"
+
+
+def c_structs(text):
+    found = {}
+    for tag, body, name in re.findall(C_STRUCT, text):
+        if tag != name or name not in C_STRUCTS:
+            raise Unreadable(f"{HEADER}: a struct that is not read here: {name}")
+        fields = []
+        for line in filter(None, (line.strip() for line in body.split(";"))):
+            kind, field = line.split()
+            fields.append((field, C_STRUCTS.get(kind) or C_TYPES.get(kind, kind)))
+        found[C_STRUCTS[name]] = fields
+    return found
 
 
 def constants(text, pattern):
@@ -142,7 +200,7 @@ def read(folder):
     """What each side declares: {side: {what: value}}."""
     text = {
         path: re.sub(r"/\*.*?\*/", "", (folder / path).read_text(), flags=re.S)
-        for path in [*REFUSALS, AREAS, HEADER, RUST, LENGTHS]
+        for path in [*REFUSALS, AREAS, HEADER, RUST, LENGTHS] + STRUCTS
     }
     source = "\n".join(path.read_text() for path in sorted((folder / RATTLE).glob("*.rt")))
     plain = re.sub(r"//.*", "", source)
@@ -152,6 +210,7 @@ def read(folder):
     version = re.search(r"fn probe_version\(\) -> u32.*?\{\s*(\d+)\s*\}", plain, re.S)
     numbers = r"^pub const (?!VERSION)(\w+): u32 = (\d+);"
     refusals = constants(re.sub(r"//.*", "", "\n".join(text[path] for path in REFUSALS)), numbers)
+    structs = rust_structs(re.sub(r"//.*", "", "\n".join(text[path] for path in STRUCTS)))
     codes = constants(plain, numbers)
     lengths = re.findall(r"fn (\w+)_length\((?:n|nodes): usize\) -> usize \{([^}]*)\}", text[LENGTHS])
     macros = re.findall(r"^#define PROBE_(\w+)_LENGTH\((?:n|nodes)\) (.*)$", text[HEADER], re.M)
@@ -163,18 +222,21 @@ def read(folder):
             "code": {**codes, **{f"REFUSED_{name}": number for name, number in refusals.items()}},
             "version": {"probe_version": int(version[1]) if version else None},
             "length": table(text[AREAS]),
+            "struct": layouts(structs, "source"),
         },
         HEADER: {
             "call": c_calls(text[HEADER]),
             "code": constants(text[HEADER], r"^#define PROBE_(?!VERSION)(?!MAX_)(\w+) (\d+)u *$"),
             "version": {"probe_version": constants(text[HEADER], r"^#define PROBE_(VERSION) (\d+)u").get("VERSION")},
             "length": {name: named.get(name) for name in SIZED},
+            "struct": layouts(c_structs(text[HEADER]), HEADER),
         },
         RUST: {
             "call": rust_calls(rust),
             "code": constants(rust, numbers),
             "version": {"probe_version": constants(rust, r"^pub const (VERSION): u32 = (\d+);").get("VERSION")},
             "length": {name: dict((k, product(v)) for k, v in lengths).get(name) for name in SIZED},
+            "struct": layouts(rust_structs(rust), RUST),
         },
     }
 
@@ -187,6 +249,16 @@ def difference(name, ours, theirs):
         if mine != other:
             return f"parameter {place} is {other[0]}: {other[1]}, in the source {mine[0]}: {mine[1]}"
     return f"{len(theirs[0])} parameters, in the source {len(ours[0])}"
+
+
+def struct_difference(ours, theirs):
+    """Where two layouts of a struct differ first."""
+    if ours[0] != theirs[0]:
+        return f"has {theirs[0]} bytes, in the source {ours[0]}"
+    for mine, other in zip(ours[1], theirs[1]):
+        if mine != other:
+            return f"has {other[0]}: {other[1]} at byte {other[2]}, the source {mine[0]}: {mine[1]} at byte {mine[2]}"
+    return f"has {len(theirs[1])} numbers, in the source {len(ours[1])}"
 
 
 def compare(folder):
@@ -209,6 +281,8 @@ def compare(folder):
                     found.append(f"{side}: {what} {name} is not in the source")
                 elif what == "call":
                     found.append(f"{side}: {name}: {difference(name, ours, theirs)}")
+                elif what == "struct":
+                    found.append(f"{side}: {name} {struct_difference(ours, theirs)}")
                 else:
                     found.append(f"{side}: {what} {name} is {theirs}, in the source {ours}")
     return found, {what: len(values) for what, values in source.items()}
@@ -260,6 +334,18 @@ FAULTS = [
     (RATTLE + "/results.rt", "pub const NO: u32 = 259;", "pub const NO: u32 = 258;"),
     (REFUSALS[0], "pub const WRONG_POSE: u32 = 4;", "pub const WRONG_POSE: u32 = 9;"),
     (AREAS, "| 12n ", "| 10n "),
+    (HEADER, "const probe_part *parts,", "probe_part *parts,"),
+    (HEADER, "    size_t nodes;\n    probe_span vertices;", "    probe_span vertices;\n    size_t nodes;"),
+    (HEADER, "    size_t nodes;\n", "    uint32_t nodes;\n"),
+    (HEADER, "    probe_vec3 origin;", "    probe_span origin;"),
+    (HEADER, "    size_t start;\n    size_t length;", "    size_t length;\n    size_t start;"),
+    (HEADER, "    double y;\n    double z;", "    double z;\n    double y;"),
+    (HEADER, "    probe_span order;\n", ""),
+    (RUST, "pub nodes: usize,\n    /// Three numbers", "pub nodes: u32,\n    /// Three numbers"),
+    (RUST, "#[repr(C)]\n#[derive(Clone, Copy, Debug, Default, PartialEq)]\npub struct Part", "pub struct Part"),
+    (STRUCTS[0], "    pub node_boxes: Span,\n    pub triangle_boxes: Span,", "    pub triangle_boxes: Span,\n    pub node_boxes: Span,"),
+    (STRUCTS[1], "#[repr(C)]\n", ""),
+    (REFUSALS[-1], "pub const LIMIT_REACHED: u32 = 10;", "pub const LIMIT_REACHED: u32 = 11;"),
 ]
 
 
@@ -269,7 +355,7 @@ def self_test(folder, loud):
     for file, old, new in [(HEADER, "", "")] + FAULTS:
         with tempfile.TemporaryDirectory() as name:
             copy = pathlib.Path(name)
-            for path in [RATTLE, *REFUSALS, AREAS, HEADER, RUST, LENGTHS]:
+            for path in [RATTLE, *REFUSALS, AREAS, HEADER, RUST, LENGTHS] + STRUCTS:
                 (copy / path).parent.mkdir(parents=True, exist_ok=True)
                 if (folder / path).is_dir():
                     shutil.copytree(folder / path, copy / path)

@@ -77,6 +77,14 @@ pub mod query {
             }
         }
 
+        /// The ray in the frame of a part at an origin.
+        pub(crate) fn moved(ray: Ray, origin: Vec3) -> Ray {
+            Ray {
+                origin: ray.origin - origin,
+                ..ray
+            }
+        }
+
         #[inline(never)]
         pub(crate) fn plane(ray: Ray, plane: &Plane) -> Cast {
             ray.validate()?;

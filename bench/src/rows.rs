@@ -14,7 +14,10 @@ use crate::{
     shape::{self, TriangleMesh},
     timing::Row,
 };
-use probe_rays::sys::{DONE, HIT, NONE, YES};
+use probe_rays::{
+    Cabinet, Cast,
+    sys::{DONE, HIT, NONE, YES},
+};
 use std::{cell::LazyCell, hint::black_box, rc::Rc};
 
 fn rust_ray(ray: &Ray) -> RustRay {
@@ -240,6 +243,72 @@ pub fn mesh(name: &str, wanted: u32, both: &Rc<Both>, rays: Vec<Ray>) -> Row {
     )
 }
 
+/// The parts of a cabinet, four side by side.
+const PARTS: usize = 40;
+
+fn part_origin(part: usize) -> [f64; 3] {
+    [600.0 * (part % 4) as f64, 143.0 * (part / 4) as f64, 0.0]
+}
+
+/// The same mesh forty times, each ray at one of the parts. The Rust has no such cast: it casts at each part in turn.
+fn cabinet(name: &str, both: &Rc<Both>, mut rays: Vec<Ray>) -> Row {
+    let rows = |numbers: &[f64]| {
+        numbers
+            .chunks_exact(3)
+            .map(|p| [p[0], p[1], p[2]])
+            .collect::<Vec<_>>()
+    };
+    let corners = both
+        .mesh
+        .triangles
+        .chunks_exact(3)
+        .map(|t| [t[0], t[1], t[2]])
+        .collect::<Vec<_>>();
+    let one = probe_rays::Mesh::build(rows(&both.mesh.vertices), corners).expect("a tree");
+    let mut ours = Cabinet::new();
+    ours.push(&one, part_origin(0));
+    for part in 1..PARTS {
+        ours.place_again(0, part_origin(part));
+    }
+    for (number, ray) in rays.iter_mut().enumerate() {
+        let origin = part_origin(7 * number % PARTS);
+        (0..3).for_each(|axis| ray.origin[axis] += origin[axis]);
+    }
+    let (b, mut scratch, limit) = (both.clone(), QueryScratch::default(), ours.nodes());
+    let rust = rust_rays(&rays);
+    casts(
+        name,
+        HIT,
+        rays,
+        rust,
+        move |ray, hit| match ours.cast(ray, limit).answer {
+            Cast::Hit(found) => {
+                let [x, y, z] = found.normal;
+                *hit = [x, y, z, found.distance];
+                HIT
+            }
+            Cast::None => NONE,
+            Cast::Refused(refusal) => refusal.number(),
+        },
+        move |ray| {
+            let mut best: timed::Cast = Ok((None, 0.0));
+            for part in 0..PARTS {
+                let moved = timed::moved(*ray, Vec3::from_array(part_origin(part)));
+                let (normal, distance) =
+                    timed::mesh(moved, &b.rust_mesh, &b.rust_tree, &mut scratch)?;
+                if normal.is_some()
+                    && best
+                        .as_ref()
+                        .is_ok_and(|(n, least)| n.is_none() || distance < *least)
+                {
+                    best = Ok((normal, distance));
+                }
+            }
+            best
+        },
+    )
+}
+
 fn segment_box(ray: &Ray) -> [f64; 6] {
     let mut bounds = [0.0; 6];
     for axis in 0..3 {
@@ -368,6 +437,11 @@ impl Lazy {
         plan(name, move |name| mesh(name, wanted, &lazy.0, rays))
     }
 
+    fn cabinet(&self, name: &str, rays: Vec<Ray>) -> Planned {
+        let lazy = self.clone();
+        plan(name, move |name| cabinet(name, &lazy.0, rays))
+    }
+
     fn query(&self, name: &str, rays: Vec<Ray>) -> Planned {
         let lazy = self.clone();
         plan(name, move |name| query(name, &lazy.0, &rays))
@@ -416,6 +490,7 @@ fn meshes() -> Vec<Planned> {
         panel.query("query, panel, long oblique rays", long),
         panel.check("tree check, panel, a triangle"),
         sheet.check("tree check, sheet, a triangle"),
+        front.cabinet("cabinet, 40 drawer fronts, hit", inputs::front_rays(256)),
     ]
 }
 

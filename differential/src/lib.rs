@@ -1,6 +1,7 @@
 //! The static library beside the unchanged Rust and beside the model of what document
 //! 01 adds to it, on seeded inputs.
 
+pub mod cabinets;
 pub mod calls;
 pub mod lent;
 pub mod library;

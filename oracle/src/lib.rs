@@ -8,6 +8,7 @@ pub(crate) use math::{Vec2, Vec3};
 pub mod aabb;
 pub mod agree;
 pub mod answer;
+pub mod cabinet;
 pub mod cases;
 pub(crate) mod collision;
 pub mod generate;

@@ -43,14 +43,14 @@ pub enum Check {
     Refused(u32),
 }
 
-enum Node {
+pub(crate) enum Node {
     Leaf { start: usize, end: usize },
     Branch { left: usize, right: usize },
     Other,
 }
 
 impl Tree<'_> {
-    fn node(&self, index: usize) -> Node {
+    pub(crate) fn node(&self, index: usize) -> Node {
         let word = |k: usize| self.node_words[3 * index + k] as usize;
         match word(0) {
             0 => Node::Leaf {
@@ -65,16 +65,16 @@ impl Tree<'_> {
         }
     }
 
-    fn node_box(&self, index: usize) -> &[f64] {
+    pub(crate) fn node_box(&self, index: usize) -> &[f64] {
         &self.node_boxes[6 * index..6 * index + 6]
     }
 
-    fn triangle_box(&self, index: usize) -> &[f64] {
+    pub(crate) fn triangle_box(&self, index: usize) -> &[f64] {
         &self.triangle_boxes[6 * index..6 * index + 6]
     }
 
     /// No slice of the tree is shorter than stated for `n` triangles.
-    fn is_long_enough(&self, n: usize) -> bool {
+    pub(crate) fn is_long_enough(&self, n: usize) -> bool {
         self.node_boxes.len() >= 12 * n
             && self.triangle_boxes.len() >= 6 * n
             && self.node_words.len() >= 6 * n

@@ -96,6 +96,8 @@ pub enum Refusal {
     NotConvergent,
     /// 9: a range of heights that counts is out of order or not finite.
     BadRange,
+    /// 10: the next node of a cabinet's walks would exceed the limit.
+    LimitReached,
     /// A number that this crate has no name for: a library newer than it.
     Other(u32),
 }
@@ -120,6 +122,7 @@ impl Refusal {
             sys::REFUSED_NO_NORMAL => Refusal::NoNormal,
             sys::REFUSED_NOT_CONVERGENT => Refusal::NotConvergent,
             sys::REFUSED_BAD_RANGE => Refusal::BadRange,
+            sys::REFUSED_LIMIT_REACHED => Refusal::LimitReached,
             other => Refusal::Other(other),
         }
     }
@@ -136,6 +139,7 @@ impl Refusal {
             Refusal::NoNormal => sys::REFUSED_NO_NORMAL,
             Refusal::NotConvergent => sys::REFUSED_NOT_CONVERGENT,
             Refusal::BadRange => sys::REFUSED_BAD_RANGE,
+            Refusal::LimitReached => sys::REFUSED_LIMIT_REACHED,
             Refusal::Other(number) => number,
         }
     }
@@ -153,6 +157,7 @@ impl fmt::Display for Refusal {
             Refusal::NoNormal => "no normal: the surface hit has no unit normal",
             Refusal::NotConvergent => "not convergent: the walk through the grid has no answer",
             Refusal::BadRange => "bad range: a range of heights is out of order or not finite",
+            Refusal::LimitReached => "limit reached: the cast would look at more nodes than admitted",
             Refusal::Other(_) => "a refusal that this version does not know",
         };
         write!(out, "refused {}, {words}", self.number())

@@ -37,6 +37,7 @@
 #![deny(unsafe_op_in_unsafe_fn)]
 
 mod answer;
+pub mod cabinet;
 pub mod calls;
 pub mod lent;
 mod mesh;
@@ -47,6 +48,7 @@ mod shapes;
 pub mod sys;
 
 pub use answer::{Cast, Hit, MeshHit, Refusal};
+pub use cabinet::{Cabinet, CabinetCast, PartHit};
 pub use mesh::{Mesh, Scratch, Tree, TreeError};
 pub use plain::PlainMesh;
 pub use ranges::{ray_height_ranges, Clearance, HeightRanges};

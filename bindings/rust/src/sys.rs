@@ -351,6 +351,90 @@ extern "C" {
         index: *mut u32,
         index_length: usize,
     ) -> u32;
+
+    /// Casts a ray at a cabinet of many parts under one limit of nodes.
+    pub fn probe_ray_cabinet(
+        origin_x: f64,
+        origin_y: f64,
+        origin_z: f64,
+        direction_x: f64,
+        direction_y: f64,
+        direction_z: f64,
+        max_distance: f64,
+        near_distance: f64,
+        parts: *const Part,
+        parts_length: usize,
+        vertices: *const f64,
+        vertices_length: usize,
+        triangles: *const u32,
+        triangles_length: usize,
+        node_boxes: *const f64,
+        node_boxes_length: usize,
+        triangle_boxes: *const f64,
+        triangle_boxes_length: usize,
+        node_words: *const u32,
+        node_words_length: usize,
+        order: *const u32,
+        order_length: usize,
+        limit: usize,
+        list: *mut u32,
+        list_length: usize,
+        stack: *mut u32,
+        stack_length: usize,
+        hit: *mut f64,
+        hit_length: usize,
+        index: *mut u32,
+        index_length: usize,
+        part: *mut usize,
+        part_length: usize,
+        spent: *mut usize,
+        spent_length: usize,
+    ) -> u32;
+}
+
+/// A range of an area: its first element and how many.
+#[repr(C)]
+#[derive(Clone, Copy, Debug, Default, PartialEq, Eq, Hash)]
+pub struct Span {
+    /// The first element.
+    pub start: usize,
+    /// How many.
+    pub length: usize,
+}
+
+/// A point.
+#[repr(C)]
+#[derive(Clone, Copy, Debug, Default, PartialEq)]
+pub struct Vec3 {
+    /// Along x.
+    pub x: f64,
+    /// Along y.
+    pub y: f64,
+    /// Along z.
+    pub z: f64,
+}
+
+/// A part of a cabinet, 128 bytes: where it stands, its tree's node count, and the ranges of its mesh and its tree in
+/// the areas that all parts share.
+#[repr(C)]
+#[derive(Clone, Copy, Debug, Default, PartialEq)]
+pub struct Part {
+    /// Where it stands: the ray's origin less this one is where the ray starts in the part's own frame.
+    pub origin: Vec3,
+    /// Its tree's node count.
+    pub nodes: usize,
+    /// Three numbers a vertex.
+    pub vertices: Span,
+    /// Three indices a triangle.
+    pub triangles: Span,
+    /// At least 12 a triangle.
+    pub node_boxes: Span,
+    /// At least 6 a triangle.
+    pub triangle_boxes: Span,
+    /// At least 6 a triangle.
+    pub node_words: Span,
+    /// At least one a triangle.
+    pub order: Span,
 }
 
 /// The version of these calls: it changes when one of them does.
@@ -389,3 +473,5 @@ pub const REFUSED_NO_NORMAL: u32 = 7;
 pub const REFUSED_NOT_CONVERGENT: u32 = 8;
 /// A range of a visited cell is out of order or not finite.
 pub const REFUSED_BAD_RANGE: u32 = 9;
+/// Refusal 10.
+pub const REFUSED_LIMIT_REACHED: u32 = 10;

@@ -5,3 +5,4 @@ pub mod Counts
 pub mod PlainCalls
 pub mod MeshTold
 pub mod Demands
+pub mod CabinetAnswers

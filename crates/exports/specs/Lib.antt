@@ -3,3 +3,4 @@ pub mod Results
 pub mod Plain
 pub mod Demands
 pub mod Ranges
+pub mod CabinetResults

@@ -14,3 +14,5 @@ pub mod meshes;
 pub mod plain;
 // The cast at heights known only within ranges.
 pub mod ranges;
+// The cast at a cabinet of many parts.
+pub mod cabinets;

@@ -63,7 +63,7 @@ pub fn ray_from(
 }
 
 // A hit's normal and distance, into the first four places. Callers show that they are there.
-fn put_hit(hit: &mut [f64], normal: Vec3, distance: f64)
+pub fn put_hit(hit: &mut [f64], normal: Vec3, distance: f64)
     requires { ⌜ 4 ≤ length (now hit) ⌝ }
     ensures { λ _. ⌜ now (hit .exit) ≡ sets (now (hit .entry)) 0 (normal .x ∷ normal .y ∷ normal .z ∷ distance ∷ []) ⌝ }
 {

@@ -1,0 +1,14 @@
+-- The laws of the cast at a cabinet. Assumes nothing.
+pub mod PartLimits
+pub mod Limits
+pub mod Alone
+pub mod Numbers
+pub mod Promises
+pub mod PartWalks
+pub mod PartSteps
+pub mod Idle
+pub mod LastAnswer
+pub mod Passes
+pub mod Again
+pub mod CabinetExamples
+pub mod NearestParts

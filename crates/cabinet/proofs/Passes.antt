@@ -1,0 +1,253 @@
+-- Two passes of the step over all parts are the cast at the cabinet. Assumes nothing.
+use Prim.Native.Nat.{ℕ, _*_, _-_}
+use mathlib.Core.Path.{_≡_, refl, sym, ap, _∙_}
+use mathlib.Core.Bool.{Bool, true, false, _&&_, cond, true≢false}
+use mathlib.Core.List.{List, [], _∷_}
+use lib.Dec.{leb}
+use lib.ListN.{length}
+use Rattle.geometry.specs.Segment.{rayAdmitted}
+use Rattle.geometry.specs.declared.ray.Ray.{Ray}
+use Rattle.casts.specs.Answer.{invalidInput, badShape, noRoom}
+use Rattle.tree.specs.Mesh.{thirds, lengthsAdmitted}
+use Rattle.tree.proofs.Corners.{and-first, and-second}
+use Rattle.tree_query.specs.Query.{walkFits}
+use Rattle.mesh.specs.MeshCast.{shapeAdmitted, roomFor}
+use Rattle.cabinet.specs.declared.part.Part.{Part}
+use Rattle.cabinet.specs.declared.part.Found.{Found}
+use Rattle.cabinet.specs.declared.part.Found.the-variants.{Nothing, Hit, Refused}
+use Rattle.cabinet.specs.declared.part.Progress.{Progress}
+use Rattle.cabinet.specs.declared.part.State.{State}
+use Rattle.cabinet.specs.Parts.{Areas, meshOf, treeOfPart, rangesInside, shapeFits, roomFits}
+use Rattle.cabinet.specs.PartCast.{castMoved}
+use Rattle.cabinet.specs.Cabinet.{Answer, refused, answerWith, answerOf, isRefused, beginning, castPart, castParts, allParts}
+use Rattle.cabinet.specs.Cabinet.{castCabinet}
+use Rattle.cabinet.specs.Cabinet.{withResults, testsPass}
+use Rattle.cabinet.specs.Steps.{lowerRefusal, refuseWith, isOver, isIdle, ownStep, stepPart, stepParts, looking, begun, turned}
+use Rattle.cabinet.specs.Steps.{passes, lastAnswer}
+use Rattle.cabinet.proofs.Limits.{after-refused}
+use Rattle.cabinet.proofs.Alone.{all-first, all-rest}
+use Rattle.cabinet.proofs.LastAnswer.{last-of-casts}
+
+-- a length tested twice
+twice : (l n : Bool) → (l && (l && n)) ≡ (l && n)
+twice true n = refl
+twice false n = refl
+
+module _ (a : Areas) (list stack : ℕ) where
+  abbrev inside : Part → Bool
+  inside p = rangesInside p (length (a .vertices)) (length (a .triangles)) (length (a .nodeBoxes)) (length (a .triangleBoxes))
+      (length (a .nodeWords)) (length (a .order))
+
+  abbrev admitted : Part → Bool
+  admitted p =
+      lengthsAdmitted (length (meshOf a p .vertices)) (length (meshOf a p .triangles)) && leb (p .nodes)
+      (2 * thirds (length (meshOf a p .triangles)))
+
+  shape-is : (p : Part) → shapeFits a p ≡ (inside p && admitted p)
+  unfolding shapeFits shapeAdmitted
+  shape-is p =
+      ap (λ (b : Bool). inside p && b)
+      (twice (lengthsAdmitted (length (meshOf a p .vertices)) (length (meshOf a p .triangles)))
+      (leb (p .nodes) (2 * thirds (length (meshOf a p .triangles)))))
+
+  room-is : (p : Part) → roomFits a list stack p ≡ walkFits (thirds (length (meshOf a p .triangles))) (treeOfPart a p) list stack
+  unfolding roomFits roomFor walkFits
+  room-is p = refl
+
+  module _ (r : Ray) (limit : ℕ) where
+    -- ---- the first pass
+    abbrev looksAt : Found → Part → Found
+    looksAt f p = cond (shapeFits a p) (cond (roomFits a list stack p) f (lowerRefusal noRoom f)) (lowerRefusal badShape f)
+
+    look-is : (f : Found) (p : Part) (i d w : Bool) → inside p ≡ i → admitted p ≡ d
+        → walkFits (thirds (length (meshOf a p .triangles))) (treeOfPart a p) list stack ≡ w
+        → stepPart a list stack (looking r limit f) p ≡ looking r limit (cond (i && d) (cond w f (lowerRefusal noRoom f))
+        (lowerRefusal badShape f))
+    unfolding stepPart isOver ownStep refuseWith
+    look-is f p false d w x y z = simp x
+    look-is f p true false w x y z = simp (x, y)
+    look-is f p true true false x y z = simp (x, y, z)
+    look-is f p true true true x y z = simp (x, y, z)
+
+    look-step : (f : Found) (p : Part) → stepPart a list stack (looking r limit f) p ≡ looking r limit (looksAt f p)
+    look-step f p =
+        look-is f p (inside p) (admitted p) (walkFits (thirds (length (meshOf a p .triangles))) (treeOfPart a p) list stack) refl refl
+        refl
+        ∙ sym (rw (shape-is p, room-is p) refl)
+
+    unfoldable looksAll : Found → List Part → Found
+    looksAll f [] = f
+    looksAll f (p ∷ ps) = looksAll (looksAt f p) ps
+
+    look-steps : (f : Found) (ps : List Part) → stepParts a list stack (looking r limit f) ps ≡ looking r limit (looksAll f ps)
+    unfolding stepParts looksAll
+    look-steps f [] = refl
+    look-steps f (p ∷ ps) = ap (λ (s : State). stepParts a list stack s ps) (look-step f p) ∙ look-steps (looksAt f p) ps
+
+    -- 1 stays, 2 stays, 3 gives way to a later 2
+    both : (x y : Bool) (f : Found) → cond x (cond y f f) f ≡ f
+    both true true f = refl
+    both true false f = refl
+    both false y f = refl
+
+    invalid-stays : (ps : List Part) → looksAll (Refused invalidInput) ps ≡ Refused invalidInput
+    unfolding looksAll lowerRefusal
+    invalid-stays [] = refl
+    invalid-stays (p ∷ ps) = ap (λ (f : Found). looksAll f ps) (both (shapeFits a p) (roomFits a list stack p) (Refused invalidInput))
+        ∙ invalid-stays ps
+
+    bad-stays : (ps : List Part) → looksAll (Refused badShape) ps ≡ Refused badShape
+    unfolding looksAll lowerRefusal
+    bad-stays [] = refl
+    bad-stays (p ∷ ps) = ap (λ (f : Found). looksAll f ps) (both (shapeFits a p) (roomFits a list stack p) (Refused badShape)) ∙
+        bad-stays ps
+
+    short-gives : (ps : List Part) → looksAll (Refused noRoom) ps ≡ cond (allParts (shapeFits a) ps) (Refused noRoom) (Refused badShape)
+    unfolding looksAll lowerRefusal allParts
+    short-gives [] = refl
+    short-gives (p ∷ ps) = go (shapeFits a p) refl (roomFits a list stack p) refl (short-gives ps)
+      where
+        go : (x : Bool) → shapeFits a p ≡ x → (y : Bool) → roomFits a list stack p ≡ y
+            → looksAll (Refused noRoom) ps ≡ cond (allParts (shapeFits a) ps) (Refused noRoom) (Refused badShape)
+            → looksAll (looksAt (Refused noRoom) p) ps ≡ cond (cond (shapeFits a p) (allParts (shapeFits a) ps) false) (Refused noRoom)
+            (Refused badShape)
+        go false e y g ih = simp e (bad-stays ps)
+        go true e true g ih = simp (e, g) ih
+        go true e false g ih = simp (e, g) ih
+
+    looked-through : (ps : List Part) → looksAll Nothing ps ≡ cond (allParts (shapeFits a) ps)
+        (cond (allParts (roomFits a list stack) ps) Nothing (Refused noRoom)) (Refused badShape)
+    unfolding looksAll lowerRefusal allParts
+    looked-through [] = refl
+    looked-through (p ∷ ps) = go (shapeFits a p) refl (roomFits a list stack p) refl (looked-through ps)
+      where
+        go : (x : Bool) → shapeFits a p ≡ x → (y : Bool) → roomFits a list stack p ≡ y
+            → looksAll Nothing ps ≡ cond (allParts (shapeFits a) ps) (cond (allParts (roomFits a list stack) ps) Nothing
+            (Refused noRoom)) (Refused badShape)
+            → looksAll (looksAt Nothing p) ps
+            ≡ cond (cond (shapeFits a p) (allParts (shapeFits a) ps) false)
+            (cond (cond (roomFits a list stack p) (allParts (roomFits a list stack) ps) false) Nothing (Refused noRoom))
+            (Refused badShape)
+        go false e y g ih = simp e (bad-stays ps)
+        go true e true g ih = simp (e, g) ih
+        go true e false g ih = simp (e, g) (short-gives ps)
+
+    -- ---- the second pass
+    abbrev casting : Progress → State
+    casting s = record { ray = r; limit = limit; casting = true; at = s }
+
+    cast-over : (s : Progress) (p : Part) → isRefused (s .found) ≡ true
+        → stepPart a list stack (casting s) p ≡ casting (castPart r a limit s p)
+    unfolding stepPart isOver castPart
+    cast-over s p e =
+        simp e (ap casting (sym (after-refused s (castMoved (limit - s .spent) r (p .origin) (meshOf a p) (treeOfPart a p)) e)))
+
+    cast-goes : (s : Progress) (p : Part) → isRefused (s .found) ≡ false → inside p ≡ true → admitted p ≡ true
+        → walkFits (thirds (length (meshOf a p .triangles))) (treeOfPart a p) list stack ≡ true
+        → stepPart a list stack (casting s) p ≡ casting (castPart r a limit s p)
+    unfolding stepPart isOver castPart ownStep
+    cast-goes s p e i d w = simp (e, i, d, w)
+
+    cast-step : (s : Progress) (p : Part) → shapeFits a p ≡ true → roomFits a list stack p ≡ true
+        → stepPart a list stack (casting s) p ≡ casting (castPart r a limit s p)
+    cast-step s p f g = go (isRefused (s .found)) refl
+      where
+        fits : (inside p && admitted p) ≡ true
+        fits = sym (shape-is p) ∙ f
+
+        go : (b : Bool) → isRefused (s .found) ≡ b → stepPart a list stack (casting s) p ≡ casting (castPart r a limit s p)
+        go true e = cast-over s p e
+        go false e = cast-goes s p e (and-first (inside p) (admitted p) fits) (and-second (inside p) (admitted p) fits)
+            (sym (room-is p) ∙ g)
+
+    cast-steps : (s : Progress) (ps : List Part) → allParts (shapeFits a) ps ≡ true → allParts (roomFits a list stack) ps ≡ true
+        → stepParts a list stack (casting s) ps ≡ casting (castParts r a limit s ps)
+    unfolding stepParts castParts
+    cast-steps s [] f g = refl
+    cast-steps s (p ∷ ps) f g =
+        ap (λ (x : State). stepParts a list stack x ps) (cast-step s p (all-first (shapeFits a) p ps f)
+        (all-first (roomFits a list stack) p ps g))
+        ∙ cast-steps (castPart r a limit s p) ps (all-rest (shapeFits a) p ps f) (all-rest (roomFits a list stack) p ps g)
+
+    -- after a refusal of the first pass the second does nothing
+    over-stays : (s : State) (ps : List Part) → isOver s ≡ true → stepParts a list stack s ps ≡ s
+    unfolding stepParts stepPart
+    over-stays s [] e = refl
+    over-stays s (p ∷ ps) e = simp e (over-stays s ps e)
+
+    refused-stays : (number : ℕ) (ps : List Part)
+        → stepParts a list stack (turned (looking r limit (Refused number))) ps ≡ turned (looking r limit (Refused number))
+    unfolding isOver
+    refused-stays number ps = over-stays (turned (looking r limit (Refused number))) ps refl
+
+    module _ (fits : Bool) (parts : List Part) where
+      abbrev shapes : Bool
+      shapes = allParts (shapeFits a) parts
+
+      abbrev rooms : Bool
+      rooms = allParts (roomFits a list stack) parts
+
+      -- ---- what the first pass finds: 1, then 2 of any part, then 3 of any part and of the result slices
+      abbrev firstFound : Bool → Bool → Bool → Bool → Found
+      firstFound admits shaped fitting roomy = cond admits (cond shaped (cond (fitting && roomy) Nothing (Refused noRoom))
+          (Refused badShape)) (Refused invalidInput)
+
+      first-found : (x : Bool) → rayAdmitted r ≡ x → (y : Bool) → fits ≡ y
+          → stepParts a list stack (begun r limit fits) parts ≡ looking r limit (firstFound x shapes y rooms)
+      unfolding begun
+      first-found false e y f = simp e (look-steps (Refused invalidInput) parts ∙ ap (looking r limit) (invalid-stays parts))
+      first-found true e false f = simp (e, f) (look-steps (Refused noRoom) parts ∙ ap (looking r limit) (short-gives parts))
+      first-found true e true f = simp (e, f) (look-steps Nothing parts ∙ ap (looking r limit) (looked-through parts))
+
+      -- where a test fails, the second pass casts at no part
+      pub tests-keep : testsPass r a list stack fits parts ≡ false → isIdle
+          (turned (stepParts a list stack (begun r limit fits) parts)) ≡ true
+      unfolding testsPass isIdle
+      tests-keep h = ap (λ (s : State). isRefused (s .at .found)) (first-found (rayAdmitted r) refl fits refl) ∙ go (rayAdmitted r)
+          shapes fits rooms h
+        where
+          go : (x y z w : Bool) → (x && (y && (z && w))) ≡ false → isRefused (firstFound x y z w) ≡ true
+          go false y z w h = refl
+          go true false z w h = refl
+          go true true false w h = refl
+          go true true true false h = refl
+          go true true true true h = absurd (true≢false h)
+
+      -- ---- both passes: the last state's answer
+      abbrev ends : State → Answer
+      ends s = lastAnswer (stepParts a list stack (turned s) parts .at)
+
+      refused-answers : (number : ℕ) → ends (looking r limit (Refused number)) ≡ refused number
+      unfolding lastAnswer
+      refused-answers number = ap (λ (s : State). lastAnswer (s .at)) (refused-stays number parts)
+
+      cast-answers : shapes ≡ true → rooms ≡ true → ends (looking r limit Nothing) ≡ answerOf (castParts r a limit beginning parts)
+      cast-answers f g = ap (λ (s : State). lastAnswer (s .at)) (cast-steps beginning parts f g) ∙ last-of-casts r a limit parts
+
+      -- an answer of the casts, where the result slices do not fit
+      not-fitting : (f : Found) (spent : ℕ) → withResults false (answerWith f spent) ≡ refused noRoom
+      unfolding withResults
+      not-fitting Nothing spent = refl
+      not-fitting (Hit part index normal distance) spent = refl
+      not-fitting (Refused number) spent = refl
+
+      pub passes-are-cabinet : lastAnswer (passes a list stack (begun r limit fits) parts .at)
+          ≡ withResults fits (castCabinet r a list stack limit parts)
+      unfolding passes castCabinet withResults
+      passes-are-cabinet =
+          ap ends (first-found (rayAdmitted r) refl fits refl) ∙ go (rayAdmitted r) refl shapes refl fits rooms refl
+        where
+          after : Progress
+          after = castParts r a limit beginning parts
+
+          go : (x : Bool) → rayAdmitted r ≡ x → (y : Bool) → shapes ≡ y → (z w : Bool) → rooms ≡ w
+              → ends (looking r limit (firstFound x y z w))
+              ≡ withResults z (cond x (cond y (cond w (answerOf after) (refused noRoom)) (refused badShape)) (refused invalidInput))
+          go false e y f true w g = refused-answers invalidInput
+          go false e y f false w g = refused-answers invalidInput
+          go true e false f true w g = refused-answers badShape
+          go true e false f false w g = refused-answers badShape
+          go true e true f true false g = refused-answers noRoom
+          go true e true f true true g = cast-answers f g
+          go true e true f false false g = refused-answers noRoom
+          go true e true f false true g = refused-answers noRoom ∙ sym (not-fitting (after .found) (after .spent))

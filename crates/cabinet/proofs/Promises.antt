@@ -1,0 +1,120 @@
+-- What is promised of the limit holds. Assumes nothing.
+use Prim.Native.Nat.{ℕ, _+_, _≤_, _<_}
+use mathlib.Core.Path.{_≡_, refl, sym, ap, _∙_}
+use mathlib.Core.Bool.{Bool, true, false, not, cond, true≢false}
+use mathlib.Core.List.{List}
+use native.Mathlib.Omega.{arith}
+use borrow.Author.Tests.{leb-true, leb-false}
+use lib.Dec.{leb, eqb}
+use lib.Ieee.{Float}
+use Rattle.geometry.specs.declared.vec3.Vec3.{Vec3}
+use Rattle.geometry.specs.declared.ray.Ray.{Ray}
+use Rattle.cabinet.specs.declared.part.Part.{Part}
+use Rattle.cabinet.specs.declared.part.Found.{Found}
+use Rattle.cabinet.specs.declared.part.Found.the-variants.{Nothing, Hit, Refused}
+use Rattle.cabinet.specs.declared.part.Progress.{Progress}
+use Rattle.cabinet.specs.Parts.{Areas}
+use Rattle.cabinet.specs.PartCast.{limitReached}
+use Rattle.cabinet.specs.Cabinet.{Answer, hitIn, noneAfter, refused, refusedAfter, answerWith, answerOf, beginning, castParts}
+use Rattle.cabinet.specs.Cabinet.{ownParts, castCabinet}
+use Rattle.cabinet.specs.Promises.{spentOf, nearestPart, nodesOf, AllChecked, alone, Passes, needed, answerAt, LimitPromises}
+use Rattle.cabinet.specs.Promises.{LimitsHold}
+use Rattle.cabinet.proofs.Limits.{Limited, parts-limited}
+use Rattle.cabinet.proofs.Numbers.{plainFound, parts-plain}
+use Rattle.cabinet.proofs.Alone.{own-nearest, own-parts-few}
+
+-- a hit or a none
+abbrev isSettled : Answer → Bool
+isSettled (hitIn part triangle normal distance spent) = true
+isSettled (noneAfter spent) = true
+isSettled (refused number) = false
+isSettled (refusedAfter number spent) = false
+
+answer-spent : (f : Found) (spent : ℕ) → spentOf (answerWith f spent) ≡ spent
+answer-spent Nothing spent = refl
+answer-spent (Hit part index normal distance) spent = refl
+answer-spent (Refused number) spent = refl
+
+-- whether an answer is no refusal with 10
+abbrev notTen : Answer → Bool
+notTen (refusedAfter number spent) = not (eqb number limitReached)
+notTen (refused number) = true
+notTen (noneAfter spent) = true
+notTen (hitIn part triangle normal distance spent) = true
+
+answer-plain : (f : Found) (spent : ℕ) → notTen (answerWith f spent) ≡ plainFound f
+answer-plain Nothing spent = refl
+answer-plain (Hit part index normal distance) spent = refl
+answer-plain (Refused number) spent = refl
+
+module _ (r : Ray) (a : Areas) (list stack : ℕ) (parts : List Part) (p : Passes r a list stack parts) where
+  passed : (limit : ℕ) → answerAt r a list stack parts limit ≡ answerOf (castParts r a limit beginning parts)
+  unfolding castCabinet
+  passed limit = simp (p .ray, p .shapes, p .rooms)
+
+  bound : (limit : ℕ) → Limited r a (p .ray) limit (ownParts r a beginning parts) (castParts r a limit beginning parts)
+  bound limit = parts-limited r a (p .ray) limit beginning parts (omega arith)
+
+  enough : (limit : ℕ) → needed r a list stack parts ≤ limit → answerAt r a list stack parts limit ≡ answerOf
+      (ownParts r a beginning parts)
+  enough limit h = passed limit ∙ ap answerOf (bound limit .suffices h)
+
+  short : (limit : ℕ) → limit < needed r a list stack parts → answerAt r a list stack parts limit ≡ refusedAfter limitReached limit
+  short limit h = passed limit ∙ bound limit .used-up h
+
+  settled-stays : (limit more : ℕ) → limit ≤ more → isSettled (answerAt r a list stack parts limit) ≡ true
+      → answerAt r a list stack parts more ≡ answerAt r a list stack parts limit
+  settled-stays limit more l s = go (leb (needed r a list stack parts) limit) refl
+    where
+      go : (b : Bool) → leb (needed r a list stack parts) limit ≡ b
+          → answerAt r a list stack parts more ≡ answerAt r a list stack parts limit
+      go true e =
+          let h = leb-true (needed r a list stack parts) limit e in
+          enough more (omega arith) ∙ sym (enough limit h)
+      go false e =
+          let h = leb-false (needed r a list stack parts) limit e in
+          absurd (true≢false (sym s ∙ ap isSettled (short limit h)))
+
+  only-short : (limit spent : ℕ) → answerAt r a list stack parts limit ≡ refusedAfter limitReached spent
+      → limit < needed r a list stack parts
+  only-short limit spent e = go (leb (needed r a list stack parts) limit) refl
+    where
+      go : (b : Bool) → leb (needed r a list stack parts) limit ≡ b → limit < needed r a list stack parts
+      go false f = leb-false (needed r a list stack parts) limit f
+      go true f =
+          let own : answerOf (ownParts r a beginning parts) ≡ refusedAfter limitReached spent = sym
+          (enough limit (leb-true (needed r a list stack parts) limit f)) ∙ e in
+          let p' = parts-plain r a beginning parts refl in
+          absurd (true≢false (sym p' ∙ sym (answer-plain (ownParts r a beginning parts .found) (ownParts r a beginning parts .spent)) ∙
+          ap notTen own))
+
+  few : AllChecked a parts → needed r a list stack parts ≤ nodesOf parts
+  few c = omega (arith, own-parts-few r a list stack beginning parts c)
+
+  pub promises : LimitPromises r a list stack parts
+  promises = record {
+    suffices = enough;
+    used-up = short;
+    only-used-up = only-short;
+    spent-within =
+        λ (limit : ℕ). omega (
+          arith,
+          bound limit .within,
+          answer-spent (castParts r a limit beginning parts .found)
+              (castParts r a limit beginning parts .spent),
+          ap spentOf (passed limit),
+        );
+    hit-stays =
+        λ (limit more part triangle : ℕ) (normal : Vec3) (distance : Float) (spent : ℕ) (l : limit ≤ more) e. settled-stays limit more
+        l (ap isSettled e) ∙ e;
+    none-stays = λ (limit more spent : ℕ) (l : limit ≤ more) e. settled-stays limit more l (ap isSettled e) ∙ e;
+    needs-few = few;
+    each-alone =
+        λ (limit : ℕ) (c : AllChecked a parts) (l : nodesOf parts ≤ limit).
+        enough limit (omega (arith, few c))
+        ∙ ap (λ (f : Found). answerWith f (needed r a list stack parts)) (own-nearest r a list stack (p .ray) beginning parts
+        (p .shapes) (p .rooms));
+  }
+
+pub limits-hold : LimitsHold
+limits-hold = promises

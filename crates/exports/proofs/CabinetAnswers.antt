@@ -1,0 +1,123 @@
+-- What the cast at a cabinet tells of its last state is what the definition says, and the work areas stay where a test fails. Assumes
+-- nothing.
+use Prim.Native.Nat.{ℕ, _≤_}
+use mathlib.Core.Path.{_≡_, refl, ap, _∙_}
+use mathlib.Core.Bool.{Bool, true, false, _&&_, cond}
+use mathlib.Core.List.{List, [], _∷_}
+use borrow.Author.Tests.{leb-true}
+use lib.Dec.{leb, eqb}
+use lib.Ieee.{Float}
+use lib.Seq.{sets}
+use Rattle.geometry.proofs.JoinedTests.{and-first, and-second}
+use Rattle.geometry.specs.declared.vec3.Vec3.{Vec3}
+use Rattle.geometry.specs.declared.ray.Ray.{Ray}
+use Rattle.casts.specs.Answer.{noRoom}
+use Rattle.cabinet.specs.declared.part.Part.{Part}
+use Rattle.cabinet.specs.declared.part.Found.{Found}
+use Rattle.cabinet.specs.declared.part.Found.the-variants.{Nothing, Hit, Refused}
+use Rattle.cabinet.specs.declared.part.Progress.{Progress}
+use Rattle.cabinet.specs.declared.part.State.{State}
+use Rattle.cabinet.specs.Parts.{Areas}
+use Rattle.cabinet.specs.Cabinet.{Answer, hitIn, noneAfter, refused, refusedAfter, castCabinet, testsPass, withResults}
+use Rattle.cabinet.specs.Steps.{isIdle, KeptByBoth, begun, turned, stepParts, passes, lastAnswer}
+use Rattle.cabinet.proofs.Passes.{tests-keep, passes-are-cabinet}
+use Rattle.exports.specs.Results.{hitCode, noneCode}
+use Rattle.exports.specs.CabinetResults.{cabinetFits, CabinetTold, cabinetTold, toldCabinet}
+
+-- ---- result slices that fit have their places
+pub record Places (a b c d : ℕ) : Type 0 where
+  pub hit : 4 ≤ a
+  pub index : 1 ≤ b
+  pub part : 1 ≤ c
+  pub spent : 1 ≤ d
+
+pub places-there : (hit index part spent : ℕ) → cabinetFits hit index part spent ≡ true → Places hit index part spent
+unfolding cabinetFits
+places-there hit index part spent h =
+    let h1 = and-second (leb 4 hit) (leb 1 index && (leb 1 part && leb 1 spent)) h in
+    let h2 = and-second (leb 1 index) (leb 1 part && leb 1 spent) h1 in
+    record {
+      hit = leb-true 4 hit (and-first (leb 4 hit) (leb 1 index && (leb 1 part && leb 1 spent)) h);
+      index = leb-true 1 index (and-first (leb 1 index) (leb 1 part && leb 1 spent) h1);
+      part = leb-true 1 part (and-first (leb 1 part) (leb 1 spent) h2);
+      spent = leb-true 1 spent (and-second (leb 1 part) (leb 1 spent) h2);
+    }
+
+-- ---- what is written of the last state
+module _ (s : Progress) (hit : List Float) (index part spent : List ℕ) where
+  abbrev told : Bool → CabinetTold
+  told fits = toldCabinet (withResults fits (lastAnswer s)) hit index part spent
+
+  pub none-short : (fits : Bool) → fits ≡ false → s .found ≡ Nothing → cabinetTold noRoom hit index part spent ≡ told fits
+  unfolding toldCabinet withResults lastAnswer
+  none-short fits f e = simp (f, e)
+
+  pub none-told : (fits : Bool) → fits ≡ true → s .found ≡ Nothing
+      → cabinetTold noneCode hit index part (sets spent 0 (s .spent ∷ [])) ≡ told fits
+  unfolding toldCabinet withResults lastAnswer
+  none-told fits f e = simp (f, e)
+
+  module _ (p triangle : ℕ) (n : Vec3) (d : Float) (e : s .found ≡ Hit p triangle n d) where
+    pub hit-short : (fits : Bool) → fits ≡ false → cabinetTold noRoom hit index part spent ≡ told fits
+    unfolding toldCabinet withResults lastAnswer
+    hit-short fits f = simp (f, e)
+
+    pub hit-told : (fits : Bool) → fits ≡ true
+        → cabinetTold hitCode (sets hit 0 (n .x ∷ n .y ∷ n .z ∷ d ∷ [])) (sets index 0 (triangle ∷ [])) (sets part 0 (p ∷ []))
+        (sets spent 0 (s .spent ∷ []))
+        ≡ told fits
+    unfolding toldCabinet withResults lastAnswer
+    hit-told fits f = simp (f, e)
+
+  module _ (number : ℕ) (e : s .found ≡ Refused number) where
+    -- before a part was begun
+    pub refused-early : (fits : Bool) → eqb (s .part) 0 ≡ true → cabinetTold number hit index part spent ≡ told fits
+    unfolding toldCabinet withResults lastAnswer
+    refused-early true z = simp (e, z)
+    refused-early false z = simp (e, z)
+
+    pub refused-short : (fits : Bool) → fits ≡ false → eqb (s .part) 0 ≡ false → cabinetTold noRoom hit index part spent ≡ told fits
+    unfolding toldCabinet withResults lastAnswer
+    refused-short fits f z = simp (f, e, z)
+
+    pub refused-told : (fits : Bool) → fits ≡ true → eqb (s .part) 0 ≡ false
+        → cabinetTold number hit index part (sets spent 0 (s .spent ∷ [])) ≡ told fits
+    unfolding toldCabinet withResults lastAnswer
+    refused-told fits f z = simp (f, e, z)
+
+-- ---- the whole call
+-- the result slices are asked once
+results-twice : (fits : Bool) (answer : Answer) → withResults fits (withResults fits answer) ≡ withResults fits answer
+unfolding withResults
+results-twice true answer = refl
+results-twice false (hitIn part triangle normal distance spent) = refl
+results-twice false (noneAfter spent) = refl
+results-twice false (refused number) = refl
+results-twice false (refusedAfter number spent) = refl
+
+begun-idle : (r : Ray) (limit : ℕ) (fits : Bool) → isIdle (begun r limit fits) ≡ true
+unfolding begun isIdle
+begun-idle r limit fits = refl
+
+module _ (r : Ray) (a : Areas) (m k limit : ℕ) (fits : Bool) (parts : List Part) where
+  last-is : (f s : State) → f ≡ begun r limit fits → s ≡ stepParts a m k (turned (stepParts a m k f parts)) parts
+      → lastAnswer (s .at) ≡ withResults fits (castCabinet r a m k limit parts)
+  unfolding passes
+  last-is f s e g =
+      ap (λ (x : State). lastAnswer (x .at)) (g ∙ ap (λ (x : State). stepParts a m k (turned (stepParts a m k x parts)) parts) e)
+      ∙ passes-are-cabinet a m k r limit fits parts
+
+  pub cabinet-answers : (f s : State) → f ≡ begun r limit fits → s ≡ stepParts a m k (turned (stepParts a m k f parts)) parts
+      → (hit : List Float) (index part spent : List ℕ) (x : CabinetTold)
+      → x ≡ toldCabinet (withResults fits (lastAnswer (s .at))) hit index part spent
+      → x ≡ toldCabinet (withResults fits (castCabinet r a m k limit parts)) hit index part spent
+  cabinet-answers f s e g hit index part spent x h =
+      h
+      ∙ ap (λ (answer : Answer). toldCabinet answer hit index part spent)
+      (ap (withResults fits) (last-is f s e g) ∙ results-twice fits (castCabinet r a m k limit parts))
+
+  pub cabinet-keeps : (f : State) → f ≡ begun r limit fits → (list list' stack stack' : List ℕ)
+      → KeptByBoth a m k f parts list list' stack stack' → testsPass r a m k fits parts ≡ false → (list' ≡ list) × (stack' ≡ stack)
+  cabinet-keeps f e list list' stack stack' kept h =
+      kept (ap isIdle e ∙ begun-idle r limit fits)
+      (ap (λ (x : State). isIdle (turned (stepParts a m k x parts))) e ∙ tests-keep a m k r limit fits parts h)
