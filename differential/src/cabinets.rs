@@ -338,7 +338,8 @@ fn disturbed(random: &mut Random, span: Span, area: usize) -> Span {
         2 => (start, length.saturating_sub(1 + random.below(3))),
         3 => (area, 0),
         4 => (area + 1, 0),
-        5 => (start, usize::MAX - start + 1 + random.below(3)),
+        // start and length pass the largest number
+        5 => (start.max(1), usize::MAX - random.below(start.max(1))),
         6 => (usize::MAX, length),
         _ => (random.below(area + 2), random.below(area + 2)),
     };

@@ -9,8 +9,7 @@ use crate::{
 use oracle::{
     answer::{self, Answer, agree},
     model::{self, BuildAreas},
-    plain,
-    record,
+    plain, record,
     tree::{self, FlatTree},
 };
 use probe_rays::sys;
