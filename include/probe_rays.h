@@ -473,6 +473,60 @@ uint32_t probe_ray_mesh_plain(
     size_t index_length
 );
 
+/* Lists every triangle of a mesh that a ray hits, of those that the tree lists for the box of the ray's segment, and
+ * writes how many to found[0]. The arguments are the mesh cast's, with a near distance after the maximum: a hit nearer
+ * than that is no hit. It is finite, from 0 to the maximum, else 1.
+ *
+ * The hit area is `indices`, one a place, and `numbers`, four a place: distance, normal x, y, z. It has as many places
+ * as both hold: the lesser of indices_length and numbers_length / 4, rounded down. The hits stand in its first places,
+ * ascending by index; the places past them are unchanged.
+ *
+ * Answers PROBE_DONE, or refuses with 1 to 7. After 1, 2, 4, and after 3 for found, an area of the tree, the list or
+ * the stack, the hit area is unchanged. Then come 6 (the segment's end), 5 (the tree), the triangles' refusals, that of
+ * the lowest index first, and last 3 exactly where there are more hits than places: after these every place of
+ * `indices` and `numbers` is zero, those past the last whole place too.
+ *
+ * Where probe_ray_mesh refuses past 4, so does this call, with its number. Else probe_ray_mesh's hit is among those
+ * listed, and there are none exactly where it answers PROBE_NONE. At the mesh's own vertices, through a tree for which
+ * probe_tree_check says PROBE_YES, each triangle that is hit and whose box touches is listed once, and no other is. A
+ * tree that does not pass may name a triangle more than once: it is then listed as often.
+ */
+uint32_t probe_ray_mesh_all(
+    double origin_x,
+    double origin_y,
+    double origin_z,
+    double direction_x,
+    double direction_y,
+    double direction_z,
+    double max_distance,
+    double near_distance,
+    const double *vertices,
+    size_t vertices_length,
+    const uint32_t *triangles,
+    size_t triangles_length,
+    const double *pose,
+    size_t pose_length,
+    size_t nodes,
+    const double *node_boxes,
+    size_t node_boxes_length,
+    const double *triangle_boxes,
+    size_t triangle_boxes_length,
+    const uint32_t *node_words,
+    size_t node_words_length,
+    const uint32_t *order,
+    size_t order_length,
+    uint32_t *list,
+    size_t list_length,
+    uint32_t *stack,
+    size_t stack_length,
+    uint32_t *indices,
+    size_t indices_length,
+    double *numbers,
+    size_t numbers_length,
+    size_t *found,
+    size_t found_length
+);
+
 /* Builds the tree of a mesh into node_boxes, triangle_boxes, node_words and order, and writes its node count to
  * nodes[0]. Places past the tree are unchanged. Every tree that is written passes probe_tree_check.
  *

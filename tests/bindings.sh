@@ -72,6 +72,10 @@ head -n -1 examples/panel.hits > "$work/hits"
 expect 1 examples/panel.hits "$stl" examples/panel.stl "${words[@]}"
 expect 0 "$work/hits" "$stl" examples/panel.stl "${words[@]:0:${#words[@]}-7}"
 
+# every depth along a ray
+mapfile -t bores < <(sed 's/#.*//' examples/panel.bores | tr -s ' ' '\n' | grep .)
+expect 1 examples/panel.depths "$stl" --all examples/panel.stl "${bores[@]}"
+
 # the same panel in other files, and files that are not right
 tests/stl_files.py "$work"
 shopt -s failglob

@@ -44,7 +44,7 @@ impl Tree {
         }
     }
 
-    fn lent(&self) -> TreeRef<'_> {
+    pub fn lent(&self) -> TreeRef<'_> {
         TreeRef {
             nodes: self.nodes,
             node_boxes: &self.node_boxes,

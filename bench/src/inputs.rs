@@ -88,6 +88,35 @@ pub fn panel() -> Mesh {
     mesh
 }
 
+/// 65,536 triangles above each other, four at each depth, in no order of depth.
+pub fn stack() -> Mesh {
+    let mut mesh = Mesh {
+        vertices: Vec::new(),
+        triangles: Vec::new(),
+    };
+    for layer in 0..65_536_u32 {
+        let depth = f64::from(layer.reverse_bits() >> 16);
+        let corner = (mesh.vertices.len() / 3) as u32;
+        if layer % 4 == 0 {
+            mesh.vertices
+                .extend([0.0, 0.0, depth, 4.0, 0.0, depth, 0.0, 4.0, depth]);
+        }
+        let first = if layer % 4 == 0 { corner } else { corner - 3 };
+        mesh.triangles.extend([first, first + 1, first + 2]);
+    }
+    mesh
+}
+
+/// One ray down through all of them.
+pub fn down_the_stack() -> Vec<Ray> {
+    vec![Ray {
+        origin: [1.0, 1.0, 65_600.0],
+        direction: [0.0, 0.0, -1.0],
+        max_distance: 65_700.0,
+        near_distance: 0.0,
+    }]
+}
+
 /// Probes of at most 30 along an axis: half of them from above, the others from within the panel's thickness.
 pub fn short_probes(count: usize) -> Vec<Ray> {
     let mut random = random(1);

@@ -23,6 +23,7 @@ mod clock;
 #[allow(dead_code)]
 mod collision;
 mod inputs;
+mod listing;
 mod plain;
 mod plot;
 mod ranges;

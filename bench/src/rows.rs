@@ -10,7 +10,7 @@ use crate::{
         mesh::{MeshQueryWorkspace, TriangleBvh},
         query::{QueryScratch, Ray as RustRay, timed},
     },
-    inputs, plain, ranges, records,
+    inputs, listing, plain, ranges, records,
     shape::{self, TriangleMesh},
     timing::Row,
 };
@@ -139,7 +139,7 @@ fn plane(name: &str) -> Row {
 /// A mesh and its tree as each side holds them.
 pub struct Both {
     pub mesh: Mesh,
-    tree: Tree,
+    pub tree: Tree,
     pub rust_mesh: TriangleMesh,
     pub rust_tree: TriangleBvh,
 }
@@ -446,6 +446,11 @@ impl Lazy {
         let lazy = self.clone();
         plan(name, move |name| query(name, &lazy.0, &rays))
     }
+
+    fn listing(&self, name: &str, rays: Vec<Ray>, all: bool) -> Planned {
+        let lazy = self.clone();
+        plan(name, move |name| listing::row(name, &lazy.0, rays, all))
+    }
 }
 
 fn shapes() -> Vec<Planned> {
@@ -473,6 +478,7 @@ fn meshes() -> Vec<Planned> {
     let panel = Lazy::of(|| Both::of(inputs::panel()));
     let sheet = Lazy::of(|| Both::of(inputs::sheet(256, 128)));
     let mixed = Lazy::of(|| Both::of(inputs::shuffled(inputs::sheet(256, 128))));
+    let stack = Lazy::of(|| Both::of(inputs::stack()));
     let (short, long) = (inputs::short_probes(1_024), inputs::long_rays(8));
     let (holes, far) = (inputs::through_holes(1_024), inputs::far_rays(1_024));
     vec![
@@ -486,6 +492,13 @@ fn meshes() -> Vec<Planned> {
         panel.mesh("mesh, panel, long oblique rays", 0, long.clone()),
         panel.mesh("mesh, panel, miss through a hole", NONE, holes),
         panel.mesh("mesh, panel, miss far off", NONE, far),
+        panel.listing("listing, panel, short axis probes", short.clone(), false),
+        panel.listing("listing, panel, long oblique rays", long.clone(), false),
+        stack.listing(
+            "listing, 65,536 triangles all hit, a hit",
+            inputs::down_the_stack(),
+            true,
+        ),
         panel.query("query, panel, short axis probes", short),
         panel.query("query, panel, long oblique rays", long),
         panel.check("tree check, panel, a triangle"),

@@ -26,10 +26,10 @@ const DEMAND: &str = "demand 3 without a tree";
 
 pub(crate) const SHORT_RESULT: &str = "a result slice is too short";
 const REFUSED_1: &str = "1: the Rust's boxes are valid where they are made";
-const REFUSED_2: &str = "2: the Rust has no such limit";
-const REFUSED_3: &str = "3: the Rust's areas grow";
-const NO_END: &str = "5: the Rust's walk has no end";
-const NO_LIMIT: &str = "5 by a limit of the walk or the list that the Rust lacks";
+pub(crate) const REFUSED_2: &str = "2: the Rust has no such limit";
+pub(crate) const REFUSED_3: &str = "3: the Rust's areas grow";
+pub(crate) const NO_END: &str = "5: the Rust's walk has no end";
+pub(crate) const NO_LIMIT: &str = "5 by a limit of the walk or the list that the Rust lacks";
 
 /// The floats are the same bits, or both are NaN.
 pub fn exact(a: f64, b: f64) -> bool {
@@ -219,12 +219,12 @@ pub fn check(log: &mut Log, call: &Check, sound: Option<bool>) -> Option<u32> {
 }
 
 /// How far the Rust would walk, which has no limit of its own.
-struct Walk {
-    ends: bool,
-    within_limits: bool,
+pub(crate) struct Walk {
+    pub ends: bool,
+    pub within_limits: bool,
 }
 
-fn rust_walk(tree: &FlatTree, n: usize, bounds: &[f64; 6]) -> Walk {
+pub(crate) fn rust_walk(tree: &FlatTree, n: usize, bounds: &[f64; 6]) -> Walk {
     let touches = |b: &[f64]| (0..3).all(|k| b[k] <= bounds[k + 3] && bounds[k] <= b[k + 3]);
     let (mut taken, mut listed, mut falls) = (0, 0, false);
     let mut stack = vec![0; usize::from(tree.node_count > 0)];

@@ -5,6 +5,7 @@ pub mod cabinets;
 pub mod calls;
 pub mod lent;
 pub mod library;
+pub mod listing;
 pub mod log;
 pub mod other_trees;
 pub mod panel;

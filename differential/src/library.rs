@@ -97,7 +97,7 @@ pub(crate) fn only_read<T: Word>(name: &str, lent: &Lent<T>, given: &[T]) -> Res
 }
 
 /// A tree lent for reading.
-struct LentTree {
+pub(crate) struct LentTree {
     node_boxes: Lent<f64>,
     triangle_boxes: Lent<f64>,
     node_words: Lent<u32>,
@@ -105,7 +105,7 @@ struct LentTree {
 }
 
 impl LentTree {
-    fn new(tree: &FlatTree) -> Self {
+    pub fn new(tree: &FlatTree) -> Self {
         Self {
             node_boxes: Lent::new(&tree.node_boxes),
             triangle_boxes: Lent::new(&tree.triangle_boxes),
@@ -114,7 +114,7 @@ impl LentTree {
         }
     }
 
-    fn lent(&self, node_count: usize) -> TreeRef<'_> {
+    pub fn lent(&self, node_count: usize) -> TreeRef<'_> {
         TreeRef {
             nodes: node_count,
             node_boxes: self.node_boxes.contents(),
@@ -133,7 +133,7 @@ impl LentTree {
         }
     }
 
-    fn only_read(&self, given: &FlatTree) -> Result<(), Fault> {
+    pub fn only_read(&self, given: &FlatTree) -> Result<(), Fault> {
         only_read("the node boxes", &self.node_boxes, &given.node_boxes)?;
         only_read(
             "the triangle boxes",

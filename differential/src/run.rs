@@ -5,6 +5,7 @@
 use crate::{
     calls,
     library::{Build, Cast, Check, Query},
+    listing,
     log::Log,
     other_trees::{any_words, one_clause},
     panel, plain, ranges, shapes,
@@ -179,6 +180,7 @@ fn query_and_cast_as_drawn(log: &mut Log, random: &mut Random, case: &cases::Cas
         index: &result(random, 1, |random| random.bits() as u32),
     };
     calls::cast(log, &cast);
+    listing::listing(log, random, &cast);
 }
 
 /// The triangle and node counts of a query, now and then at the ends of what is admitted.
@@ -282,6 +284,7 @@ fn casts(log: &mut Log, random: &mut Random, mesh: &Mesh, tree: &FlatTree) {
             index: &result(random, 1, |random| random.bits() as u32),
         };
         calls::cast(log, &cast);
+        listing::listing(log, random, &cast);
     }
 }
 

@@ -13,6 +13,7 @@ pub mod cases;
 pub(crate) mod collision;
 pub mod generate;
 pub mod height_ranges;
+pub mod listing;
 pub mod math;
 pub mod mesh_plain;
 pub mod model;

@@ -311,7 +311,7 @@ pub fn query(
 }
 
 /// The walk of the query; none where document 01 says 5.
-fn walk(tree: Tree, n: usize, bounds: &[f64]) -> Option<Vec<u32>> {
+pub(crate) fn walk(tree: Tree, n: usize, bounds: &[f64]) -> Option<Vec<u32>> {
     let mut listed = Vec::new();
     let mut stack = Vec::new();
     if tree.node_count > 0 {

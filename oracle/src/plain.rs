@@ -110,7 +110,11 @@ fn normalised(v: Vec3) -> Option<Vec3> {
         return None;
     }
     let e = exponent(largest) - or(NormalHalf, 0, -1);
-    let scaled = Vec3::new(times_two_to_minus(e, v.x), times_two_to_minus(e, v.y), times_two_to_minus(e, v.z));
+    let scaled = Vec3::new(
+        times_two_to_minus(e, v.x),
+        times_two_to_minus(e, v.y),
+        times_two_to_minus(e, v.z),
+    );
     Some(over(scaled, dot(scaled, scaled).sqrt()))
 }
 

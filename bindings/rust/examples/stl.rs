@@ -1,19 +1,20 @@
 //! Casts rays at the mesh of an STL file, binary or ASCII, and prints what each one hits.
 //!
-//! usage: stl FILE [X Y Z  DX DY DZ  MAX]...
+//! usage: stl [--all] FILE [X Y Z  DX DY DZ  MAX]...
 //!
-//! A ray is seven numbers: its origin, its direction, which may have any length, and how far it reaches. An STL file
+//! With --all every depth along a ray is printed, and not the first hit alone. A ray is seven numbers: its origin, its direction, which may have any length, and how far it reaches. An STL file
 //! has no unit; millimetres are taken, as most programs write them. Triangles are counted from 0, in the file's
 //! order. Equal vertices are merged.
 //!
 //! Exit status: 0 if every ray hit or was none, 1 if one was refused, 2 if the call or the file is not right.
-use probe_rays::{Cast, Mesh, MeshHit, Ray, MAX_COUNT};
+use probe_rays::{Cast, Mesh, MeshHit, Ray, Refusal, MAX_COUNT};
 use std::collections::HashMap;
 use std::process::ExitCode;
 use std::{env, fs};
 
-const USAGE: &str = "usage: stl FILE [X Y Z  DX DY DZ  MAX]...
-casts rays (origin, direction of any length, maximum, in millimetres) at the mesh of an STL file";
+const USAGE: &str = "usage: stl [--all] FILE [X Y Z  DX DY DZ  MAX]...
+casts rays (origin, direction of any length, maximum, in millimetres) at the mesh of an STL file;
+with --all every depth along a ray is printed";
 
 type Corners = [[f64; 3]; 3];
 
@@ -31,6 +32,10 @@ fn main() -> ExitCode {
 
 /// Casts what the words ask; whether no ray was refused.
 fn run(words: &[String]) -> Result<bool, String> {
+    let (all, words) = match words.split_first() {
+        Some((first, rest)) if first == "--all" => (true, rest),
+        _ => (false, words),
+    };
     let Some((file, numbers)) = words.split_first() else {
         return Err(USAGE.into());
     };
@@ -46,9 +51,16 @@ fn run(words: &[String]) -> Result<bool, String> {
     );
     let mut answered = true;
     for (number, ray) in rays.iter().enumerate() {
-        let cast = mesh.cast(ray);
-        answered &= !matches!(cast, Cast::Refused(_));
-        println!("ray {}: {}", number + 1, told(ray, &cast));
+        let told = if all {
+            let hits = mesh.cast_all(ray);
+            answered &= hits.is_ok();
+            all_told(ray, &hits)
+        } else {
+            let cast = mesh.cast(ray);
+            answered &= !matches!(cast, Cast::Refused(_));
+            told(ray, &cast)
+        };
+        println!("ray {}: {told}", number + 1);
     }
     Ok(answered)
 }
@@ -72,16 +84,36 @@ fn rays(words: &[String]) -> Result<Vec<Ray>, String> {
 /// An answer in words.
 fn told(ray: &Ray, cast: &Cast<MeshHit>) -> String {
     match cast {
-        Cast::Hit(hit) => format!(
-            "hit at {} mm, point {}, normal {}, triangle {}",
-            fixed(hit.distance),
-            vector(ray.at(hit.distance)),
-            vector(hit.normal),
-            hit.triangle
-        ),
+        Cast::Hit(hit) => format!("hit {}", place(ray, hit)),
         Cast::None => "none".into(),
         Cast::Refused(refusal) => refusal.to_string(),
     }
+}
+
+/// A listing in words: how many hits, and a line for each.
+fn all_told(ray: &Ray, hits: &Result<Vec<MeshHit>, Refusal>) -> String {
+    match hits {
+        Ok(hits) if hits.is_empty() => "none".into(),
+        Ok(hits) => {
+            let lines = hits
+                .iter()
+                .map(|hit| format!("\n  {}", place(ray, hit)))
+                .collect::<String>();
+            let noun = if hits.len() == 1 { "hit" } else { "hits" };
+            format!("{} {noun}{lines}", hits.len())
+        }
+        Err(refusal) => refusal.to_string(),
+    }
+}
+
+fn place(ray: &Ray, hit: &MeshHit) -> String {
+    format!(
+        "at {} mm, point {}, normal {}, triangle {}",
+        fixed(hit.distance),
+        vector(ray.at(hit.distance)),
+        vector(hit.normal),
+        hit.triangle
+    )
 }
 
 /// A number with three places; what rounds to zero has no sign.

@@ -341,3 +341,58 @@ pub fn tree_check(
         )
     }
 }
+
+/// The listing of all hits; `found` has one place, how many are listed.
+#[allow(clippy::too_many_arguments)]
+#[inline]
+pub fn ray_mesh_all(
+    ray: &Ray,
+    vertices: &[f64],
+    triangles: &[u32],
+    pose: &[f64],
+    tree: &TreeRef<'_>,
+    list: &mut [u32],
+    stack: &mut [u32],
+    indices: &mut [u32],
+    numbers: &mut [f64],
+    found: &mut [usize],
+) -> u32 {
+    // SAFETY: every pointer and length is a slice's, and Rust lets no mutable one overlap another.
+    unsafe {
+        sys::probe_ray_mesh_all(
+            ray.origin[0],
+            ray.origin[1],
+            ray.origin[2],
+            ray.direction[0],
+            ray.direction[1],
+            ray.direction[2],
+            ray.max_distance,
+            ray.near_distance,
+            vertices.as_ptr(),
+            vertices.len(),
+            triangles.as_ptr(),
+            triangles.len(),
+            pose.as_ptr(),
+            pose.len(),
+            tree.nodes,
+            tree.node_boxes.as_ptr(),
+            tree.node_boxes.len(),
+            tree.triangle_boxes.as_ptr(),
+            tree.triangle_boxes.len(),
+            tree.node_words.as_ptr(),
+            tree.node_words.len(),
+            tree.order.as_ptr(),
+            tree.order.len(),
+            list.as_mut_ptr(),
+            list.len(),
+            stack.as_mut_ptr(),
+            stack.len(),
+            indices.as_mut_ptr(),
+            indices.len(),
+            numbers.as_mut_ptr(),
+            numbers.len(),
+            found.as_mut_ptr(),
+            found.len(),
+        )
+    }
+}

@@ -244,3 +244,32 @@ fn mesh_hit(places: &Places, index: &[u32; 1]) -> MeshHit {
         triangle: index[0],
     }
 }
+
+/// Lists every triangle that a ray hits, of those that the tree lists for the box of the ray's segment, and gives how
+/// many. The hit area is `indices`, one a place, and `numbers`, four a place, the distance and the normal; it has as many
+/// places as both hold, and those past the hits are unchanged. The hits stand ascending by index.
+///
+/// Refuses with 1 to 7. After 1, 2, 4 and 3 for the tree, the list or the stack the hit area is unchanged. Past these it
+/// is 3 exactly where there are more hits than places; after that, and after 5, 6 and 7, the whole hit area is zeros.
+/// Where it does not refuse, [`ray_mesh`]'s hit is among those listed.
+#[allow(clippy::too_many_arguments)]
+pub fn ray_mesh_all(
+    ray: &Ray,
+    vertices: &[f64],
+    triangles: &[u32],
+    pose: &[f64],
+    tree: &TreeRef<'_>,
+    list: &mut [u32],
+    stack: &mut [u32],
+    indices: &mut [u32],
+    numbers: &mut [f64],
+) -> Result<usize, Refusal> {
+    let mut found = [0_usize];
+    let answer = calls::ray_mesh_all(
+        ray, vertices, triangles, pose, tree, list, stack, indices, numbers, &mut found,
+    );
+    match answer {
+        sys::DONE => Ok(found[0]),
+        number => Err(Refusal::from_number(number)),
+    }
+}

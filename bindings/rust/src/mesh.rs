@@ -50,6 +50,9 @@ impl Tree {
 pub struct Scratch {
     list: Vec<u32>,
     stack: Vec<u32>,
+    /// The hit area of a listing, which only a listing asks for.
+    indices: Vec<u32>,
+    numbers: Vec<f64>,
 }
 
 impl Scratch {
@@ -65,6 +68,14 @@ impl Scratch {
         }
         if self.stack.len() < lent::stack_length(nodes) {
             self.stack.resize(lent::stack_length(nodes), 0);
+        }
+    }
+
+    /// Makes room for n hits: the walk lists no more triangles than there are.
+    fn fit_hits(&mut self, n: usize) {
+        if self.indices.len() < n {
+            self.indices.resize(n, 0);
+            self.numbers.resize(4 * n, 0.0);
         }
     }
 }
@@ -213,6 +224,66 @@ impl Mesh {
             &mut scratch.list,
             &mut scratch.stack,
         )
+    }
+
+    /// Every triangle that a ray hits, with the mesh's own work areas: each once, ascending by index. The hit of
+    /// [`cast`](Mesh::cast) is among them, and there are none exactly where it answers none. Refuses with 1, 6 or 7.
+    ///
+    /// ```
+    /// use probe_rays::{Mesh, Ray, Refusal};
+    ///
+    /// // a board 18 thick: its two faces, four triangles
+    /// let corner = |x, y, z| [f64::from(x), f64::from(y), f64::from(z)];
+    /// let face = |z| [corner(0, 0, z), corner(60, 0, z), corner(60, 40, z), corner(0, 40, z)];
+    /// let board = [face(18), face(0)].concat();
+    /// let mut mesh = Mesh::build(board, [[0, 1, 2], [0, 2, 3], [4, 6, 5], [4, 7, 6]])?;
+    ///
+    /// let depths = |hits: Vec<probe_rays::MeshHit>| hits.iter().map(|hit| hit.distance).collect::<Vec<_>>();
+    /// let down = Ray::new([30.0, 10.0, 20.0], [0.0, 0.0, -1.0], 100.0);
+    /// assert_eq!(depths(mesh.cast_all(&down)?), [2.0, 20.0]);
+    /// let beside = Ray::new([70.0, 10.0, 20.0], [0.0, 0.0, -1.0], 100.0);
+    /// assert!(mesh.cast_all(&beside)?.is_empty());
+    /// # Ok::<(), Refusal>(())
+    /// ```
+    pub fn cast_all(&mut self, ray: &Ray) -> Result<Vec<MeshHit>, Refusal> {
+        let mut scratch = std::mem::take(&mut self.scratch);
+        let hits = self.cast_all_with(ray, &mut scratch);
+        self.scratch = scratch;
+        hits
+    }
+
+    /// The same with work areas of the caller's, so that threads may share the mesh.
+    pub fn cast_all_with(&self, ray: &Ray, scratch: &mut Scratch) -> Result<Vec<MeshHit>, Refusal> {
+        self.cast_all_at(ray, &self.vertices, scratch)
+    }
+
+    /// The same at other vertices, as [`cast_at`](Mesh::cast_at) casts at them.
+    pub fn cast_all_at(
+        &self,
+        ray: &Ray,
+        pose: &[[f64; 3]],
+        scratch: &mut Scratch,
+    ) -> Result<Vec<MeshHit>, Refusal> {
+        scratch.fit(self.triangles.len(), self.tree.nodes);
+        scratch.fit_hits(self.triangles.len());
+        let found = lent::ray_mesh_all(
+            ray,
+            self.vertices.as_flattened(),
+            self.triangles.as_flattened(),
+            pose.as_flattened(),
+            &self.tree.as_lent(),
+            &mut scratch.list,
+            &mut scratch.stack,
+            &mut scratch.indices,
+            &mut scratch.numbers,
+        )?;
+        let places = scratch.numbers.chunks_exact(4).zip(&scratch.indices);
+        let hit = |(numbers, &triangle): (&[f64], &u32)| MeshHit {
+            normal: [numbers[1], numbers[2], numbers[3]],
+            distance: numbers[0],
+            triangle,
+        };
+        Ok(places.take(found).map(hit).collect())
     }
 
     /// The triangles whose boxes touch the box from `min` to `max`, ascending, in the mesh's own work areas.

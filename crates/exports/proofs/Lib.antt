@@ -6,3 +6,4 @@ pub mod PlainCalls
 pub mod MeshTold
 pub mod Demands
 pub mod CabinetAnswers
+pub mod FoundHits

@@ -4,3 +4,4 @@ pub mod Plain
 pub mod Demands
 pub mod Ranges
 pub mod CabinetResults
+pub mod AllHits

@@ -8,6 +8,8 @@ mod results;
 pub mod shapes;
 // The same casts of a ray with a near distance.
 pub mod near;
+// All hits along a ray.
+pub mod listings;
 // The mesh cast, build, query and tree check.
 pub mod meshes;
 // The mesh cast without a tree.

@@ -4,6 +4,7 @@
 use differential::{
     calls,
     library::{Build, Cast, Check, Query},
+    listing,
     log::Log,
     panel,
 };
@@ -152,7 +153,7 @@ fn built(log: &mut Log, random: &mut Random, mesh: &Mesh) -> Option<FlatTree> {
 }
 
 /// Check, queries and casts over one tree for the mesh.
-fn with_tree(log: &mut Log, mesh: &Mesh, tree: &FlatTree, rays: &[Ray]) {
+fn with_tree(log: &mut Log, random: &mut Random, mesh: &Mesh, tree: &FlatTree, rays: &[Ray]) {
     let n = mesh.indices.len() / 3;
     let check = Check {
         vertices: &mesh.vertices,
@@ -186,6 +187,7 @@ fn with_tree(log: &mut Log, mesh: &Mesh, tree: &FlatTree, rays: &[Ray]) {
             index: &[7],
         };
         calls::cast(log, &cast);
+        listing::listing(log, random, &cast);
     }
 }
 
@@ -220,11 +222,12 @@ fn compare(log: &mut Log, random: &mut Random, mesh: &Mesh, count: usize) {
         return;
     };
     let rays = rays(random, mesh, count);
-    with_tree(log, mesh, &tree, &rays);
+    with_tree(log, random, mesh, &tree, &rays);
     log.context = "another builder's tree";
-    with_tree(log, mesh, &trees::valid(random, &tree), &rays[..count / 8]);
+    let other = trees::valid(random, &tree);
+    with_tree(log, random, mesh, &other, &rays[..count / 8]);
     log.context = "the deepest tree";
-    with_tree(log, mesh, &comb(&tree), &rays[..count / 8]);
+    with_tree(log, random, mesh, &comb(&tree), &rays[..count / 8]);
     past_the_limits(log, random, mesh);
     println!(
         "{}: {} vertices, {} triangles, {} nodes, tree {:016x}, {count} rays, {:.1} s",

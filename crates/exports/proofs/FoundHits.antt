@@ -1,0 +1,50 @@
+-- What the listing's call tells says its answer back, so that the promises hold of it. Assumes nothing.
+use Prim.Native.Nat.{ℕ, _<_, _≤_}
+use mathlib.Core.Path.{_≡_, refl, sym, ap, subst, _∙_}
+use mathlib.Core.Bool.{Bool, cond}
+use mathlib.Core.List.{List, [], _∷_}
+use native.Mathlib.Omega.{arith}
+use borrow.Author.Tests.{le-leb, lt-leb, ne-eqb}
+use lib.Dec.{leb}
+use lib.Ieee.{Float}
+use lib.ListN.{length}
+use lib.Seq.{sets, getD-set-same}
+use Rattle.geometry.specs.declared.ray.Ray.{Ray}
+use Rattle.tree.specs.Layout.{Tree}
+use Rattle.tree.specs.Mesh.{Mesh}
+use Rattle.tree_query.specs.Query.{Listing, count, refused}
+use Rattle.mesh.specs.MeshCast.{shapeAdmitted}
+use Rattle.mesh_hits.specs.Listing.{HitArea, Outcome, rayMeshAll}
+use Rattle.mesh_hits.specs.Promise.{KeepsPromises}
+use Rattle.mesh_hits.proofs.RefusalNumbers.{refusals-small}
+use Rattle.exports.specs.Results.{Counted, doneCode, toldFound}
+use Rattle.exports.specs.AllHits.{ListingTold, withoutPlace, allTold, foundTold}
+
+module _ (r : Ray) (m : Mesh) (pose : List Float) (t : Tree) (list stack : ℕ) (area : HitArea) (place : List ℕ) where
+  pub short-told : (number : ℕ) → length place < 1 → number ≡ withoutPlace r (shapeAdmitted m pose t)
+      → record { told = record { number = number; count = place }; area = area } ≡ allTold r m pose t list stack area place
+  unfolding allTold
+  short-told number short e = simp (lt-leb 1 (length place) short, e)
+
+  module _ (there : 1 ≤ length place) (o : Outcome) (is : o ≡ rayMeshAll r m pose t list stack area)
+      (told : Counted) (e : told ≡ toldFound (o .answer) place) where
+    pub all-told : record { told = told; area = o .area } ≡ allTold r m pose t list stack area place
+    unfolding allTold
+    all-told =
+        ap (λ (c : Counted). record { told = c; area = o .area }) e
+        ∙ ap (λ (z : Outcome). record { told = toldFound (z .answer) place; area = z .area }) is
+        ∙ simp (le-leb 1 (length place) there)
+
+    -- a count stands at its place, and no refusal has the code of a count
+    told-back : (a : Listing) → o .answer ≡ a → foundTold (toldFound a place .number) (toldFound a place .count) ≡ a
+    unfolding foundTold toldFound
+    told-back (count k) h = ap count (getD-set-same place 0 k 0 there)
+    told-back (refused number) h =
+        let small = refusals-small r m pose t list stack area number (sym (ap (λ (z : Outcome). z .answer) is) ∙ h) in
+        simp (ne-eqb number doneCode (λ same. omega arith))
+
+    pub told-promises : KeepsPromises r m pose t list stack o
+        → KeepsPromises r m pose t list stack (record { answer = foundTold (told .number) (told .count); area = o .area })
+    told-promises p =
+        subst (λ (a : Listing). KeepsPromises r m pose t list stack (record { answer = a; area = o .area }))
+        (sym (ap (λ (c : Counted). foundTold (c .number) (c .count)) e ∙ told-back (o .answer) refl)) p

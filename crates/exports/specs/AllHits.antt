@@ -1,0 +1,39 @@
+-- The listing's call: the ray that its numbers make, the number that it answers and what it writes. Definitions only. Assumes nothing.
+use Prim.Native.Nat.{ℕ}
+use mathlib.Core.Bool.{Bool, cond}
+use mathlib.Core.List.{List}
+use lib.Dec.{leb, eqb}
+use lib.Ieee.{Float}
+use lib.ListN.{length}
+use Rattle.geometry.specs.Segment.{rayAdmitted}
+use Rattle.geometry.specs.declared.ray.Ray.{Ray}
+use Rattle.casts.specs.Answer.{invalidInput, badShape, noRoom}
+use Rattle.tree.specs.Layout.{Tree, wordAt}
+use Rattle.tree.specs.Mesh.{Mesh}
+use Rattle.tree_query.specs.Query as Query
+use Rattle.mesh.specs.MeshCast.{shapeAdmitted}
+use Rattle.mesh_hits.specs.Listing.{HitArea, rayMeshAll}
+use Rattle.exports.specs.Results.{doneCode, Counted, toldFound}
+
+-- the number and the slice of the count, and the hit area
+pub record ListingTold : Type 0 where
+  pub told : Counted
+  pub area : HitArea
+
+-- without the place of the count: "1 is tested before 2, 2 before 3"
+unfoldable pub withoutPlace : Ray → Bool → ℕ
+withoutPlace r shaped = cond (rayAdmitted r) (cond shaped noRoom badShape) invalidInput
+
+-- "index, distance and normal of every hit .. and their count"
+unfoldable pub allTold : Ray → Mesh → List Float → Tree → ℕ → ℕ → HitArea → List ℕ → ListingTold
+allTold r m pose t list stack area place =
+    cond (leb 1 (length place))
+    record {
+      told = toldFound (rayMeshAll r m pose t list stack area .answer) place;
+      area = rayMeshAll r m pose t list stack area .area;
+    }
+    record { told = record { number = withoutPlace r (shapeAdmitted m pose t); count = place }; area = area }
+
+-- what the number and the count's slice say together
+unfoldable pub foundTold : ℕ → List ℕ → Query.Listing
+foundTold number place = cond (eqb number doneCode) (Query.count (wordAt place 0)) (Query.refused number)

@@ -1,0 +1,201 @@
+-- The listing from the hits of the walk's list: its refusals, and what is written at the places. Assumes nothing.
+use Prim.Native.Nat.{ℕ, zero, suc, _+_, _*_, _/_, _<_, _≤_}
+use mathlib.Core.Path.{_≡_, refl, sym, ap, subst, _∙_}
+use mathlib.Core.Bool.{Bool, true, false, cond, true≢false}
+use mathlib.Core.List.{List, [], _∷_, _++_}
+use native.Mathlib.Omega.{arith}
+use borrow.Author.Tests.{leb-true, leb-false, le-leb, lt-leb, ltb-true}
+use lib.Dec.{leb, ltb}
+use lib.Ieee.{Float, nan}
+use lib.ListN.{length, take, drop, take-append-drop}
+use lib.Seq.{length-take-le, take-at, drop-at, getD-take}
+use Rattle.casts.specs.Answer.{Answer, hit, none, refused, noRoom}
+use Rattle.casts.specs.Nearest.{Indexed, hitAt, noHit, stopped, nextOf, nearestOf}
+use Rattle.casts.specs.Reach.{reachOf}
+use Rattle.casts.specs.Summary.{Summary, nothing, summaryFrom, winner}
+use Rattle.casts.specs.declared.answer.Reach.the-variants.{At}
+use Rattle.casts.proofs.AnswerLists.{HitsAreNumbers}
+use Rattle.casts.specs.declared.summary.Outcome.{Outcome as Won}
+use Rattle.casts.specs.declared.summary.Outcome.the-variants.{Nobody, Refused, Struck as StruckBy}
+use Rattle.tree.specs.Lists.{count, sorted}
+use Rattle.tree.specs.Layout.{numberAt, wordAt}
+use Rattle.tree.proofs.CountLaws.{count-keep, member-of-count, every-at}
+use Rattle.tree.proofs.SortLaws.{same-length}
+use Rattle.tree_query.specs.Areas.{allBelow}
+use Rattle.tree_query.specs.Query.{Listing, count as countOf}
+use Rattle.mesh.proofs.Folding.{nobody-wins, refusal-wins, hit-wins, winner-reached}
+use Rattle.mesh_hits.specs.Listing.{HitArea, hitArea, Outcome, isHit, depthOf, hitsOf, depthAt, inOrder, numbersOf, placesOf}
+use Rattle.mesh_hits.specs.Listing.{written, fitted, refusedAt, afterRefusals, listingOf}
+use Rattle.mesh_hits.specs.Rows.{Stored, Ready, Struck}
+use Rattle.mesh_hits.proofs.OrderLaws.{in-order-count, sorted-hits}
+use Rattle.mesh_hits.proofs.Storing.{miss-is-no-hit, refusal-is-no-hit}
+use Rattle.mesh_hits.proofs.PlaceLaws.{at-counted}
+
+-- ---- what the winner says
+module _ (answer : ℕ → Answer) (numbers : HitsAreNumbers answer) (l : List ℕ) (notes : Summary)
+    (h : notes ≡ summaryFrom answer nothing l) (outcome : Won) (w : outcome ≡ winner notes) (area : HitArea) where
+  pub refusal-lists : (number : ℕ) → outcome ≡ Refused number → refusedAt number area ≡ listingOf answer area (sorted l)
+  unfolding listingOf afterRefusals
+  refusal-lists number e = ap (λ (z : Indexed). afterRefusals z area (fitted answer area (inOrder answer (hitsOf answer (sorted l)))))
+      (refusal-wins answer numbers l notes h outcome w number e)
+
+  abbrev rest : Outcome
+  rest = fitted answer area (inOrder answer (hitsOf answer (sorted l)))
+
+  pub nobody-lists : outcome ≡ Nobody → rest ≡ listingOf answer area (sorted l)
+  unfolding listingOf afterRefusals
+  nobody-lists e = ap (λ (z : Indexed). afterRefusals z area rest) (nobody-wins answer numbers l notes h outcome w e)
+
+  pub struck-lists : (n : ℕ) → allBelow n l ≡ true → (index : ℕ) (distance : Float) → outcome ≡ StruckBy index distance
+      → rest ≡ listingOf answer area (sorted l)
+  unfolding listingOf
+  struck-lists n below index distance e =
+      go (answer index) (winner-reached answer numbers l notes h outcome w index distance e n below .1)
+      ∙ ap (λ (z : Indexed). afterRefusals z area rest)
+      (hit-wins answer numbers l notes h outcome w index distance e (answer index) refl (nextOf noHit index (answer index)) refl)
+    where
+      go : (a : Answer) → reachOf a ≡ At distance → rest ≡ afterRefusals (nextOf noHit index a) area rest
+      go (hit normal d) r = unfold nextOf afterRefusals in refl
+      go none r = absurd (miss-is-no-hit distance (unfold reachOf in r))
+      go (refused number) r = absurd (refusal-is-no-hit number distance (unfold reachOf in r))
+
+-- ---- the hits gathered, ready to be sorted
+-- what is answered depends on the area only where it is not written
+written-alike : (answer : ℕ → Answer) (hits : List ℕ) (k : ℕ) → length hits ≡ k → (a b : HitArea)
+    → drop k (a .indices) ≡ drop k (b .indices) → drop (4 * k) (a .numbers) ≡ drop (4 * k) (b .numbers)
+    → written answer a hits ≡ written answer b hits
+unfolding written
+written-alike answer hits k e a b p q = rw (e, p, q)
+
+pub refused-alike : (number : ℕ) (a b : HitArea) → length (a .indices) ≡ length (b .indices)
+    → length (a .numbers) ≡ length (b .numbers) → refusedAt number a ≡ refusedAt number b
+refused-alike number a b p q = rw (p, q)
+
+pub places-within : (indices numbers : ℕ) → (placesOf indices numbers ≤ indices) × (4 * placesOf indices numbers ≤ numbers)
+unfolding placesOf
+places-within indices numbers = go (leb indices (numbers / 4)) refl
+  where
+    go : (b : Bool) → leb indices (numbers / 4) ≡ b → (cond b indices (numbers / 4) ≤ indices)
+        × (4 * cond b indices (numbers / 4) ≤ numbers)
+    go true e = let h = leb-true indices (numbers / 4) e in (omega arith, omega arith)
+    go false e = let h = leb-false indices (numbers / 4) e in (omega arith, omega arith)
+
+module _ (answer : ℕ → Answer) (list : List ℕ) (found : ℕ) (inside : found ≤ length list) (n : ℕ)
+    (below : allBelow n (take found list) ≡ true) (ascends : sorted (take found list) ≡ take found list)
+    (indices₀ : List ℕ) (numbers₀ : List Float) (places : ℕ) (p : places ≡ placesOf (length indices₀) (length numbers₀))
+    (hits : ℕ) (indices : List ℕ) (numbers : List Float) (long : length indices ≡ length indices₀)
+    (longN : length numbers ≡ length numbers₀)
+    (s : Stored answer (take found list) places indices₀ numbers₀ hits indices numbers)
+  where
+    abbrev these : List ℕ
+    these = hitsOf answer (take found list)
+
+    pub first-hits : hits ≤ places → take hits indices ≡ these
+    first-hits few = ap (take hits) (s .holds few) ∙ take-at these (drop hits indices₀) hits (sym (s .counts))
+
+    pub hits-ready : hits ≤ places → Ready answer n hits indices numbers
+    hits-ready few =
+        let w = places-within (length indices₀) (length numbers₀) in
+        record {
+          inside = omega (arith, w, p, long);
+          fits = omega (arith, w, p, longN);
+          keyed = s .keyed few;
+          hits = λ (x : ℕ) (h : 0 < count x (take hits indices)). member x (subst (λ (l : List ℕ). 0 < count x l) (first-hits few) h);
+        }
+      where
+        member : (x : ℕ) → 0 < count x these → (x < n) × (isHit (answer x) ≡ true)
+        member x h = go (isHit (answer x)) refl (count-keep (λ (t : ℕ). isHit (answer t)) x (take found list))
+          where
+            go : (b : Bool) → isHit (answer x) ≡ b → count x these ≡ cond (isHit (answer x)) (count x (take found list)) 0 → (x < n)
+                × (isHit (answer x) ≡ true)
+            go true e c =
+                let k : 0 < count x (take found list) = omega
+                (arith, h, c ∙ ap (λ (b : Bool). cond b (count x (take found list)) 0) e) in
+                (ltb-true x n (every-at (λ (y : ℕ). ltb y n) (take found list) below x (member-of-count x (take found list) k)), e)
+            go false e c = absurd (omega (arith, h, c ∙ ap (λ (b : Bool). cond b (count x (take found list)) 0) e))
+
+    -- what is answered of them
+    pub fits-as-listed : (exit : Outcome)
+        → exit ≡ cond (leb hits places) (written answer (hitArea indices numbers) (inOrder answer (take hits indices)))
+        (refusedAt noRoom (hitArea indices numbers))
+        → exit ≡ fitted answer (hitArea indices₀ numbers₀) (inOrder answer (hitsOf answer (sorted (take found list))))
+    fits-as-listed exit e =
+        e ∙ go (leb hits places) refl ∙ ap (λ (z : List ℕ). fitted answer (hitArea indices₀ numbers₀) z)
+        (sorted-hits answer (take found list) ascends)
+      where
+        as-many : length (inOrder answer these) ≡ hits
+        as-many = same-length (inOrder answer these) these (λ (x : ℕ). in-order-count answer x these) ∙ sym (s .counts)
+
+        test : leb (length (inOrder answer these)) (placesOf (length indices₀) (length numbers₀)) ≡ leb hits places
+        test = ap (λ (k : ℕ). leb k (placesOf (length indices₀) (length numbers₀))) as-many ∙ ap (leb hits) (sym p)
+
+        fitting : (b : Bool) → leb hits places ≡ b
+            → fitted answer (hitArea indices₀ numbers₀) (inOrder answer these) ≡ cond b
+            (written answer (hitArea indices₀ numbers₀) (inOrder answer these)) (refusedAt noRoom (hitArea indices₀ numbers₀))
+        fitting b f = unfold fitted in ap
+            (λ (c : Bool). cond c (written answer (hitArea indices₀ numbers₀) (inOrder answer these))
+            (refusedAt noRoom (hitArea indices₀ numbers₀))) (test ∙ f)
+
+        go : (b : Bool) → leb hits places ≡ b
+            → cond (leb hits places) (written answer (hitArea indices numbers) (inOrder answer (take hits indices)))
+            (refusedAt noRoom (hitArea indices numbers))
+            ≡ fitted answer (hitArea indices₀ numbers₀) (inOrder answer these)
+        go true f =
+            let few : hits ≤ places = leb-true hits places f in
+            ap (λ (c : Bool). cond c (written answer (hitArea indices numbers) (inOrder answer (take hits indices)))
+            (refusedAt noRoom (hitArea indices numbers))) f
+            ∙ ap (λ (z : List ℕ). written answer (hitArea indices numbers) (inOrder answer z)) (first-hits few)
+            ∙ written-alike answer (inOrder answer these) hits as-many (hitArea indices numbers) (hitArea indices₀ numbers₀)
+            (ap (drop hits) (s .holds few) ∙ drop-at these (drop hits indices₀) hits (sym (s .counts))) (s .rest few)
+            ∙ sym (fitting true f)
+        go false f =
+            ap (λ (c : Bool). cond c (written answer (hitArea indices numbers) (inOrder answer (take hits indices)))
+            (refusedAt noRoom (hitArea indices numbers))) f
+            ∙ refused-alike noRoom (hitArea indices numbers) (hitArea indices₀ numbers₀) long longN
+            ∙ sym (fitting false f)
+
+-- ---- with their normals
+module _ (answer : ℕ → Answer) (n k : ℕ) (indices : List ℕ) (numbers : List Float) (r : Ready answer n k indices numbers) where
+  reached : (a : Answer) → isHit a ≡ true → reachOf a ≡ At (depthOf a)
+  reached (hit normal d) h = unfold reachOf depthOf in refl
+  reached none h = absurd (true≢false (sym h ∙ unfold isHit in refl))
+  reached (refused number) h = absurd (true≢false (sym h ∙ unfold isHit in refl))
+
+  long : length (take k indices) ≡ k
+  long = length-take-le k indices (r .inside)
+
+  first : (j : ℕ) → j < k → wordAt (take k indices) j ≡ wordAt indices j
+  first j h = getD-take k indices j 0 h
+
+  at-place : (j : ℕ) → j < k → (wordAt indices j < n) × (isHit (answer (wordAt indices j)) ≡ true)
+  at-place j h =
+      let c : 0 < count (wordAt (take k indices) j) (take k indices) = at-counted (take k indices) j (omega (arith, long)) in
+      r .hits (wordAt indices j) (subst (λ (x : ℕ). 0 < count x (take k indices)) (first j h) c)
+
+  pub ready-struck : Struck answer n indices k numbers
+  ready-struck = record {
+    inside = r .inside;
+    fits = r .fits;
+    below = λ (j : ℕ) (h : j < k). at-place j h .0;
+    reached =
+        λ (j : ℕ) (h : j < k).
+        reached (answer (wordAt indices j)) (at-place j h .1)
+        ∙ ap At (sym (r .keyed .at j (omega (arith, long)) ∙ ap (depthAt answer) (first j h)));
+  }
+
+  pub ready-written : (final : List Float) → final ≡ numbersOf answer (take k indices) ++ drop (4 * k) numbers
+      → record { answer = countOf k; area = hitArea indices final } ≡ written answer (hitArea indices numbers)
+      (inOrder answer (take k indices))
+  unfolding written
+  ready-written final f =
+      ap (λ (z : List Float). record { answer = countOf k; area = hitArea indices z }) f
+      ∙ ap (λ (z : List ℕ). record {
+        answer = countOf k;
+        area = hitArea z
+            (numbersOf answer (take k indices) ++ drop (4 * k) numbers);
+      }) (sym (take-append-drop k indices))
+      ∙ ap (λ (j : ℕ). record {
+        answer = countOf j;
+        area = hitArea (take k indices ++ drop j indices)
+            (numbersOf answer (take k indices) ++ drop (4 * j) numbers);
+      }) (sym long)

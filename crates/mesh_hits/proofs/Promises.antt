@@ -1,0 +1,226 @@
+-- What a user finds in a listing: each hit once for a checked tree, and how it fits the mesh cast for any. Assumes nothing.
+use Prim.Native.Nat.{ℕ, _+_, _*_, _<_}
+use mathlib.Core.Path.{_≡_, refl, sym, ap, subst, _∙_}
+use mathlib.Core.Bool.{Bool, true, false, cond}
+use mathlib.Core.List.{List}
+use native.Mathlib.Omega.{arith}
+use borrow.Author.Tests.{eq-eqb}
+use lib.Dec.{eqb}
+use lib.Ieee.{Float}
+use lib.ListN.{length}
+use Rattle.geometry.specs.Vector.{finiteVec}
+use Rattle.geometry.specs.Box.{validBox}
+use Rattle.geometry.specs.Segment.{rayAdmitted, segmentEnd, segmentBox}
+use Rattle.geometry.specs.declared.vec3.Vec3.{Vec3}
+use Rattle.geometry.specs.declared.ray.Ray.{Ray}
+use Rattle.geometry.proofs.BoxLaws.{segment-box-valid}
+use Rattle.casts.specs.Answer.{Answer, invalidInput, badShape, noRoom, wrongPose, outOfBounds, overflow}
+use Rattle.casts.specs.Nearest.{Indexed, stopped, nearestOf}
+use Rattle.casts.proofs.AnswerLists.{Rising, same-number}
+use Rattle.tree.specs.Lists.{count}
+use Rattle.tree.specs.Layout.{Tree, wordAt, numberAt, vectorAt}
+use Rattle.tree.specs.Mesh.{Mesh, thirds, triangleAnswer, candidates}
+use Rattle.tree.proofs.CountLaws.{member-of-count, count-range-inside}
+use Rattle.tree_query.specs.Walk.{Walking, walking, broken, walkOf}
+use Rattle.tree_query.specs.Query.{count as countOf, refused as refusedWith}
+use Rattle.mesh.specs.MeshCast.{shapeAdmitted, roomFor, overWalk as castOverWalk, meshCast, rayMesh}
+use Rattle.mesh.specs.Demand3.{Admitted, Candidate, IsHit}
+use Rattle.mesh.proofs.Demand3.{candidates-count, listed-candidate, passes, shape-admitted, answers-same}
+use Rattle.mesh.proofs.WalkLists.{walk-lists-candidates}
+use Rattle.mesh_hits.specs.Listing.{HitArea, Outcome, isHit, hitsOf, inOrder, refusedAt, unchanged, fitted}
+use Rattle.mesh_hits.specs.Listing.{afterRefusals, listingOf, overWalk, meshListing, rayMeshAll}
+use Rattle.mesh_hits.specs.Promise.{ListsHits, FitsCast, KeepsPromises, Promised}
+use Rattle.mesh_hits.proofs.PlaceLaws.{at-counted}
+use Rattle.mesh_hits.proofs.Listings.{ended-rises}
+use Rattle.mesh_hits.proofs.CountedHits.{refused-not-count, stopped-refuses, places, Counted, counted}
+use Rattle.mesh_hits.proofs.CountedHits.{listed-of-hit, all-hit, first-are, index-at, place-at, hit-at}
+use Rattle.mesh_hits.proofs.CastAmong.{fits-cast}
+
+-- ---- a checked tree
+module _ (r : Ray) (m : Mesh) (t : Tree) (list stack : ℕ) (area : HitArea) (k : ℕ) (a : Admitted r m t list stack) where
+  abbrev answer : ℕ → Answer
+  answer = triangleAnswer r (m .vertices) (m .triangles)
+
+  abbrev those : List ℕ
+  those = candidates m (segmentBox r)
+
+  pub listing-is : rayMeshAll r m (m .vertices) t list stack area ≡ listingOf answer area those
+  unfolding rayMeshAll meshListing overWalk
+  listing-is =
+      simp (
+        a .ray,
+        shape-admitted r m t list stack a,
+        a .areas,
+        eq-eqb (length (m .vertices))
+            (length (m .vertices)) refl,
+        a .end,
+        segment-box-valid r (a .ray) (a .end),
+        walk-lists-candidates m t (segmentBox r)
+            (passes r m t list stack a),
+      )
+
+  candidate-once : (i : ℕ) → Candidate r m i → count i those ≡ 1
+  candidate-once i c = candidates-count r m i true (c .near)
+      ∙ count-range-inside i 0 (thirds (length (m .triangles))) (omega arith) (omega (arith, c .triangle))
+
+  module _ (c : Counted answer area those k) where
+    is-hit-is : (i : ℕ) (normal : Vec3) (distance : Float) → IsHit r m i normal distance → isHit (answer i) ≡ true
+    unfolding isHit
+    is-hit-is i normal distance h = ap isHit (answers-same r m t list stack a i (h .candidate) ∙ h .answers)
+
+    hits-listed : ListsHits r m k (listingOf answer area those .area)
+    hits-listed = record {
+      once =
+          λ (i : ℕ) (normal : Vec3) (distance : Float) (h : IsHit r m i normal distance).
+          ap (count i) (first-are answer area those k c) ∙ listed-of-hit answer area those k i (is-hit-is i normal distance h)
+          ∙ candidate-once i (h .candidate);
+      only = only;
+    }
+      where
+        only : (j : ℕ) → j < k
+            → IsHit r m (wordAt (listingOf answer area those .area .indices) j)
+            (vectorAt (listingOf answer area those .area .numbers) (4 * j + 1))
+            (numberAt (listingOf answer area those .area .numbers) (4 * j))
+        only j h =
+            let x = wordAt (places answer area those k) j in
+            let i = hit-at answer area those k c j h in
+            let s = place-at answer area those k c j h (i .normal) (i .distance) (i .is) in
+            let here = at-counted (places answer area those k) j (omega (arith, c .long)) in
+            let member : 0 < count x those = omega
+            (arith, here, listed-of-hit answer area those k x (all-hit answer area those k x here)) in
+            let candidate = listed-candidate r m x (member-of-count x those member) in
+            rw (index-at answer area those k c j h, s .distance-is, s .normal-is)
+            record { candidate = candidate; answers = sym (answers-same r m t list stack a x candidate) ∙ i .is }
+
+  each-hit-once : rayMeshAll r m (m .vertices) t list stack area .answer ≡ countOf k
+      → ListsHits r m k (rayMeshAll r m (m .vertices) t list stack area .area)
+  each-hit-once h =
+      let e = listing-is in
+      rw e (hits-listed (counted answer area those k (sym (ap (λ (o : Outcome). o .answer) e) ∙ h)))
+
+-- ---- any tree: past the tests, one list serves the cast and the listing
+module _ (area : HitArea) where
+  -- what the tests let pass, of the cast and of the listing
+  abbrev cast : Bool → Bool → Bool → Bool → Bool → Bool → Indexed → Indexed
+  cast b₁ b₂ b₃ b₄ b₅ b₆ z =
+      cond b₁ (cond b₂ (cond b₃ (cond b₄ (cond b₅ (cond b₆ z (stopped outOfBounds)) (stopped overflow)) (stopped wrongPose))
+      (stopped noRoom)) (stopped badShape)) (stopped invalidInput)
+
+  abbrev pub listing : Bool → Bool → Bool → Bool → Bool → Bool → Outcome → Outcome
+  listing b₁ b₂ b₃ b₄ b₅ b₆ o =
+      cond b₁
+      (cond b₂ (cond b₃ (cond b₄ (cond b₅ (cond b₆ o (refusedAt outOfBounds area)) (refusedAt overflow area))
+      (unchanged wrongPose area)) (unchanged noRoom area)) (unchanged badShape area))
+      (unchanged invalidInput area)
+
+  refuses-alike : (b₁ b₂ b₃ b₄ b₅ b₆ : Bool) (z : Indexed) (o : Outcome) (number : ℕ)
+      → (z ≡ stopped number → o .answer ≡ refusedWith number)
+      → cast b₁ b₂ b₃ b₄ b₅ b₆ z ≡ stopped number → listing b₁ b₂ b₃ b₄ b₅ b₆ o .answer ≡ refusedWith number
+  refuses-alike false b₂ b₃ b₄ b₅ b₆ z o number h e = ap refusedWith (same-number invalidInput number e)
+  refuses-alike true false b₃ b₄ b₅ b₆ z o number h e = ap refusedWith (same-number badShape number e)
+  refuses-alike true true false b₄ b₅ b₆ z o number h e = ap refusedWith (same-number noRoom number e)
+  refuses-alike true true true false b₅ b₆ z o number h e = ap refusedWith (same-number wrongPose number e)
+  refuses-alike true true true true false b₆ z o number h e = ap refusedWith (same-number overflow number e)
+  refuses-alike true true true true true false z o number h e = ap refusedWith (same-number outOfBounds number e)
+  refuses-alike true true true true true true z o number h e = h e
+
+  record Passed (b₁ b₂ b₃ b₄ b₅ b₆ : Bool) (z : Indexed) (o : Outcome) : Type 0 where
+    cast-is : cast b₁ b₂ b₃ b₄ b₅ b₆ z ≡ z
+    listing-is : listing b₁ b₂ b₃ b₄ b₅ b₆ o ≡ o
+
+  counts-pass : (b₁ b₂ b₃ b₄ b₅ b₆ : Bool) (z : Indexed) (o : Outcome) (k : ℕ) → listing b₁ b₂ b₃ b₄ b₅ b₆ o .answer ≡ countOf k
+      → Passed b₁ b₂ b₃ b₄ b₅ b₆ z o
+  counts-pass false b₂ b₃ b₄ b₅ b₆ z o k h = absurd (refused-not-count k invalidInput h)
+  counts-pass true false b₃ b₄ b₅ b₆ z o k h = absurd (refused-not-count k badShape h)
+  counts-pass true true false b₄ b₅ b₆ z o k h = absurd (refused-not-count k noRoom h)
+  counts-pass true true true false b₅ b₆ z o k h = absurd (refused-not-count k wrongPose h)
+  counts-pass true true true true false b₆ z o k h = absurd (refused-not-count k overflow h)
+  counts-pass true true true true true false z o k h = absurd (refused-not-count k outOfBounds h)
+  counts-pass true true true true true true z o k h = record { cast-is = refl; listing-is = refl }
+
+  -- over the walk's list
+  walk-refuses : (r : Ray) (pose : List Float) (triangles : List ℕ) (w : Walking) (number : ℕ)
+      → castOverWalk r pose triangles w ≡ stopped number
+      → overWalk (triangleAnswer r pose triangles) area w .answer ≡ refusedWith number
+  unfolding castOverWalk overWalk listingOf
+  walk-refuses r pose triangles broken number h = ap refusedWith (same-number outOfBounds number h)
+  walk-refuses r pose triangles (walking stack l) number h =
+      ap (λ (z : Indexed). afterRefusals z area
+      (fitted (triangleAnswer r pose triangles) area
+      (inOrder (triangleAnswer r pose triangles) (hitsOf (triangleAnswer r pose triangles) l))) .answer) h
+      ∙ stopped-refuses number area (fitted (triangleAnswer r pose triangles) area
+      (inOrder (triangleAnswer r pose triangles) (hitsOf (triangleAnswer r pose triangles) l)))
+
+refuses-as-the-cast : (r : Ray) (m : Mesh) (pose : List Float) (t : Tree) (list stack : ℕ) (area : HitArea) (number : ℕ)
+    → rayMesh r m pose t list stack ≡ stopped number → rayMeshAll r m pose t list stack area .answer ≡ refusedWith number
+unfolding rayMesh meshCast rayMeshAll meshListing
+refuses-as-the-cast r m pose t list stack area number h =
+    refuses-alike area (rayAdmitted r) (shapeAdmitted m pose t) (roomFor m t list stack) (eqb (length pose) (length (m .vertices)))
+    (finiteVec (segmentEnd r)) (validBox (segmentBox r))
+    (castOverWalk r pose (m .triangles) (walkOf t (thirds (length (m .triangles))) (segmentBox r)))
+    (overWalk (triangleAnswer r pose (m .triangles)) area (walkOf t (thirds (length (m .triangles))) (segmentBox r)))
+    number
+    (walk-refuses area r pose (m .triangles) (walkOf t (thirds (length (m .triangles))) (segmentBox r)) number)
+    h
+
+module _ (r : Ray) (m : Mesh) (pose : List Float) (t : Tree) (list stack : ℕ) (area : HitArea) where
+  abbrev pub answers : ℕ → Answer
+  answers = triangleAnswer r pose (m .triangles)
+
+  abbrev walked : Walking
+  walked = walkOf t (thirds (length (m .triangles))) (segmentBox r)
+
+  pub record OneList (k : ℕ) : Type 0 where
+    pub list' : List ℕ
+    pub rises : Rising list'
+    pub cast-is : rayMesh r m pose t list stack ≡ nearestOf answers list'
+    pub listing-is : rayMeshAll r m pose t list stack area ≡ listingOf answers area list'
+
+  pub one-list : (k : ℕ) → rayMeshAll r m pose t list stack area .answer ≡ countOf k → OneList k
+  unfolding rayMesh meshCast rayMeshAll meshListing walkOf
+  one-list k h = go walked refl
+    where
+      p : Passed area (rayAdmitted r) (shapeAdmitted m pose t) (roomFor m t list stack) (eqb (length pose) (length (m .vertices)))
+          (finiteVec (segmentEnd r)) (validBox (segmentBox r))
+          (castOverWalk r pose (m .triangles) walked) (overWalk answers area walked)
+      p =
+          counts-pass area (rayAdmitted r) (shapeAdmitted m pose t) (roomFor m t list stack) (eqb (length pose) (length (m .vertices)))
+          (finiteVec (segmentEnd r)) (validBox (segmentBox r))
+          (castOverWalk r pose (m .triangles) walked) (overWalk answers area walked) k h
+
+      go : (w : Walking) → walked ≡ w → OneList k
+      go broken e = absurd (refused-not-count k outOfBounds
+          (unfold overWalk in ap (λ (w : Walking). overWalk answers area w .answer) (sym e)
+          ∙ ap (λ (o : Outcome). o .answer) (sym (p .listing-is)) ∙ h))
+      go (walking s l) e = record {
+        list' = l;
+        rises = ended-rises t (thirds (length (m .triangles))) (segmentBox r) _ s l e;
+        cast-is = p .cast-is ∙ ap (castOverWalk r pose (m .triangles)) e ∙ unfold castOverWalk in refl;
+        listing-is = p .listing-is ∙ ap (overWalk answers area) e ∙ unfold overWalk in refl;
+      }
+
+  lists-as-the-cast : (k : ℕ) → rayMeshAll r m pose t list stack area .answer ≡ countOf k
+      → FitsCast (rayMesh r m pose t list stack) k (rayMeshAll r m pose t list stack area .area)
+  lists-as-the-cast k h =
+      let o = one-list k h in
+      let e = o .listing-is in
+      let c = counted answers area (o .list') k (sym (ap (λ (z : Outcome). z .answer) e) ∙ h) in
+      rw (o .cast-is, e) (fits-cast answers area (o .list') k c)
+
+pub promised : Promised
+promised r m pose t list stack area = record {
+  each-hit-once =
+      λ (k : ℕ) (h : rayMeshAll r m pose t list stack area .answer ≡ countOf k) (own : pose ≡ m .vertices)
+      (a : Admitted r m t list stack).
+      subst (λ (vs : List Float). ListsHits r m k (rayMeshAll r m vs t list stack area .area)) (sym own)
+      (each-hit-once r m t list stack area k a (ap (λ (vs : List Float). rayMeshAll r m vs t list stack area .answer) (sym own) ∙ h));
+  fits-cast = lists-as-the-cast r m pose t list stack area;
+  refuses = refuses-as-the-cast r m pose t list stack area;
+}
+
+-- the contract's three clauses: the equation, what is kept, and the promises
+pub with-promises : (r : Ray) (m : Mesh) (pose : List Float) (t : Tree) (list stack : ℕ) (area : HitArea) (o : Outcome) (Kept : Type 0)
+    → o ≡ rayMeshAll r m pose t list stack area → Kept
+    → (o ≡ rayMeshAll r m pose t list stack area) × (Kept × KeepsPromises r m pose t list stack o)
+with-promises r m pose t list stack area o Kept e k =
+    (e, (k, subst (KeepsPromises r m pose t list stack) (sym e) (promised r m pose t list stack area)))

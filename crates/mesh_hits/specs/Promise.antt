@@ -1,0 +1,61 @@
+-- What a user finds in a listing. Definitions only. Assumes nothing.
+use Prim.Native.Nat.{ℕ, _+_, _*_, _<_}
+use mathlib.Core.Path.{_≡_}
+use mathlib.Core.List.{List}
+use lib.Ieee.{Float}
+use lib.ListN.{take}
+use Rattle.geometry.specs.declared.vec3.Vec3.{Vec3}
+use Rattle.geometry.specs.declared.ray.Ray.{Ray}
+use Rattle.casts.specs.Nearest.{Indexed, hitAt, noHit, stopped}
+use Rattle.tree.specs.Lists.{count}
+use Rattle.tree.specs.Layout.{Tree, wordAt, numberAt, vectorAt}
+use Rattle.tree.specs.Mesh.{Mesh}
+use Rattle.tree_query.specs.Query.{count as countOf, refused}
+use Rattle.mesh.specs.MeshCast.{rayMesh}
+use Rattle.mesh.specs.Demand3.{IsHit, Admitted}
+use Rattle.mesh_hits.specs.Listing.{HitArea, Outcome, rayMeshAll}
+
+-- a hit at a place of the area
+pub record StandsAt (area : HitArea) (place : ℕ) (normal : Vec3) (distance : Float) (index : ℕ) : Type 0 where
+  pub index-is : wordAt (area .indices) place ≡ index
+  pub distance-is : numberAt (area .numbers) (4 * place) ≡ distance
+  pub normal-is : vectorAt (area .numbers) (4 * place + 1) ≡ normal
+
+-- ---- a tree that passes the check
+module _ (r : Ray) (m : Mesh) (k : ℕ) (area : HitArea) where
+  -- "For a tree that passes the check, a user must find each hit once": each triangle that is hit stands in the listing
+  -- exactly once, and no other does
+  pub record ListsHits : Type 0 where
+    pub once : (i : ℕ) (normal : Vec3) (distance : Float) → IsHit r m i normal distance → count i (take k (area .indices)) ≡ 1
+    pub only : (j : ℕ) → j < k
+        → IsHit r m (wordAt (area .indices) j) (vectorAt (area .numbers) (4 * j + 1)) (numberAt (area .numbers) (4 * j))
+
+-- ---- any tree
+-- one of the k listed
+pub record IsListed (k : ℕ) (area : HitArea) (normal : Vec3) (distance : Float) (index : ℕ) : Type 0 where
+  pub place : ℕ
+  pub within : place < k
+  pub stands : StandsAt area place normal distance index
+
+pub record FitsCast (cast : Indexed) (k : ℕ) (area : HitArea) : Type 0 where
+  -- "an empty listing exactly where that cast answers none"
+  pub empty-if : cast ≡ noHit → k ≡ 0
+  pub empty-only-if : k ≡ 0 → cast ≡ noHit
+  -- "the mesh cast's among them"
+  pub among : (normal : Vec3) (distance : Float) (i : ℕ) → cast ≡ hitAt normal distance i → IsListed k area normal distance i
+
+-- ---- the promises, of a call's outcome
+module _ (r : Ray) (m : Mesh) (pose : List Float) (t : Tree) (list stack : ℕ) (o : Outcome) where
+  pub record KeepsPromises : Type 0 where
+    -- at the mesh's own vertices, for a tree that passes the check
+    pub each-hit-once : (k : ℕ) → o .answer ≡ countOf k → pose ≡ m .vertices → Admitted r m t list stack
+        → ListsHits r m k (o .area)
+    -- whatever the tree and the vertices to cast at
+    pub fits-cast : (k : ℕ) → o .answer ≡ countOf k → FitsCast (rayMesh r m pose t list stack) k (o .area)
+    -- where the mesh cast refuses, so does the listing, with its number
+    pub refuses : (number : ℕ) → rayMesh r m pose t list stack ≡ stopped number → o .answer ≡ refused number
+
+abbrev pub Promised : Type 0
+Promised =
+    (r : Ray) (m : Mesh) (pose : List Float) (t : Tree) (list stack : ℕ) (area : HitArea)
+    → KeepsPromises r m pose t list stack (rayMeshAll r m pose t list stack area)

@@ -1,0 +1,206 @@
+use crate::gathering;
+use crate::places;
+use casts::answer;
+use casts::summary;
+use casts::summary::Outcome;
+use geometry::ray::Ray;
+use mesh::cast;
+use tree_query::query;
+use tree_query::query::Listed;
+use tree_query::step::Filled;
+use tree_query::walk;
+ghost use mathlib.Core.Path.{_≡_};
+ghost use mathlib.Core.Bool.{true, false, cond};
+ghost use Prim.Native.Nat.{_≤_};
+ghost use lib.Dec.{leb};
+ghost use lib.ListN.{length, take};
+ghost use Rattle.geometry.specs.Segment.{rayAdmitted};
+ghost use Rattle.casts.specs.Answer.{noRoom};
+ghost use Rattle.tree.specs.Lists.{sorted};
+ghost use Rattle.tree.specs.Mesh.{thirds, triangleAnswer};
+ghost use Rattle.tree_query.specs.Areas.{allBelow, treeOf, WalkRoom};
+ghost use Rattle.tree_query.specs.Query.{saysListed};
+ghost use Rattle.mesh.specs.MeshCast.{mesh, testsPass};
+ghost use Rattle.mesh_hits.specs.Listing.{hitArea, written, refusedAt, inOrder, listingOf, meshListing, rayMeshAll};
+ghost use Rattle.mesh_hits.specs.Rows.{Ready};
+ghost use Rattle.mesh_hits.specs.Promise.{KeepsPromises};
+
+// The hits in the first places, their normals written.
+fn finish(
+    ray: Ray,
+    pose: &[f64],
+    triangles: &[u32],
+    hits: usize,
+    indices: &mut [u32],
+    numbers: &mut [f64],
+) -> Listed
+    requires { ⌜ Ready (triangleAnswer ray (now pose) (now triangles)) (thirds (length (now triangles))) hits (now indices) (now numbers) ⌝ }
+    ensures { λ r. ⌜ record { answer = saysListed r; area = hitArea (now (indices .exit)) (now (numbers .exit)) } ≡ written (triangleAnswer ray (now (pose .entry)) (now (triangles .entry))) (hitArea (now (indices .entry)) (now (numbers .entry))) (inOrder (triangleAnswer ray (now (pose .entry)) (now (triangles .entry))) (take hits (now (indices .entry)))) ⌝ }
+{
+    places::put_normals(ray, pose, triangles, indices, hits, numbers);
+    Listed::Count(hits)
+}
+
+// The same where there is a place for each hit, and else refusal 3.
+fn fit(
+    ray: Ray,
+    pose: &[f64],
+    triangles: &[u32],
+    hits: usize,
+    places: usize,
+    indices: &mut [u32],
+    numbers: &mut [f64],
+) -> Listed
+    requires { ⌜ (hits ≤ places → Ready (triangleAnswer ray (now pose) (now triangles)) (thirds (length (now triangles))) hits (now indices) (now numbers)) ⌝ }
+    ensures { λ r. ⌜ record { answer = saysListed r; area = hitArea (now (indices .exit)) (now (numbers .exit)) } ≡ cond (leb hits places) (written (triangleAnswer ray (now (pose .entry)) (now (triangles .entry))) (hitArea (now (indices .entry)) (now (numbers .entry))) (inOrder (triangleAnswer ray (now (pose .entry)) (now (triangles .entry))) (take hits (now (indices .entry))))) (refusedAt noRoom (hitArea (now (indices .entry)) (now (numbers .entry)))) ⌝ }
+{
+    if hits > places {
+        return places::refuse(answer::NO_ROOM, indices, numbers);
+    }
+    finish(ray, pose, triangles, hits, indices, numbers)
+}
+
+// The listing of the triangles in the first places of an ascending list, for an admitted ray.
+fn list_hits(
+    ray: Ray,
+    pose: &[f64],
+    triangles: &[u32],
+    list: &[u32],
+    found: usize,
+    indices: &mut [u32],
+    numbers: &mut [f64],
+) -> Listed
+    requires { ⌜ (found ≤ length (now list)) × (allBelow (thirds (length (now triangles))) (take found (now list)) ≡ true) ⌝ ∗ ⌜ sorted (take found (now list)) ≡ take found (now list) ⌝ }
+    ensures { λ r. ⌜ record { answer = saysListed r; area = hitArea (now (indices .exit)) (now (numbers .exit)) } ≡ listingOf (triangleAnswer ray (now (pose .entry)) (now (triangles .entry))) (hitArea (now (indices .entry)) (now (numbers .entry))) (sorted (take found (now (list .entry)))) ⌝ }
+{
+    let room = places::places_of(indices.len(), numbers.len());
+    let gathered = gathering::gather_hits(
+        ray,
+        pose,
+        triangles,
+        list,
+        found,
+        room,
+        indices,
+        numbers,
+    );
+    let notes = gathered.notes;
+    let hits = gathered.hits;
+    let winner = summary::winner(notes);
+    match winner {
+        Outcome::Refused(number) => {
+            return places::refuse(number, indices, numbers);
+        }
+        Outcome::Nobody => {
+            return fit(ray, pose, triangles, hits, room, indices, numbers);
+        }
+        Outcome::Struck {
+            index: _,
+            distance: _,
+        } => {
+            return fit(ray, pose, triangles, hits, room, indices, numbers);
+        }
+    }
+}
+
+// The listing once refusals 1 to 4 have let it pass; the list and the stack may hold anything afterwards.
+fn mesh_listing(
+    ray: Ray,
+    triangles: &[u32],
+    pose: &[f64],
+    nodes: usize,
+    node_boxes: &[f64],
+    triangle_boxes: &[f64],
+    node_words: &[u32],
+    order: &[u32],
+    list: &mut [u32],
+    stack: &mut [u32],
+    indices: &mut [u32],
+    numbers: &mut [f64],
+) -> Listed
+    requires { ⌜ rayAdmitted ray ≡ true ⌝ ∗ ⌜ thirds (length (now triangles)) ≤ 65536 ⌝ ∗ ⌜ WalkRoom (thirds (length (now triangles))) (treeOf nodes (now «node_boxes») (now «triangle_boxes») (now «node_words») (now order)) (now list) (now stack) ⌝ }
+    ensures { λ r. ⌜ record { answer = saysListed r; area = hitArea (now (indices .exit)) (now (numbers .exit)) } ≡ meshListing ray (now (triangles .entry)) (now (pose .entry)) (treeOf nodes (now («node_boxes» .entry)) (now («triangle_boxes» .entry)) (now («node_words» .entry)) (now (order .entry))) (hitArea (now (indices .entry)) (now (numbers .entry))) ⌝ }
+{
+    let end = ray.segment_end();
+    if !end.is_finite() {
+        return places::refuse(answer::OVERFLOW, indices, numbers);
+    }
+    // With both ends finite the box is valid, so that it needs no test.
+    let bounds = ray.segment_box(end);
+    let count = triangles.len() / 3;
+    let walked = walk::walk(
+        bounds,
+        count,
+        nodes,
+        node_boxes,
+        triangle_boxes,
+        node_words,
+        order,
+        list,
+        stack,
+    );
+    let Filled::Count(found) = walked else {
+        return places::refuse(answer::OUT_OF_BOUNDS, indices, numbers);
+    };
+    list_hits(ray, pose, triangles, list, found, indices, numbers)
+}
+
+// Every triangle that a ray hits, of those that any tree lists for its segment's box: its index, and its distance and normal.
+// The list and the stack are work areas: until refusals 1 to 4 have let the call pass they are unchanged, and then they may hold anything.
+// The third clause is what a user finds: each hit once, the mesh cast's among them, none exactly where that cast is none.
+pub fn ray_mesh_all(
+    ray: Ray,
+    vertices: &[f64],
+    triangles: &[u32],
+    pose: &[f64],
+    nodes: usize,
+    node_boxes: &[f64],
+    triangle_boxes: &[f64],
+    node_words: &[u32],
+    order: &[u32],
+    list: &mut [u32],
+    stack: &mut [u32],
+    indices: &mut [u32],
+    numbers: &mut [f64],
+) -> Listed
+    ensures { λ r. ⌜ record { answer = saysListed r; area = hitArea (now (indices .exit)) (now (numbers .exit)) } ≡ rayMeshAll ray (mesh (now (vertices .entry)) (now (triangles .entry))) (now (pose .entry)) (treeOf nodes (now («node_boxes» .entry)) (now («triangle_boxes» .entry)) (now («node_words» .entry)) (now (order .entry))) (length (now (list .entry))) (length (now (stack .entry))) (hitArea (now (indices .entry)) (now (numbers .entry))) ⌝ }
+    ensures { λ r. ⌜ (testsPass ray (mesh (now (vertices .entry)) (now (triangles .entry))) (now (pose .entry)) (treeOf nodes (now («node_boxes» .entry)) (now («triangle_boxes» .entry)) (now («node_words» .entry)) (now (order .entry))) (length (now (list .entry))) (length (now (stack .entry))) ≡ false → (now (list .exit) ≡ now (list .entry)) × (now (stack .exit) ≡ now (stack .entry))) ⌝ }
+    ensures { λ r. ⌜ KeepsPromises ray (mesh (now (vertices .entry)) (now (triangles .entry))) (now (pose .entry)) (treeOf nodes (now («node_boxes» .entry)) (now («triangle_boxes» .entry)) (now («node_words» .entry)) (now (order .entry))) (length (now (list .entry))) (length (now (stack .entry))) (record { answer = saysListed r; area = hitArea (now (indices .exit)) (now (numbers .exit)) }) ⌝ }
+{
+    if !ray.validate() {
+        return Listed::Refused(answer::INVALID_INPUT);
+    }
+    if !cast::shape_admitted(vertices.len(), triangles.len(), pose.len(), nodes) {
+        return Listed::Refused(answer::BAD_SHAPE);
+    }
+    let count = triangles.len() / 3;
+    if !query::walk_fits(
+        count,
+        nodes,
+        node_boxes,
+        triangle_boxes,
+        node_words,
+        order,
+        list.len(),
+        stack.len(),
+    ) {
+        return Listed::Refused(answer::NO_ROOM);
+    }
+    if pose.len() != vertices.len() {
+        return Listed::Refused(answer::WRONG_POSE);
+    }
+    mesh_listing(
+        ray,
+        triangles,
+        pose,
+        nodes,
+        node_boxes,
+        triangle_boxes,
+        node_words,
+        order,
+        list,
+        stack,
+        indices,
+        numbers,
+    )
+}
