@@ -478,16 +478,17 @@ uint32_t probe_ray_mesh_plain(
  * than that is no hit. It is finite, from 0 to the maximum, else 1.
  *
  * The hit area is `indices`, one a place, and `numbers`, four a place: distance, normal x, y, z. It has as many places
- * as both hold: the lesser of indices_length and numbers_length / 4, rounded down. The hits stand in its first places,
- * ascending by index; the places past them are unchanged.
+ * as both hold: the lesser of indices_length and numbers_length / 4, rounded down. The hits stand in its first places in
+ * order of depth: ascending distance, then ascending index; 0 and -0 are equal depths. The places past them are
+ * unchanged.
  *
  * Answers PROBE_DONE, or refuses with 1 to 7. After 1, 2, 4, and after 3 for found, an area of the tree, the list or
  * the stack, the hit area is unchanged. Then come 6 (the segment's end), 5 (the tree), the triangles' refusals, that of
  * the lowest index first, and last 3 exactly where there are more hits than places: after these every place of
  * `indices` and `numbers` is zero, those past the last whole place too.
  *
- * Where probe_ray_mesh refuses past 4, so does this call, with its number. Else probe_ray_mesh's hit is among those
- * listed, and there are none exactly where it answers PROBE_NONE. At the mesh's own vertices, through a tree for which
+ * Where probe_ray_mesh refuses past 4, so does this call, with its number. Else probe_ray_mesh's hit is the first of
+ * those listed, and there are none exactly where it answers PROBE_NONE. At the mesh's own vertices, through a tree for which
  * probe_tree_check says PROBE_YES, each triangle that is hit and whose box touches is listed once, and no other is. A
  * tree that does not pass may name a triangle more than once: it is then listed as often.
  */

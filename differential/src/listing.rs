@@ -204,7 +204,7 @@ fn rust_rows(call: &Listing, bounds: &[f64; 6]) -> Result<Vec<Row>, u32> {
             } => rows.push((index, [distance, x, y, z])),
         }
     }
-    Ok(rows)
+    Ok(listing::in_order_of_depth(rows))
 }
 
 fn row_agrees(done: &Listed, place: usize, row: &Row) -> bool {

@@ -1,5 +1,5 @@
-//! Document 02's listing of every hit along a ray (M-107), written down plainly over flat areas, with every refusal and
-//! what the hit area holds afterwards.
+//! Document 02's listing of every hit along a ray (M-107, in the order of M-111), written down plainly over flat areas,
+//! with every refusal and what the hit area holds afterwards.
 
 use crate::{
     answer::{Answer, Ray},
@@ -108,10 +108,20 @@ pub fn ray_mesh_all(
     listed.map(|rows| rows.len())
 }
 
-/// Past refusals 1 to 4: the segment's 6, the walk's 5, then the triangles, as they stand in the query's list.
+/// Ascending distance, then ascending triangle index; plus and minus zero are equal, and no distance is NaN.
+pub fn in_order_of_depth(mut rows: Vec<Row>) -> Vec<Row> {
+    let depth = |row: &Row| row.1[0];
+    rows.sort_by(|a, b| {
+        let by_depth = depth(a).partial_cmp(&depth(b)).expect("a number");
+        by_depth.then(a.0.cmp(&b.0))
+    });
+    rows
+}
+
+/// Past refusals 1 to 4: the segment's 6, the walk's 5, then the triangles, ascending, and their hits in order.
 fn late(ray: &Ray, indices: &[u32], pose: &[f64], tree: Tree) -> Result<Vec<Row>, u32> {
     let segment = segment_box(ray).ok_or(6u32)?;
     let mut list = model::walk(tree, indices.len() / 3, &segment).ok_or(5u32)?;
     list.sort_unstable();
-    rows(ray, pose, indices, &list)
+    rows(ray, pose, indices, &list).map(in_order_of_depth)
 }

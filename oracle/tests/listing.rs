@@ -60,8 +60,8 @@ fn by_hand() {
     let lower = [2.0, 0.0, 0.0, -1.0];
     let rest = [9.0];
     // both, then one number that belongs to no place
-    let numbers = [&upper[..], &lower, &rest].concat();
-    assert_eq!(listed(&ray, &tree, 3, 9), (Ok(2), vec![0, 1, 9], numbers));
+    let numbers = [&lower[..], &upper, &rest].concat();
+    assert_eq!(listed(&ray, &tree, 3, 9), (Ok(2), vec![1, 0, 9], numbers));
     // near at the lower one's distance, and just above it
     assert_eq!(listed(&upward(5.0, 2.0), &tree, 2, 8).0, Ok(2));
     let numbers = [upper, [9.0; 4]].concat();
@@ -133,10 +133,13 @@ fn beside_the_mesh_cast() {
             } => {
                 hit += 1;
                 let found = found.expect("a place for each triangle");
-                let place = (0..found).find(|&place| Some(indices[place]) == index);
-                let place = place.expect("the mesh cast's hit is among them");
-                let own = numbers[4 * place];
-                assert!(own == distance || (own.is_nan() && distance.is_nan()));
+                assert!(
+                    found > 0 && Some(indices[0]) == index,
+                    "the mesh cast's hit is the first"
+                );
+                assert_eq!(numbers[0], distance);
+                let depths = numbers[..4 * found].iter().step_by(4);
+                assert!(depths.is_sorted());
             }
         }
     }

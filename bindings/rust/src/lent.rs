@@ -247,11 +247,12 @@ fn mesh_hit(places: &Places, index: &[u32; 1]) -> MeshHit {
 
 /// Lists every triangle that a ray hits, of those that the tree lists for the box of the ray's segment, and gives how
 /// many. The hit area is `indices`, one a place, and `numbers`, four a place, the distance and the normal; it has as many
-/// places as both hold, and those past the hits are unchanged. The hits stand ascending by index.
+/// places as both hold, and those past the hits are unchanged. The hits stand in order of depth: ascending distance, then
+/// ascending index; 0 and -0 are equal depths.
 ///
 /// Refuses with 1 to 7. After 1, 2, 4 and 3 for the tree, the list or the stack the hit area is unchanged. Past these it
 /// is 3 exactly where there are more hits than places; after that, and after 5, 6 and 7, the whole hit area is zeros.
-/// Where it does not refuse, [`ray_mesh`]'s hit is among those listed.
+/// Where it does not refuse, [`ray_mesh`]'s hit is the first of those listed.
 #[allow(clippy::too_many_arguments)]
 pub fn ray_mesh_all(
     ray: &Ray,

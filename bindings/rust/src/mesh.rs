@@ -226,8 +226,9 @@ impl Mesh {
         )
     }
 
-    /// Every triangle that a ray hits, with the mesh's own work areas: each once, ascending by index. The hit of
-    /// [`cast`](Mesh::cast) is among them, and there are none exactly where it answers none. Refuses with 1, 6 or 7.
+    /// Every triangle that a ray hits, with the mesh's own work areas: each once, in order of depth, of equally near
+    /// ones the lower index first. The hit of [`cast`](Mesh::cast) is the first of them, and there are none exactly
+    /// where it answers none. Refuses with 1, 6 or 7.
     ///
     /// ```
     /// use probe_rays::{Mesh, Ray, Refusal};

@@ -1,6 +1,9 @@
 -- Laws about the listing of all hits. Assumes nothing.
 pub mod OrderLaws
 pub mod PlaceLaws
+pub mod Copying
+pub mod Merging
+pub mod Sorting
 pub mod Storing
 pub mod GatheredHits
 pub mod Putting
@@ -8,6 +11,7 @@ pub mod ListedHits
 pub mod Listings
 pub mod CountedHits
 pub mod CastAmong
+pub mod InDepth
 pub mod Promises
 pub mod RefusalNumbers
 pub mod ListingExamples

@@ -7,7 +7,7 @@ use native.Mathlib.Omega.{arith}
 use borrow.Author.Tests.{leb-true, leb-false, le-leb, lt-leb, ltb-true}
 use lib.Dec.{leb, ltb}
 use lib.Ieee.{Float, nan}
-use lib.ListN.{length, take, drop, take-append-drop}
+use lib.ListN.{length, take, drop, length-append, List·getD-append}
 use lib.Seq.{length-take-le, take-at, drop-at, getD-take}
 use Rattle.casts.specs.Answer.{Answer, hit, none, refused, noRoom}
 use Rattle.casts.specs.Nearest.{Indexed, hitAt, noHit, stopped, nextOf, nearestOf}
@@ -26,9 +26,11 @@ use Rattle.tree_query.specs.Query.{Listing, count as countOf}
 use Rattle.mesh.proofs.Folding.{nobody-wins, refusal-wins, hit-wins, winner-reached}
 use Rattle.mesh_hits.specs.Listing.{HitArea, hitArea, Outcome, isHit, depthOf, hitsOf, depthAt, inOrder, numbersOf, placesOf}
 use Rattle.mesh_hits.specs.Listing.{written, fitted, refusedAt, afterRefusals, listingOf}
-use Rattle.mesh_hits.specs.Rows.{Stored, Ready, Struck}
+use Rattle.mesh_hits.specs.Rows.{Keyed, Stored, Ready, Struck}
+use Rattle.mesh_hits.specs.SortRows.{Ordered}
 use Rattle.mesh_hits.proofs.OrderLaws.{in-order-count, sorted-hits}
 use Rattle.mesh_hits.proofs.Storing.{miss-is-no-hit, refusal-is-no-hit}
+use Rattle.mesh_hits.proofs.GatheredHits.{keep-shorter}
 use Rattle.mesh_hits.proofs.PlaceLaws.{at-counted}
 
 -- ---- what the winner says
@@ -81,7 +83,7 @@ places-within indices numbers = go (leb indices (numbers / 4)) refl
     go false e = let h = leb-false indices (numbers / 4) e in (omega arith, omega arith)
 
 module _ (answer : ℕ → Answer) (list : List ℕ) (found : ℕ) (inside : found ≤ length list) (n : ℕ)
-    (below : allBelow n (take found list) ≡ true) (ascends : sorted (take found list) ≡ take found list)
+    (below : allBelow n (take found list) ≡ true)
     (indices₀ : List ℕ) (numbers₀ : List Float) (places : ℕ) (p : places ≡ placesOf (length indices₀) (length numbers₀))
     (hits : ℕ) (indices : List ℕ) (numbers : List Float) (long : length indices ≡ length indices₀)
     (longN : length numbers ≡ length numbers₀)
@@ -93,12 +95,19 @@ module _ (answer : ℕ → Answer) (list : List ℕ) (found : ℕ) (inside : fou
     pub first-hits : hits ≤ places → take hits indices ≡ these
     first-hits few = ap (take hits) (s .holds few) ∙ take-at these (drop hits indices₀) hits (sym (s .counts))
 
-    pub hits-ready : hits ≤ places → Ready answer n hits indices numbers
+    pub hits-ready : hits ≤ places → Ready answer n hits indices numbers (length list)
     hits-ready few =
         let w = places-within (length indices₀) (length numbers₀) in
         record {
           inside = omega (arith, w, p, long);
           fits = omega (arith, w, p, longN);
+          room = omega (
+            arith,
+            s .counts,
+            keep-shorter (λ (t : ℕ). isHit (answer t))
+                (take found list),
+            length-take-le found list inside,
+          );
           keyed = s .keyed few;
           hits = λ (x : ℕ) (h : 0 < count x (take hits indices)). member x (subst (λ (l : List ℕ). 0 < count x l) (first-hits few) h);
         }
@@ -121,7 +130,7 @@ module _ (answer : ℕ → Answer) (list : List ℕ) (found : ℕ) (inside : fou
         → exit ≡ fitted answer (hitArea indices₀ numbers₀) (inOrder answer (hitsOf answer (sorted (take found list))))
     fits-as-listed exit e =
         e ∙ go (leb hits places) refl ∙ ap (λ (z : List ℕ). fitted answer (hitArea indices₀ numbers₀) z)
-        (sorted-hits answer (take found list) ascends)
+        (sorted-hits answer (take found list))
       where
         as-many : length (inOrder answer these) ≡ hits
         as-many = same-length (inOrder answer these) these (λ (x : ℕ). in-order-count answer x these) ∙ sym (s .counts)
@@ -154,48 +163,76 @@ module _ (answer : ℕ → Answer) (list : List ℕ) (found : ℕ) (inside : fou
             ∙ refused-alike noRoom (hitArea indices numbers) (hitArea indices₀ numbers₀) long longN
             ∙ sym (fitting false f)
 
--- ---- with their normals
-module _ (answer : ℕ → Answer) (n k : ℕ) (indices : List ℕ) (numbers : List Float) (r : Ready answer n k indices numbers) where
-  reached : (a : Answer) → isHit a ≡ true → reachOf a ≡ At (depthOf a)
-  reached (hit normal d) h = unfold reachOf depthOf in refl
-  reached none h = absurd (true≢false (sym h ∙ unfold isHit in refl))
-  reached (refused number) h = absurd (true≢false (sym h ∙ unfold isHit in refl))
-
-  long : length (take k indices) ≡ k
-  long = length-take-le k indices (r .inside)
-
-  first : (j : ℕ) → j < k → wordAt (take k indices) j ≡ wordAt indices j
-  first j h = getD-take k indices j 0 h
-
-  at-place : (j : ℕ) → j < k → (wordAt indices j < n) × (isHit (answer (wordAt indices j)) ≡ true)
-  at-place j h =
-      let c : 0 < count (wordAt (take k indices) j) (take k indices) = at-counted (take k indices) j (omega (arith, long)) in
-      r .hits (wordAt indices j) (subst (λ (x : ℕ). 0 < count x (take k indices)) (first j h) c)
-
-  pub ready-struck : Struck answer n indices k numbers
-  ready-struck = record {
-    inside = r .inside;
-    fits = r .fits;
-    below = λ (j : ℕ) (h : j < k). at-place j h .0;
-    reached =
-        λ (j : ℕ) (h : j < k).
-        reached (answer (wordAt indices j)) (at-place j h .1)
-        ∙ ap At (sym (r .keyed .at j (omega (arith, long)) ∙ ap (depthAt answer) (first j h)));
+-- ---- sorted, with their normals
+module _ (answer : ℕ → Answer) (n k : ℕ) (indices : List ℕ) (numbers : List Float) (work : ℕ)
+    (r : Ready answer n k indices numbers work) where
+  pub part-keyed : Keyed (depthAt answer) (take k indices) (take (4 * k) numbers)
+  part-keyed = record {
+    at = λ (i : ℕ) (h : i < length (take k indices)).
+        let j : i < k = omega (arith, length-take-le k indices (r .inside)) in
+        getD-take (4 * k) numbers (4 * i) nan (omega arith) ∙ r .keyed .at i h;
   }
 
-  pub ready-written : (final : List Float) → final ≡ numbersOf answer (take k indices) ++ drop (4 * k) numbers
-      → record { answer = countOf k; area = hitArea indices final } ≡ written answer (hitArea indices numbers)
-      (inOrder answer (take k indices))
-  unfolding written
-  ready-written final f =
-      ap (λ (z : List Float). record { answer = countOf k; area = hitArea indices z }) f
-      ∙ ap (λ (z : List ℕ). record {
-        answer = countOf k;
-        area = hitArea z
-            (numbersOf answer (take k indices) ++ drop (4 * k) numbers);
-      }) (sym (take-append-drop k indices))
-      ∙ ap (λ (j : ℕ). record {
-        answer = countOf j;
-        area = hitArea (take k indices ++ drop j indices)
-            (numbersOf answer (take k indices) ++ drop (4 * j) numbers);
-      }) (sym long)
+  module _ (exit : List ℕ) (exitN : List Float)
+      (o : (depth : ℕ → Float) → Keyed depth (take k indices) (take (4 * k) numbers) → Ordered depth (take k indices) exit exitN)
+      (long : length exit ≡ length (take k indices)) (longN : length exitN ≡ length (take (4 * k) numbers))
+    where
+      ordered : Ordered (depthAt answer) (take k indices) exit exitN
+      ordered = o (depthAt answer) part-keyed
+
+      exit-long : length exit ≡ k
+      exit-long = long ∙ length-take-le k indices (r .inside)
+
+      exitN-long : length exitN ≡ 4 * k
+      exitN-long = longN ∙ length-take-le (4 * k) numbers (r .fits)
+
+      at-place : (j : ℕ) → j < k → (wordAt exit j < n) × (isHit (answer (wordAt exit j)) ≡ true)
+      at-place j h =
+          let c : 0 < count (wordAt exit j) exit = at-counted exit j (omega (arith, exit-long)) in
+          let same = ap (count (wordAt exit j)) (ordered .sorted) ∙ in-order-count answer (wordAt exit j) (take k indices) in
+          r .hits (wordAt exit j) (omega (arith, c, same))
+
+      reached : (a : Answer) → isHit a ≡ true → reachOf a ≡ At (depthOf a)
+      reached (hit normal d) h = unfold reachOf depthOf in refl
+      reached none h = absurd (true≢false (sym h ∙ unfold isHit in refl))
+      reached (refused number) h = absurd (true≢false (sym h ∙ unfold isHit in refl))
+
+      pub sorted-struck : Struck answer n (exit ++ drop k indices) k (exitN ++ drop (4 * k) numbers)
+      sorted-struck = record {
+        inside = omega (arith, length-append exit (drop k indices), exit-long);
+        fits = omega (arith, length-append exitN (drop (4 * k) numbers), exitN-long);
+        below = λ (j : ℕ) (h : j < k). subst (λ (x : ℕ). x < n) (sym (first j h)) (at-place j h .0);
+        reached =
+            λ (j : ℕ) (h : j < k).
+            ap (λ (x : ℕ). reachOf (answer x)) (first j h)
+            ∙ reached (answer (wordAt exit j)) (at-place j h .1)
+            ∙ ap At (sym (List·getD-append exitN (drop (4 * k) numbers) nan (4 * j) (omega (arith, exitN-long))
+            ∙ ordered .keyed .at j (omega (arith, exit-long))));
+      }
+        where
+          first : (j : ℕ) → j < k → wordAt (exit ++ drop k indices) j ≡ wordAt exit j
+          first j h = List·getD-append exit (drop k indices) 0 j (omega (arith, exit-long))
+
+      pub sorted-written : (final : List Float)
+          → final ≡ numbersOf answer (take k (exit ++ drop k indices)) ++ drop (4 * k) (exitN ++ drop (4 * k) numbers)
+          → record { answer = countOf k; area = hitArea (exit ++ drop k indices) final } ≡ written answer (hitArea indices numbers)
+          (inOrder answer (take k indices))
+      unfolding written
+      sorted-written final f =
+          let numbers-are : final ≡ numbersOf answer exit ++ drop (4 * k) numbers =
+          f
+          ∙ ap (λ (z : List ℕ). numbersOf answer z ++ drop (4 * k) (exitN ++ drop (4 * k) numbers))
+          (take-at exit (drop k indices) k exit-long)
+          ∙ ap (λ (z : List Float). numbersOf answer exit ++ z) (drop-at exitN (drop (4 * k) numbers) (4 * k) exitN-long)
+          in
+          ap (λ (z : List Float). record { answer = countOf k; area = hitArea (exit ++ drop k indices) z }) numbers-are
+          ∙ ap (λ (j : ℕ). record {
+            answer = countOf j;
+            area = hitArea (exit ++ drop j indices)
+                (numbersOf answer exit ++ drop (4 * j) numbers);
+          }) (sym exit-long)
+          ∙ ap (λ (z : List ℕ). record {
+            answer = countOf (length z);
+            area = hitArea (z ++ drop (length z) indices)
+                (numbersOf answer z ++ drop (4 * length z) numbers);
+          }) (ordered .sorted)

@@ -2,6 +2,7 @@
 use Prim.Native.Nat.{ℕ}
 use mathlib.Core.Path.{_≡_, refl, ap}
 use mathlib.Core.List.{List, [], _∷_}
+use native.Mathlib.Omega.{arith}
 use lib.Ieee.{Float, binary64, span, climb, size, odd, units, round, neg, sum, add, sub, mul, div, lt, eq, le, ne, isNan}
 use lib.Ieee.{ofFields, ofBits}
 use Rattle.arithmetic.specs.Basic.{isFinite, absolute}
@@ -27,11 +28,12 @@ use Rattle.tree_check.specs.Verdict.{yes, checkOf, roomFor as marksFit}
 use Rattle.tree_query.specs.Walk.{times, takePlace, takePlaces, atLeaf, childFits, atBranch, atNode, takeNode, start, ended, walkOf}
 use Rattle.tree_query.specs.Query.{Listing, count as countOf, refused}
 use Rattle.tree_query.proofs.QueryExamples.{o, i, quarter, ten, eleven, lower, oddTree}
-use Rattle.mesh.specs.MeshCast.{shapeAdmitted, treeFits, roomFor}
+use Rattle.mesh.specs.MeshCast.{shapeAdmitted, treeFits, roomFor, rayMesh}
 use Rattle.mesh.specs.Demand3.{Admitted}
-use Rattle.mesh_hits.specs.Listing.{HitArea, hitArea, Outcome, isHit, placeOf, numbersOf, placesOf as placesHeld}
+use Rattle.mesh_hits.specs.Order.{notFarther, keyedAhead}
+use Rattle.mesh_hits.specs.Listing.{HitArea, hitArea, Outcome, isHit, depthOf, placeOf, numbersOf, placesOf as placesHeld}
 use Rattle.mesh_hits.specs.Listing.{written, fitted, afterRefusals, listingOf, overWalk, meshListing, rayMeshAll}
-use Rattle.mesh_hits.specs.Promise.{ListsHits}
+use Rattle.mesh_hits.specs.Promise.{ListsHits, firstOf}
 use Rattle.mesh_hits.proofs.Promises.{promised}
 
 -- the three triangles of that tree: one at height 0, one beside it, one at height -1 below the first
@@ -71,13 +73,13 @@ oneRow = hitArea (9 ∷ []) (ten ∷ (ten ∷ (ten ∷ (ten ∷ (ten ∷ [])))))
 abbrev list : Float → HitArea → Outcome
 list near area = rayMeshAll (upward near) mesh vertices oddTree 3 4 area
 
--- both, the lower index first; from 3 on, the upper one alone; with one place, refused and zeros
+-- both, the nearer first; from 3 on, the upper one alone; with one place, refused and zeros
 pub listings-answered :
     list o marked ∷ (list three marked ∷ (list o oneRow ∷ []))
     ≡ record {
       answer = countOf 2;
-      area = hitArea (0 ∷ (2 ∷ (9 ∷ [])))
-          (three ∷ (minusZero ∷ (minusZero ∷ (lower ∷ (two ∷ (minusZero ∷ (minusZero ∷ (lower ∷ (ten ∷ [])))))))));
+      area = hitArea (2 ∷ (0 ∷ (9 ∷ [])))
+          (two ∷ (minusZero ∷ (minusZero ∷ (lower ∷ (three ∷ (minusZero ∷ (minusZero ∷ (lower ∷ (ten ∷ [])))))))));
     }
     ∷ (record {
       answer = countOf 1;
@@ -85,7 +87,8 @@ pub listings-answered :
           (three ∷ (minusZero ∷ (minusZero ∷ (lower ∷ (ten ∷ (ten ∷ (ten ∷ (ten ∷ (ten ∷ [])))))))));
     }
     ∷ (record { answer = refused 3; area = hitArea (0 ∷ []) (o ∷ (o ∷ (o ∷ (o ∷ (o ∷ []))))) } ∷ []))
-unfolding rayMeshAll meshListing overWalk listingOf afterRefusals fitted written numbersOf placeOf isHit placesHeld keep roomFor
+unfolding rayMeshAll meshListing overWalk listingOf afterRefusals fitted written numbersOf placeOf isHit placesHeld keep keyedAhead
+    notFarther depthOf roomFor
     treeFits shapeAdmitted walkOf ended start takeNode atNode atBranch childFits atLeaf takePlaces takePlace times triangleAnswer
     cornerAt cornersInside lengthsAdmitted boxAt vectorAt sortBy insertBy range foldFrom nextOf triangleOf triangleAt triangleAbove
     triangleNormal flat facing outOfRange segmentBox segmentEnd rayAdmitted unitLength touches touchSide validBox validSide
@@ -113,3 +116,7 @@ tree-admitted = record { mesh = refl; ray = refl; end = refl; tree = record { ma
 pub hits-found : ListsHits (upward o) mesh 2 (list o marked .area)
 hits-found =
     promised (upward o) mesh vertices oddTree 3 4 marked .each-hit-once 2 (ap firstAnswer listings-answered) refl tree-admitted
+
+-- and the mesh cast's own hit is its first row
+pub first-found : rayMesh (upward o) mesh vertices oddTree 3 4 ≡ firstOf (list o marked .area)
+first-found = promised (upward o) mesh vertices oddTree 3 4 marked .first 2 (ap firstAnswer listings-answered) (omega arith)

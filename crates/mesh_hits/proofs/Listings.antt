@@ -17,7 +17,7 @@ use Rattle.geometry.proofs.BoxLaws.{segment-box-valid}
 use Rattle.casts.specs.Answer.{invalidInput, badShape, noRoom, wrongPose, outOfBounds, overflow}
 use Rattle.casts.proofs.AnswerLists.{Rising}
 use Rattle.tree.specs.Lists.{sorted}
-use Rattle.tree.proofs.SortLaws.{count-sorted, sorted-rises, rising-equal}
+use Rattle.tree.proofs.SortLaws.{sorted-rises}
 use Rattle.tree.specs.Layout.{Tree}
 use Rattle.tree.specs.Mesh.{Mesh, thirds, lengthsAdmitted, triangleAnswer}
 use Rattle.tree_query.specs.Walk.{Walking, walking, broken, ended, walkOf}
@@ -56,7 +56,7 @@ module _ (r : Ray) (triangles : List ℕ) (pose : List Float) (t : Tree) (area :
 
   module _ (v : rayAdmitted r ≡ true) (f : finiteVec (segmentEnd r) ≡ true) (box : Aabb) (b : box ≡ segmentBox r) (x : Filled)
       (exit : List ℕ)
-      (w : listed [] x exit ≡ walkOf t n box) where
+      (w : ended t n box (listed [] x exit) ≡ walkOf t n box) where
     valid : validBox box ≡ true
     valid = ap validBox b ∙ segment-box-valid r v f
 
@@ -65,30 +65,18 @@ module _ (r : Ray) (triangles : List ℕ) (pose : List Float) (t : Tree) (area :
     over = simp (f, sym b, valid)
 
     pub listing-broken : x ≡ Broken → (o : Outcome) → o ≡ refusedAt outOfBounds area → o ≡ meshListing r triangles pose t area
-    unfolding overWalk
+    unfolding overWalk ended
     listing-broken e o a =
-        let w' : broken ≡ walkOf t n box = subst (λ (y : Filled). listed [] y exit ≡ walkOf t n box) e w in
+        let w' : broken ≡ walkOf t n box = subst (λ (y : Filled). ended t n box (listed [] y exit) ≡ walkOf t n box) e w in
         a ∙ ap (overWalk (triangleAnswer r pose triangles) area) w' ∙ over
 
-    module _ (k : ℕ) (e : x ≡ Count k) where
-      walk-is : walking [] (take k exit) ≡ walkOf t n box
-      walk-is = subst (λ (y : Filled). listed [] y exit ≡ walkOf t n box) e w
-
-      pub walk-ascends : sorted (take k exit) ≡ take k exit
-      unfolding walkOf
-      walk-ascends =
-          rising-equal (sorted (take k exit)) (take k exit) (sorted-rises (take k exit))
-          (ended-rises t n box _ [] (take k exit) (sym walk-is))
-          (λ (i : ℕ). count-sorted i (take k exit))
-
-      pub listing-walked : (o : Outcome) → o ≡ listingOf (triangleAnswer r pose triangles) area (sorted (take k exit))
-          → o ≡ meshListing r triangles pose t area
-      unfolding overWalk
-      listing-walked o a =
-          a
-          ∙ ap (listingOf (triangleAnswer r pose triangles) area) walk-ascends
-          ∙ ap (overWalk (triangleAnswer r pose triangles) area) walk-is
-          ∙ over
+    pub listing-walked : (k : ℕ) (o : Outcome) → x ≡ Count k
+        → o ≡ listingOf (triangleAnswer r pose triangles) area (sorted (take k exit)) → o ≡ meshListing r triangles pose t area
+    unfolding overWalk ended
+    listing-walked k o e a =
+        let w' : walking [] (sorted (take k exit)) ≡ walkOf t n box = subst
+        (λ (y : Filled). ended t n box (listed [] y exit) ≡ walkOf t n box) e w in
+        a ∙ ap (overWalk (triangleAnswer r pose triangles) area) w' ∙ over
 
 -- refusals 1 to 4, in their order
 module _ (r : Ray) (m : Mesh) (pose : List Float) (t : Tree) (list stack : ℕ) (area : HitArea) where

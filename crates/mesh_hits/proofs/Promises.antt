@@ -21,6 +21,7 @@ use Rattle.tree.specs.Lists.{count}
 use Rattle.tree.specs.Layout.{Tree, wordAt, numberAt, vectorAt}
 use Rattle.tree.specs.Mesh.{Mesh, thirds, triangleAnswer, candidates}
 use Rattle.tree.proofs.CountLaws.{member-of-count, count-range-inside}
+use Rattle.tree.proofs.Corners.{answers-are-numbers}
 use Rattle.tree_query.specs.Walk.{Walking, walking, broken, walkOf}
 use Rattle.tree_query.specs.Query.{count as countOf, refused as refusedWith}
 use Rattle.mesh.specs.MeshCast.{shapeAdmitted, roomFor, overWalk as castOverWalk, meshCast, rayMesh}
@@ -29,12 +30,13 @@ use Rattle.mesh.proofs.Demand3.{candidates-count, listed-candidate, passes, sha
 use Rattle.mesh.proofs.WalkLists.{walk-lists-candidates}
 use Rattle.mesh_hits.specs.Listing.{HitArea, Outcome, isHit, hitsOf, inOrder, refusedAt, unchanged, fitted}
 use Rattle.mesh_hits.specs.Listing.{afterRefusals, listingOf, overWalk, meshListing, rayMeshAll}
-use Rattle.mesh_hits.specs.Promise.{ListsHits, FitsCast, KeepsPromises, Promised}
+use Rattle.mesh_hits.specs.Promise.{ListsHits, FitsCast, Ascends, firstOf, KeepsPromises, Promised}
 use Rattle.mesh_hits.proofs.PlaceLaws.{at-counted}
 use Rattle.mesh_hits.proofs.Listings.{ended-rises}
 use Rattle.mesh_hits.proofs.CountedHits.{refused-not-count, stopped-refuses, places, Counted, counted}
 use Rattle.mesh_hits.proofs.CountedHits.{listed-of-hit, all-hit, first-are, index-at, place-at, hit-at}
 use Rattle.mesh_hits.proofs.CastAmong.{fits-cast}
+use Rattle.mesh_hits.proofs.InDepth.{in-order, first-is-the-cast}
 
 -- ---- a checked tree
 module _ (r : Ray) (m : Mesh) (t : Tree) (list stack : ℕ) (area : HitArea) (k : ℕ) (a : Admitted r m t list stack) where
@@ -207,6 +209,22 @@ module _ (r : Ray) (m : Mesh) (pose : List Float) (t : Tree) (list stack : ℕ) 
       let c = counted answers area (o .list') k (sym (ap (λ (z : Outcome). z .answer) e) ∙ h) in
       rw (o .cast-is, e) (fits-cast answers area (o .list') k c)
 
+  rows-in-order : (k : ℕ) → rayMeshAll r m pose t list stack area .answer ≡ countOf k
+      → Ascends k (rayMeshAll r m pose t list stack area .area)
+  rows-in-order k h =
+      let o = one-list k h in
+      let e = o .listing-is in
+      rw e (in-order answers area (o .list') k (counted answers area (o .list') k (sym (ap (λ (z : Outcome). z .answer) e) ∙ h)))
+
+  first-of-rows : (k : ℕ) → rayMeshAll r m pose t list stack area .answer ≡ countOf k → 0 < k
+      → rayMesh r m pose t list stack ≡ firstOf (rayMeshAll r m pose t list stack area .area)
+  first-of-rows k h some =
+      let o = one-list k h in
+      let e = o .listing-is in
+      let c = counted answers area (o .list') k (sym (ap (λ (z : Outcome). z .answer) e) ∙ h) in
+      rw (o .cast-is, e)
+      (first-is-the-cast answers area (o .list') k c (o .rises) (answers-are-numbers r pose (m .triangles)) some)
+
 pub promised : Promised
 promised r m pose t list stack area = record {
   each-hit-once =
@@ -215,6 +233,8 @@ promised r m pose t list stack area = record {
       subst (λ (vs : List Float). ListsHits r m k (rayMeshAll r m vs t list stack area .area)) (sym own)
       (each-hit-once r m t list stack area k a (ap (λ (vs : List Float). rayMeshAll r m vs t list stack area .answer) (sym own) ∙ h));
   fits-cast = lists-as-the-cast r m pose t list stack area;
+  in-order = rows-in-order r m pose t list stack area;
+  first = first-of-rows r m pose t list stack area;
   refuses = refuses-as-the-cast r m pose t list stack area;
 }
 

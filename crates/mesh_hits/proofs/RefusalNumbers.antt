@@ -55,7 +55,8 @@ normal-small : (r : Ray) (a b : Vec3) (distance : Float) → Small (triangleNorm
 unfolding triangleNormal
 normal-small r a b distance = go (tryNormalize (crossOf a b))
   where
-    go : (n : Normalized) → Small (withNormal n noNormal (λ (normal : Vec3). hit (facing normal (dotOf (r .direction) normal)) distance))
+    go : (n : Normalized) → Small (withNormal n noNormal
+        (λ (normal : Vec3). hit (facing normal (dotOf (r .direction) normal)) distance))
     go (UnitOf normal) = hit-small (facing normal (dotOf (r .direction) normal)) distance
     go Degenerate = refused-small noNormal (omega arith)
 

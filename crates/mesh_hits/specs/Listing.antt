@@ -12,12 +12,13 @@ use Rattle.geometry.specs.declared.ray.Ray.{Ray}
 use Rattle.casts.specs.Answer.{Answer, hit, none, refused, invalidInput, badShape, noRoom, wrongPose, outOfBounds}
 use Rattle.casts.specs.SegmentBox.{withSegmentBox}
 use Rattle.casts.specs.Nearest.{Indexed, hitAt, noHit, stopped, nearestOf}
-use Rattle.tree.specs.Lists.{keep}
+use Rattle.tree.specs.Lists.{keep, sortBy}
 use Rattle.tree.specs.Layout.{Tree}
 use Rattle.tree.specs.Mesh.{Mesh, thirds, triangleAnswer}
 use Rattle.tree_query.specs.Walk.{Walking, walking, broken, walkOf}
 use Rattle.tree_query.specs.Query.{Listing, count, refused as refusedWith}
 use Rattle.mesh.specs.MeshCast.{shapeAdmitted, roomFor}
+use Rattle.mesh_hits.specs.Order.{ahead}
 
 -- "The hit area is u32 indices, one a place, and f64, four a place, distance then normal"
 pub record HitArea : Type 0 where
@@ -62,9 +63,9 @@ module _ (answer : ℕ → Answer) where
   abbrev pub depthAt : ℕ → Float
   depthAt t = depthOf (answer t)
 
-  -- the order of the places: "in any order", and so as they stand in the query's list, ascending by index
+  -- the order of the places: "Its order becomes ascending distance, then ascending triangle index."
   abbrev pub inOrder : List ℕ → List ℕ
-  inOrder hits = hits
+  inOrder = sortBy (ahead depthAt)
 
   unfoldable pub numbersOf : List ℕ → List Float
   numbersOf [] = []

@@ -1,6 +1,7 @@
 -- What a user finds in a listing. Definitions only. Assumes nothing.
-use Prim.Native.Nat.{ℕ, _+_, _*_, _<_}
+use Prim.Native.Nat.{ℕ, suc, _+_, _*_, _<_}
 use mathlib.Core.Path.{_≡_}
+use mathlib.Core.Bool.{true}
 use mathlib.Core.List.{List}
 use lib.Ieee.{Float}
 use lib.ListN.{take}
@@ -13,6 +14,7 @@ use Rattle.tree.specs.Mesh.{Mesh}
 use Rattle.tree_query.specs.Query.{count as countOf, refused}
 use Rattle.mesh.specs.MeshCast.{rayMesh}
 use Rattle.mesh.specs.Demand3.{IsHit, Admitted}
+use Rattle.mesh_hits.specs.Order.{keyedAhead}
 use Rattle.mesh_hits.specs.Listing.{HitArea, Outcome, rayMeshAll}
 
 -- a hit at a place of the area
@@ -44,6 +46,16 @@ pub record FitsCast (cast : Indexed) (k : ℕ) (area : HitArea) : Type 0 where
   -- "the mesh cast's among them"
   pub among : (normal : Vec3) (distance : Float) (i : ℕ) → cast ≡ hitAt normal distance i → IsListed k area normal distance i
 
+-- "Its order becomes ascending distance, then ascending triangle index."
+pub record Ascends (k : ℕ) (area : HitArea) : Type 0 where
+  pub ordered : (j : ℕ) → suc j < k
+      → keyedAhead (numberAt (area .numbers) (4 * j)) (numberAt (area .numbers) (4 * suc j))
+      (wordAt (area .indices) j) (wordAt (area .indices) (suc j)) ≡ true
+
+-- the first place, as the mesh cast answers it
+abbrev pub firstOf : HitArea → Indexed
+firstOf area = hitAt (vectorAt (area .numbers) 1) (numberAt (area .numbers) 0) (wordAt (area .indices) 0)
+
 -- ---- the promises, of a call's outcome
 module _ (r : Ray) (m : Mesh) (pose : List Float) (t : Tree) (list stack : ℕ) (o : Outcome) where
   pub record KeepsPromises : Type 0 where
@@ -52,6 +64,9 @@ module _ (r : Ray) (m : Mesh) (pose : List Float) (t : Tree) (list stack : ℕ) 
         → ListsHits r m k (o .area)
     -- whatever the tree and the vertices to cast at
     pub fits-cast : (k : ℕ) → o .answer ≡ countOf k → FitsCast (rayMesh r m pose t list stack) k (o .area)
+    pub in-order : (k : ℕ) → o .answer ≡ countOf k → Ascends k (o .area)
+    -- "The first entry is therefore the mesh cast's own hit."
+    pub first : (k : ℕ) → o .answer ≡ countOf k → 0 < k → rayMesh r m pose t list stack ≡ firstOf (o .area)
     -- where the mesh cast refuses, so does the listing, with its number
     pub refuses : (number : ℕ) → rayMesh r m pose t list stack ≡ stopped number → o .answer ≡ refused number
 

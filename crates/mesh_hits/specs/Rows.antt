@@ -41,9 +41,10 @@ pub record Struck (answer : ℕ → Answer) (n : ℕ) (indices : List ℕ) (k : 
   pub below : (j : ℕ) → j < k → wordAt indices j < n
   pub reached : (j : ℕ) → j < k → reachOf (answer (wordAt indices j)) ≡ At (numberAt numbers (4 * j))
 
--- hits of a mesh of n triangles in the first k places
-pub record Ready (answer : ℕ → Answer) (n k : ℕ) (indices : List ℕ) (numbers : List Float) : Type 0 where
+-- hits of a mesh of n triangles in the first k places, with room to sort them
+pub record Ready (answer : ℕ → Answer) (n k : ℕ) (indices : List ℕ) (numbers : List Float) (work : ℕ) : Type 0 where
   pub inside : k ≤ length indices
   pub fits : 4 * k ≤ length numbers
+  pub room : k ≤ work
   pub keyed : Keyed (depthAt answer) (take k indices) numbers
   pub hits : (x : ℕ) → 0 < count x (take k indices) → (x < n) × (isHit (answer x) ≡ true)

@@ -1,4 +1,5 @@
 use crate::gathering;
+use crate::order;
 use crate::places;
 use casts::answer;
 use casts::summary;
@@ -25,18 +26,21 @@ ghost use Rattle.mesh_hits.specs.Listing.{hitArea, written, refusedAt, i
 ghost use Rattle.mesh_hits.specs.Rows.{Ready};
 ghost use Rattle.mesh_hits.specs.Promise.{KeepsPromises};
 
-// The hits in the first places, their normals written.
+// The hits in the first places, sorted, and their normals written. The list is work.
 fn finish(
     ray: Ray,
     pose: &[f64],
     triangles: &[u32],
     hits: usize,
+    list: &mut [u32],
     indices: &mut [u32],
     numbers: &mut [f64],
 ) -> Listed
-    requires { ⌜ Ready (triangleAnswer ray (now pose) (now triangles)) (thirds (length (now triangles))) hits (now indices) (now numbers) ⌝ }
+    requires { ⌜ Ready (triangleAnswer ray (now pose) (now triangles)) (thirds (length (now triangles))) hits (now indices) (now numbers) (length (now list)) ⌝ }
     ensures { λ r. ⌜ record { answer = saysListed r; area = hitArea (now (indices .exit)) (now (numbers .exit)) } ≡ written (triangleAnswer ray (now (pose .entry)) (now (triangles .entry))) (hitArea (now (indices .entry)) (now (numbers .entry))) (inOrder (triangleAnswer ray (now (pose .entry)) (now (triangles .entry))) (take hits (now (indices .entry)))) ⌝ }
 {
+    let end = 4 * hits;
+    order::sort(&mut indices[..hits], &mut numbers[..end], list);
     places::put_normals(ray, pose, triangles, indices, hits, numbers);
     Listed::Count(hits)
 }
@@ -48,29 +52,30 @@ fn fit(
     triangles: &[u32],
     hits: usize,
     places: usize,
+    list: &mut [u32],
     indices: &mut [u32],
     numbers: &mut [f64],
 ) -> Listed
-    requires { ⌜ (hits ≤ places → Ready (triangleAnswer ray (now pose) (now triangles)) (thirds (length (now triangles))) hits (now indices) (now numbers)) ⌝ }
+    requires { ⌜ (hits ≤ places → Ready (triangleAnswer ray (now pose) (now triangles)) (thirds (length (now triangles))) hits (now indices) (now numbers) (length (now list))) ⌝ }
     ensures { λ r. ⌜ record { answer = saysListed r; area = hitArea (now (indices .exit)) (now (numbers .exit)) } ≡ cond (leb hits places) (written (triangleAnswer ray (now (pose .entry)) (now (triangles .entry))) (hitArea (now (indices .entry)) (now (numbers .entry))) (inOrder (triangleAnswer ray (now (pose .entry)) (now (triangles .entry))) (take hits (now (indices .entry))))) (refusedAt noRoom (hitArea (now (indices .entry)) (now (numbers .entry)))) ⌝ }
 {
     if hits > places {
         return places::refuse(answer::NO_ROOM, indices, numbers);
     }
-    finish(ray, pose, triangles, hits, indices, numbers)
+    finish(ray, pose, triangles, hits, list, indices, numbers)
 }
 
-// The listing of the triangles in the first places of an ascending list, for an admitted ray.
+// The listing of the triangles in the first places of a list, for an admitted ray: as if they stood there ascending, in whatever order they do.
 fn list_hits(
     ray: Ray,
     pose: &[f64],
     triangles: &[u32],
-    list: &[u32],
+    list: &mut [u32],
     found: usize,
     indices: &mut [u32],
     numbers: &mut [f64],
 ) -> Listed
-    requires { ⌜ (found ≤ length (now list)) × (allBelow (thirds (length (now triangles))) (take found (now list)) ≡ true) ⌝ ∗ ⌜ sorted (take found (now list)) ≡ take found (now list) ⌝ }
+    requires { ⌜ (found ≤ length (now list)) × (allBelow (thirds (length (now triangles))) (take found (now list)) ≡ true) ⌝ }
     ensures { λ r. ⌜ record { answer = saysListed r; area = hitArea (now (indices .exit)) (now (numbers .exit)) } ≡ listingOf (triangleAnswer ray (now (pose .entry)) (now (triangles .entry))) (hitArea (now (indices .entry)) (now (numbers .entry))) (sorted (take found (now (list .entry)))) ⌝ }
 {
     let room = places::places_of(indices.len(), numbers.len());
@@ -92,13 +97,13 @@ fn list_hits(
             return places::refuse(number, indices, numbers);
         }
         Outcome::Nobody => {
-            return fit(ray, pose, triangles, hits, room, indices, numbers);
+            return fit(ray, pose, triangles, hits, room, list, indices, numbers);
         }
         Outcome::Struck {
             index: _,
             distance: _,
         } => {
-            return fit(ray, pose, triangles, hits, room, indices, numbers);
+            return fit(ray, pose, triangles, hits, room, list, indices, numbers);
         }
     }
 }
@@ -118,7 +123,7 @@ fn mesh_listing(
     indices: &mut [u32],
     numbers: &mut [f64],
 ) -> Listed
-    requires { ⌜ rayAdmitted ray ≡ true ⌝ ∗ ⌜ thirds (length (now triangles)) ≤ 65536 ⌝ ∗ ⌜ WalkRoom (thirds (length (now triangles))) (treeOf nodes (now «node_boxes») (now «triangle_boxes») (now «node_words») (now order)) (now list) (now stack) ⌝ }
+    requires { ⌜ rayAdmitted ray ≡ true ⌝ ∗ ⌜ WalkRoom (thirds (length (now triangles))) (treeOf nodes (now «node_boxes») (now «triangle_boxes») (now «node_words») (now order)) (now list) (now stack) ⌝ }
     ensures { λ r. ⌜ record { answer = saysListed r; area = hitArea (now (indices .exit)) (now (numbers .exit)) } ≡ meshListing ray (now (triangles .entry)) (now (pose .entry)) (treeOf nodes (now («node_boxes» .entry)) (now («triangle_boxes» .entry)) (now («node_words» .entry)) (now (order .entry))) (hitArea (now (indices .entry)) (now (numbers .entry))) ⌝ }
 {
     let end = ray.segment_end();
@@ -128,7 +133,7 @@ fn mesh_listing(
     // With both ends finite the box is valid, so that it needs no test.
     let bounds = ray.segment_box(end);
     let count = triangles.len() / 3;
-    let walked = walk::walk(
+    let walked = walk::gather(
         bounds,
         count,
         nodes,
@@ -145,9 +150,9 @@ fn mesh_listing(
     list_hits(ray, pose, triangles, list, found, indices, numbers)
 }
 
-// Every triangle that a ray hits, of those that any tree lists for its segment's box: its index, and its distance and normal.
+// Every triangle that a ray hits, of those that any tree lists for its segment's box, in order of depth: its index, and its distance and normal.
 // The list and the stack are work areas: until refusals 1 to 4 have let the call pass they are unchanged, and then they may hold anything.
-// The third clause is what a user finds: each hit once, the mesh cast's among them, none exactly where that cast is none.
+// The third clause is what a user finds: each hit once, in order of depth, the mesh cast's first, none exactly where that cast is none.
 pub fn ray_mesh_all(
     ray: Ray,
     vertices: &[f64],

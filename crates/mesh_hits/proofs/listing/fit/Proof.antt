@@ -33,4 +33,5 @@ fit-spec =
     finish-requires
     (search needs)  -- same-length-3
     (search needs)  -- same-length-4
+    (search needs)  -- same-length-5
     returns-2)

@@ -35,7 +35,7 @@ gather-hits-requires c κs =
     let (s, p) : tie.Start × tie.After-places-of = search in
     let w = places-within (length (s .args .indices .now)) (length (s .args .numbers .now)) in
     let e = p .places-of .ensures in
-    (s .pre .0 .0, (s .pre .0 .1, (omega (arith, w .0, e), omega (arith, w .1, e))))
+    (s .pre .0, (s .pre .1, (omega (arith, w .0, e), omega (arith, w .1, e))))
 
 -- a triangle refuses
 returns : tie.Need-returns
@@ -53,7 +53,7 @@ fit-requires c κs =
     let g : tie.After-gather-hits = search in
     let pre = start g .pre in
     let kept = g .gather-hits .kept .1 .1 .1 .1 .1 .1 in
-    hits-ready _ _ _ (pre .0 .0) _ (pre .0 .1) (pre .1) _ _ _ (counted g .places-of .ensures) _ _ _ (kept .0) (kept .1 .0)
+    hits-ready _ _ _ (pre .0) _ (pre .1) _ _ _ (counted g .places-of .ensures) _ _ _ (kept .0) (kept .1 .0)
     (g .gather-hits .ensures .1)
 
 -- none refuses and none is hit
@@ -63,7 +63,7 @@ returns-2 c =
     let (g, w, k, f) : tie.After-gather-hits × tie.After-winner × tie.After-enum-told × tie.After-fit = search in
     let pre = start g .pre in
     let kept = g .gather-hits .kept .1 .1 .1 .1 .1 .1 in
-    fits-as-listed _ _ _ (pre .0 .0) _ (pre .0 .1) (pre .1) _ _ _ (counted g .places-of .ensures) _ _ _ (kept .0) (kept .1 .0)
+    fits-as-listed _ _ _ (pre .0) _ (pre .1) _ _ _ (counted g .places-of .ensures) _ _ _ (kept .0) (kept .1 .0)
     (g .gather-hits .ensures .1) _ (f .fit .ensures)
     ∙ nobody-lists _ (answers-are-numbers _ _ _) _ _ (g .gather-hits .ensures .0) _ (w .winner .ensures) _ (k .enum-told .given .1)
 
@@ -73,7 +73,7 @@ fit-requires-2 c κs =
     let g : tie.After-gather-hits = search in
     let pre = start g .pre in
     let kept = g .gather-hits .kept .1 .1 .1 .1 .1 .1 in
-    hits-ready _ _ _ (pre .0 .0) _ (pre .0 .1) (pre .1) _ _ _ (counted g .places-of .ensures) _ _ _ (kept .0) (kept .1 .0)
+    hits-ready _ _ _ (pre .0) _ (pre .1) _ _ _ (counted g .places-of .ensures) _ _ _ (kept .0) (kept .1 .0)
     (g .gather-hits .ensures .1)
 
 -- none refuses and one is hit
@@ -83,9 +83,10 @@ returns-3 c =
     let (g, w, k, f) : tie.After-gather-hits × tie.After-winner × tie.After-enum-told2 × tie.After-fit2 = search in
     let pre = start g .pre in
     let kept = g .gather-hits .kept .1 .1 .1 .1 .1 .1 in
-    fits-as-listed _ _ _ (pre .0 .0) _ (pre .0 .1) (pre .1) _ _ _ (counted g .places-of .ensures) _ _ _ (kept .0) (kept .1 .0)
+    fits-as-listed _ _ _ (pre .0) _ (pre .1) _ _ _ (counted g .places-of .ensures) _ _ _ (kept .0) (kept .1 .0)
     (g .gather-hits .ensures .1) _ (f .fit2 .ensures)
-    ∙ struck-lists _ (answers-are-numbers _ _ _) _ _ (g .gather-hits .ensures .0) _ (w .winner .ensures) _ _ (pre .0 .1) _ _ (k .enum-told2 .given .1)
+    ∙ struck-lists _ (answers-are-numbers _ _ _) _ _ (g .gather-hits .ensures .0) _ (w .winner .ensures) _ _ (pre .1) _ _
+    (k .enum-told2 .given .1)
 
 pub list-hits-spec : {M : Type 1} → statement M
 list-hits-spec =
@@ -98,14 +99,17 @@ list-hits-spec =
     (search needs)  -- refuse-requires
     (search needs)  -- same-length
     (search needs)  -- same-length-2
+    (search needs)  -- same-length-3
     returns
     (search needs)  -- enum-told
     fit-requires
-    (search needs)  -- same-length-3
     (search needs)  -- same-length-4
+    (search needs)  -- same-length-5
+    (search needs)  -- same-length-6
     returns-2
     (search needs)  -- enum-told-2
     fit-requires-2
-    (search needs)  -- same-length-5
-    (search needs)  -- same-length-6
+    (search needs)  -- same-length-7
+    (search needs)  -- same-length-8
+    (search needs)  -- same-length-9
     returns-3)

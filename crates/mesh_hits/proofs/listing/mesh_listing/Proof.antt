@@ -1,14 +1,12 @@
 -- `mesh_hits::listing::mesh_listing` meets its contract. Assumes nothing.
 use mathlib.Core.Path.{_≡_}
 use mathlib.Core.Bool.{Bool, true}
-use native.Mathlib.Omega.{arith}
 use borrow.Author.Tests.{not-true, not-false}
 use Rattle.geometry.specs.Vector.{finiteVec}
 use Rattle.geometry.specs.Segment.{segmentEnd}
 use Rattle.geometry.proofs.BoxLaws.{origin-finite}
 use Rattle.mesh.proofs.Casting.{end-is, list-inside}
-use Rattle.mesh_hits.specs.Listing.{hitArea}
-use Rattle.mesh_hits.proofs.Listings.{listing-overflow, listing-broken, walk-ascends, listing-walked}
+use Rattle.mesh_hits.proofs.Listings.{listing-overflow, listing-broken, listing-walked}
 use borrow.Author.Needs.{needs}
 use Rattle.mesh_hits.proofs.listing.mesh_listing.Statement.{statement}
 use Rattle.mesh_hits.proofs.listing.mesh_listing.Tie as tie
@@ -35,19 +33,14 @@ segment-box-requires c κs =
     let (s, e) : tie.Start × tie.After-segment-end = search in
     (origin-finite _ (s .pre .0), e .segment-end .ensures)
 
-walk-requires : tie.Need-walk-requires
-walk-requires c κs =
-    let s : tie.Start = search in
-    (omega (arith, s .pre .1 .0), s .pre .1 .1)
-
 -- the walk, and what is known before it
-start : tie.After-walk → tie.Start
+start : tie.After-gather → tie.Start
 start w = search
 
-boxed : tie.After-walk → tie.After-segment-box
+boxed : tie.After-gather → tie.After-segment-box
 boxed w = search
 
-finite : (w : tie.After-walk) → finiteVec (segmentEnd (start w .args .ray)) ≡ true
+finite : (w : tie.After-gather) → finiteVec (segmentEnd (start w .args .ray)) ≡ true
 unfolding start tested
 finite w =
     let (f, l) : tie.After-is-finite × tie.Else1 = search in
@@ -57,27 +50,22 @@ finite w =
 returns-2 : tie.Need-returns-2
 unfolding start boxed
 returns-2 c =
-    let (w, k, r) : tie.After-walk × tie.After-enum-told × tie.After-refuse2 = search in
-    listing-broken _ _ _ _ _ (start w .pre .0) (finite w) _ (boxed w .segment-box .ensures) _ _ (w .walk .ensures .0)
+    let (w, k, r) : tie.After-gather × tie.After-enum-told × tie.After-refuse2 = search in
+    listing-broken _ _ _ _ _ (start w .pre .0) (finite w) _ (boxed w .segment-box .ensures) _ _ (w .gather .ensures .0)
     (k .enum-told .given .1) _ (r .refuse2 .ensures)
 
 list-hits-requires : tie.Need-list-hits-requires
-unfolding start boxed
 list-hits-requires c κs =
-    let (w, k) : tie.After-walk × tie.After-walked = search in
-    let a = start w .args in (
-      list-inside _ _ _ _ _ (w .walk .ensures .1) (k .walked .given .1),
-      walk-ascends _ (a .triangles .now) (a .pose .now) _ (hitArea (a .indices .now) (a .numbers .now)) (start w .pre .0) (finite w) _
-          (boxed w .segment-box .ensures) _ _ (w .walk .ensures .0) _ (k .walked .given .1),
-    )
+    let (w, k) : tie.After-gather × tie.After-walked = search in
+    list-inside _ _ _ _ _ (w .gather .ensures .1) (k .walked .given .1)
 
 -- the hits of the walk's list
 returns-3 : tie.Need-returns-3
 unfolding start boxed
 returns-3 c =
-    let (w, k, h) : tie.After-walk × tie.After-walked × tie.After-list-hits = search in
-    listing-walked _ _ _ _ _ (start w .pre .0) (finite w) _ (boxed w .segment-box .ensures) _ _ (w .walk .ensures .0) _
-    (k .walked .given .1) _ (h .list-hits .ensures)
+    let (w, k, h) : tie.After-gather × tie.After-walked × tie.After-list-hits = search in
+    listing-walked _ _ _ _ _ (start w .pre .0) (finite w) _ (boxed w .segment-box .ensures) _ _ (w .gather .ensures .0) _ _
+    (k .walked .given .1) (h .list-hits .ensures)
 
 pub mesh-listing-spec : {M : Type 1} → statement M
 mesh-listing-spec =
@@ -90,7 +78,7 @@ mesh-listing-spec =
     (search needs)  -- same-length-2
     returns
     segment-box-requires
-    walk-requires
+    (search needs)  -- gather-requires
     (search needs)  -- enum-known-walked
     (search needs)  -- enum-told
     (search needs)  -- refuse-requires-2

@@ -103,8 +103,7 @@ mesh-listing-requires : tie.Need-mesh-listing-requires
 unfolding start₁ start₂ start₃ first second
 mesh-listing-requires c κs =
     let e : tie.Else3 = search in
-    let few = triangles-few _ _ _ _ (shaped (second e)) in
-    (valid (first e), (few, fits-room _ _ _ _ (nodes-few _ _ _ _ (shaped (second e))) (fits e)))
+    (valid (first e), fits-room _ _ _ _ (nodes-few _ _ _ _ (shaped (second e))) (fits e))
 
 -- past them all
 returns-5 : tie.Need-returns-5
