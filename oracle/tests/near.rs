@@ -14,12 +14,12 @@ fn no_hit_lies_below_near() {
     for number in 0..30_000 {
         let mut given = generate::record(11, number, &[1, 2, 3, 4, 5]);
         generate::give_near(&mut Random::of_record(12, number), &mut given);
-        let (answer, reason) = plain::beside_the_rust(|| plain::answer(&given));
+        let answer = plain::answer(&given);
         if let Answer::Hit { distance, .. } = answer {
             hits[given.shape.kind() as usize] += i32::from(given.ray.near > 0.0);
             assert!(distance >= given.ray.near, "{given:?} at {distance}");
         }
-        if reason.is_none() && !matches!(given.shape, Shape::LevelSet { .. }) {
+        if given.left_out().is_none() && !matches!(given.shape, Shape::LevelSet { .. }) {
             let lines = [answer, given.answer()].map(|answer| record::line(number, &answer));
             assert!(
                 oracle::agree::lines_agree(&lines[0], &lines[1]),

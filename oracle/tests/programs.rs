@@ -34,7 +34,7 @@ fn marked_records_answer_as_the_documents_say() {
         "hit",
         "hit",
         "none",
-        "refused 7",
+        "hit",
         "refused 6",
         "hit",
         "refused 5",
