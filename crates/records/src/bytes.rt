@@ -1,8 +1,10 @@
 use geometry::vec3::Vec3;
+use words::reader;
+use words::reader::Word;
 ghost use mathlib.Core.Path.{_≡_};
 ghost use Prim.Native.Nat.{_+_, _*_, _<_, _≤_};
 ghost use lib.ListN.{length, take};
-ghost use Rattle.records.specs.Bytes.{byteAt, wordAt, bitsAt, floatAt, vectorAt, floatsAt, wordsAt};
+ghost use Rattle.records.specs.Bytes.{byteAt, wordAt, floatAt, vectorAt, floatsAt, wordsAt};
 
 // The byte at a place, as a wide number.
 fn byte_at(bytes: &[u8], place: usize) -> u64
@@ -22,20 +24,15 @@ pub fn word_at(bytes: &[u8], place: usize) -> u64
     high * 65536 + low
 }
 
-// The bit pattern whose eight bytes begin at a place.
-pub fn bits_at(bytes: &[u8], place: usize) -> u64
-    requires { ⌜ place + 8 ≤ length (now bytes) ⌝ }
-    ensures { λ r. ⌜ r ≡ bitsAt (now (bytes .entry)) place ⌝ }
-{
-    word_at(bytes, place) * 4294967296 + word_at(bytes, place + 4)
-}
-
 // The float whose eight bytes begin at a place. A NaN pattern has no from_bits: it is made by 0/0.
 pub fn float_at(bytes: &[u8], place: usize) -> f64
     requires { ⌜ place + 8 ≤ length (now bytes) ⌝ }
     ensures { λ r. ⌜ r ≡ floatAt (now (bytes .entry)) place ⌝ }
 {
-    let bits = bits_at(bytes, place);
+    let word = reader::word_at(bytes, place);
+    let Word::Bits(bits) = word else {
+        return 0.0 / 0.0;
+    };
     if bits % 0x8000_0000_0000_0000 > 0x7ff0_0000_0000_0000 {
         return 0.0 / 0.0;
     }

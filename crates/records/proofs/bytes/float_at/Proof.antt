@@ -1,25 +1,53 @@
--- `records::bytes::float_at` meets its contract. Assumes nothing.
-use Rattle.records.proofs.Patterns.{zero-over-zero, nan-pattern, number-pattern}
-use Rattle.records.specs.Bytes.{floatAt}
+-- `records::bytes::float_at` meets its contract: its word is there, and is a NaN's pattern or a number's. Assumes nothing.
+use Rattle.words.proofs.WordLaws.{bits-there, never-nothing}
+use Rattle.records.proofs.Patterns.{zero-over-zero, nan-pattern, number-pattern, value-is-bits}
+use Rattle.records.specs.Bytes.{bitsAt, floatAt}
 use lib.Ieee.{binary64, ofBits}
-use mathlib.Core.Path.{sym, ap, _∙_}
+use Prim.Native.Nat.{ℕ}
+use mathlib.Core.Path.{_≡_, sym, ap, _∙_}
+use native.Mathlib.Omega.{arith}
 use borrow.Author.Needs.{needs}
 use Rattle.records.proofs.bytes.float_at.Statement.{statement}
 use Rattle.records.proofs.bytes.float_at.Tie as tie
 
-bits-at-requires : tie.Need-bits-at-requires
-bits-at-requires c κs = search needs
-
+-- never: eight bytes are left
 returns : tie.Need-returns
-unfolding floatAt
-returns c = zero-over-zero ∙ sym (ap (ofBits binary64) (sym (c .before .bits-at .ensures)) ∙ nan-pattern _ (c .if1 .taken))
+returns c =
+    let told : tie.After-word-at = search in
+    let h : _≡_ {A = ℕ} 1 0 = never-nothing _ _ (omega arith) (sym (c .enum-told .given .1) ∙ told .word-at .ensures) in
+    absurd (omega arith)
+
+start : tie.After-word → tie.Start
+start k = search
+
+-- the word's bits are the pattern
+pattern : (k : tie.After-word) → k .word .given .0 .0 ≡ bitsAt (start k .args .bytes .now) (start k .args .place)
+unfolding start
+pattern k =
+    let told : tie.After-word-at = search in
+    bits-there _ _ _ (omega arith) (sym (k .word .given .1) ∙ told .word-at .ensures) ∙ value-is-bits _ _
+
+returns-2 : tie.Need-returns-2
+unfolding floatAt start
+returns-2 c =
+    let k : tie.After-word = search in
+    zero-over-zero ∙ sym (ap (ofBits binary64) (sym (pattern k)) ∙ nan-pattern _ (c .if1 .taken))
 
 float-from-bits-result : tie.Need-float-from-bits-result
 float-from-bits-result c = number-pattern _ (c .if1 .left)
 
-returns-2 : tie.Need-returns-2
-unfolding floatAt
-returns-2 c = ap (ofBits binary64) (c .before .bits-at .ensures)
+returns-3 : tie.Need-returns-3
+unfolding floatAt start
+returns-3 c = let k : tie.After-word = search in ap (ofBits binary64) (pattern k)
 
 pub float-at-spec : {M : Type 1} → statement M
-float-at-spec = tie.close (tie.spec bits-at-requires returns float-from-bits-result returns-2)
+float-at-spec =
+    tie.close
+    (tie.spec
+    (search needs)  -- word-at-requires
+    (search needs)  -- enum-known-word
+    (search needs)  -- enum-told
+    returns
+    returns-2
+    float-from-bits-result
+    returns-3)

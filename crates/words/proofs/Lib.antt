@@ -1,0 +1,2 @@
+-- Laws about words of eight bytes. Assumes nothing.
+pub mod WordLaws
