@@ -1,6 +1,8 @@
 #!/usr/bin/env bash
 # `probe` against the plain model, byte for byte, and against the unchanged Rust, under the looser agreement that takes a zero for a
-# zero of either sign, but for distance grids that the Rust refuses with 5 (M-103), which are counted: the examples, the stored records, seeded records of all five kinds, and malformed streams, each kind of damage.
+# zero of either sign, but for the records that a request leaves out (`Record::left_out`), which are counted: the examples, the stored records,
+# seeded records of all five kinds and of versions 1 and 2, and malformed streams, each kind of damage; and tools/records.py, which reads
+# what it writes.
 # usage: tests/probe.sh [RECORDS [SEED]]   (default 100000 1; PROBE names a program that is then taken as it is)
 set -euo pipefail
 cd "$(dirname "$0")/.."
@@ -25,16 +27,21 @@ for example in plane mesh; do
 done
 tools/records.py write < examples/mesh.txt | cmp - examples/mesh.records
 # the stored records and their lines are what tests/VECTORS.md says
-{ cat examples/plane.records; "$oracle/oracle-gen" 94 2000; } | cmp - crates/probe/stdin
+{ cat examples/plane.records; "$oracle/oracle-gen" 94 2000; "$oracle/oracle-gen" 94 400 --near; } | cmp - crates/probe/stdin
+tools/records.py read < crates/probe/stdin | tools/records.py write | cmp - crates/probe/stdin
 "$oracle/oracle-probe" --plain < crates/probe/stdin | cmp - crates/probe/stdout
 rust_agrees crates/probe/stdout crates/probe/stdin
 
 "$oracle/oracle-gen" "$seed" "$records" > "$work/records"
+"$oracle/oracle-gen" "$seed" $((records / 4)) --near >> "$work/records"
 "$probe" < "$work/records" > "$work/ours"
 # to the bit with the plain model, under the looser agreement with the Rust
 "$oracle/oracle-probe" --plain < "$work/records" | cmp - "$work/ours"
 rust_agrees "$work/ours" "$work/records"
 cat "$work/found"
+# a record of version 1 behind one of version 2 has near 0 all the same
+{ tools/records.py write <<< "plane origin 0 0 2 direction 0 0 -1 max 5 near 3 normal 0 0 1 distance 0"; cat examples/plane.records; } > "$work/records"
+"$probe" < "$work/records" | diff - <(echo '1 none'; awk '{ $1 += 1; print }' examples/plane.lines)
 
 mkdir "$work/bad"
 "$oracle/oracle-gen" --bad "$work/bad"
@@ -48,4 +55,4 @@ for stream in "$work"/bad/*; do
 done
 echo "$streams malformed streams agree"
 [ "$streams" -gt 0 ]
-echo "probe: $((records + streams)) tests passed"
+echo "probe: $((records + records / 4 + streams)) tests passed"

@@ -2,26 +2,29 @@
 """Records from text, and lines as numbers, for the program `probe`.
 
   records.py write < TEXT > RECORDS     one record for each line of TEXT
+  records.py read < RECORDS > TEXT      one line for each record of a well-formed stream
   records.py show < LINES               the lines of `probe`, each float as a number
   records.py count RECORDS LINES        how many records of each kind have which answer, and what the meshes are like
 
 A line of TEXT is fields by name; a number is written as Python reads a float (1e160, inf, nan) or as its bits (0x and 16 digits).
 An empty line, and what follows a #, is left out.
 
-  plane     origin X Y Z direction X Y Z max D normal X Y Z distance D
-  triangle  origin X Y Z direction X Y Z max D corners X Y Z X Y Z X Y Z
-  mesh      origin X Y Z direction X Y Z max D counts V T vertices X Y Z .. indices A B C ..
-  heights   origin X Y Z direction X Y Z max D rows R columns C spacing X Y values ..
-  distances origin X Y Z direction X Y Z max D sides X Y Z corner X Y Z spacing X Y Z values ..
+  plane     RAY normal X Y Z distance D
+  triangle  RAY corners X Y Z X Y Z X Y Z
+  mesh      RAY counts V T vertices X Y Z .. indices A B C ..
+  heights   RAY rows R columns C spacing X Y values ..
+  distances RAY sides X Y Z corner X Y Z spacing X Y Z values ..
 
-Vertices, indices and values run to the next field or to the end of the line; a record is written as it stands, so that counts may be wrong.
+RAY is 'origin X Y Z direction X Y Z max D', and with 'near D' behind it the record has version 2, else version 1, which means near 0. Vertices, indices and values run to the next field or to the end of the line; a record is written as it stands, so that counts may be wrong.
 """
 import collections
+import math
 import struct
 import sys
 
 # the fields of each kind: a name, what each number is, and how many there are (0: to the next field or the end of the line)
 RAY = [("origin", "float", 3), ("direction", "float", 3), ("max", "float", 1)]
+NEAR = [("near", "float", 1)]
 KINDS = {
     "plane": (1, [("normal", "float", 3), ("distance", "float", 1)]),
     "triangle": (2, [("corners", "float", 9)]),
@@ -62,10 +65,11 @@ def body(number, words):
     if words[0] not in KINDS:
         fail(number, f"no kind of shape: {words[0]}")
     kind, shape = KINDS[words[0]]
-    out = bytes([1, kind])
+    near = NEAR if "near" in words else []
+    out = bytes([2 if near else 1, kind])
     at = 1
     names = [name for name, _, _ in shape]
-    for name, what, count in RAY + shape:
+    for name, what, count in RAY + near + shape:
         if words[at : at + 1] != [name]:
             fail(number, f"'{name}' is to stand here: {' '.join(words[at:]) or 'the end'}")
         count = count or run(words[at + 1 :], names)
@@ -88,6 +92,29 @@ def write():
         if words:
             record = body(number, words)
             sys.stdout.buffer.write(struct.pack(">I", len(record)) + record)
+
+
+def fields(record):
+    """The fields of a record's body, each with its name and its bytes cut into numbers."""
+    kinds = {kind: (name, shape) for name, (kind, shape) in KINDS.items()}
+    version, kind = record[:2]
+    name, shape = kinds[kind]
+    yield name, []
+    at, counts = 2, []
+    for name, what, count in RAY + (NEAR if version == 2 else []) + shape:
+        size = 4 if what == "u32" else 8
+        if not count:
+            count = {"vertices": 3 * counts[0], "indices": 3 * counts[-1]}.get(name, math.prod(counts))
+        numbers = [record[at + size * k : at + size * (k + 1)] for k in range(count)]
+        if what == "u32" and name != "indices":
+            counts += [int.from_bytes(number, "big") for number in numbers]
+        yield name, [str(int.from_bytes(n, "big")) if what == "u32" else "0x" + n.hex() for n in numbers]
+        at += size * count
+
+
+def read():
+    for record in bodies(sys.stdin.buffer.read()):
+        print(" ".join(word for name, numbers in fields(record) for word in [name, *numbers]))
 
 
 def shown(word):
@@ -124,8 +151,9 @@ def count(records, lines):
             if words[0] == "hit" and words[4] == "7ff8000000000000":
                 answers[names[record[1]], "hit at NaN"] += 1
             if record[1] == 3:
-                vertices, many = struct.unpack_from(">II", record, 58)
-                indices = struct.unpack_from(f">{3 * many}I", record, 66 + 24 * vertices)
+                shape = record[66 if record[0] == 2 else 58 :]
+                vertices, many = struct.unpack_from(">II", shape)
+                indices = struct.unpack_from(f">{3 * many}I", shape, 8 + 24 * vertices)
                 triangles.add(many)
                 meshes["with an index that occurs again"] += len(set(indices)) < len(indices)
                 meshes["with an index past the vertices"] += any(index >= vertices for index in indices)
@@ -137,7 +165,7 @@ def count(records, lines):
 
 
 if __name__ == "__main__":
-    commands = {"write": (write, 2), "show": (show, 2), "count": (count, 4)}
+    commands = {"write": (write, 2), "read": (read, 2), "show": (show, 2), "count": (count, 4)}
     if len(sys.argv) < 2 or sys.argv[1] not in commands or len(sys.argv) != commands[sys.argv[1]][1]:
         sys.exit(__doc__)
     commands[sys.argv[1]][0](*sys.argv[2:])

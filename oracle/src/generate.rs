@@ -22,6 +22,7 @@ pub fn marked() -> Vec<Record> {
         near: 0.0,
     };
     let plane = |maximum| Record {
+        version: 1,
         ray: down([0.0, 0.0, 2.0], maximum),
         shape: Shape::Plane {
             normal: UP,
@@ -29,10 +30,12 @@ pub fn marked() -> Vec<Record> {
         },
     };
     let triangle = |corners, origin, maximum| Record {
+        version: 1,
         ray: down(origin, maximum),
         shape: Shape::Triangle { corners },
     };
     let mesh = |times| Record {
+        version: 1,
         ray: down([0.25, 0.25, 1.0], 1.0),
         shape: Shape::Mesh {
             vertices: T.as_flattened().to_vec(),
@@ -57,6 +60,7 @@ pub fn marked() -> Vec<Record> {
         mesh(4),
         mesh(5),
         Record {
+            version: 1,
             ray: down([0.75, 0.25, 1.0], 2.0),
             shape: Shape::HeightField {
                 rows: 2,
@@ -66,6 +70,7 @@ pub fn marked() -> Vec<Record> {
             },
         },
         Record {
+            version: 1,
             ray: down([0.5, 0.5, 2.0], 5.0),
             shape: Shape::LevelSet {
                 sides: [2; 3],
@@ -89,6 +94,7 @@ fn not_a_number(order: [usize; 2]) -> Record {
     let thin = [[0.0; 3], [1e120, 1e120, 0.0], [0.0, 1e-7, 0.0]];
     let (vertices, indices) = soup(order.map(|place| [near, thin][place]).to_vec());
     Record {
+        version: 1,
         ray: Ray {
             origin: [1.0, 1.0, 1e200],
             direction: DOWN,
@@ -102,6 +108,7 @@ fn not_a_number(order: [usize; 2]) -> Record {
 /// A height grid whose first cell gives 7, since its edges' cross is infinite; the last node of the second decides on 6.
 fn overflow_after_no_normal(last: f64) -> Record {
     Record {
+        version: 1,
         ray: Ray {
             origin: [1e160, 1e-60, 2e50],
             direction: DOWN,
@@ -125,6 +132,7 @@ fn huge_middle() -> Record {
         vertices.extend([x, 0.0, 0.0, x, 1.0, 0.0, x, 0.0, 1.0]);
     }
     Record {
+        version: 1,
         ray: Ray {
             origin: [1.0e308, 0.25, 0.25],
             direction: [1.0, 0.0, 0.0],
@@ -306,6 +314,7 @@ fn plane(random: &mut Random) -> Record {
         ray.direction = unit(add(unit(along), times(normal, tilt * random.sign())));
     }
     Record {
+        version: 1,
         ray,
         shape: Shape::Plane { normal, distance },
     }
@@ -339,6 +348,7 @@ fn triangle(random: &mut Random) -> Record {
     let corners = corners(random, scale);
     let (u, v) = parts(random);
     Record {
+        version: 1,
         ray: ray_to(random, on_triangle(corners, u, v), scale),
         shape: Shape::Triangle { corners },
     }
@@ -462,6 +472,7 @@ fn refusing(random: &mut Random) -> Record {
     let (vertices, indices) = soup(triangles);
     let across = if far { 5e159 } else { 0.25 };
     Record {
+        version: 1,
         ray: Ray {
             origin: [across, across, 2.0],
             direction: DOWN,
@@ -488,6 +499,7 @@ fn seen_from_far(random: &mut Random) -> Record {
     }
     let (vertices, indices) = soup(triangles);
     Record {
+        version: 1,
         ray: Ray {
             origin: [random.pick(&[1.0, 1.0, 0.5]), 1.0, far],
             direction: DOWN,
@@ -537,6 +549,7 @@ fn mesh(random: &mut Random) -> Record {
         vertices[place] = f64::NAN;
     }
     Record {
+        version: 1,
         ray,
         shape: Shape::Mesh { vertices, indices },
     }
@@ -656,6 +669,7 @@ fn height_field(random: &mut Random) -> Record {
         ray.maximum = 4.0 * (across[0] + across[1]);
     }
     Record {
+        version: 1,
         ray,
         shape: Shape::HeightField {
             rows,
@@ -758,6 +772,7 @@ fn level_set(random: &mut Random) -> Record {
         .maximum
         .max(random.pick(&[0.0, 0.0, 100.0]) * spacing[0]);
     Record {
+        version: 1,
         ray,
         shape: Shape::LevelSet {
             sides,
@@ -845,6 +860,22 @@ pub fn record(seed: u64, number: u64, kinds: &[u8]) -> Record {
     }
 }
 
+/// The same record in version 2, with a near distance of its own.
+pub fn with_near(seed: u64, number: u64, kinds: &[u8]) -> Record {
+    let random = &mut Random::of_record(seed ^ 0x6e65_6172, number);
+    let mut record = record(seed, number, kinds);
+    give_near(random, &mut record);
+    if random.once_in(16) {
+        record.ray.near = random.special();
+    }
+    record.version = 2;
+    if record.fits() {
+        record
+    } else {
+        with_near(seed, number.wrapping_add(1 << 32), kinds)
+    }
+}
+
 /// Malformed streams, one damage each, with a name for each.
 pub fn bad_streams() -> Vec<(String, Vec<u8>)> {
     let good: Vec<Record> = marked();
@@ -865,39 +896,61 @@ pub fn bad_streams() -> Vec<(String, Vec<u8>)> {
             [&length.to_be_bytes(), &body[..]].concat(),
         );
     }
-    for (kind, place) in [(1, 0), (2, 3), (3, 8), (4, 12), (5, 13)] {
-        let whole = good[place].write();
+    let kinds = [(1, 0), (2, 3), (3, 8), (4, 12), (5, 13)];
+    for ((kind, place), version) in kinds.into_iter().flat_map(|kind| [(kind, 1), (kind, 2)]) {
+        let prefix = if version == 2 { "version-2-" } else { "" };
+        let whole = Record {
+            version,
+            ..good[place].clone()
+        }
+        .write();
         let length = whole.len() - 4;
         let set = |length: usize, body: &[u8]| [&(length as u32).to_be_bytes(), body].concat();
         let body = &whole[4..];
         put(
-            &format!("kind-{kind}-cut-by-one"),
+            &format!("{prefix}kind-{kind}-cut-by-one"),
             whole[..whole.len() - 1].to_vec(),
         );
         put(
-            &format!("kind-{kind}-cut-in-half"),
+            &format!("{prefix}kind-{kind}-cut-in-half"),
             whole[..whole.len() / 2].to_vec(),
         );
-        put(&format!("kind-{kind}-without-body"), whole[..4].to_vec());
+        put(
+            &format!("{prefix}kind-{kind}-without-body"),
+            whole[..4].to_vec(),
+        );
         for less in [1, 8] {
             let shorter = set(length - less, &body[..length - less]);
-            put(&format!("kind-{kind}-short-by-{less}"), shorter);
+            put(&format!("{prefix}kind-{kind}-short-by-{less}"), shorter);
             let longer = set(length + less, &[body, &[0; 8][..less]].concat());
-            put(&format!("kind-{kind}-long-by-{less}"), longer);
+            put(&format!("{prefix}kind-{kind}-long-by-{less}"), longer);
         }
-        for (what, place, values) in [("version", 4, [0, 2, 255]), ("kind", 5, [0, 6, 255])] {
+        for (what, place, values) in [
+            ("version", 4, [0, 3 - whole[4], 4, 255]),
+            ("kind", 5, [0, 6, 7, 255]),
+        ] {
             for value in values {
                 let mut other = whole.clone();
                 other[place] = value;
-                let name = format!("kind-{kind}-with-{what}-{value}");
+                let name = format!("{prefix}kind-{kind}-with-{what}-{value}");
                 put(&name, [&first[..], &other, &first].concat());
             }
         }
     }
-    for (name, place, words) in wrong_counts() {
-        let mut whole = good[place].write();
+    let counts = wrong_counts().into_iter();
+    for ((name, place, words), version) in counts.flat_map(|wrong| [(wrong.clone(), 1), (wrong, 2)])
+    {
+        let (name, counts) = match version {
+            2 => (format!("version-2-{name}"), 70),
+            _ => (name, 62),
+        };
+        let mut whole = Record {
+            version,
+            ..good[place].clone()
+        }
+        .write();
         for (k, word) in words.iter().enumerate() {
-            let at = 62 + 4 * k;
+            let at = counts + 4 * k;
             whole[at..at + 4].copy_from_slice(&word.to_be_bytes());
         }
         put(&name, [&first[..], &whole, &first].concat());
@@ -907,7 +960,7 @@ pub fn bad_streams() -> Vec<(String, Vec<u8>)> {
             4 => 24,
             _ => 60,
         };
-        let empty = &whole[4..62 + before_values];
+        let empty = &whole[4..counts + before_values];
         let length = (empty.len() as u32).to_be_bytes();
         put(&format!("{name}-without-values"), [&length, empty].concat());
     }

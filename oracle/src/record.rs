@@ -36,6 +36,8 @@ pub enum Shape {
 
 #[derive(Clone, Debug, PartialEq)]
 pub struct Record {
+    /// 2 carries the near distance, 1 means 0.
+    pub version: u8,
     pub ray: Ray,
     pub shape: Shape,
 }
@@ -95,26 +97,34 @@ impl Record {
     pub fn parse(body: &[u8]) -> Option<Self> {
         let mut fields = Fields(body);
         let [version, kind] = fields.bytes()?;
-        if version != 1 {
+        if version != 1 && version != 2 {
             return None;
         }
         let ray = Ray {
             origin: fields.array()?,
             direction: fields.array()?,
             maximum: fields.float()?,
-            near: 0.0,
+            near: if version == 2 { fields.float()? } else { 0.0 },
         };
         let shape = parse_shape(kind, &mut fields)?;
-        fields.0.is_empty().then_some(Self { ray, shape })
+        let whole = fields.0.is_empty();
+        whole.then_some(Self {
+            version,
+            ray,
+            shape,
+        })
     }
 
     /// The record with its length bytes.
     pub fn write(&self) -> Vec<u8> {
-        let mut body = vec![1, self.shape.kind()];
+        let mut body = vec![self.version, self.shape.kind()];
         let ray = &self.ray;
         write_floats(&mut body, &ray.origin);
         write_floats(&mut body, &ray.direction);
         write_floats(&mut body, &[ray.maximum]);
+        if self.version == 2 {
+            write_floats(&mut body, &[ray.near]);
+        }
         self.shape.write(&mut body);
         let mut record = (body.len() as u32).to_be_bytes().to_vec();
         record.append(&mut body);
@@ -164,6 +174,9 @@ impl Record {
         let mut all: Vec<&mut f64> = ray.origin.iter_mut().collect();
         all.extend(&mut ray.direction);
         all.push(&mut ray.maximum);
+        if self.version == 2 {
+            all.push(&mut ray.near);
+        }
         all.extend(self.shape.floats_mut());
         all
     }

@@ -169,6 +169,7 @@ fn smaller_shapes(shape: &Shape) -> Vec<Shape> {
 /// All records with a smaller shape, one step away.
 fn smaller(record: &Record) -> Vec<Record> {
     let with_shape = |shape| Record {
+        version: record.version,
         ray: record.ray,
         shape,
     };

@@ -13,6 +13,7 @@ const DOWN: Point = [0.0, 0.0, -1.0];
 
 fn record(origin: Point, direction: Point, maximum: f64, shape: Shape) -> Record {
     Record {
+        version: 1,
         ray: Ray {
             origin,
             direction,

@@ -13,6 +13,7 @@ fn by_now(record: &Record) -> (Answer, Option<&'static str>) {
 /// K8's triangle, its second corner at `wide`.
 fn thin(wide: f64) -> Record {
     Record {
+        version: 1,
         ray: Ray {
             origin: [5e159, 5e159, 1.0],
             direction: [0.0, 0.0, -1.0],

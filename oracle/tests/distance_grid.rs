@@ -15,7 +15,11 @@ fn record(ray: Ray, sides: [u32; 3], origin: f64, spacing: [f64; 3], values: Vec
         spacing,
         values,
     };
-    Record { ray, shape }
+    Record {
+        version: 1,
+        ray,
+        shape,
+    }
 }
 
 /// Straight down, or up where `down` is -1.

@@ -102,7 +102,12 @@ fn worked_example_byte_for_byte() {
             normal: UP,
             distance: 0.0,
         };
-        let record = Record { ray, shape }.write();
+        let record = Record {
+            version: 1,
+            ray,
+            shape,
+        }
+        .write();
         assert_eq!(record[..4], 90u32.to_be_bytes());
         stream.extend(record);
     }

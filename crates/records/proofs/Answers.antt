@@ -1,12 +1,12 @@
 -- The parts of a line, stored one behind another, are its text. Assumes nothing.
-use Prim.Native.Nat.{ℕ, _+_, _≤_}
-use mathlib.Core.Path.{_≡_, ap}
+use Prim.Native.Nat.{ℕ, _+_, _-_, _≤_}
+use mathlib.Core.Path.{_≡_, ap, _∙_}
 use mathlib.Core.Bool.{true, false}
 use mathlib.Core.List.{List, [], _∷_, _++_}
 use native.Mathlib.Omega.{arith}
 use borrow.Author.Tests.{ne-eqb}
 use lib.Ieee.{Float}
-use lib.ListN.{length}
+use lib.ListN.{length, take, drop}
 use Rattle.geometry.specs.declared.vec3.Vec3.{Vec3}
 use Rattle.geometry.specs.declared.ray.Ray.{Ray}
 use Rattle.casts.specs.Answer.{Answer, hit, none, refused}
@@ -18,13 +18,14 @@ use Rattle.level_set.specs.Walk.{rayLevelSet}
 use Rattle.height_field.specs.declared.field.Field.{Field}
 use Rattle.level_set.specs.declared.grid.Grid.{Grid}
 use Rattle.records.specs.Bytes.{floatsAt}
-use Rattle.records.specs.Fields.{kindOf, rayOf, planeOf, cornersOf, fieldOf, heightCount, heightsOf, gridOf, valueCount, valuesOf, meshOf}
+use Rattle.records.specs.Fields.{versionOf, kindOf, shapePlace, rayOf, shapePart, planeOf, cornersOf, fieldOf, heightCount, heightsOf, gridOf, valueCount, valuesOf, meshOf}
 use Rattle.records.specs.MeshAnswer.{meshAnswer}
 use Rattle.records.specs.Parse.{wellFormed, shapeOf, parse}
 use Rattle.records.specs.Text.{decimal, hexadecimal, printedBits, Put, Written}
 use Rattle.records.specs.Lines.{hitWord, noneWord, refusedWord, badWord, floatText, hitText, answerText, indexText, indexedText, shapeText, parsedText, recordText, lineWith}
 use Rattle.records.proofs.Storing.{put-then, put-front}
 use Rattle.records.proofs.Lengths.{longest-line}
+use Rattle.records.proofs.WellFormed.{rest-is}
 
 -- the same text under another name
 pub put-as : {area after : List ℕ} {at next : ℕ} {text : List ℕ} (other : List ℕ) → text ≡ other → Put area at text after next → Put area at other after next
@@ -73,43 +74,54 @@ unfolding indexedText
 put-both a b e p q = put-then (answerText (withoutIndex a)) (indexText a) (rw e at p) q
 
 -- the kinds
-module _ (body : List ℕ) where
-  pub mesh-answer : (a : Indexed) → kindOf body ≡ 3 → a ≡ meshAnswer (rayOf body) (meshOf body) → indexedText a ≡ shapeText (rayOf body) (shapeOf (kindOf body) body)
+module _ (ray : Ray) (kind : ℕ) (shape : List ℕ) where
+  pub mesh-answer : (a : Indexed) → kind ≡ 3 → a ≡ meshAnswer ray (meshOf shape) → indexedText a ≡ shapeText ray (shapeOf kind shape)
   unfolding shapeOf shapeText
   mesh-answer a k e = rw (k, e)
 
-module _ (body : List ℕ) (a : Answer) where
-  pub plane-answer : kindOf body ≡ 1 → a ≡ rayPlane (planeOf body) (rayOf body) → answerText a ≡ shapeText (rayOf body) (shapeOf (kindOf body) body)
+module _ (ray : Ray) (kind : ℕ) (shape : List ℕ) (a : Answer) where
+  pub plane-answer : kind ≡ 1 → a ≡ rayPlane (planeOf shape) ray → answerText a ≡ shapeText ray (shapeOf kind shape)
   unfolding shapeOf shapeText
   plane-answer k e = rw (k, e)
 
-  pub triangle-answer : kindOf body ≡ 2 → a ≡ rayTriangle (rayOf body) (cornersOf body) → answerText a ≡ shapeText (rayOf body) (shapeOf (kindOf body) body)
+  pub triangle-answer : kind ≡ 2 → a ≡ rayTriangle ray (cornersOf shape) → answerText a ≡ shapeText ray (shapeOf kind shape)
   unfolding shapeOf shapeText cornersOf
   triangle-answer k e = rw (k, e)
 
-  pub heights-answer : kindOf body ≡ 4 → a ≡ rayHeightField (rayOf body) (fieldOf body) (heightsOf body) → answerText a ≡ shapeText (rayOf body) (shapeOf (kindOf body) body)
+  pub heights-answer : kind ≡ 4 → a ≡ rayHeightField ray (fieldOf shape) (heightsOf shape) → answerText a ≡ shapeText ray (shapeOf kind shape)
   unfolding shapeOf shapeText
   heights-answer k e = rw (k, e)
 
-  pub values-answer : (kindOf body ≡ 1 → ⊥) → (kindOf body ≡ 2 → ⊥) → (kindOf body ≡ 3 → ⊥) → (kindOf body ≡ 4 → ⊥) → a ≡ rayLevelSet (rayOf body) (gridOf body) (valuesOf body)
-      → answerText a ≡ shapeText (rayOf body) (shapeOf (kindOf body) body)
+  pub values-answer : (kind ≡ 1 → ⊥) → (kind ≡ 2 → ⊥) → (kind ≡ 3 → ⊥) → (kind ≡ 4 → ⊥) → a ≡ rayLevelSet ray (gridOf shape) (valuesOf shape)
+      → answerText a ≡ shapeText ray (shapeOf kind shape)
   unfolding shapeOf shapeText
-  values-answer i j l k e = simp (ne-eqb (kindOf body) 1 i, ne-eqb (kindOf body) 2 j, ne-eqb (kindOf body) 3 l, ne-eqb (kindOf body) 4 k, e)
+  values-answer i j l k e = simp (ne-eqb kind 1 i, ne-eqb kind 2 j, ne-eqb kind 3 l, ne-eqb kind 4 k, e)
 
 -- the numbers of a grid, decoded
-pub heights-cast : (body : List ℕ) (ray : Ray) (field : Field) (numbers : List Float) (count : ℕ) (a : Answer) → a ≡ rayHeightField ray field numbers
-    → field ≡ fieldOf body → numbers ≡ floatsAt body 82 count → count ≡ heightCount body → a ≡ rayHeightField ray (fieldOf body) (heightsOf body)
+pub heights-cast : (shape : List ℕ) (ray : Ray) (field : Field) (numbers : List Float) (count : ℕ) (a : Answer) → a ≡ rayHeightField ray field numbers
+    → field ≡ fieldOf shape → numbers ≡ floatsAt shape 24 count → count ≡ heightCount shape → a ≡ rayHeightField ray (fieldOf shape) (heightsOf shape)
 unfolding heightsOf
-heights-cast body ray field numbers count a e f n k = cc
+heights-cast shape ray field numbers count a e f n k = cc
 
-pub values-cast : (body : List ℕ) (ray : Ray) (grid : Grid) (numbers : List Float) (count : ℕ) (a : Answer) → a ≡ rayLevelSet ray grid numbers
-    → grid ≡ gridOf body → numbers ≡ floatsAt body 118 count → count ≡ valueCount body → a ≡ rayLevelSet ray (gridOf body) (valuesOf body)
+pub values-cast : (shape : List ℕ) (ray : Ray) (grid : Grid) (numbers : List Float) (count : ℕ) (a : Answer) → a ≡ rayLevelSet ray grid numbers
+    → grid ≡ gridOf shape → numbers ≡ floatsAt shape 60 count → count ≡ valueCount shape → a ≡ rayLevelSet ray (gridOf shape) (valuesOf shape)
 unfolding valuesOf
-values-cast body ray grid numbers count a e f n k = cc
+values-cast shape ray grid numbers count a e f n k = cc
 
-pub good-text : (body text : List ℕ) → wellFormed body ≡ true → text ≡ shapeText (rayOf body) (shapeOf (kindOf body) body) → text ≡ recordText body
+pub good-text : (body text : List ℕ) → wellFormed body ≡ true → text ≡ shapeText (rayOf body) (shapeOf (kindOf body) (shapePart body))
+    → text ≡ recordText body
 unfolding parse parsedText
 good-text body text h e = simp (h, e)
+
+-- what is read of a body, one by one, is what it says
+pub shape-text : (body : List ℕ) {kind place : ℕ} {ray : Ray} → kind ≡ kindOf body → ray ≡ rayOf body → place ≡ shapePlace (versionOf body)
+    → shapeText ray (shapeOf kind (drop place body)) ≡ shapeText (rayOf body) (shapeOf (kindOf body) (shapePart body))
+shape-text body k r p = rw (k, r, p)
+
+pub part-text : (body : List ℕ) {kind place : ℕ} {ray : Ray} → wellFormed body ≡ true → kind ≡ kindOf body → ray ≡ rayOf body
+    → place ≡ shapePlace (versionOf body) → shapeText ray (shapeOf kind (take (length body - place) (drop place body))) ≡ recordText body
+part-text body {kind} {place} {ray} good k r p =
+    good-text body _ good (ap (λ (l : List ℕ). shapeText ray (shapeOf kind l)) (rest-is body place) ∙ shape-text body k r p)
 
 pub bad-text : (body : List ℕ) → wellFormed body ≡ false → badWord ≡ recordText body
 unfolding parse parsedText

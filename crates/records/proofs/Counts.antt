@@ -48,53 +48,53 @@ cap-large p z = go (ltb 4294967295 p) (ltb-true 4294967295 p)
 
 -- ---- kind 3
 
-pub mesh-short : (body : List ℕ) → length body < 66 → false ≡ meshFills body
+pub mesh-short : (shape : List ℕ) → length shape < 8 → false ≡ meshFills shape
 unfolding meshFills
-mesh-short body h = sym (ne-eqb (length body) (66 + 24 * vertexCount body + 12 * triangleCount body) (λ e. omega arith))
+mesh-short shape h = sym (ne-eqb (length shape) (8 + 24 * vertexCount shape + 12 * triangleCount shape) (λ e. omega arith))
 
-pub mesh-tested : (body : List ℕ) (vertices triangles : ℕ) → vertices ≡ vertexCount body → triangles ≡ triangleCount body
-    → eqb (length body) (66 + 24 * vertices + 12 * triangles) ≡ meshFills body
+pub mesh-tested : (shape : List ℕ) (vertices triangles : ℕ) → vertices ≡ vertexCount shape → triangles ≡ triangleCount shape
+    → eqb (length shape) (8 + 24 * vertices + 12 * triangles) ≡ meshFills shape
 unfolding meshFills
-mesh-tested body vertices triangles first second = rw (first, second)
+mesh-tested shape vertices triangles first second = rw (first, second)
 
 -- ---- kind 4
 
-pub heights-short : (body : List ℕ) → length body < 82 → false ≡ heightsFill body
+pub heights-short : (shape : List ℕ) → length shape < 24 → false ≡ heightsFill shape
 unfolding heightsFill
-heights-short body h = sym (ne-eqb (length body) (82 + 8 * heightCount body) (λ e. omega arith))
+heights-short shape h = sym (ne-eqb (length shape) (24 + 8 * heightCount shape) (λ e. omega arith))
 
-module _ (body : List ℕ) (rows columns : ℕ) (first : rows ≡ wordAt body 58) (second : columns ≡ wordAt body 62) where
-  height-count : rows * columns ≡ heightCount body
+module _ (shape : List ℕ) (rows columns : ℕ) (first : rows ≡ wordAt shape 0) (second : columns ≡ wordAt shape 4) where
+  height-count : rows * columns ≡ heightCount shape
   unfolding heightCount
   height-count = rw (first, second)
 
-  pub heights-many : length body ≤ 8192 → 1024 < rows * columns → false ≡ heightsFill body
+  pub heights-many : length shape ≤ 8192 → 1024 < rows * columns → false ≡ heightsFill shape
   unfolding heightsFill
-  heights-many short many = sym (ne-eqb (length body) (82 + 8 * heightCount body) (λ e. omega (arith, height-count)))
+  heights-many short many = sym (ne-eqb (length shape) (24 + 8 * heightCount shape) (λ e. omega (arith, height-count)))
 
-  pub heights-tested : eqb (length body) (82 + 8 * (rows * columns)) ≡ heightsFill body
+  pub heights-tested : eqb (length shape) (24 + 8 * (rows * columns)) ≡ heightsFill shape
   unfolding heightsFill
-  heights-tested = ap (λ (n : ℕ). eqb (length body) (82 + 8 * n)) height-count
+  heights-tested = ap (λ (n : ℕ). eqb (length shape) (24 + 8 * n)) height-count
 
 -- ---- kind 5
 
-pub values-short : (body : List ℕ) → length body < 118 → false ≡ valuesFill body
+pub values-short : (shape : List ℕ) → length shape < 60 → false ≡ valuesFill shape
 unfolding valuesFill
-values-short body h = sym (ne-eqb (length body) (118 + 8 * valueCount body) (λ e. omega arith))
+values-short shape h = sym (ne-eqb (length shape) (60 + 8 * valueCount shape) (λ e. omega arith))
 
-module _ (body : List ℕ) (x y z face : ℕ) (first : x ≡ wordAt body 58) (second : y ≡ wordAt body 62) (third : z ≡ wordAt body 66) (cap : face ≡ capOf (x * y)) where
-  value-count : x * y * z ≡ valueCount body
+module _ (shape : List ℕ) (x y z face : ℕ) (first : x ≡ wordAt shape 0) (second : y ≡ wordAt shape 4) (third : z ≡ wordAt shape 8) (cap : face ≡ capOf (x * y)) where
+  value-count : x * y * z ≡ valueCount shape
   unfolding valueCount
   value-count = rw (first, second, third)
 
-  pub values-many : length body ≤ 8192 → 1024 < face * z → false ≡ valuesFill body
+  pub values-many : length shape ≤ 8192 → 1024 < face * z → false ≡ valuesFill shape
   unfolding valuesFill
   values-many short many =
       let m : 1024 < x * y * z = cap-large (x * y) z (rw cap at many) in
-      sym (ne-eqb (length body) (118 + 8 * valueCount body) (λ e. omega (arith, value-count)))
+      sym (ne-eqb (length shape) (60 + 8 * valueCount shape) (λ e. omega (arith, value-count)))
 
-  pub values-tested : face * z ≤ 1024 → eqb (length body) (118 + 8 * (face * z)) ≡ valuesFill body
+  pub values-tested : face * z ≤ 1024 → eqb (length shape) (60 + 8 * (face * z)) ≡ valuesFill shape
   unfolding valuesFill
   values-tested few =
       let c : face * z ≡ x * y * z = rw cap (cap-small (x * y) z (rw cap at few)) in
-      ap (λ (n : ℕ). eqb (length body) (118 + 8 * n)) (c ∙ value-count)
+      ap (λ (n : ℕ). eqb (length shape) (60 + 8 * n)) (c ∙ value-count)

@@ -53,12 +53,12 @@ fresh-answer ray m a admitted room n t w o e =
 
 -- ---- decoded
 
-pub decoded-mesh : (body : List ℕ) (ray : Ray) (vertices : List Float) (triangles : List ℕ) (corners start indices : ℕ) (a : Indexed)
-    → vertices ≡ floatsAt body 66 corners → triangles ≡ wordsAt body start indices
-    → corners ≡ 3 * vertexCount body → start ≡ 66 + 24 * vertexCount body → indices ≡ 3 * triangleCount body
-    → a ≡ meshAnswer ray (mesh vertices triangles) → a ≡ meshAnswer ray (meshOf body)
+pub decoded-mesh : (shape : List ℕ) (ray : Ray) (vertices : List Float) (triangles : List ℕ) (corners start indices : ℕ) (a : Indexed)
+    → vertices ≡ floatsAt shape 8 corners → triangles ≡ wordsAt shape start indices
+    → corners ≡ 3 * vertexCount shape → start ≡ 8 + 24 * vertexCount shape → indices ≡ 3 * triangleCount shape
+    → a ≡ meshAnswer ray (mesh vertices triangles) → a ≡ meshAnswer ray (meshOf shape)
 unfolding meshOf
-decoded-mesh body ray vertices triangles corners start indices a v t c s i e = rw (v, t, c, s, i) at e
+decoded-mesh shape ray vertices triangles corners start indices a v t c s i e = rw (v, t, c, s, i) at e
 
 -- the areas, cut to a number of triangles
 pub cut-room : (count : ℕ) (triangles : List ℕ) {nodeBoxes triangleBoxes : List Float} {nodeWords order list stack : List ℕ}

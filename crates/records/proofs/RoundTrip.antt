@@ -8,8 +8,9 @@ use native.Mathlib.Omega.{arith}
 use borrow.Author.Tests.{le-ltb, le-leb, eq-eqb, ne-eqb}
 use lib.Ieee.{Float, binary64, toBits, ofBits}
 use lib.Ieee.Bits.{ofBits-toBits, toBits-lt}
-use lib.ListN.{length, length-append}
+use lib.ListN.{length, drop, length-append, length-drop}
 use lib.Seq.{take-at, getD-append-add}
+use Rattle.geometry.specs.Numbers.{zeroᶠ}
 use Rattle.geometry.specs.declared.vec3.Vec3.{Vec3}
 use Rattle.geometry.specs.declared.ray.Ray.{Ray}
 use Rattle.casts.specs.declared.plane.Plane.{Plane}
@@ -18,11 +19,12 @@ use Rattle.level_set.specs.declared.grid.Grid.{Grid}
 use Rattle.level_set.specs.declared.grid.Sides.{Sides}
 use Rattle.tree.specs.Mesh.{Mesh, thirds}
 use Rattle.records.specs.Bytes.{wordAt, bitsAt, floatAt, vectorAt, eachAt, floatsAt, wordsAt}
-use Rattle.records.specs.Fields.{versionOf, kindOf, rayOf, planeOf, vertexCount, triangleCount, meshOf, fieldOf, heightCount, heightsOf, gridOf, valueCount, valuesOf}
+use Rattle.records.specs.Fields.{versionOf, kindOf, isVersion, nearOf, shapePlace, rayOf, shapePart, planeOf, vertexCount, triangleCount, meshOf, fieldOf, heightCount, heightsOf, gridOf, valueCount, valuesOf}
 use Rattle.records.specs.Parse.{Shape, plane, triangle, mesh, heights, distances, says, longest, meshFills, heightsFill, valuesFill, filled, wellFormed, shapeOf, parse}
-use Rattle.records.specs.Encode.{wordBytes, bitsBytes, floatBytes, vectorBytes, eachBytes, floatsBytes, wordsBytes, countsBytes, fieldBytes, gridBytes, rayBytes, kindByte, shapeBytes, bodyBytes, framed, FloatFits, VectorFits, RayFits, WordFits, EachFits, FloatsFit, MeshFits, FieldFits, GridFits, ShapeFits}
+use Rattle.records.specs.Encode.{wordBytes, bitsBytes, floatBytes, vectorBytes, eachBytes, floatsBytes, wordsBytes, countsBytes, fieldBytes, gridBytes, rayBytes, nearBytes, kindByte, shapeBytes, bodyBytes, framed, FloatFits, VectorFits, RayFits, WordFits, EachFits, FloatsFit, MeshFits, FieldFits, GridFits, ShapeFits}
 use Rattle.records.specs.Stream.{nextOf, bodyOf}
 use Rattle.records.specs.declared.stream.Found.the-variants.{Record}
+use Rattle.records.proofs.WellFormed.{shape-behind-ray}
 
 -- ---- numbers
 
@@ -58,15 +60,21 @@ unfolding vectorAt vectorBytes floatAt floatBytes bitsAt bitsBytes wordAt wordBy
 vector-back v h =
     vector-of (float-back (v .x) (h .first)) (float-back (v .y) (h .second)) (float-back (v .z) (h .third))
 
--- the shape's body, with its ray
+-- the ray at the front of a body, in each version
 ray-of : {a b x y : Vec3} {c d z u : Float} → a ≡ x → b ≡ y → c ≡ z → d ≡ u
     → _≡_ {A = Ray} record { origin = a; direction = b; «max_distance» = c; near = d } record { origin = x; direction = y; «max_distance» = z; near = u }
 ray-of p q r s = cc
 
-ray-back : (r : Ray) (s : Shape) → RayFits r → rayOf (bodyBytes r s) ≡ r
-unfolding rayOf bodyBytes rayBytes vectorAt vectorBytes floatAt floatBytes bitsAt bitsBytes wordAt wordBytes
-ray-back r s h =
-    ray-of (vector-back (r .origin) (h .from)) (vector-back (r .direction) (h .along)) (float-back (r .«max_distance») (h .upTo)) (sym (h .fromOrigin))
+ray-back-1 : (r : Ray) (s : Shape) → RayFits r → r .near ≡ zeroᶠ → rayOf (bodyBytes 1 r s) ≡ r
+unfolding rayOf nearOf bodyBytes nearBytes rayBytes vectorAt vectorBytes floatAt floatBytes bitsAt bitsBytes wordAt wordBytes
+ray-back-1 r s h e =
+    ray-of (vector-back (r .origin) (h .from)) (vector-back (r .direction) (h .along)) (float-back (r .«max_distance») (h .upTo)) (sym e)
+
+ray-back-2 : (r : Ray) (s : Shape) → RayFits r → rayOf (bodyBytes 2 r s) ≡ r
+unfolding rayOf nearOf bodyBytes nearBytes rayBytes vectorAt vectorBytes floatAt floatBytes bitsAt bitsBytes wordAt wordBytes
+ray-back-2 r s h =
+    ray-of (vector-back (r .origin) (h .from)) (vector-back (r .direction) (h .along)) (float-back (r .«max_distance») (h .upTo))
+    (float-back (r .near) (h .onFrom))
 
 plane-of : {a x : Vec3} {c z : Float} → a ≡ x → c ≡ z → _≡_ {A = Plane} record { normal = a; distance = c } record { normal = x; distance = z }
 plane-of p q = cc
@@ -167,55 +175,53 @@ words-last front xs h = rw append-nil at (words-back front xs [] h)
 mesh-of : {vs ws : List Float} {ts us : List ℕ} → vs ≡ ws → ts ≡ us → _≡_ {A = Mesh} record { vertices = vs; triangles = ts } record { vertices = ws; triangles = us }
 mesh-of p q = cc
 
-module _ (r : Ray) (m : Mesh) (h : MeshFits m) (short : length (bodyBytes r (mesh m)) ≤ longest) where
-  abbrev body : List ℕ
-  body = bodyBytes r (mesh m)
+module _ (m : Mesh) (h : MeshFits m) (short : length (shapeBytes (mesh m)) ≤ longest) where
+  abbrev bytes : List ℕ
+  bytes = shapeBytes (mesh m)
 
-  abbrev front : List ℕ
-  front = 1 ∷ (3 ∷ (rayBytes r ++ countsBytes m))
-
-  mesh-long : length body ≡ 66 + (8 * length (m .vertices) + 4 * length (m .triangles))
-  unfolding kindByte shapeBytes bodyBytes rayBytes countsBytes vectorBytes floatBytes bitsBytes wordBytes
+  mesh-long : length bytes ≡ 8 + (8 * length (m .vertices) + 4 * length (m .triangles))
+  unfolding shapeBytes countsBytes wordBytes
   mesh-long =
       omega (arith, length-append (floatsBytes (m .vertices)) (wordsBytes (m .triangles)), length-floats-bytes (m .vertices), length-words-bytes (m .triangles))
 
-  vertex-count : vertexCount body ≡ thirds (length (m .vertices))
-  unfolding kindByte shapeBytes bodyBytes rayBytes countsBytes vectorBytes floatBytes bitsBytes wordAt wordBytes
+  vertex-count : vertexCount bytes ≡ thirds (length (m .vertices))
+  unfolding shapeBytes countsBytes wordAt wordBytes
   vertex-count = word-back (thirds (length (m .vertices))) [] (omega (arith, mesh-long))
 
-  triangle-count : triangleCount body ≡ thirds (length (m .triangles))
-  unfolding kindByte shapeBytes bodyBytes rayBytes countsBytes vectorBytes floatBytes bitsBytes wordAt wordBytes
+  triangle-count : triangleCount bytes ≡ thirds (length (m .triangles))
+  unfolding shapeBytes countsBytes wordAt wordBytes
   triangle-count = word-back (thirds (length (m .triangles))) [] (omega (arith, mesh-long))
 
-  vertices-back : floatsAt body 66 (3 * vertexCount body) ≡ m .vertices
-  unfolding kindByte shapeBytes bodyBytes rayBytes countsBytes vectorBytes floatBytes bitsBytes wordBytes
+  vertices-back : floatsAt bytes 8 (3 * vertexCount bytes) ≡ m .vertices
+  unfolding shapeBytes countsBytes wordBytes
   vertices-back =
-      ap (floatsAt body 66) (ap (λ (n : ℕ). 3 * n) vertex-count ∙ sym (h .wholeVertices)) ∙ floats-back front (m .vertices) (wordsBytes (m .triangles)) (h .verticesFit)
+      ap (floatsAt bytes 8) (ap (λ (n : ℕ). 3 * n) vertex-count ∙ sym (h .wholeVertices))
+      ∙ floats-back (countsBytes m) (m .vertices) (wordsBytes (m .triangles)) (h .verticesFit)
 
   -- ranged over what stands before the indices
-  behind-vertices : length (front ++ floatsBytes (m .vertices)) ≡ 66 + 24 * vertexCount body
-  unfolding rayBytes countsBytes vectorBytes floatBytes bitsBytes wordBytes
+  behind-vertices : length (countsBytes m ++ floatsBytes (m .vertices)) ≡ 8 + 24 * vertexCount bytes
+  unfolding countsBytes wordBytes
   behind-vertices = omega (arith, length-floats-bytes (m .vertices), vertex-count, h .wholeVertices)
 
-  regrouped : body ≡ (front ++ floatsBytes (m .vertices)) ++ wordsBytes (m .triangles)
-  unfolding kindByte shapeBytes bodyBytes rayBytes countsBytes vectorBytes floatBytes bitsBytes wordBytes
+  regrouped : bytes ≡ (countsBytes m ++ floatsBytes (m .vertices)) ++ wordsBytes (m .triangles)
+  unfolding shapeBytes countsBytes wordBytes
   regrouped = refl
 
-  indices-back : wordsAt body (66 + 24 * vertexCount body) (3 * triangleCount body) ≡ m .triangles
+  indices-back : wordsAt bytes (8 + 24 * vertexCount bytes) (3 * triangleCount bytes) ≡ m .triangles
   indices-back =
-      ap (wordsAt body (66 + 24 * vertexCount body)) (ap (λ (n : ℕ). 3 * n) triangle-count ∙ sym (h .wholeTriangles))
-      ∙ (ap (λ (k : ℕ). wordsAt body k (length (m .triangles))) (sym behind-vertices)
-      ∙ (ap (λ (l : List ℕ). wordsAt l (length (front ++ floatsBytes (m .vertices))) (length (m .triangles))) regrouped
-      ∙ words-last (front ++ floatsBytes (m .vertices)) (m .triangles) (h .indicesFit)))
+      ap (wordsAt bytes (8 + 24 * vertexCount bytes)) (ap (λ (n : ℕ). 3 * n) triangle-count ∙ sym (h .wholeTriangles))
+      ∙ (ap (λ (k : ℕ). wordsAt bytes k (length (m .triangles))) (sym behind-vertices)
+      ∙ (ap (λ (l : List ℕ). wordsAt l (length (countsBytes m ++ floatsBytes (m .vertices))) (length (m .triangles))) regrouped
+      ∙ words-last (countsBytes m ++ floatsBytes (m .vertices)) (m .triangles) (h .indicesFit)))
 
-  mesh-back : shapeOf 3 body ≡ mesh m
+  mesh-back : shapeOf 3 bytes ≡ mesh m
   unfolding shapeOf meshOf
   mesh-back = ap mesh (mesh-of vertices-back indices-back)
 
-  mesh-filled : filled 3 body ≡ true
+  mesh-filled : filled 3 bytes ≡ true
   unfolding filled meshFills
   mesh-filled =
-      eq-eqb (length body) (66 + 24 * vertexCount body + 12 * triangleCount body)
+      eq-eqb (length bytes) (8 + 24 * vertexCount bytes + 12 * triangleCount bytes)
       (omega (arith, mesh-long, vertex-count, triangle-count, h .wholeVertices, h .wholeTriangles))
 
 -- ---- grids
@@ -230,27 +236,27 @@ field-of p q r s = cc
 heights-of : {f g : Field} {xs ys : List Float} → f ≡ g → xs ≡ ys → heights f xs ≡ heights g ys
 heights-of p q = cc
 
-module _ (r : Ray) (f : Field) (numbers : List Float) (h : FieldFits f numbers) where
-  height-count : heightCount (bodyBytes r (heights f numbers)) ≡ length numbers
-  unfolding heightCount kindByte shapeBytes bodyBytes rayBytes fieldBytes vectorAt vectorBytes floatAt floatBytes bitsAt bitsBytes wordAt wordBytes
+module _ (f : Field) (numbers : List Float) (h : FieldFits f numbers) where
+  height-count : heightCount (shapeBytes (heights f numbers)) ≡ length numbers
+  unfolding heightCount shapeBytes fieldBytes vectorAt vectorBytes floatAt floatBytes bitsAt bitsBytes wordAt wordBytes
   height-count = product-of (word-back (f .rows) [] (h .rowsFit)) (word-back (f .columns) [] (h .columnsFit)) ∙ sym (h .many)
 
-  heights-back : shapeOf 4 (bodyBytes r (heights f numbers)) ≡ heights f numbers
-  unfolding shapeOf fieldOf heightsOf kindByte shapeBytes bodyBytes rayBytes fieldBytes vectorAt vectorBytes floatAt floatBytes bitsAt bitsBytes wordAt wordBytes
+  heights-back : shapeOf 4 (shapeBytes (heights f numbers)) ≡ heights f numbers
+  unfolding shapeOf fieldOf heightsOf shapeBytes fieldBytes vectorAt vectorBytes floatAt floatBytes bitsAt bitsBytes wordAt wordBytes
   heights-back =
       heights-of
       (field-of (word-back (f .rows) [] (h .rowsFit)) (word-back (f .columns) [] (h .columnsFit)) (float-back (f .«spacing_x») (h .xFits)) (float-back (f .«spacing_y») (h .yFits)))
-      (ap (floatsAt (bodyBytes r (heights f numbers)) 82) height-count ∙ floats-last (1 ∷ (4 ∷ (rayBytes r ++ fieldBytes f))) numbers (h .numbersFit))
+      (ap (floatsAt (shapeBytes (heights f numbers)) 24) height-count ∙ floats-last (fieldBytes f) numbers (h .numbersFit))
 
-  heights-long : length (bodyBytes r (heights f numbers)) ≡ 82 + 8 * length numbers
-  unfolding kindByte shapeBytes bodyBytes rayBytes fieldBytes vectorBytes floatBytes bitsBytes wordBytes
+  heights-long : length (shapeBytes (heights f numbers)) ≡ 24 + 8 * length numbers
+  unfolding shapeBytes fieldBytes vectorBytes floatBytes bitsBytes wordBytes
   heights-long = omega (arith, length-floats-bytes numbers)
 
-  heights-filled : filled 4 (bodyBytes r (heights f numbers)) ≡ true
+  heights-filled : filled 4 (shapeBytes (heights f numbers)) ≡ true
   unfolding filled heightsFill
   heights-filled =
-      eq-eqb (length (bodyBytes r (heights f numbers))) (82 + 8 * heightCount (bodyBytes r (heights f numbers)))
-      (heights-long ∙ ap (λ (n : ℕ). 82 + 8 * n) (sym height-count))
+      eq-eqb (length (shapeBytes (heights f numbers))) (24 + 8 * heightCount (shapeBytes (heights f numbers)))
+      (heights-long ∙ ap (λ (n : ℕ). 24 + 8 * n) (sym height-count))
 
 sides-of : {a b c x y z : ℕ} → a ≡ x → b ≡ y → c ≡ z → _≡_ {A = Sides} record { x = a; y = b; z = c } record { x = x; y = y; z = z }
 sides-of p q r = cc
@@ -262,66 +268,107 @@ grid-of p q r = cc
 distances-of : {f g : Grid} {xs ys : List Float} → f ≡ g → xs ≡ ys → distances f xs ≡ distances g ys
 distances-of p q = cc
 
-module _ (r : Ray) (g : Grid) (numbers : List Float) (h : GridFits g numbers) where
-  value-count : valueCount (bodyBytes r (distances g numbers)) ≡ length numbers
-  unfolding valueCount kindByte shapeBytes bodyBytes rayBytes gridBytes vectorAt vectorBytes floatAt floatBytes bitsAt bitsBytes wordAt wordBytes
+module _ (g : Grid) (numbers : List Float) (h : GridFits g numbers) where
+  value-count : valueCount (shapeBytes (distances g numbers)) ≡ length numbers
+  unfolding valueCount shapeBytes gridBytes vectorAt vectorBytes floatAt floatBytes bitsAt bitsBytes wordAt wordBytes
   value-count =
       product-of (product-of (word-back (g .sides .x) [] (h .firstFits)) (word-back (g .sides .y) [] (h .secondFits))) (word-back (g .sides .z) [] (h .thirdFits))
       ∙ sym (h .many)
 
-  distances-back : shapeOf 5 (bodyBytes r (distances g numbers)) ≡ distances g numbers
-  unfolding shapeOf gridOf valuesOf kindByte shapeBytes bodyBytes rayBytes gridBytes vectorAt vectorBytes floatAt floatBytes bitsAt bitsBytes wordAt wordBytes
+  distances-back : shapeOf 5 (shapeBytes (distances g numbers)) ≡ distances g numbers
+  unfolding shapeOf gridOf valuesOf shapeBytes gridBytes vectorAt vectorBytes floatAt floatBytes bitsAt bitsBytes wordAt wordBytes
   distances-back =
       distances-of
       (grid-of (sides-of (word-back (g .sides .x) [] (h .firstFits)) (word-back (g .sides .y) [] (h .secondFits)) (word-back (g .sides .z) [] (h .thirdFits)))
       (vector-back (g .origin) (h .originFits)) (vector-back (g .spacing) (h .spacingFits)))
-      (ap (floatsAt (bodyBytes r (distances g numbers)) 118) value-count ∙ floats-last (1 ∷ (5 ∷ (rayBytes r ++ gridBytes g))) numbers (h .numbersFit))
+      (ap (floatsAt (shapeBytes (distances g numbers)) 60) value-count ∙ floats-last (gridBytes g) numbers (h .numbersFit))
 
-  distances-long : length (bodyBytes r (distances g numbers)) ≡ 118 + 8 * length numbers
-  unfolding kindByte shapeBytes bodyBytes rayBytes gridBytes vectorBytes floatBytes bitsBytes wordBytes
+  distances-long : length (shapeBytes (distances g numbers)) ≡ 60 + 8 * length numbers
+  unfolding shapeBytes gridBytes vectorBytes floatBytes bitsBytes wordBytes
   distances-long = omega (arith, length-floats-bytes numbers)
 
-  distances-filled : filled 5 (bodyBytes r (distances g numbers)) ≡ true
+  distances-filled : filled 5 (shapeBytes (distances g numbers)) ≡ true
   unfolding filled valuesFill
   distances-filled =
-      eq-eqb (length (bodyBytes r (distances g numbers))) (118 + 8 * valueCount (bodyBytes r (distances g numbers)))
-      (distances-long ∙ ap (λ (n : ℕ). 118 + 8 * n) (sym value-count))
+      eq-eqb (length (shapeBytes (distances g numbers))) (60 + 8 * valueCount (shapeBytes (distances g numbers)))
+      (distances-long ∙ ap (λ (n : ℕ). 60 + 8 * n) (sym value-count))
 
 -- ---- shapes
 
-shape-back : (r : Ray) (s : Shape) → ShapeFits s → length (bodyBytes r s) ≤ longest → shapeOf (kindByte s) (bodyBytes r s) ≡ s
-unfolding shapeOf planeOf kindByte shapeBytes bodyBytes rayBytes vectorAt vectorBytes floatAt floatBytes bitsAt bitsBytes wordAt wordBytes
-shape-back r (plane p) h short = ap plane (plane-of (vector-back (p .normal) (h .0)) (float-back (p .distance) (h .1)))
-shape-back r (triangle v w u) h short =
+shape-back : (s : Shape) → ShapeFits s → length (shapeBytes s) ≤ longest → shapeOf (kindByte s) (shapeBytes s) ≡ s
+unfolding shapeOf planeOf kindByte shapeBytes vectorAt vectorBytes floatAt floatBytes bitsAt bitsBytes wordAt wordBytes
+shape-back (plane p) h short = ap plane (plane-of (vector-back (p .normal) (h .0)) (float-back (p .distance) (h .1)))
+shape-back (triangle v w u) h short =
     triangle-of (vector-back v (h .0)) (vector-back w (h .1 .0)) (vector-back u (h .1 .1))
-shape-back r (mesh m) h short = mesh-back r m h short
-shape-back r (heights f numbers) h short = heights-back r f numbers h
-shape-back r (distances g numbers) h short = distances-back r g numbers h
+shape-back (mesh m) h short = mesh-back m h short
+shape-back (heights f numbers) h short = heights-back f numbers h
+shape-back (distances g numbers) h short = distances-back g numbers h
 
-well-formed-of : (body : List ℕ) → 58 ≤ length body → length body ≤ longest → versionOf body ≡ 1 → filled (kindOf body) body ≡ true → wellFormed body ≡ true
-unfolding wellFormed
-well-formed-of body long short version fills =
-    simp (le-leb 58 (length body) long, le-leb (length body) longest short, eq-eqb (versionOf body) 1 version, fills)
+shape-fills : (s : Shape) → ShapeFits s → length (shapeBytes s) ≤ longest → filled (kindByte s) (shapeBytes s) ≡ true
+unfolding filled kindByte shapeBytes vectorBytes floatBytes bitsBytes wordBytes
+shape-fills (plane p) h short = refl
+shape-fills (triangle v w u) h short = refl
+shape-fills (mesh m) h short = mesh-filled m h short
+shape-fills (heights f numbers) h short = heights-filled f numbers h
+shape-fills (distances g numbers) h short = distances-filled g numbers h
 
-encoded-well-formed : (r : Ray) (s : Shape) → ShapeFits s → length (bodyBytes r s) ≤ longest → wellFormed (bodyBytes r s) ≡ true
-unfolding wellFormed filled kindByte shapeBytes bodyBytes rayBytes vectorBytes floatBytes bitsBytes wordBytes
-encoded-well-formed r (plane p) h short = refl
-encoded-well-formed r (triangle v w u) h short = refl
-encoded-well-formed r (mesh m) h short =
-    well-formed-of (bodyBytes r (mesh m)) (omega (arith, mesh-long r m h short)) short refl (mesh-filled r m h short)
-encoded-well-formed r (heights f numbers) h short =
-    well-formed-of (bodyBytes r (heights f numbers)) (omega (arith, heights-long r f numbers h)) short refl (heights-filled r f numbers h)
-encoded-well-formed r (distances g numbers) h short =
-    well-formed-of (bodyBytes r (distances g numbers)) (omega (arith, distances-long r g numbers h)) short refl (distances-filled r g numbers h)
+-- ---- bodies
 
-kind-back : (r : Ray) (s : Shape) → kindOf (bodyBytes r s) ≡ kindByte s
-unfolding bodyBytes
-kind-back r s = refl
+-- a body of a version that is read, whose ray is r and whose shape's bytes are those of s
+module _ (body : List ℕ) (r : Ray) (s : Shape)
+    (version : isVersion (versionOf body) ≡ true)
+    (ray : rayOf body ≡ r)
+    (kind : kindOf body ≡ kindByte s)
+    (part : shapePart body ≡ shapeBytes s)
+    (within : shapePlace (versionOf body) ≤ length body)
+    (short : length body ≤ longest)
+    (shape : ShapeFits s) where
+  part-short : length (shapeBytes s) ≤ longest
+  part-short = omega (arith, ap length part, length-drop (shapePlace (versionOf body)) body, short)
 
--- a record that is encoded is parsed back
-pub parse-encoded : (r : Ray) (s : Shape) → RayFits r → ShapeFits s → length (bodyBytes r s) ≤ longest → parse (bodyBytes r s) ≡ says r s
-unfolding parse
-parse-encoded r s ray shape short = simp (encoded-well-formed r s shape short, ray-back r s ray, kind-back r s, shape-back r s shape short)
+  fills : filled (kindOf body) (shapePart body) ≡ true
+  fills = rw (kind, part) (shape-fills s shape part-short)
+
+  well-formed : wellFormed body ≡ true
+  unfolding wellFormed
+  well-formed =
+      simp (le-leb 2 (length body) (omega (arith, within, shape-behind-ray (versionOf body))), le-leb (length body) longest short, version, le-leb (shapePlace (versionOf body)) (length body) within, fills)
+
+  shape-read : shapeOf (kindOf body) (shapePart body) ≡ s
+  shape-read = rw (kind, part) (shape-back s shape part-short)
+
+  parsed : parse body ≡ says r s
+  unfolding parse
+  parsed = simp (well-formed, ray, shape-read)
+
+-- how long a body is at least
+body-long-1 : (r : Ray) (s : Shape) → 58 ≤ length (bodyBytes 1 r s)
+unfolding bodyBytes nearBytes rayBytes vectorBytes floatBytes bitsBytes wordBytes
+body-long-1 r s = omega arith
+
+body-long-2 : (r : Ray) (s : Shape) → 66 ≤ length (bodyBytes 2 r s)
+unfolding bodyBytes nearBytes rayBytes vectorBytes floatBytes bitsBytes wordBytes
+body-long-2 r s = omega arith
+
+part-1 : (r : Ray) (s : Shape) → shapePart (bodyBytes 1 r s) ≡ shapeBytes s
+unfolding shapePlace bodyBytes nearBytes rayBytes vectorBytes floatBytes bitsBytes wordBytes
+part-1 r s = refl
+
+part-2 : (r : Ray) (s : Shape) → shapePart (bodyBytes 2 r s) ≡ shapeBytes s
+unfolding shapePlace bodyBytes nearBytes rayBytes vectorBytes floatBytes bitsBytes wordBytes
+part-2 r s = refl
+
+-- a record that is encoded is parsed back: with version 1 where near is +0, and with version 2 whatever near is
+pub parse-encoded-1 : (r : Ray) (s : Shape) → RayFits r → r .near ≡ zeroᶠ → ShapeFits s → length (bodyBytes 1 r s) ≤ longest
+    → parse (bodyBytes 1 r s) ≡ says r s
+unfolding isVersion shapePlace bodyBytes
+parse-encoded-1 r s ray near shape short =
+    parsed (bodyBytes 1 r s) r s refl (ray-back-1 r s ray near) refl (part-1 r s) (body-long-1 r s) short shape
+
+pub parse-encoded-2 : (r : Ray) (s : Shape) → RayFits r → ShapeFits s → length (bodyBytes 2 r s) ≤ longest → parse (bodyBytes 2 r s) ≡ says r s
+unfolding isVersion shapePlace bodyBytes
+parse-encoded-2 r s ray shape short =
+    parsed (bodyBytes 2 r s) r s refl (ray-back-2 r s ray) refl (part-2 r s) (body-long-2 r s) short shape
 
 -- ---- frames
 

@@ -14,7 +14,7 @@ pub record TreeRoom (n : ℕ) (nodeBoxes triangleBoxes : List Float) (nodeWords 
   pub listed : length list ≡ n
   pub stacked : length stack ≡ 2 * n + 1
 
--- for the tree of any well-formed record, which has 677 triangles at most: (8,192 - 66) / 12
+-- for the tree of any well-formed record, which has 677 triangles at most: (8,192 - 58 - 8) / 12 in version 1, and 676 in version 2
 pub record TreeLent (nodeBoxes triangleBoxes : List Float) (nodeWords order list stack : List ℕ) : Type 0 where
   pub boxed : 8124 ≤ length nodeBoxes
   pub bounded : 4062 ≤ length triangleBoxes

@@ -1,11 +1,11 @@
 -- The bytes of a record, from what it says. Definitions only. Assumes nothing.
 use Prim.Native.Nat.{ℕ, _*_, _/_, _%_, _<_}
 use mathlib.Core.Path.{_≡_}
+use mathlib.Core.Bool.{cond}
 use mathlib.Core.List.{List, [], _∷_, _++_}
 use lib.Ieee.{Float, binary64, toBits, fits}
-use lib.Dec.{T}
+use lib.Dec.{T, eqb}
 use lib.ListN.{length}
-use Rattle.geometry.specs.Numbers.{zeroᶠ}
 use Rattle.geometry.specs.declared.vec3.Vec3.{Vec3}
 use Rattle.geometry.specs.declared.ray.Ray.{Ray}
 use Rattle.height_field.specs.declared.field.Field.{Field}
@@ -67,9 +67,13 @@ shapeBytes (mesh m) = countsBytes m ++ (floatsBytes (m .vertices) ++ wordsBytes 
 shapeBytes (heights field numbers) = fieldBytes field ++ floatsBytes numbers
 shapeBytes (distances grid numbers) = gridBytes grid ++ floatsBytes numbers
 
--- "version byte 1, kind byte .., origin, direction, maximum, then the shape"
-unfoldable pub bodyBytes : Ray → Shape → List ℕ
-bodyBytes r s = 1 ∷ (kindByte s ∷ (rayBytes r ++ shapeBytes s))
+-- "Version byte 2 carries near after the maximum"
+unfoldable pub nearBytes : ℕ → Ray → List ℕ
+nearBytes version r = cond (eqb version 2) (floatBytes (r .near)) []
+
+-- "version byte 1, kind byte .., origin, direction, maximum, then the shape", for a version byte
+unfoldable pub bodyBytes : ℕ → Ray → Shape → List ℕ
+bodyBytes version r s = version ∷ (kindByte s ∷ (rayBytes r ++ (nearBytes version r ++ shapeBytes s)))
 
 -- "4-byte big-endian length of the rest"
 unfoldable pub framed : List ℕ → List ℕ
@@ -88,7 +92,7 @@ pub record RayFits (r : Ray) : Type 0 where
   pub from : VectorFits (r .origin)
   pub along : VectorFits (r .direction)
   pub upTo : FloatFits (r .«max_distance»)
-  pub fromOrigin : r .near ≡ zeroᶠ
+  pub onFrom : FloatFits (r .near)
 
 -- a count or an index is a u32
 abbrev pub WordFits : ℕ → Type 0

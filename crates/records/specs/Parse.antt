@@ -12,7 +12,7 @@ use Rattle.height_field.specs.declared.field.Field.{Field}
 use Rattle.level_set.specs.declared.grid.Grid.{Grid}
 use Rattle.tree.specs.Mesh.{Mesh}
 use Rattle.records.specs.Bytes.{vectorAt}
-use Rattle.records.specs.Fields.{versionOf, kindOf, rayOf, shapePlace, planeOf, vertexCount, triangleCount, meshOf, fieldOf, heightCount, heightsOf, gridOf, valueCount, valuesOf}
+use Rattle.records.specs.Fields.{versionOf, kindOf, isVersion, shapePlace, rayOf, shapePart, planeOf, vertexCount, triangleCount, meshOf, fieldOf, heightCount, heightsOf, gridOf, valueCount, valuesOf}
 
 -- the shapes, in mission order
 pub data Shape : Type 0 where
@@ -27,23 +27,23 @@ pub data Parsed : Type 0 where
   says : Ray → Shape → Parsed
   malformed : Parsed
 
--- counts and their products are those of whole numbers, never wrapped
+-- the shape's bytes: counts and their products are those of whole numbers, never wrapped
 unfoldable pub meshFills : List ℕ → Bool
-meshFills body = eqb (length body) (66 + 24 * vertexCount body + 12 * triangleCount body)
+meshFills shape = eqb (length shape) (8 + 24 * vertexCount shape + 12 * triangleCount shape)
 
 unfoldable pub heightsFill : List ℕ → Bool
-heightsFill body = eqb (length body) (82 + 8 * heightCount body)
+heightsFill shape = eqb (length shape) (24 + 8 * heightCount shape)
 
 unfoldable pub valuesFill : List ℕ → Bool
-valuesFill body = eqb (length body) (118 + 8 * valueCount body)
+valuesFill shape = eqb (length shape) (60 + 8 * valueCount shape)
 
 -- "exactly filled by its fields", for a kind; another kind never is
 unfoldable pub filled : ℕ → List ℕ → Bool
-filled kind body =
-    cond (eqb kind 1) (eqb (length body) 90)
-    (cond (eqb kind 2) (eqb (length body) 130)
-    (cond (eqb kind 3) (meshFills body)
-    (cond (eqb kind 4) (heightsFill body) (cond (eqb kind 5) (valuesFill body) false))))
+filled kind shape =
+    cond (eqb kind 1) (eqb (length shape) 32)
+    (cond (eqb kind 2) (eqb (length shape) 72)
+    (cond (eqb kind 3) (meshFills shape)
+    (cond (eqb kind 4) (heightsFill shape) (cond (eqb kind 5) (valuesFill shape) false))))
 
 -- "at most 8,192"
 abbrev pub longest : ℕ
@@ -52,14 +52,16 @@ longest = 8192
 -- not "cut short, over length, of another version or kind, or not exactly filled by its fields"
 unfoldable pub wellFormed : List ℕ → Bool
 wellFormed body =
-    leb shapePlace (length body) && (leb (length body) longest && (eqb (versionOf body) 1 && filled (kindOf body) body))
+    leb 2 (length body)
+    && (leb (length body) longest
+    && (isVersion (versionOf body) && (leb (shapePlace (versionOf body)) (length body) && filled (kindOf body) (shapePart body))))
 
 unfoldable pub shapeOf : ℕ → List ℕ → Shape
-shapeOf kind body =
-    cond (eqb kind 1) (plane (planeOf body))
-    (cond (eqb kind 2) (triangle (vectorAt body 58) (vectorAt body 82) (vectorAt body 106))
-    (cond (eqb kind 3) (mesh (meshOf body))
-    (cond (eqb kind 4) (heights (fieldOf body) (heightsOf body)) (distances (gridOf body) (valuesOf body)))))
+shapeOf kind shape =
+    cond (eqb kind 1) (plane (planeOf shape))
+    (cond (eqb kind 2) (triangle (vectorAt shape 0) (vectorAt shape 24) (vectorAt shape 48))
+    (cond (eqb kind 3) (mesh (meshOf shape))
+    (cond (eqb kind 4) (heights (fieldOf shape) (heightsOf shape)) (distances (gridOf shape) (valuesOf shape)))))
 
 unfoldable pub parse : List ℕ → Parsed
-parse body = cond (wellFormed body) (says (rayOf body) (shapeOf (kindOf body) body)) malformed
+parse body = cond (wellFormed body) (says (rayOf body) (shapeOf (kindOf body) (shapePart body))) malformed

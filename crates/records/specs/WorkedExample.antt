@@ -1,8 +1,8 @@
--- Document 01's worked example: three records, and the whole output for them. Definitions only. Assumes nothing.
+-- Document 01's worked example: three records, and the whole output for them; and three of both versions. Definitions only. Assumes nothing.
 use Prim.Native.Nat.{ℕ}
 use mathlib.Core.List.{List, [], _∷_, _++_}
 use lib.Ieee.{Float, binary64, ofBits}
-use lib.ListN.{replicate}
+use lib.ListN.{drop, replicate}
 use Rattle.geometry.specs.Numbers.{zeroᶠ, oneᶠ}
 use Rattle.records.specs.Parse.{plane}
 use Rattle.records.specs.Encode.{bodyBytes, framed}
@@ -20,15 +20,18 @@ abbrev minusTwo : Float
 minusTwo = ofBits binary64 0xc000_0000_0000_0000
 
 -- "Plane normal (0,0,1), distance 0, origin (0,0,2)": a record of a ray along z
-abbrev exampleRecord : Float → Float → List ℕ
-exampleRecord z maximum =
+abbrev recordOf : ℕ → Float → Float → Float → List ℕ
+recordOf version z maximum near =
     framed
-    (bodyBytes record {
+    (bodyBytes version record {
       origin = record { x = zeroᶠ; y = zeroᶠ; z = two };
       direction = record { x = zeroᶠ; y = zeroᶠ; z = z };
       «max_distance» = maximum;
-      near = zeroᶠ;
+      near = near;
     } (plane record { normal = record { x = zeroᶠ; y = zeroᶠ; z = oneᶠ }; distance = zeroᶠ }))
+
+abbrev exampleRecord : Float → Float → List ℕ
+exampleRecord z maximum = recordOf 1 z maximum zeroᶠ
 
 -- "directions (0,0,-1) with maxima 5 and 1, then (0,0,-2) with 5"
 unfoldable pub exampleRecords : List ℕ
@@ -55,3 +58,14 @@ thirdLine = 51 ∷ (32 ∷ (114 ∷ (101 ∷ (102 ∷ (117 ∷ (115 ∷ (101 ∷
 -- "Whole output"
 unfoldable pub exampleOutput : List ℕ
 exampleOutput = firstLine ++ (secondLine ++ thirdLine)
+
+-- the hit at 2 with near 5, with near 2 and, in version 1 behind them, with none
+unfoldable pub nearRecords : List ℕ
+nearRecords = recordOf 2 minusOne five five ++ (recordOf 2 minusOne five two ++ exampleRecord minusOne five)
+
+-- the bytes behind the first line's number
+abbrev hitAtTwo : List ℕ
+hitAtTwo = drop 1 firstLine
+
+unfoldable pub nearOutput : List ℕ
+nearOutput = (49 ∷ drop 1 secondLine) ++ ((50 ∷ hitAtTwo) ++ (51 ∷ hitAtTwo))

@@ -4,12 +4,13 @@
 //
 // | place | field                                   |
 // |-------|-----------------------------------------|
-// | 0     | version, 1                              |
+// | 0     | version, 1 or 2                         |
 // | 1     | kind: 1 plane, 2 triangle, 3 mesh, 4 height grid, 5 distance grid |
 // | 2     | origin, three floats                    |
 // | 26    | direction, three floats                 |
 // | 50    | maximum, a float                        |
-// | 58    | the shape, to the end of the body       |
+// | 58    | version 2: near, a float                |
+// | 58 or 66 | the shape, to the end of the body    |
 
 // Readers of one number at a place.
 pub mod bytes;

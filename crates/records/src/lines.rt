@@ -21,8 +21,8 @@ ghost use Rattle.casts.specs.Answer.{says};
 ghost use Rattle.casts.specs.Nearest.{saysIndexed};
 ghost use Rattle.height_field.specs.Cast.{rayHeightField};
 ghost use Rattle.level_set.specs.Walk.{rayLevelSet};
-ghost use Rattle.records.specs.Parse.{wellFormed, shapeOf};
-ghost use Rattle.records.specs.Fields.{rayOf, kindOf, fieldOf, heightCount, heightsOf, gridOf, valueCount, valuesOf};
+ghost use Rattle.records.specs.Parse.{filled, shapeOf};
+ghost use Rattle.records.specs.Fields.{fieldOf, heightCount, heightsOf, gridOf, valueCount, valuesOf};
 ghost use Rattle.records.specs.Text.{Put, Written, decimal};
 ghost use Rattle.records.specs.Areas.{TreeLent};
 ghost use Rattle.records.specs.Lines.{floatText, hitText, answerText, indexText, indexedText, shapeText, recordText, lineOf, badLine};
@@ -97,45 +97,84 @@ fn put_indexed(out: &mut [u8], at: usize, cast: IndexedCast) -> usize
     put_index(out, next, cast)
 }
 
-// The cast at a well-formed body of kind 4; its heights are decoded into the work area.
-fn heights_answer(body: &[u8], ray: Ray, work: &mut [f64]) -> Cast
-    requires { ⌜ (82 + 8 * heightCount (now body) ≡ length (now body)) × ((length (now body) ≤ 8192) × (1024 ≤ length (now work))) ⌝ }
-    ensures { λ r. ⌜ says r ≡ rayHeightField ray (fieldOf (now (body .entry))) (heightsOf (now (body .entry))) ⌝ }
+// The cast at a shape of kind 4, from its own bytes; its heights are decoded into the work area.
+fn heights_answer(shape: &[u8], ray: Ray, work: &mut [f64]) -> Cast
+    requires { ⌜ (24 + 8 * heightCount (now shape) ≡ length (now shape)) × ((length (now shape) ≤ 8192) × (1024 ≤ length (now work))) ⌝ }
+    ensures { λ r. ⌜ says r ≡ rayHeightField ray (fieldOf (now (shape .entry))) (heightsOf (now (shape .entry))) ⌝ }
 {
-    let field = fields::field_of(body);
-    let count = (body.len() - 82) / 8;
-    bytes::floats_at(body, 82, count, work);
+    let field = fields::field_of(shape);
+    let count = (shape.len() - 24) / 8;
+    bytes::floats_at(shape, 24, count, work);
     cast::ray_height_field(ray, field, &work[..count])
 }
 
-// The cast at a well-formed body of kind 5, in the same way.
-fn values_answer(body: &[u8], ray: Ray, work: &mut [f64]) -> Cast
-    requires { ⌜ (118 + 8 * valueCount (now body) ≡ length (now body)) × ((length (now body) ≤ 8192) × (1024 ≤ length (now work))) ⌝ }
-    ensures { λ r. ⌜ says r ≡ rayLevelSet ray (gridOf (now (body .entry))) (valuesOf (now (body .entry))) ⌝ }
+// The cast at a shape of kind 5, in the same way.
+fn values_answer(shape: &[u8], ray: Ray, work: &mut [f64]) -> Cast
+    requires { ⌜ (60 + 8 * valueCount (now shape) ≡ length (now shape)) × ((length (now shape) ≤ 8192) × (1024 ≤ length (now work))) ⌝ }
+    ensures { λ r. ⌜ says r ≡ rayLevelSet ray (gridOf (now (shape .entry))) (valuesOf (now (shape .entry))) ⌝ }
 {
-    let grid = fields::grid_of(body);
-    let count = (body.len() - 118) / 8;
-    bytes::floats_at(body, 118, count, work);
+    let grid = fields::grid_of(shape);
+    let count = (shape.len() - 60) / 8;
+    bytes::floats_at(shape, 60, count, work);
     walk::ray_level_set(ray, grid, &work[..count])
 }
 
-// The cast at a well-formed body of another kind than 3: one call for each kind of shape.
-fn shape_answer(body: &[u8], work: &mut [f64]) -> Cast
-    requires { ⌜ (wellFormed (now body) ≡ true) × ((kindOf (now body) ≡ 3 → ⊥) × (1024 ≤ length (now work))) ⌝ }
-    ensures { λ r. ⌜ answerText (says r) ≡ shapeText (rayOf (now (body .entry))) (shapeOf (kindOf (now (body .entry))) (now (body .entry))) ⌝ }
+// The cast at a shape of another kind than 3: one call for each kind.
+fn shape_answer(kind: u8, ray: Ray, shape: &[u8], work: &mut [f64]) -> Cast
+    requires { ⌜ (filled kind (now shape) ≡ true) × (length (now shape) ≤ 8192) ⌝ }
+    requires { ⌜ (kind ≡ 3 → ⊥) × (1024 ≤ length (now work)) ⌝ }
+    ensures { λ r. ⌜ answerText (says r) ≡ shapeText ray (shapeOf kind (now (shape .entry))) ⌝ }
 {
-    let ray = fields::ray_of(body);
-    let kind = fields::kind_of(body);
     if kind == 1 {
-        return plane::ray_plane(fields::plane_of(body), ray);
+        return plane::ray_plane(fields::plane_of(shape), ray);
     }
     if kind == 2 {
-        return triangle::ray_triangle(ray, fields::corners_of(body));
+        return triangle::ray_triangle(ray, fields::corners_of(shape));
     }
     if kind == 4 {
-        return heights_answer(body, ray, work);
+        return heights_answer(shape, ray, work);
     }
-    values_answer(body, ray, work)
+    values_answer(shape, ray, work)
+}
+
+// The answer to a ray and a shape.
+fn put_shape(
+    out: &mut [u8],
+    at: usize,
+    kind: u8,
+    ray: Ray,
+    shape: &[u8],
+    work: &mut [f64],
+    triangles: &mut [u32],
+    node_boxes: &mut [f64],
+    triangle_boxes: &mut [f64],
+    node_words: &mut [u32],
+    order: &mut [u32],
+    list: &mut [u32],
+    stack: &mut [u32],
+) -> usize
+    requires { ⌜ (filled kind (now shape) ≡ true) × (length (now shape) ≤ 8134) ⌝ }
+    requires { ⌜ (at + 92 ≤ length (now out)) × ((1024 ≤ length (now work)) × (2031 ≤ length (now triangles))) ⌝ }
+    requires { ⌜ TreeLent (now «node_boxes») (now «triangle_boxes») (now «node_words») (now order) (now list) (now stack) ⌝ }
+    ensures { λ r. ⌜ Put (now (out .entry)) at (shapeText ray (shapeOf kind (now (shape .entry)))) (now (out .exit)) r ⌝ }
+{
+    if kind != 3 {
+        let cast = shape_answer(kind, ray, shape, work);
+        return put_answer(out, at, cast);
+    }
+    let nearest = meshes::mesh_answer(
+        shape,
+        ray,
+        work,
+        triangles,
+        node_boxes,
+        triangle_boxes,
+        node_words,
+        order,
+        list,
+        stack,
+    );
+    put_indexed(out, at, nearest)
 }
 
 // The answer to any body.
@@ -159,13 +198,15 @@ fn put_record(
     if !parse::is_well_formed(body) {
         return text::put_text(out, at, b"bad");
     }
-    if fields::kind_of(body) != 3 {
-        let cast = shape_answer(body, work);
-        return put_answer(out, at, cast);
-    }
-    let nearest = meshes::mesh_answer(
-        body,
-        fields::ray_of(body),
+    let kind = fields::kind_of(body);
+    let ray = fields::ray_of(body);
+    let place = fields::shape_place(fields::version_of(body));
+    put_shape(
+        out,
+        at,
+        kind,
+        ray,
+        &body[place..],
         work,
         triangles,
         node_boxes,
@@ -174,8 +215,7 @@ fn put_record(
         order,
         list,
         stack,
-    );
-    put_indexed(out, at, nearest)
+    )
 }
 
 // The record number and a space, at the front.

@@ -98,9 +98,9 @@ fn cast_fresh(
     )
 }
 
-// The cast at a well-formed body of kind 3; its mesh is decoded into the first two areas, and the tree is built in parts of the others.
+// The cast at a shape of kind 3, from its own bytes; its mesh is decoded into the first two areas, and the tree is built in parts of the others.
 pub fn mesh_answer(
-    body: &[u8],
+    shape: &[u8],
     ray: Ray,
     vertices: &mut [f64],
     triangles: &mut [u32],
@@ -111,16 +111,16 @@ pub fn mesh_answer(
     list: &mut [u32],
     stack: &mut [u32],
 ) -> IndexedCast
-    requires { ⌜ (66 + 24 * vertexCount (now body) + 12 * triangleCount (now body) ≡ length (now body)) × (length (now body) ≤ 8192) ⌝ }
+    requires { ⌜ (8 + 24 * vertexCount (now shape) + 12 * triangleCount (now shape) ≡ length (now shape)) × (length (now shape) ≤ 8134) ⌝ }
     requires { ⌜ (1024 ≤ length (now vertices)) × ((2031 ≤ length (now triangles)) × TreeLent (now «node_boxes») (now «triangle_boxes») (now «node_words») (now order) (now list) (now stack)) ⌝ }
-    ensures { λ r. ⌜ saysIndexed r ≡ meshAnswer ray (meshOf (now (body .entry))) ⌝ }
+    ensures { λ r. ⌜ saysIndexed r ≡ meshAnswer ray (meshOf (now (shape .entry))) ⌝ }
 {
-    let corners = 3 * bytes::word_at(body, 58) as usize;
-    let count = bytes::word_at(body, 62) as usize;
+    let corners = 3 * bytes::word_at(shape, 0) as usize;
+    let count = bytes::word_at(shape, 4) as usize;
     let indices = 3 * count;
-    let start = 66 + 8 * corners;
-    bytes::floats_at(body, 66, corners, vertices);
-    bytes::words_at(body, start, indices, triangles);
+    let start = 8 + 8 * corners;
+    bytes::floats_at(shape, 8, corners, vertices);
+    bytes::words_at(shape, start, indices, triangles);
     let boxes = 12 * count;
     let words = 6 * count;
     let nodes = 2 * count + 1;

@@ -17,68 +17,68 @@ fn capped(count: u64) -> u64
     count
 }
 
-// Whether the fields of kind 3 end where the body does. Counts are u32, so the sum stays far below 2^64.
-fn mesh_fills(body: &[u8]) -> bool
-    ensures { λ r. ⌜ r ≡ meshFills (now (body .entry)) ⌝ }
+// Whether the fields of kind 3 end where the shape's bytes do. Counts are u32, so the sum stays far below 2^64.
+fn mesh_fills(shape: &[u8]) -> bool
+    ensures { λ r. ⌜ r ≡ meshFills (now (shape .entry)) ⌝ }
 {
-    if body.len() < 66 {
+    if shape.len() < 8 {
         return false;
     }
-    let vertices = bytes::word_at(body, 58);
-    let triangles = bytes::word_at(body, 62);
-    body.len() as u64 == 66 + 24 * vertices + 12 * triangles
+    let vertices = bytes::word_at(shape, 0);
+    let triangles = bytes::word_at(shape, 4);
+    shape.len() as u64 == 8 + 24 * vertices + 12 * triangles
 }
 
 // Whether the fields of kind 4 do.
-fn heights_fill(body: &[u8]) -> bool
-    requires { ⌜ length (now body) ≤ 8192 ⌝ }
-    ensures { λ r. ⌜ r ≡ heightsFill (now (body .entry)) ⌝ }
+fn heights_fill(shape: &[u8]) -> bool
+    requires { ⌜ length (now shape) ≤ 8192 ⌝ }
+    ensures { λ r. ⌜ r ≡ heightsFill (now (shape .entry)) ⌝ }
 {
-    if body.len() < 82 {
+    if shape.len() < 24 {
         return false;
     }
-    let count = bytes::word_at(body, 58) * bytes::word_at(body, 62);
+    let count = bytes::word_at(shape, 0) * bytes::word_at(shape, 4);
     if count > 1024 {
         return false;
     }
-    body.len() as u64 == 82 + 8 * count
+    shape.len() as u64 == 24 + 8 * count
 }
 
 // Whether the fields of kind 5 do.
-fn values_fill(body: &[u8]) -> bool
-    requires { ⌜ length (now body) ≤ 8192 ⌝ }
-    ensures { λ r. ⌜ r ≡ valuesFill (now (body .entry)) ⌝ }
+fn values_fill(shape: &[u8]) -> bool
+    requires { ⌜ length (now shape) ≤ 8192 ⌝ }
+    ensures { λ r. ⌜ r ≡ valuesFill (now (shape .entry)) ⌝ }
 {
-    if body.len() < 118 {
+    if shape.len() < 60 {
         return false;
     }
-    let face = capped(bytes::word_at(body, 58) * bytes::word_at(body, 62));
-    let count = face * bytes::word_at(body, 66);
+    let face = capped(bytes::word_at(shape, 0) * bytes::word_at(shape, 4));
+    let count = face * bytes::word_at(shape, 8);
     if count > 1024 {
         return false;
     }
-    body.len() as u64 == 118 + 8 * count
+    shape.len() as u64 == 60 + 8 * count
 }
 
-// Whether the fields of a kind end where the body does; another kind never fills it.
-fn is_filled(kind: u8, body: &[u8]) -> bool
-    requires { ⌜ length (now body) ≤ 8192 ⌝ }
-    ensures { λ r. ⌜ r ≡ filled kind (now (body .entry)) ⌝ }
+// Whether the fields of a kind end where the shape's bytes do; another kind never fills them.
+fn is_filled(kind: u8, shape: &[u8]) -> bool
+    requires { ⌜ length (now shape) ≤ 8192 ⌝ }
+    ensures { λ r. ⌜ r ≡ filled kind (now (shape .entry)) ⌝ }
 {
     if kind == 1 {
-        return body.len() == 90;
+        return shape.len() == 32;
     }
     if kind == 2 {
-        return body.len() == 130;
+        return shape.len() == 72;
     }
     if kind == 3 {
-        return mesh_fills(body);
+        return mesh_fills(shape);
     }
     if kind == 4 {
-        return heights_fill(body);
+        return heights_fill(shape);
     }
     if kind == 5 {
-        return values_fill(body);
+        return values_fill(shape);
     }
     false
 }
@@ -87,14 +87,19 @@ fn is_filled(kind: u8, body: &[u8]) -> bool
 pub fn is_well_formed(body: &[u8]) -> bool
     ensures { λ r. ⌜ r ≡ wellFormed (now (body .entry)) ⌝ }
 {
-    if body.len() < 58 {
+    if body.len() < 2 {
         return false;
     }
     if body.len() > 8192 {
         return false;
     }
-    if fields::version_of(body) != 1 {
+    let version = fields::version_of(body);
+    if !fields::is_version(version) {
         return false;
     }
-    is_filled(fields::kind_of(body), body)
+    let place = fields::shape_place(version);
+    if body.len() < place {
+        return false;
+    }
+    is_filled(fields::kind_of(body), &body[place..])
 }

@@ -4,10 +4,10 @@
 use oracle::{generate, telling};
 use std::io::{BufWriter, Write};
 
-const USAGE: &str = "usage: oracle-gen SEED COUNT [--kinds 1,2,3,4,5] > RECORDS
+const USAGE: &str = "usage: oracle-gen SEED COUNT [--near] [--kinds 1,2,3,4,5] > RECORDS
        oracle-gen --bad DIRECTORY
 COUNT counts the marked records that come first. Kinds: 1 plane, 2 triangle,
-3 mesh, 4 height grid, 5 distance grid.";
+3 mesh, 4 height grid, 5 distance grid. --near: records of version 2, and no marked ones.";
 
 fn usage() -> ! {
     eprintln!("{USAGE}");
@@ -24,6 +24,15 @@ fn write_records(seed: u64, count: usize, kinds: &[u8]) -> std::io::Result<()> {
     }
     for number in marked.len()..count {
         out.write_all(&generate::record(seed, number as u64, kinds).write())?;
+    }
+    out.flush()
+}
+
+/// Records of version 2.
+fn write_near(seed: u64, count: u64, kinds: &[u8]) -> std::io::Result<()> {
+    let mut out = BufWriter::new(std::io::stdout().lock());
+    for number in 0..count {
+        out.write_all(&generate::with_near(seed, number, kinds).write())?;
     }
     out.flush()
 }
@@ -51,6 +60,10 @@ fn main() {
     match words.as_slice() {
         ["--bad", directory] => write_bad(directory),
         [seed, count] => write_records(number(seed), number(count) as usize, &[1, 2, 3, 4, 5]),
+        [seed, count, "--near"] => write_near(number(seed), number(count), &[1, 2, 3, 4, 5]),
+        [seed, count, "--near", "--kinds", list] => {
+            write_near(number(seed), number(count), &kinds(list))
+        }
         [seed, count, "--kinds", list] => {
             write_records(number(seed), number(count) as usize, &kinds(list))
         }

@@ -5,19 +5,18 @@ use borrow.Author.Needs.{needs}
 use Rattle.records.proofs.fields.ray_of.Statement.{statement}
 use Rattle.records.proofs.fields.ray_of.Tie as tie
 
-vector-at-requires : tie.Need-vector-at-requires
-vector-at-requires c κs = search needs
-
-vector-at-requires-2 : tie.Need-vector-at-requires-2
-vector-at-requires-2 c κs = search needs
-
-float-at-requires : tie.Need-float-at-requires
-float-at-requires c κs = search needs
-
 returns : tie.Need-returns
 unfolding rayOf
-returns c = simp (sym (c .before .before .vector-at .ensures), sym (c .before .vector-at2 .ensures), sym (c .float-at .ensures))
+returns c =
+    let (v, w, f) : tie.After-vector-at × tie.After-vector-at2 × tie.After-float-at = search in
+    simp (sym (v .vector-at .ensures), sym (w .vector-at2 .ensures), sym (f .float-at .ensures), sym (c .near-of .ensures))
 
 pub ray-of-spec : {M : Type 1} → statement M
 ray-of-spec =
-    tie.close (tie.spec vector-at-requires vector-at-requires-2 float-at-requires returns)
+    tie.close
+    (tie.spec
+    (search needs)  -- vector-at-requires
+    (search needs)  -- vector-at-requires-2
+    (search needs)  -- float-at-requires
+    (search needs)  -- near-of-requires
+    returns)

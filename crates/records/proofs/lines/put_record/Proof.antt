@@ -1,112 +1,93 @@
--- `records::lines::put_record` meets its contract. Assumes nothing.
-use Rattle.geometry.specs.declared.ray.Ray.{Ray}
-use Rattle.records.specs.Fields.{meshOf}
-use Rattle.records.specs.MeshAnswer.{meshAnswer}
-use Rattle.records.proofs.WellFormed.{well-formed-long, well-formed-short, mesh-length}
-use Rattle.records.proofs.Answers.{put-as, good-text, bad-text, mesh-answer}
-use borrow.Author.Tests.{not-true, not-false}
-use mathlib.Core.Path.{sym, ap, _∙_}
+-- `records::lines::put_record` meets its contract: `bad`, or what the body says. Assumes nothing.
+use Rattle.records.specs.Fields.{versionOf, shapePlace}
+use Rattle.records.specs.Parse.{wellFormed}
+use Rattle.records.proofs.WellFormed.{well-formed-long, shape-within, part-filled, part-short}
+use Rattle.records.proofs.Answers.{put-as, bad-text, part-text}
+use Rattle.geometry.proofs.JoinedTests.{test-passed, test-failed}
+use native.Mathlib.Omega.{arith}
+use mathlib.Core.Path.{_≡_, ap, _∙_}
+use mathlib.Core.Bool.{true}
 use borrow.Author.Needs.{needs}
 use Rattle.records.proofs.lines.put_record.Statement.{statement}
 use Rattle.records.proofs.lines.put_record.Tie as tie
 
-is-well-formed-requires : tie.Need-is-well-formed-requires
-is-well-formed-requires c κs = search needs
-
-slice-aggregate-put-text : tie.Need-slice-aggregate-put-text
-slice-aggregate-put-text c = search needs
-
-put-text-requires : tie.Need-put-text-requires
-put-text-requires c κs = search needs
-
-same-length : tie.Need-same-length
-same-length c = search needs
-
 returns : tie.Need-returns
-returns c = put-as _ (bad-text _ (sym (c .before .before .before .before .before .before .is-well-formed .ensures) ∙ not-true (c .before .before .before .before .before .before .is-well-formed .result) (c .before .before .before .before .before .if1 .taken))) (c .before .before .put-text .ensures)
+returns c =
+    let (w, t, p) : tie.After-is-well-formed × tie.Then1 × tie.After-put-text = search in
+    put-as _ (bad-text _ (test-failed (w .is-well-formed .ensures) (t .if1 .taken))) (p .put-text .ensures)
+
+-- past the test
+start : tie.Else1 → tie.Start
+start e = search
+
+good : (e : tie.Else1) → wellFormed (start e .args .body .now) ≡ true
+unfolding start
+good e = test-passed (e .before .is-well-formed .ensures) (e .if1 .left)
 
 kind-of-requires : tie.Need-kind-of-requires
-kind-of-requires c κs = well-formed-long _ (sym (c .before .is-well-formed .ensures) ∙ not-false (c .before .is-well-formed .result) (c .if1 .left))
-
-shape-answer-requires : tie.Need-shape-answer-requires
-shape-answer-requires c κs = ((sym (c .before .before .before .before .is-well-formed .ensures) ∙ not-false (c .before .before .before .before .is-well-formed .result) (c .before .before .before .if1 .left)), ((λ k. c .before .if2 .taken (c .before .before .kind-of .ensures ∙ k)), search needs))
-
-put-answer-requires : tie.Need-put-answer-requires
-put-answer-requires c κs = search needs
-
-same-length-2 : tie.Need-same-length-2
-same-length-2 c = search needs
-
-same-length-3 : tie.Need-same-length-3
-same-length-3 c = search needs
-
-returns-2 : tie.Need-returns-2
-returns-2 c = put-as _ (good-text _ _ (sym (c .before .before .before .before .before .before .before .before .before .before .before .is-well-formed .ensures) ∙ not-false (c .before .before .before .before .before .before .before .before .before .before .before .is-well-formed .result) (c .before .before .before .before .before .before .before .before .before .before .if1 .left)) (c .before .before .before .before .before .before .shape-answer .ensures)) (c .before .before .put-answer .ensures)
+unfolding start
+kind-of-requires c κs = let e : tie.Else1 = search in omega (arith, well-formed-long _ (good e))
 
 ray-of-requires : tie.Need-ray-of-requires
-ray-of-requires c κs = well-formed-long _ (sym (c .before .before .before .is-well-formed .ensures) ∙ not-false (c .before .before .before .is-well-formed .result) (c .before .before .if1 .left))
+unfolding start
+ray-of-requires c κs = let e : tie.Else1 = search in (well-formed-long _ (good e), shape-within _ (good e))
 
-mesh-answer-requires : tie.Need-mesh-answer-requires
-mesh-answer-requires c κs = ((sym (mesh-length _ (sym (c .before .before .before .before .before .before .before .before .before .before .before .before .is-well-formed .ensures) ∙ not-false (c .before .before .before .before .before .before .before .before .before .before .before .before .is-well-formed .result) (c .before .before .before .before .before .before .before .before .before .before .before .if1 .left)) (sym (c .before .before .before .before .before .before .before .before .before .before .kind-of .ensures) ∙ c .before .before .before .before .before .before .before .before .before .if2 .left)), well-formed-short _ (sym (c .before .before .before .before .before .before .before .before .before .before .before .before .is-well-formed .ensures) ∙ not-false (c .before .before .before .before .before .before .before .before .before .before .before .before .is-well-formed .result) (c .before .before .before .before .before .before .before .before .before .before .before .if1 .left))), (c .before .before .before .before .before .before .before .before .before .before .before .before .before .before .before .before .before .before .before .before .before .before .before .pre .0 .1 .0, (c .before .before .before .before .before .before .before .before .before .before .before .before .before .before .before .before .before .before .before .before .before .before .before .pre .0 .1 .1, c .before .before .before .before .before .before .before .before .before .before .before .before .before .before .before .before .before .before .before .before .before .before .before .pre .1)))
+version-of-requires : tie.Need-version-of-requires
+unfolding start
+version-of-requires c κs = let e : tie.Else1 = search in omega (arith, well-formed-long _ (good e))
 
-put-indexed-requires : tie.Need-put-indexed-requires
-put-indexed-requires c κs = c .before .before .before .before .before .before .before .before .before .before .before .before .before .before .before .before .before .before .before .before .before .before .before .before .before .before .before .before .before .before .before .before .before .before .before .before .before .before .before .before .before .pre .0 .0
+-- where the shape begins
+else : tie.After-shape-place → tie.Else1
+else k = search
 
-same-length-4 : tie.Need-same-length-4
-same-length-4 c = search needs
+place-is : (k : tie.After-shape-place) → k .shape-place .result ≡ shapePlace (versionOf (start (else k) .args .body .now))
+unfolding start else
+place-is k = let v : tie.After-version-of = search in k .shape-place .ensures ∙ ap shapePlace (v .version-of .ensures)
 
-same-length-5 : tie.Need-same-length-5
-same-length-5 c = search needs
+sub-put-shape : tie.Need-sub-put-shape
+unfolding start else
+sub-put-shape c = let k : tie.After-shape-place = search in omega (arith, place-is k, shape-within _ (good (else k)))
 
-same-length-6 : tie.Need-same-length-6
-same-length-6 c = search needs
+part-put-shape-start : tie.Need-part-put-shape-start
+unfolding start else
+part-put-shape-start c = let k : tie.After-shape-place = search in omega (arith, place-is k, shape-within _ (good (else k)))
 
-same-length-7 : tie.Need-same-length-7
-same-length-7 c = search needs
+put-shape-requires : tie.Need-put-shape-requires
+unfolding start else
+put-shape-requires c κs =
+    let (s, n, k) : tie.Start × tie.After-kind-of × tie.After-shape-place = search in
+    ((part-filled _ (good (else k)) (n .kind-of .ensures) (place-is k), part-short _ (good (else k)) (place-is k)), (s .pre .0, s .pre .1))
 
-same-length-8 : tie.Need-same-length-8
-same-length-8 c = search needs
-
-same-length-9 : tie.Need-same-length-9
-same-length-9 c = search needs
-
-same-length-10 : tie.Need-same-length-10
-same-length-10 c = search needs
-
-same-length-11 : tie.Need-same-length-11
-same-length-11 c = search needs
-
-same-length-12 : tie.Need-same-length-12
-same-length-12 c = search needs
-
-returns-3 : tie.Need-returns-3
-returns-3 c = put-as _ (good-text _ _ (sym (c .before .before .before .before .before .before .before .before .before .before .before .before .before .before .before .before .before .before .before .before .before .before .before .before .before .before .before .before .before .before .before .before .before .is-well-formed .ensures) ∙ not-false (c .before .before .before .before .before .before .before .before .before .before .before .before .before .before .before .before .before .before .before .before .before .before .before .before .before .before .before .before .before .before .before .before .before .is-well-formed .result) (c .before .before .before .before .before .before .before .before .before .before .before .before .before .before .before .before .before .before .before .before .before .before .before .before .before .before .before .before .before .before .before .before .if1 .left)) (mesh-answer _ _ (sym (c .before .before .before .before .before .before .before .before .before .before .before .before .before .before .before .before .before .before .before .before .before .before .before .before .before .before .before .before .before .before .before .kind-of .ensures) ∙ c .before .before .before .before .before .before .before .before .before .before .before .before .before .before .before .before .before .before .before .before .before .before .before .before .before .before .before .before .before .before .if2 .left) (c .before .before .before .before .before .before .before .before .before .before .before .before .before .before .before .before .before .before .before .before .mesh-answer .ensures ∙ ap (λ (r : Ray). meshAnswer r (meshOf (c .before .before .before .before .before .before .before .before .before .before .before .before .before .before .before .before .before .before .before .before .before .before .before .before .before .before .before .before .before .before .before .before .before .before .before .before .before .before .before .before .before .before .before .before .args .body .now))) (c .before .before .before .before .before .before .before .before .before .before .before .before .before .before .before .before .before .before .before .before .before .before .before .before .before .before .before .before .before .ray-of .ensures)))) (c .before .before .put-indexed .ensures)
+returns-2 : tie.Need-returns-2
+unfolding start else
+returns-2 c =
+    let (n, r, k, p) : tie.After-kind-of × tie.After-ray-of × tie.After-shape-place × tie.After-put-shape = search in
+    put-as _ (part-text _ (good (else k)) (n .kind-of .ensures) (r .ray-of .ensures) (place-is k)) (p .put-shape .ensures)
 
 pub put-record-spec : {M : Type 1} → statement M
 put-record-spec =
     tie.close
     (tie.spec
-    is-well-formed-requires
-    slice-aggregate-put-text
-    put-text-requires
-    same-length
+    (search needs)  -- is-well-formed-requires
+    (search needs)  -- slice-aggregate-put-text
+    (search needs)  -- put-text-requires
+    (search needs)  -- same-length
     returns
     kind-of-requires
-    shape-answer-requires
-    put-answer-requires
-    same-length-2
-    same-length-3
-    returns-2
     ray-of-requires
-    mesh-answer-requires
-    put-indexed-requires
-    same-length-4
-    same-length-5
-    same-length-6
-    same-length-7
-    same-length-8
-    same-length-9
-    same-length-10
-    same-length-11
-    same-length-12
-    returns-3)
+    version-of-requires
+    (search needs)  -- shape-place-requires
+    sub-put-shape
+    part-put-shape-start
+    (search needs)  -- part-put-shape-end
+    put-shape-requires
+    (search needs)  -- same-length-2
+    (search needs)  -- same-length-3
+    (search needs)  -- same-length-4
+    (search needs)  -- same-length-5
+    (search needs)  -- same-length-6
+    (search needs)  -- same-length-7
+    (search needs)  -- same-length-8
+    (search needs)  -- same-length-9
+    (search needs)  -- same-length-10
+    returns-2)

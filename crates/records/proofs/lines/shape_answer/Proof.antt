@@ -1,12 +1,8 @@
--- `records::lines::shape_answer` meets its contract. Assumes nothing.
-use Rattle.records.specs.Fields.{rayOf, planeOf, fieldOf, heightsOf, gridOf, valuesOf}
-use Rattle.geometry.specs.declared.ray.Ray.{Ray}
+-- `records::lines::shape_answer` meets its contract, kind by kind. Assumes nothing.
 use Rattle.casts.specs.declared.plane.Plane.{Plane}
-use Rattle.level_set.specs.Walk.{rayLevelSet}
-use Rattle.height_field.specs.Cast.{rayHeightField}
-use Rattle.casts.specs.Triangle.{rayTriangle}
 use Rattle.casts.specs.Plane.{rayPlane}
-use Rattle.records.proofs.WellFormed.{well-formed-long, well-formed-short, plane-length, triangle-length, heights-length, values-length}
+use Rattle.casts.specs.Triangle.{rayTriangle}
+use Rattle.records.proofs.WellFormed.{plane-length, triangle-length, heights-length, values-length}
 use Rattle.records.proofs.Answers.{plane-answer, triangle-answer, heights-answer, values-answer}
 use native.Mathlib.Omega.{arith}
 use mathlib.Core.Path.{sym, ap, _∙_}
@@ -14,63 +10,63 @@ use borrow.Author.Needs.{needs}
 use Rattle.records.proofs.lines.shape_answer.Statement.{statement}
 use Rattle.records.proofs.lines.shape_answer.Tie as tie
 
-ray-of-requires : tie.Need-ray-of-requires
-ray-of-requires c κs = well-formed-long (c .before .before .args .body .now) (c .before .before .pre .0)
-
-kind-of-requires : tie.Need-kind-of-requires
-kind-of-requires c κs = well-formed-long (c .before .before .before .args .body .now) (c .before .before .before .pre .0)
-
 plane-of-requires : tie.Need-plane-of-requires
-plane-of-requires c κs = omega (arith, plane-length (c .before .before .before .before .before .args .body .now) (c .before .before .before .before .before .pre .0) (sym (c .before .kind-of .ensures) ∙ c .if1 .taken))
-
-ray-plane-requires : tie.Need-ray-plane-requires
-ray-plane-requires c κs = search needs
+plane-of-requires c κs =
+    let s : tie.Start = search in
+    omega (arith, plane-length (s .args .kind) (s .args .shape .now) (s .pre .0 .0) (c .if1 .taken))
 
 returns : tie.Need-returns
-returns c = plane-answer (c .before .before .before .before .before .before .before .args .body .now) _ (sym (c .before .before .before .kind-of .ensures) ∙ c .before .before .if1 .taken) (c .ray-plane .ensures ∙ (ap (λ (p : Plane). rayPlane p (c .before .before .before .before .ray-of .result)) (c .before .plane-of .ensures) ∙ ap (rayPlane (planeOf (c .before .before .before .before .before .before .before .args .body .now))) (c .before .before .before .before .ray-of .ensures)))
+returns c =
+    let (s, t, p) : tie.Start × tie.Then1 × tie.After-plane-of = search in
+    plane-answer _ _ (s .args .shape .now) _ (t .if1 .taken)
+    (c .ray-plane .ensures ∙ ap (λ (l : Plane). rayPlane l (s .args .ray)) (p .plane-of .ensures))
 
 corners-of-requires : tie.Need-corners-of-requires
-corners-of-requires c κs = omega (arith, triangle-length (c .before .before .before .before .before .before .args .body .now) (c .before .before .before .before .before .before .pre .0) (sym (c .before .before .kind-of .ensures) ∙ c .if2 .taken))
-
-ray-triangle-requires : tie.Need-ray-triangle-requires
-ray-triangle-requires c κs = search needs
+corners-of-requires c κs =
+    let s : tie.Start = search in
+    omega (arith, triangle-length (s .args .kind) (s .args .shape .now) (s .pre .0 .0) (c .if2 .taken))
 
 returns-2 : tie.Need-returns-2
-returns-2 c = triangle-answer (c .before .before .before .before .before .before .before .before .args .body .now) _ (sym (c .before .before .before .before .kind-of .ensures) ∙ c .before .before .if2 .taken) (c .ray-triangle .ensures ∙ (ap (λ (r : Ray). rayTriangle r (c .before .corners-of .result)) (c .before .before .before .before .before .ray-of .ensures) ∙ ap (rayTriangle (rayOf (c .before .before .before .before .before .before .before .before .args .body .now))) (c .before .corners-of .ensures)))
+returns-2 c =
+    let (s, t, k) : tie.Start × tie.Then2 × tie.After-corners-of = search in
+    triangle-answer _ _ (s .args .shape .now) _ (t .if2 .taken)
+    (c .ray-triangle .ensures ∙ ap (rayTriangle (s .args .ray)) (k .corners-of .ensures))
 
 heights-answer-requires : tie.Need-heights-answer-requires
-heights-answer-requires c κs = (sym (heights-length (c .before .before .before .before .before .before .before .before .args .body .now) (c .before .before .before .before .before .before .before .before .pre .0) (sym (c .before .before .before .before .kind-of .ensures) ∙ c .before .if3 .taken)), (well-formed-short (c .before .before .before .before .before .before .before .before .args .body .now) (c .before .before .before .before .before .before .before .before .pre .0), search needs))
-
-same-length : tie.Need-same-length
-same-length c = search needs
+heights-answer-requires c κs =
+    let (s, t) : tie.Start × tie.Then3 = search in
+    (sym (heights-length (s .args .kind) (s .args .shape .now) (s .pre .0 .0) (t .if3 .taken)), (s .pre .0 .1, search needs))
 
 returns-3 : tie.Need-returns-3
-returns-3 c = heights-answer (c .before .before .before .before .before .before .before .before .before .before .before .args .body .now) _ (sym (c .before .before .before .before .before .before .before .kind-of .ensures) ∙ c .before .before .before .before .if3 .taken) (c .before .before .heights-answer .ensures ∙ ap (λ (r : Ray). rayHeightField r (fieldOf (c .before .before .before .before .before .before .before .before .before .before .before .args .body .now)) (heightsOf (c .before .before .before .before .before .before .before .before .before .before .before .args .body .now))) (c .before .before .before .before .before .before .before .before .ray-of .ensures))
+returns-3 c =
+    let (s, t, h) : tie.Start × tie.Then3 × tie.After-heights-answer = search in
+    heights-answer _ _ (s .args .shape .now) _ (t .if3 .taken) (h .heights-answer .ensures)
 
 values-answer-requires : tie.Need-values-answer-requires
-values-answer-requires c κs = (sym (values-length (c .before .before .before .before .before .before .before .before .args .body .now) (c .before .before .before .before .before .before .before .before .pre .0) (λ k. c .before .before .before .if1 .left (c .before .before .before .before .kind-of .ensures ∙ k)) (λ k. c .before .before .if2 .left (c .before .before .before .before .kind-of .ensures ∙ k)) (c .before .before .before .before .before .before .before .before .pre .1 .0) (λ k. c .before .if3 .left (c .before .before .before .before .kind-of .ensures ∙ k))), (well-formed-short (c .before .before .before .before .before .before .before .before .args .body .now) (c .before .before .before .before .before .before .before .before .pre .0), search needs))
+values-answer-requires c κs =
+    let (s, e1, e2, e3) : tie.Start × tie.Else1 × tie.Else2 × tie.Else3 = search in
+    let long = values-length (s .args .kind) (s .args .shape .now) (s .pre .0 .0) (e1 .if1 .left) (e2 .if2 .left) (s .pre .1 .0) (e3 .if3 .left) in
+    (sym long, (s .pre .0 .1, search needs))
 
-same-length-2 : tie.Need-same-length-2
-same-length-2 c = search needs
-
+-- the kind that is left is 5
 returns-4 : tie.Need-returns-4
-returns-4 c = values-answer (c .before .before .before .before .before .before .before .before .before .before .before .args .body .now) _ (λ k. c .before .before .before .before .before .before .if1 .left (c .before .before .before .before .before .before .before .kind-of .ensures ∙ k)) (λ k. c .before .before .before .before .before .if2 .left (c .before .before .before .before .before .before .before .kind-of .ensures ∙ k)) (c .before .before .before .before .before .before .before .before .before .before .before .pre .1 .0) (λ k. c .before .before .before .before .if3 .left (c .before .before .before .before .before .before .before .kind-of .ensures ∙ k)) (c .before .before .values-answer .ensures ∙ ap (λ (r : Ray). rayLevelSet r (gridOf (c .before .before .before .before .before .before .before .before .before .before .before .args .body .now)) (valuesOf (c .before .before .before .before .before .before .before .before .before .before .before .args .body .now))) (c .before .before .before .before .before .before .before .before .ray-of .ensures))
+returns-4 c =
+    let (s, e1, e2, e3, v) : tie.Start × tie.Else1 × tie.Else2 × tie.Else3 × tie.After-values-answer = search in
+    values-answer _ _ (s .args .shape .now) _ (e1 .if1 .left) (e2 .if2 .left) (s .pre .1 .0) (e3 .if3 .left) (v .values-answer .ensures)
 
 pub shape-answer-spec : {M : Type 1} → statement M
 shape-answer-spec =
     tie.close
     (tie.spec
-    ray-of-requires
-    kind-of-requires
     plane-of-requires
-    ray-plane-requires
+    (search needs)  -- ray-plane-requires
     returns
     corners-of-requires
-    ray-triangle-requires
+    (search needs)  -- ray-triangle-requires
     returns-2
     heights-answer-requires
-    same-length
+    (search needs)  -- same-length
     returns-3
     values-answer-requires
-    same-length-2
+    (search needs)  -- same-length-2
     returns-4)
