@@ -102,7 +102,8 @@ static void probe(const probe_part *parts, const double from[3], const double to
         PROBE_COUNT_LENGTH);
     printf("from (%g, %g, %g) along (%g, %g, %g): ", from[0], from[1], from[2], toward[0], toward[1], toward[2]);
     if (answer == PROBE_HIT)
-        printf("%s at %g, normal (%g, %g, %g)\n", names[part[0]], hit[3], hit[0], hit[1], hit[2]);
+        /* a normal that was turned towards the ray may have zeros with a sign: + 0 takes it off */
+        printf("%s at %g, normal (%g, %g, %g)\n", names[part[0]], hit[3], hit[0] + 0, hit[1] + 0, hit[2] + 0);
     else if (answer == PROBE_NONE)
         printf("none\n");
     else
