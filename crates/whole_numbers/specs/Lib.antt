@@ -1,0 +1,3 @@
+-- What is certain on whole millimetres. Definitions only. Assumes nothing.
+pub mod Points
+pub mod Board

@@ -1,0 +1,1 @@
+// The triangle cast on whole millimetres: specs/ and proofs/. No code.
