@@ -14,7 +14,7 @@ use oracle::{
     listing::{self, HitArea, Row},
     plain,
     random::Random,
-    tree,
+    record, tree,
 };
 use probe_rays::{calls, sys};
 
@@ -154,7 +154,7 @@ fn beside_the_rust(held: &mut Held, call: &Listing, done: &Listed) {
     let cast = call.cast;
     match done.number {
         _ if call.found.is_empty() => return held.left_out(SHORT_RESULT),
-        1 | 4 | 6 => return held.left_out("refused before a triangle is cast"),
+        1 | 4 => return held.left_out("refused before a triangle is cast"),
         2 => return held.left_out(REFUSED_2),
         3 => return held.left_out(REFUSED_3),
         _ => {}
@@ -170,8 +170,12 @@ fn beside_the_rust(held: &mut Held, call: &Listing, done: &Listed) {
     if !walk.within_limits && done.number == 5 {
         return held.left_out(NO_LIMIT);
     }
+    let rust = rust_rows(call, &bounds);
+    if rust == Err(7) {
+        return held.left_out(record::NORMAL);
+    }
     held.compared(RUST);
-    match rust_rows(call, &bounds) {
+    match rust {
         Err(number) => held.number(done.number, number, RUST),
         Ok(rows) => {
             held.number(done.number, sys::DONE, RUST);
