@@ -1,6 +1,6 @@
 #!/usr/bin/env python3
 # Normals of very large and very small surfaces (document 02, M-104), from exact fractions: every operation of document 01's triangle cast
-# and of normalising is computed as a fraction and rounded once here, and `probe` is held to the results, number by number.
+# and of normalising is computed as a fraction and rounded once here, and `probe` is held to the results, bit by bit.
 # usage: tests/normals.py PROBE [TRIANGLES [SEED]]   (default 4000 1)
 import math, random, struct, subprocess, sys
 from fractions import Fraction
@@ -145,9 +145,10 @@ def triangles(random, count):
             count -= 1
 
 def grids(random, count):
-    """2 by 2 by 2 nodes whose values are exactly linear and next to 0, so that the ray hits at its entry and the gradient is known."""
+    """2 by 2 by 2 nodes whose values are exactly linear, in units that can be halved, and next to 0, so that the ray hits at its entry
+    and the gradient is known."""
     for _ in range(count):
-        unit = 2.0 ** random.choice((-1074, -1070, -1030, -900, -600, -530))
+        unit = 2.0 ** random.choice((-1070, -1066, -1030, -900, -600, -530))
         gradient = [random.choice((0, 1, 3, random.randrange(2 ** random.randint(1, 49)))) * random.choice((-1, 1)) * unit for _ in range(3)]
         values = [x * gradient[0] + y * gradient[1] + z * gradient[2] for z in (0, 1) for y in (0, 1) for x in (0, 1)]
         yield gradient, values
@@ -179,7 +180,8 @@ def main():
         ours = line.split(' ')[1:]
         if ours[0] == 'hit':
             ours = ['hit', *(number(word) for word in ours[1:])]
-        if ours != answer:
+        bits = lambda words: [struct.pack('>d', w) if isinstance(w, float) else w for w in words]
+        if bits(ours) != bits(answer):
             sys.exit(f'record {i + 1}: {ours} and not {answer}: {records[i].hex()}')
     for way, met in sorted(ways.items()):
         print(f'{met:6} {way or "no normal asked"}')
