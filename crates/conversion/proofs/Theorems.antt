@@ -1,0 +1,98 @@
+-- What document 02 promises of the converter. Assumes nothing.
+use Prim.Native.Nat.{ℕ, _+_, _*_, _<_, _≤_}
+use mathlib.Core.Path.{_≡_, refl, sym, ap, subst, _∙_}
+use mathlib.Core.Bool.{Bool, true, false, cond}
+use mathlib.Core.List.{List, [], _∷_, _++_}
+use native.Mathlib.Omega.{arith}
+use lib.Dec.{T}
+use lib.ListN.{length, take, drop}
+use lib.Seq.{take-at}
+use Rattle.conversion.specs.declared.forms.Form.{Form}
+use Rattle.conversion.specs.declared.forms.Form.the-variants.{Long, Short}
+use Rattle.conversion.specs.declared.forms.Converted.the-variants.{Written, Refused}
+use Rattle.conversion.specs.Forms.{sizeOf}
+use Rattle.conversion.specs.Bytes.{IsBytes}
+use Rattle.conversion.specs.Records.{Said, manyCounts, manyNumbers, manyIndices, bodyLength, kindOf, countsOf, numbersPlace, indicesPlace, saidOf, wellFormed, recordBytes}
+use Rattle.conversion.specs.Convert.{saidHeld, withoutNan, Outcome, turned, converted, toShort, toLong}
+use Rattle.conversion.proofs.Numbers.{drop-bytes}
+use Rattle.conversion.proofs.RunLaws.{numbers-count, words-count, words-below}
+use Rattle.conversion.proofs.Parts.{Formed, formed, well-formed}
+use Rattle.conversion.proofs.RoundTrip.{Measured, Fitting, written-length, written-formed, said-back, same-bytes, longest-form}
+use Rattle.conversion.proofs.Held.{long-holds-said, own-holds-said, without-nan}
+use Rattle.conversion.proofs.Outcomes.{success, Success, succeeded, succeeds}
+
+-- what is read has its numbers, whatever the bytes
+pub read-measured : (p : Form) (l : List ℕ) → Measured (saidOf p l)
+unfolding saidOf countsOf
+read-measured p l =
+    let kind = kindOf l in
+    let counts = countsOf p l in
+    record {
+      rayed = numbers-count p 8 (drop 6 l);
+      counted = words-count (manyCounts kind) (drop (6 + sizeOf p * 8) l);
+      numbered = numbers-count p (manyNumbers kind counts) (drop (numbersPlace p kind) l);
+      indexed = words-count (manyIndices kind counts) (drop (indicesPlace p kind counts) l);
+    }
+
+pub read-fits : (p q : Form) (l : List ℕ) → IsBytes l → Formed p l → T (saidHeld q (saidOf p l)) → Fitting q (saidOf p l)
+unfolding saidOf countsOf
+read-fits p q l b g h =
+    let kind = kindOf l in
+    let counts = countsOf p l in
+    let from = 6 + sizeOf p * 8 in
+    record {
+      measured = read-measured p l;
+      countsFit = words-below (manyCounts kind) (drop from l) (drop-bytes from l b);
+      indicesFit =
+          words-below (manyIndices kind counts) (drop (indicesPlace p kind counts) l) (drop-bytes (indicesPlace p kind counts) l b);
+      floatsHeld = h;
+      known = g .kinded;
+      small = g .small;
+    }
+
+-- the converted record's length, known before a float is looked at
+pub turned-length : (p q : Form) (l : List ℕ) → length (turned p q l) ≡ 4 + bodyLength q (kindOf l) (countsOf p l)
+unfolding saidOf
+turned-length p q l = written-length q (saidOf p l) (read-measured p l)
+
+-- an area of 8,196 bytes is long enough for every record, in either direction
+pub room-enough : (p q : Form) (l : List ℕ) → T (wellFormed p l) → length (turned p q l) ≤ 8196
+room-enough p q l w = omega (arith, turned-length p q l, longest-form q (kindOf l) (countsOf p l), formed p l w .small)
+
+module _ (p q : Form) (l : List ℕ) (b : IsBytes l) (w : T (wellFormed p l)) (h : T (saidHeld q (saidOf p l))) where
+  -- the converted record says the same: "A user's record must cast to the same bits from either version"
+  pub says-the-same : saidOf q (turned p q l) ≡ saidOf p l
+  says-the-same = said-back q (saidOf p l) (read-fits p q l b (formed p l w) h)
+
+  -- it is one whole record of its version
+  pub turned-well-formed : T (wellFormed q (turned p q l))
+  turned-well-formed = well-formed q (turned p q l) (written-formed q (saidOf p l) (read-fits p q l b (formed p l w) h))
+
+  -- what comes back is held, and is the same bytes
+  pub back-held : T (saidHeld p (saidOf q (turned p q l)))
+  back-held = rw says-the-same (own-holds-said p l (without-nan q (saidOf p l) h))
+
+  pub back-is : turned q p (turned p q l) ≡ l
+  back-is = ap (recordBytes p) says-the-same ∙ same-bytes p q l b (formed p l w) h
+
+-- "coming back gives the same bytes where going to 3 succeeds" (p is Long, q Short), and the other way round
+pub comes-back : (p q : Form) (l area again : List ℕ) (n : ℕ) → IsBytes l → converted p q l area .answer ≡ Written n
+    → length l ≤ length again
+    → converted q p (take n (converted p q l area .area)) again ≡ success l again
+comes-back p q l area again n b e r =
+    let s = succeeded p q l area n e in
+    let new = turned p q l in
+    let done : converted p q l area ≡ success new area = succeeds p q l area (s .wellFormed) (s .room) (s .held) in
+    let front : take n (converted p q l area .area) ≡ new
+    = ap (λ (o : Outcome). take n (o .area)) done ∙ take-at new (drop (length new) area) n (sym (s .counted)) in
+    let back : turned q p new ≡ l = back-is p q l b (s .wellFormed) (s .held) in
+    let room : length (turned q p new) ≤ length again = rw back r in
+    rw front
+    (succeeds q p new again (turned-well-formed p q l b (s .wellFormed) (s .held)) room (back-held p q l b (s .wellFormed) (s .held))
+    ∙ ap (λ (z : List ℕ). success z again) back)
+
+-- "going from 3 succeeds for every well-formed record without NaN"
+pub from-short-succeeds : (l area : List ℕ) → T (wellFormed Short l) → T (withoutNan (saidOf Short l))
+    → length (turned Short Long l) ≤ length area
+    → toLong l area ≡ success (turned Short Long l) area
+from-short-succeeds l area w h r = succeeds Short Long l area w r (long-holds-said Short l h)

@@ -1,0 +1,37 @@
+-- `conversion::bytes::long_at` meets its contract. Assumes nothing.
+use Prim.Native.Nat.{_+_, _*_}
+use denote.Ref.{now}
+use Rattle.conversion.proofs.PlaceLaws.{number-pattern, long-read, nan-read}
+use borrow.Author.Needs.{needs}
+use Rattle.conversion.proofs.bytes.long_at.Statement.{statement}
+use Rattle.conversion.proofs.bytes.long_at.Tie as tie
+
+returns : tie.Need-returns
+returns c =
+    let (start, at-word-at) : tie.Start × tie.After-word-at = search in
+    nan-read (now (start .args .bytes)) (start .args .place) (at-word-at .word-at .result) (c .before .word-at2 .result)
+    (at-word-at .word-at .ensures .0) (c .before .word-at2 .ensures .0) (c .if1 .taken)
+
+float-from-bits-result : tie.Need-float-from-bits-result
+float-from-bits-result c =
+    let at-word-at : tie.After-word-at = search in
+    number-pattern (at-word-at .word-at .result * 0x1_0000_0000 + c .before .word-at2 .result) (c .if1 .left)
+
+returns-2 : tie.Need-returns-2
+returns-2 c =
+    let (start, at-word-at) : tie.Start × tie.After-word-at = search in
+    long-read (now (start .args .bytes)) (start .args .place) (at-word-at .word-at .result) (c .before .word-at2 .result)
+    (at-word-at .word-at .ensures .0) (c .before .word-at2 .ensures .0)
+
+pub long-at-spec : {M : Type 1} → statement M
+long-at-spec =
+    tie.close
+    (tie.spec
+    (search needs)  -- word-at-requires
+    (search needs)  -- mul-bits
+    (search needs)  -- add-word-at
+    (search needs)  -- word-at-requires-2
+    (search needs)  -- add-bits
+    returns
+    float-from-bits-result
+    returns-2)

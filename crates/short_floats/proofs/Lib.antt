@@ -1,0 +1,3 @@
+-- Laws about floats of 4 bytes. Assumes nothing.
+pub mod Narrow
+pub mod Shorts

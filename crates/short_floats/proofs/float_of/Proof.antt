@@ -1,0 +1,21 @@
+-- `short_floats::float_of` meets its contract. Assumes nothing.
+use mathlib.Core.Path.{sym, _∙_}
+use Rattle.short_floats.proofs.Shorts.{zero-over-zero, nan-pattern, number-pattern, widens}
+use borrow.Author.Needs.{needs}
+use Rattle.short_floats.proofs.float_of.Statement.{statement}
+use Rattle.short_floats.proofs.float_of.Tie as tie
+
+returns : tie.Need-returns
+returns c = zero-over-zero ∙ sym (nan-pattern (c .before .args .short) (c .if1 .taken))
+
+float-from-bits-result : tie.Need-float-from-bits-result
+float-from-bits-result c = number-pattern (c .before .args .short) (c .if1 .left)
+
+float-to-float-result : tie.Need-float-to-float-result
+float-to-float-result c = widens (c .before .before .args .short) (c .before .if1 .left)
+
+returns-2 : tie.Need-returns-2
+returns-2 c = search needs
+
+pub float-of-spec : {M : Type 1} → statement M
+float-of-spec = tie.close (tie.spec returns float-from-bits-result float-to-float-result returns-2)
