@@ -584,6 +584,65 @@ uint32_t probe_query(
     size_t found_length
 );
 
+/* Glues two boards, each a mesh with its tree, into one: the vertices of the first, then the second's; the triangles
+ * likewise, the second's vertex indices moved up; a new root over both trees, then the first's nodes and the second's,
+ * triangle boxes and order likewise. Where one board has no triangles there is no new root, and the other's tree is the
+ * result. Writes its node count to nodes[0]; places past the result never change. Both boards may be the same slices.
+ *
+ * For n triangles in both together the result areas are as long as for a mesh of n triangles and as many vertices as
+ * both have; marks has 3n places, and is a work area.
+ *
+ * Answers PROBE_DONE, or refuses with 2 (a length that three does not divide, more than 65,536 vertices or triangles in
+ * both together), 3, or 5 (a tree that does not pass probe_tree_check, by its node count too), in this order; nothing
+ * but marks is written then, and that only with 5. The result passes probe_tree_check, and a cast on it answers the
+ * nearer of the two boards' hits, the first board's where they are as near, and the first board's refusal, else the
+ * second's, where one refuses: both are proved.
+ */
+uint32_t probe_merge(
+    const double *first_vertices,
+    size_t first_vertices_length,
+    const uint32_t *first_triangles,
+    size_t first_triangles_length,
+    size_t first_nodes,
+    const double *first_node_boxes,
+    size_t first_node_boxes_length,
+    const double *first_triangle_boxes,
+    size_t first_triangle_boxes_length,
+    const uint32_t *first_node_words,
+    size_t first_node_words_length,
+    const uint32_t *first_order,
+    size_t first_order_length,
+    const double *second_vertices,
+    size_t second_vertices_length,
+    const uint32_t *second_triangles,
+    size_t second_triangles_length,
+    size_t second_nodes,
+    const double *second_node_boxes,
+    size_t second_node_boxes_length,
+    const double *second_triangle_boxes,
+    size_t second_triangle_boxes_length,
+    const uint32_t *second_node_words,
+    size_t second_node_words_length,
+    const uint32_t *second_order,
+    size_t second_order_length,
+    double *vertices,
+    size_t vertices_length,
+    uint32_t *triangles,
+    size_t triangles_length,
+    double *node_boxes,
+    size_t node_boxes_length,
+    double *triangle_boxes,
+    size_t triangle_boxes_length,
+    uint32_t *node_words,
+    size_t node_words_length,
+    uint32_t *order,
+    size_t order_length,
+    uint32_t *marks,
+    size_t marks_length,
+    size_t *nodes,
+    size_t nodes_length
+);
+
 /* Whether a tree, from whatever builder, fits a mesh: every node and triangle stands in it once, and every box
  * encloses what is below it. Check a tree that somebody else built once; then cast through it as often as you like.
  *

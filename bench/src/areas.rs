@@ -3,7 +3,7 @@
 pub use probe_rays::Ray;
 use probe_rays::{
     HeightField, HeightRanges, LevelSet, Plane, calls,
-    lent::{TreeAreas, TreeRef},
+    lent::{BoardRef, TreeAreas, TreeRef},
 };
 
 pub struct Mesh {
@@ -154,6 +154,37 @@ pub fn build(mesh: &Mesh, tree: &mut Tree, work: &mut [u32]) -> u32 {
     };
     let nodes = std::slice::from_mut(&mut tree.nodes);
     calls::build(&mesh.vertices, &mesh.triangles, areas, work, nodes)
+}
+
+/// Glues two boards into a mesh and a tree with room for both.
+#[inline(always)]
+pub fn merge(
+    boards: [(&Mesh, &Tree); 2],
+    mesh: &mut Mesh,
+    tree: &mut Tree,
+    marks: &mut [u32],
+) -> u32 {
+    let [first, second] = boards.map(|(mesh, tree)| BoardRef {
+        vertices: &mesh.vertices,
+        triangles: &mesh.triangles,
+        tree: tree.lent(),
+    });
+    let areas = TreeAreas {
+        node_boxes: &mut tree.node_boxes,
+        triangle_boxes: &mut tree.triangle_boxes,
+        node_words: &mut tree.node_words,
+        order: &mut tree.order,
+    };
+    let nodes = std::slice::from_mut(&mut tree.nodes);
+    calls::merge(
+        &first,
+        &second,
+        &mut mesh.vertices,
+        &mut mesh.triangles,
+        areas,
+        marks,
+        nodes,
+    )
 }
 
 #[inline(always)]

@@ -24,6 +24,7 @@ mod clock;
 mod collision;
 mod inputs;
 mod listing;
+mod merge;
 mod plain;
 mod plot;
 mod ranges;

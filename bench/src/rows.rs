@@ -10,7 +10,7 @@ use crate::{
         mesh::{MeshQueryWorkspace, TriangleBvh},
         query::{QueryScratch, Ray as RustRay, timed},
     },
-    inputs, listing, plain, ranges, records,
+    inputs, listing, merge, plain, ranges, records,
     shape::{self, TriangleMesh},
     timing::Row,
 };
@@ -528,6 +528,7 @@ pub fn all() -> Vec<Planned> {
         shapes(),
         meshes(),
         plain::rows(),
+        merge::rows(),
         grids(),
         ranges::rows(),
         vec![stream],

@@ -7,6 +7,7 @@ pub mod lent;
 pub mod library;
 pub mod listing;
 pub mod log;
+pub mod merge;
 pub mod other_trees;
 pub mod panel;
 pub mod plain;

@@ -109,7 +109,7 @@ fn casts(log: &mut Log, random: &mut Random, mesh: &Mesh) {
 }
 
 /// The tree that the library builds, if it does.
-fn library_tree(mesh: &Mesh) -> Option<FlatTree> {
+pub(crate) fn library_tree(mesh: &Mesh) -> Option<FlatTree> {
     let n = mesh.indices.len() / 3;
     let build = Build {
         vertices: &mesh.vertices,

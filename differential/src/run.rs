@@ -7,6 +7,7 @@ use crate::{
     library::{Build, Cast, Check, Query},
     listing,
     log::Log,
+    merge,
     other_trees::{any_words, one_clause},
     panel, plain, ranges, shapes,
 };
@@ -107,6 +108,7 @@ pub fn compare(log: &mut Log, seed: u64, number: u64, mesh: &Mesh) {
     shapes::compare(log, random, seed, number);
     plain::compare(log, seed, number, mesh);
     ranges::compare(log, random, seed, number);
+    merge::compare(log, seed, number, mesh);
 }
 
 fn count_constructed(log: &mut Log, mesh: &Mesh) {
@@ -130,7 +132,7 @@ pub(crate) fn result<T>(random: &mut Random, places: usize, value: fn(&mut Rando
     (0..length).map(|_| value(random)).collect()
 }
 
-fn places(random: &mut Random) -> Vec<usize> {
+pub(crate) fn places(random: &mut Random) -> Vec<usize> {
     result(random, 1, |random| random.bits() as usize)
 }
 

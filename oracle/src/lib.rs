@@ -15,6 +15,7 @@ pub mod generate;
 pub mod height_ranges;
 pub mod listing;
 pub mod math;
+pub mod merge;
 pub mod mesh_plain;
 pub mod model;
 pub mod plain;

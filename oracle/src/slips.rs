@@ -146,6 +146,14 @@ slips! {
     PlainUnfit: "without a tree a triangle without a valid box is skipped",
     PlainLate: "without a tree 5 is found while casting",
     PlainEnd: "without a tree 5 goes before the segment end's 6",
+    // the merge
+    MergeNodes: "in a merge a node count above 2n is 2",
+    MergeMarks: "a merge's marks for the larger board are room enough",
+    MergeSum: "a merge asks three to divide the sums alone",
+    MergeIndices: "a merge moves the second's indices by the triangles",
+    MergeRoot: "a merge has a root over a board without triangles",
+    MergeZeros: "after 5 a merge's order is zeros",
+    MergeTies: "of equal distances the second board's wins",
     // the height grid
     HeightSpan: "a span that is not finite is none",
     HeightEarly: "the first cell is not one early",

@@ -13,7 +13,7 @@
 //! // a result slice that is too short is refused with 3
 //! assert_eq!(calls::ray_plane(&ray, &plane, &mut hit[..3]), 3);
 //! ```
-use crate::lent::{TreeAreas, TreeRef};
+use crate::lent::{BoardRef, TreeAreas, TreeRef};
 use crate::ranges::HeightRanges;
 use crate::shapes::{HeightField, LevelSet, Plane};
 use crate::{sys, Ray};
@@ -308,6 +308,66 @@ pub fn query(
             stack.len(),
             found.as_mut_ptr(),
             found.len(),
+        )
+    }
+}
+
+/// The merge of two boards; `nodes` has one place, the node count.
+#[inline]
+pub fn merge(
+    first: &BoardRef<'_>,
+    second: &BoardRef<'_>,
+    vertices: &mut [f64],
+    triangles: &mut [u32],
+    areas: TreeAreas<'_>,
+    marks: &mut [u32],
+    nodes: &mut [usize],
+) -> u32 {
+    // SAFETY: every pointer and length is a slice's, and Rust lets no mutable one overlap another.
+    unsafe {
+        sys::probe_merge(
+            first.vertices.as_ptr(),
+            first.vertices.len(),
+            first.triangles.as_ptr(),
+            first.triangles.len(),
+            first.tree.nodes,
+            first.tree.node_boxes.as_ptr(),
+            first.tree.node_boxes.len(),
+            first.tree.triangle_boxes.as_ptr(),
+            first.tree.triangle_boxes.len(),
+            first.tree.node_words.as_ptr(),
+            first.tree.node_words.len(),
+            first.tree.order.as_ptr(),
+            first.tree.order.len(),
+            second.vertices.as_ptr(),
+            second.vertices.len(),
+            second.triangles.as_ptr(),
+            second.triangles.len(),
+            second.tree.nodes,
+            second.tree.node_boxes.as_ptr(),
+            second.tree.node_boxes.len(),
+            second.tree.triangle_boxes.as_ptr(),
+            second.tree.triangle_boxes.len(),
+            second.tree.node_words.as_ptr(),
+            second.tree.node_words.len(),
+            second.tree.order.as_ptr(),
+            second.tree.order.len(),
+            vertices.as_mut_ptr(),
+            vertices.len(),
+            triangles.as_mut_ptr(),
+            triangles.len(),
+            areas.node_boxes.as_mut_ptr(),
+            areas.node_boxes.len(),
+            areas.triangle_boxes.as_mut_ptr(),
+            areas.triangle_boxes.len(),
+            areas.node_words.as_mut_ptr(),
+            areas.node_words.len(),
+            areas.order.as_mut_ptr(),
+            areas.order.len(),
+            marks.as_mut_ptr(),
+            marks.len(),
+            nodes.as_mut_ptr(),
+            nodes.len(),
         )
     }
 }

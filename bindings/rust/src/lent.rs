@@ -123,6 +123,17 @@ pub struct TreeRef<'a> {
     pub order: &'a [u32],
 }
 
+/// A board in somebody's slices: a mesh and its tree.
+#[derive(Clone, Copy, Debug, PartialEq)]
+pub struct BoardRef<'a> {
+    /// Three numbers a vertex.
+    pub vertices: &'a [f64],
+    /// Three vertex indices a triangle.
+    pub triangles: &'a [u32],
+    /// The tree.
+    pub tree: TreeRef<'a>,
+}
+
 /// Where the build writes a tree.
 #[derive(Debug)]
 pub struct TreeAreas<'a> {
@@ -233,6 +244,28 @@ pub fn ray_mesh_plain(ray: &Ray, vertices: &[f64], triangles: &[u32]) -> Cast<Me
     let mut index = [0_u32];
     let answer = calls::ray_mesh_plain(ray, vertices, triangles, &mut places, &mut index);
     Cast::of(answer, || mesh_hit(&places, &index))
+}
+
+/// Glues two boards into one and gives its node count: the first's vertices, triangles, nodes, triangle boxes and order,
+/// then the second's moved up, and a new root over both trees unless one has no triangles. Places past the result are
+/// unchanged. The areas are as long as for a mesh of both together, and `marks` is [`marks_length`] of its triangles.
+///
+/// Refuses with 2, 3 or 5 (a tree that does not pass [`tree_check`]); the result areas are unchanged then. The result
+/// passes the check, and a cast on it answers the nearer of the two boards' hits, the first's where they are as near.
+pub fn merge(
+    first: &BoardRef<'_>,
+    second: &BoardRef<'_>,
+    vertices: &mut [f64],
+    triangles: &mut [u32],
+    areas: TreeAreas<'_>,
+    marks: &mut [u32],
+) -> Result<usize, Refusal> {
+    let mut nodes = [0_usize];
+    let answer = calls::merge(first, second, vertices, triangles, areas, marks, &mut nodes);
+    match answer {
+        sys::DONE => Ok(nodes[0]),
+        number => Err(Refusal::from_number(number)),
+    }
 }
 
 /// A mesh's hit from the result slices.

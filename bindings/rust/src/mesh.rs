@@ -1,6 +1,6 @@
 //! A mesh that owns its tree.
 use crate::answer::{Cast, MeshHit, Refusal};
-use crate::lent::{self, TreeAreas, TreeRef};
+use crate::lent::{self, BoardRef, TreeAreas, TreeRef};
 use crate::{Ray, MAX_COUNT};
 use std::error::Error;
 use std::fmt;
@@ -194,6 +194,67 @@ impl Mesh {
             }),
             Ok(false) => Err(TreeError::DoesNotFit),
             Err(refusal) => Err(TreeError::Refused(refusal)),
+        }
+    }
+
+    /// Glues another mesh to this one: its vertices and triangles follow this one's, and a new root stands over both
+    /// trees. A cast at the result answers the nearer of the two hits, this mesh's where they are as near; a triangle of
+    /// the other has this one's number of triangles added to its index.
+    ///
+    /// Refuses with 2 where both together have more than 65,536 vertices or triangles.
+    ///
+    /// ```
+    /// use probe_rays::{Cast, Mesh, Ray, Refusal};
+    ///
+    /// // two boards 3 thick, one on the other, of which only the upper faces are drawn
+    /// let face = |z: f64| [[0.0, 0.0, z], [4.0, 0.0, z], [4.0, 4.0, z], [0.0, 4.0, z]];
+    /// let lower = Mesh::build(face(3.0), [[0, 1, 2], [0, 2, 3]])?;
+    /// let upper = Mesh::build(face(6.0), [[0, 1, 2], [0, 2, 3]])?;
+    /// let mut board = lower.glue(&upper)?;
+    /// assert_eq!((board.vertices().len(), board.triangles().len()), (8, 4));
+    ///
+    /// let down = Ray::new([3.0, 1.0, 10.0], [0.0, 0.0, -1.0], 10.0);
+    /// let Cast::Hit(hit) = board.cast(&down) else { panic!() };
+    /// assert_eq!((hit.distance, hit.triangle), (4.0, 2));
+    /// # Ok::<(), Refusal>(())
+    /// ```
+    pub fn glue(&self, other: &Mesh) -> Result<Mesh, Refusal> {
+        let vertex_count = self.vertices.len() + other.vertices.len();
+        let n = self.triangles.len() + other.triangles.len();
+        // of too many the library refuses whatever the areas, so none are made then
+        let room = vertex_count <= MAX_COUNT && n <= MAX_COUNT;
+        let (vertex_count, n) = if room { (vertex_count, n) } else { (0, 0) };
+        let mut vertices = vec![[0.0; 3]; vertex_count];
+        let mut triangles = vec![[0; 3]; n];
+        let mut tree = Tree::with_room(n);
+        let mut marks = vec![0; lent::marks_length(n)];
+        tree.nodes = lent::merge(
+            &self.as_board(),
+            &other.as_board(),
+            vertices.as_flattened_mut(),
+            triangles.as_flattened_mut(),
+            TreeAreas {
+                node_boxes: &mut tree.node_boxes,
+                triangle_boxes: &mut tree.triangle_boxes,
+                node_words: &mut tree.node_words,
+                order: &mut tree.order,
+            },
+            &mut marks,
+        )?;
+        Ok(Mesh {
+            vertices,
+            triangles,
+            tree,
+            scratch: Scratch::new(),
+        })
+    }
+
+    /// The mesh and its tree, to read.
+    fn as_board(&self) -> BoardRef<'_> {
+        BoardRef {
+            vertices: self.vertices.as_flattened(),
+            triangles: self.triangles.as_flattened(),
+            tree: self.tree.as_lent(),
         }
     }
 

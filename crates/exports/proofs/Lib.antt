@@ -7,3 +7,4 @@ pub mod MeshTold
 pub mod Demands
 pub mod CabinetAnswers
 pub mod FoundHits
+pub mod BoardCalls

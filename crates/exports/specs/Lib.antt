@@ -5,3 +5,4 @@ pub mod Demands
 pub mod Ranges
 pub mod CabinetResults
 pub mod AllHits
+pub mod Boards

@@ -18,3 +18,5 @@ pub mod plain;
 pub mod ranges;
 // The cast at a cabinet of many parts.
 pub mod cabinets;
+// The merge of two boards.
+pub mod boards;

@@ -6,7 +6,8 @@ use differential::{
     library::{Build, Cast, Check, Query},
     listing,
     log::Log,
-    panel,
+    merge, panel,
+    run::Mesh as Part,
 };
 use oracle::{
     answer::{MOST_TRIANGLES, MOST_VERTICES, Ray},
@@ -240,6 +241,31 @@ fn compare(log: &mut Log, random: &mut Random, mesh: &Mesh, count: usize) {
     );
 }
 
+/// Two bumpy panels of 32,768 triangles, one 3 above the other, glued into one of 65,536.
+fn glue(log: &mut Log, random: &mut Random, count: usize) {
+    let start = Instant::now();
+    let mut part = |above: f64| {
+        let (vertices, indices) = panel::panel(128, 128, |_, _| above + random.between(0.0, 0.5));
+        Mesh {
+            name: "",
+            vertices,
+            indices,
+        }
+    };
+    let (first, second) = (part(0.0), part(3.0));
+    let rays = rays(random, &first, count);
+    let [a, b] = [first, second].map(|mesh| Part {
+        ray: rays[0],
+        vertices: mesh.vertices,
+        indices: mesh.indices,
+    });
+    merge::largest(log, random, &a, &b, &rays);
+    println!(
+        "two panels of 32,768 triangles glued, {count} rays, {:.1} s",
+        start.elapsed().as_secs_f64()
+    );
+}
+
 fn main() {
     let (mut log, random) = (Log::default(), &mut Random::new(65_536));
     for (mesh, count) in [
@@ -249,6 +275,7 @@ fn main() {
     ] {
         compare(&mut log, random, &mesh, count);
     }
+    glue(&mut log, random, 64);
     log.print();
     for found in log.differences.iter().take(10) {
         println!("{}, {}: {}", found.call, found.context, found.text);

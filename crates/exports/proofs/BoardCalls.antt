@@ -1,0 +1,101 @@
+-- What the call of the merge tells, refusal by refusal, and what holds of the result where it is done. Assumes nothing.
+use Prim.Native.Nat.{ℕ, _*_, _<_, _≤_}
+use mathlib.Core.Path.{_≡_, refl, sym, ap, subst, _∙_}
+use mathlib.Core.Bool.{Bool, true, false, _&&_, cond, true≢false}
+use mathlib.Core.List.{List, [], _∷_}
+use native.Mathlib.Omega.{arith}
+use borrow.Author.Tests.{le-leb, lt-leb, leb-true}
+use lib.Dec.{leb}
+use lib.ListN.{length}
+use lib.Seq.{sets, getD-set-same}
+use Rattle.casts.specs.Answer.{badShape, noRoom, outOfBounds}
+use Rattle.tree.specs.Layout.{wordAt}
+use Rattle.merge.specs.Merge.{Answer, nodes, refused, Board, Areas, Outcome, shapesAdmitted, areasFit, treesPass}
+use Rattle.merge.specs.Merge.{mergedCount, mergedOver, testsPass, mergeOf}
+use Rattle.merge.specs.Promises.{Glued}
+use Rattle.merge.proofs.MergePasses.{merged-trees-pass}
+use Rattle.merge.proofs.MergeCasts.{merged-casts-glue}
+use Rattle.exports.specs.Results.{Counted, doneCode}
+use Rattle.exports.specs.Boards.{toldMerged, MergeTold, mergeRefused, mergeTold}
+
+-- the node count as its place holds it
+count-told : (place : List ℕ) (count : ℕ) → 1 ≤ length place → wordAt (sets place 0 (count ∷ [])) 0 ≡ count
+count-told [] count there = absurd (omega arith)
+count-told (x ∷ place) count there = refl
+
+module _ (a b : Board) (old : Areas) (marks : ℕ) where
+  -- a refusal of the merge is no code of a call
+  refusal-below : (number : ℕ) → mergeOf a b old marks .answer ≡ refused number → number < 256
+  unfolding mergeOf
+  refusal-below number = go (shapesAdmitted a b) (areasFit a b old marks) (treesPass a b)
+    where
+      named : (m : ℕ) → m < 256 → refused m ≡ refused number → number < 256
+      named m small e =
+          let same : m ≡ number = cc in
+          omega arith
+
+      counted : (m : ℕ) → nodes m ≡ refused number → number < 256
+      counted m e =
+          let z : _≡_ {A = ℕ} 0 1 = cc in
+          absurd (omega arith)
+
+      go : (shape room trees : Bool)
+          → cond {A = Outcome} shape
+          (cond {A = Outcome} room
+          (cond {A = Outcome} trees
+          (record { answer = nodes (mergedCount a b); after = mergedOver a b old })
+          (record { answer = refused outOfBounds; after = old }))
+          (record { answer = refused noRoom; after = old }))
+          (record { answer = refused badShape; after = old }) .answer
+          ≡ refused number → number < 256
+      go true true true e = counted (mergedCount a b) e
+      go true true false e = named outOfBounds (omega arith) e
+      go true false trees e = named noRoom (omega arith) e
+      go false room trees e = named badShape (omega arith) e
+
+  module _ (place : List ℕ) where
+    -- done: the result passes the check, and casts on it are glued
+    glued-where-done : 1 ≤ length place → (x : Answer) → mergeOf a b old marks .answer ≡ x → toldMerged x place .number ≡ doneCode
+        → Glued a b (wordAt (toldMerged x place .count) 0) (mergeOf a b old marks .after)
+    unfolding toldMerged
+    glued-where-done there (nodes count) e h =
+        subst (λ (k : ℕ). Glued a b k (mergeOf a b old marks .after)) (sym (count-told place count there))
+        (record { passes = λ m long. merged-trees-pass a b old marks count m e long; casts = merged-casts-glue a b old marks count e })
+    glued-where-done there (refused number) e h = absurd (omega (arith, refusal-below number e))
+
+    abbrev Told : MergeTold → Type 0
+    Told told =
+        (told ≡ mergeTold a b old marks place)
+        × (told .told .number ≡ doneCode → Glued a b (wordAt (told .told .count) 0) (told .after))
+
+    refused-told : (number : ℕ) → number < 256 → mergeRefused number old place ≡ mergeTold a b old marks place
+        → Told (mergeRefused number old place)
+    refused-told number small e = (e, λ h. absurd (omega arith))
+
+    pub told-bad : shapesAdmitted a b ≡ false → Told (mergeRefused badShape old place)
+    unfolding mergeTold
+    told-bad h = refused-told badShape (omega arith) (simp h)
+
+    module _ (s : shapesAdmitted a b ≡ true) where
+      pub told-short : length place < 1 → Told (mergeRefused noRoom old place)
+      unfolding mergeTold
+      told-short h = refused-told noRoom (omega arith) (simp (s, lt-leb 1 (length place) h))
+
+      pub told-merged : 1 ≤ length place → (answer : Answer) (after : Areas) (told : Counted)
+          → record { answer = answer; after = after } ≡ mergeOf a b old marks → told ≡ toldMerged answer place
+          → Told (record { told = told; after = after })
+      unfolding mergeTold
+      told-merged there answer after told e t =
+          let same : answer ≡ mergeOf a b old marks .answer = ap (λ (o : Outcome). o .answer) e in
+          let areas : after ≡ mergeOf a b old marks .after = ap (λ (o : Outcome). o .after) e in (
+            simp (s, le-leb 1 (length place) there, t, same, areas),
+            λ h.
+                subst (λ (k : Counted). Glued a b (wordAt (k .count) 0) after) (sym t)
+                (subst (λ (z : Areas). Glued a b (wordAt (toldMerged answer place .count) 0) z) (sym areas)
+                (glued-where-done there answer (sym same) (sym (ap (λ (k : Counted). k .number) t) ∙ h))),
+          )
+
+    -- the marks, where 2 and 3 have let nothing pass
+    pub marks-kept : shapesAdmitted a b ≡ true → (leb 1 (length place) && testsPass a b old marks) ≡ false → 1 ≤ length place
+        → testsPass a b old marks ≡ false
+    marks-kept s failed there = sym (ap (λ (t : Bool). t && testsPass a b old marks) (le-leb 1 (length place) there)) ∙ failed
