@@ -1,3 +1,2 @@
--- Laws about the bytes at hand and the lines. Assumes nothing.
+-- Laws about moving what is held. Assumes nothing.
 pub mod Moving
-pub mod Fronts

@@ -1,25 +1,21 @@
-// Records in, lines out (document 01, 'Printed result'): answers each record of standard input with a line, up to the end or to the first malformed one.
+// Records in, lines out (document 01, 'Printed result'): reads standard input, answers what is at hand and writes the lines, up to the end, to the first malformed record, or to a read or a write that fails.
+use at_hand::answers;
+use libc::STDERR_FILENO;
 use libc::STDIN_FILENO;
 use libc::STDOUT_FILENO;
-use records::lines;
-use records::parse;
-use records::stream;
-use records::stream::Found;
-use records::text;
 ghost use mathlib.Core.Path.{_≡_};
 ghost use Prim.Native.Nat.{_+_, _-_, _≤_};
 ghost use mathlib.Core.List.{_++_};
 ghost use lib.ListN.{length, take, drop};
-ghost use Rattle.probe.specs.Runs.{Sound};
 
-// A run between two records: input[from..to] was read and not answered yet, and output[..filled] is not written yet.
+// A run between two calls: input[..held] was read and is not used yet.
 struct Run {
-    from: usize,
-    to: usize,
-    // Nothing follows input[..to].
+    held: usize,
+    // The next record's number.
+    next: u64,
+    // Nothing follows what is held.
     ended: bool,
-    filled: usize,
-    // No record follows.
+    // Nothing more is read or written.
     over: bool,
 }
 
@@ -37,107 +33,40 @@ fn moved(input: &mut [u8], from: usize, to: usize) -> usize
     count
 }
 
-// Reads on where what is at hand may be less than a record: 4 + 8,192 bytes.
-fn refilled(run: Run, input: &mut [u8]) -> Run
-    requires { ⌜ Sound run × (length (now input) ≡ 65536) ⌝ }
-    ensures { λ r. ⌜ Sound r ⌝ }
+// Reads on where what is held may be less than a record: 4 + 8,192 bytes. A read that fails is no end of the input: it ends the run, and standard error says so.
+fn read_on(run: Run, input: &mut [u8]) -> Run
+    requires { ⌜ (run .held ≤ 65536) × (length (now input) ≡ 65536) ⌝ }
+    ensures { λ r. ⌜ r .held ≤ 65536 ⌝ }
 {
     if run.ended {
         return run;
     }
-    if run.to - run.from >= 8196 {
+    let held = run.held;
+    if held >= 8196 {
         return run;
     }
-    let kept = moved(input, run.from, run.to);
-    let got = io::read_full(STDIN_FILENO, &mut input[kept..]);
-    let to = kept + got;
+    let got = libc::read(STDIN_FILENO, &mut input[held..]);
+    if got < 0 {
+        io::write_all(STDERR_FILENO, b"probe: standard input cannot be read\n");
+        return Run {
+            held: held,
+            next: run.next,
+            ended: true,
+            over: true,
+        };
+    }
+    let more = io::count(got, &input[held..]);
     Run {
-        from: 0,
-        to: to,
-        ended: to < 65536,
-        filled: run.filled,
+        held: held + more,
+        next: run.next,
+        ended: more == 0,
         over: false,
     }
 }
 
-// Adds a line to the output, which is written first if it has no room.
-fn added(output: &mut [u8], filled: usize, line: &[u8]) -> usize
-    requires { ⌜ (filled ≤ 65536) × ((length (now line) ≤ 114) × (length (now output) ≡ 65536)) ⌝ }
-    ensures { λ r. ⌜ r ≤ 65536 ⌝ }
-{
-    if 65536 - filled < line.len() {
-        io::write_all(STDOUT_FILENO, &output[..filled]);
-        return text::put_text(output, 0, line);
-    }
-    text::put_text(output, filled, line)
-}
-
-// After the record of that many bytes at the front of what is at hand.
-fn answered(
+// Reads, answers, writes. After a write that fails nothing more is written: a gap is worse than a stop.
+fn turn(
     run: Run,
-    number: u64,
-    end: usize,
-    input: &[u8],
-    work: &mut [f64; 1024],
-    triangles: &mut [u32; 2031],
-    node_boxes: &mut [f64; 8124],
-    triangle_boxes: &mut [f64; 4062],
-    node_words: &mut [u32; 4062],
-    order: &mut [u32; 677],
-    list: &mut [u32; 677],
-    stack: &mut [u32; 1355],
-    output: &mut [u8],
-) -> Run
-    requires { ⌜ (4 ≤ end) × (run .from + end ≤ run .to) ⌝ }
-    requires { ⌜ Sound run × ((length (now input) ≡ 65536) × (length (now output) ≡ 65536)) ⌝ }
-    ensures { λ r. ⌜ Sound r ⌝ }
-{
-    let start = run.from + 4;
-    let stop = run.from + end;
-    let body = &input[start..stop];
-    let mut line = [0u8; 114];
-    let count = lines::line(
-        number,
-        body,
-        work,
-        triangles,
-        node_boxes,
-        triangle_boxes,
-        node_words,
-        order,
-        list,
-        stack,
-        &mut line,
-    );
-    Run {
-        from: stop,
-        to: run.to,
-        ended: run.ended,
-        filled: added(output, run.filled, &line[..count]),
-        over: !parse::is_well_formed(body),
-    }
-}
-
-// After a record that is cut short or over length.
-fn cut(run: Run, number: u64, output: &mut [u8]) -> Run
-    requires { ⌜ Sound run × (length (now output) ≡ 65536) ⌝ }
-    ensures { λ r. ⌜ Sound r ⌝ }
-{
-    let mut line = [0u8; 114];
-    let count = lines::bad_line(number, &mut line);
-    Run {
-        from: run.from,
-        to: run.to,
-        ended: run.ended,
-        filled: added(output, run.filled, &line[..count]),
-        over: true,
-    }
-}
-
-// After the next record, whatever stands there.
-fn step(
-    run: Run,
-    number: u64,
     input: &mut [u8],
     work: &mut [f64; 1024],
     triangles: &mut [u32; 2031],
@@ -149,43 +78,53 @@ fn step(
     stack: &mut [u32; 1355],
     output: &mut [u8],
 ) -> Run
-    requires { ⌜ Sound run × ((length (now input) ≡ 65536) × (length (now output) ≡ 65536)) ⌝ }
-    ensures { λ r. ⌜ Sound r ⌝ }
+    requires { ⌜ (run .held ≤ 65536) × ((length (now input) ≡ 65536) × (length (now output) ≡ 65536)) ⌝ }
+    ensures { λ r. ⌜ r .held ≤ 65536 ⌝ }
 {
-    let ready = refilled(run, input);
-    let from = ready.from;
-    let to = ready.to;
-    let found = stream::next(&input[from..to]);
-    match found {
-        Found::Record(end) => {
-            return answered(
-                ready,
-                number,
-                end,
-                input,
-                work,
-                triangles,
-                node_boxes,
-                triangle_boxes,
-                node_words,
-                order,
-                list,
-                stack,
-                output,
-            );
-        }
-        Found::Cut => {
-            return cut(ready, number, output);
-        }
-        Found::End => {
-            return Run {
-                from: from,
-                to: to,
-                ended: ready.ended,
-                filled: ready.filled,
-                over: true,
-            };
-        }
+    let ready = read_on(run, input);
+    if ready.over {
+        return ready;
+    }
+    let held = ready.held;
+    let next = ready.next;
+    // No run reaches the last number.
+    if next >= u64::MAX - 65536 {
+        return Run {
+            held: held,
+            next: next,
+            ended: true,
+            over: true,
+        };
+    }
+    let done = answers::answer_at_hand(
+        next,
+        ready.ended,
+        &input[..held],
+        work,
+        triangles,
+        node_boxes,
+        triangle_boxes,
+        node_words,
+        order,
+        list,
+        stack,
+        output,
+    );
+    let filled = done.filled;
+    if !io::write_all(STDOUT_FILENO, &output[..filled]) {
+        io::write_all(STDERR_FILENO, b"probe: standard output cannot be written\n");
+        return Run {
+            held: held,
+            next: next,
+            ended: true,
+            over: true,
+        };
+    }
+    Run {
+        held: moved(input, done.used, held),
+        next: done.next,
+        ended: ready.ended,
+        over: done.over,
     }
 }
 
@@ -201,18 +140,16 @@ fn main() {
     let mut stack = [0u32; 1355];
     let mut output = io::large_buffer();
     let mut run = Run {
-        from: 0,
-        to: 0,
+        held: 0,
+        next: 1,
         ended: false,
-        filled: 0,
         over: false,
     };
-    // A proved loop ends: no run reaches the last number.
-    let mut number = 1;
-    while number < u64::MAX && !run.over {
-        run = step(
+    // A proved loop ends: no run makes so many turns.
+    let mut turns = 0;
+    while turns < u64::MAX && !run.over {
+        run = turn(
             run,
-            number,
             &mut input,
             &mut work,
             &mut triangles,
@@ -224,8 +161,6 @@ fn main() {
             &mut stack,
             &mut output,
         );
-        number += 1;
+        turns += 1;
     }
-    let filled = run.filled;
-    io::write_all(STDOUT_FILENO, &output[..filled]);
 }

@@ -1,0 +1,88 @@
+-- What is written for the bytes at hand, and what for those that follow. Definitions only. Assumes nothing.
+use Prim.Native.Nat.{ℕ, _+_, _≤_}
+use mathlib.Core.Path.{_≡_}
+use mathlib.Core.Bool.{Bool, true, false, not, _&&_, _||_}
+use lib.Dec.{leb}
+use mathlib.Core.List.{List, [], _∷_, _++_}
+use lib.ListN.{length, take, drop}
+use Rattle.records.specs.Parse.{wellFormed}
+use Rattle.records.specs.Text.{Put}
+use Rattle.records.specs.Lines.{lineOf, badLine}
+use Rattle.records.specs.Stream.{nextOf, bodyOf, linesFrom}
+use Rattle.records.specs.declared.stream.Found.{Found}
+use Rattle.records.specs.declared.stream.Found.the-variants.{Record, Cut, End}
+use Rattle.at_hand.specs.declared.answers.AtHand.{AtHand}
+
+-- the whole output for a stream whose first record has that number; document 01's `outputOf` is the one from 1
+unfoldable pub outputFrom : ℕ → List ℕ → List ℕ
+outputFrom number bytes = linesFrom (length bytes) number bytes (nextOf bytes)
+
+-- and nothing after a run that is over
+unfoldable pub outputAfter : Bool → ℕ → List ℕ → List ℕ
+outputAfter true number bytes = []
+outputAfter false number bytes = outputFrom number bytes
+
+-- where the input has ended, nothing more comes
+abbrev pub MayCome : Bool → List ℕ → Type 0
+MayCome ended more = ended ≡ true → more ≡ []
+
+-- a line has at most 114 bytes, a record at most 8,196
+abbrev pub longestLine : ℕ
+longestLine = 114
+
+abbrev pub longestRecord : ℕ
+longestRecord = 8196
+
+-- one record at the front of the bytes at hand: its line, the bytes that it takes, the next number, and whether no record follows
+pub record Turn : Type 0 where
+  pub line : List ℕ
+  pub taken : ℕ
+  pub number : ℕ
+  pub last : Bool
+
+unfoldable pub turnOf : ℕ → List ℕ → Found → Turn
+turnOf number hand End = record { line = []; taken = 0; number = number; last = true }
+turnOf number hand Cut = record { line = badLine number; taken = 0; number = number; last = true }
+turnOf number hand (Record end) = record {
+  line = lineOf number (bodyOf end hand);
+  taken = end;
+  number = number + 1;
+  last = not (wellFormed (bodyOf end hand));
+}
+
+-- what a turn does to the state and to the output area
+pub record Turned (t : Turn) (before after : AtHand) (out last : List ℕ) : Type 0 where
+  pub put : Put out (before .filled) (t .line) last (after .filled)
+  pub used : after .used ≡ before .used + t .taken
+  pub next : after .next ≡ t .number
+  pub over : after .over ≡ t .last
+
+-- The bytes at hand, from a record number on, are answered: whatever comes, the output for all is the lines followed by the output for what is left.
+pub record Answered (hand : List ℕ) (ended : Bool) (number room : ℕ) (lines : List ℕ) (used next : ℕ) (over : Bool) : Type 0 where
+  pub within : used ≤ length hand
+  pub fits : length lines ≤ room
+  pub output : (more : List ℕ) → MayCome ended more
+      → outputFrom number (hand ++ more) ≡ lines ++ outputAfter over next (drop used hand ++ more)
+
+-- whether another record is answered
+unfoldable pub goesOn : AtHand → Bool → ℕ → ℕ → Bool
+goesOn s ended length room =
+    not (s .over) && (leb (s .filled + longestLine) room && (ended || leb (s .used + longestRecord) length))
+
+-- What `main` does, read by read: `reads` are what its reads give, from now on, the last of them before the end of the input.
+pub data Runs : ℕ → List ℕ → List (List ℕ) → List ℕ → Type 0 where
+  -- the run is over: nothing more is read
+  stops : {number : ℕ} {hand : List ℕ} {reads : List (List ℕ)} {ended : Bool} {room used next : ℕ} {lines : List ℕ}
+      → (ended ≡ true → reads ≡ []) → Answered hand ended number room lines used next true → Runs number hand reads lines
+  -- the area is written, and what is left is answered
+  goes : {number : ℕ} {hand : List ℕ} {reads : List (List ℕ)} {ended : Bool} {room used next : ℕ} {lines out : List ℕ}
+      → (ended ≡ true → reads ≡ []) → Answered hand ended number room lines used next false → Runs next (drop used hand) reads out
+      → Runs number hand reads (lines ++ out)
+  -- more is read
+  takes : {number : ℕ} {hand more : List ℕ} {reads : List (List ℕ)} {out : List ℕ}
+      → Runs number (hand ++ more) reads out → Runs number hand (more ∷ reads) out
+
+-- all that is read
+unfoldable pub joined : List (List ℕ) → List ℕ
+joined [] = []
+joined (bytes ∷ reads) = bytes ++ joined reads

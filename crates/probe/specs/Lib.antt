@@ -1,2 +1,0 @@
--- What holds of a run of `probe` between two records. Definitions only. Assumes nothing.
-pub mod Runs
