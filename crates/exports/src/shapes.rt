@@ -1,13 +1,4 @@
-use crate::results;
-use casts::plane;
-use casts::plane::Plane;
-use casts::triangle;
-use geometry::vec3::Vec3;
-use height_field::cast;
-use height_field::field::Field;
-use level_set::grid::Grid;
-use level_set::grid::Sides;
-use level_set::walk;
+use crate::near;
 ghost use mathlib.Core.Path.{_≡_};
 ghost use Rattle.casts.specs.Plane.{rayPlane};
 ghost use Rattle.casts.specs.Triangle.{rayTriangle};
@@ -41,7 +32,7 @@ pub extern "C" fn probe_ray_plane(
 ) -> u32
     ensures { λ r. ⌜ record { number = r; hit = now (hit .exit) } ≡ answered (rayPlane (planeOf «normal_x» «normal_y» «normal_z» distance) (rayOf «origin_x» «origin_y» «origin_z» «direction_x» «direction_y» «direction_z» «max_distance»)) (now (hit .entry)) ⌝ }
 {
-    let ray = results::ray_from(
+    near::told_plane(
         origin_x,
         origin_y,
         origin_z,
@@ -50,16 +41,12 @@ pub extern "C" fn probe_ray_plane(
         direction_z,
         max_distance,
         0.0,
-    );
-    let plane = Plane {
-        normal: Vec3 {
-            x: normal_x,
-            y: normal_y,
-            z: normal_z,
-        },
-        distance: distance,
-    };
-    results::put_answer(plane::ray_plane(plane, ray), hit)
+        normal_x,
+        normal_y,
+        normal_z,
+        distance,
+        hit,
+    )
 }
 
 // The cast at a triangle of corners a, b and c.
@@ -85,7 +72,7 @@ pub extern "C" fn probe_ray_triangle(
 ) -> u32
     ensures { λ r. ⌜ record { number = r; hit = now (hit .exit) } ≡ answered (rayTriangle (rayOf «origin_x» «origin_y» «origin_z» «direction_x» «direction_y» «direction_z» «max_distance») (cornersOf «a_x» «a_y» «a_z» «b_x» «b_y» «b_z» «c_x» «c_y» «c_z»)) (now (hit .entry)) ⌝ }
 {
-    let ray = results::ray_from(
+    near::told_triangle(
         origin_x,
         origin_y,
         origin_z,
@@ -94,23 +81,17 @@ pub extern "C" fn probe_ray_triangle(
         direction_z,
         max_distance,
         0.0,
-    );
-    let a = Vec3 {
-        x: a_x,
-        y: a_y,
-        z: a_z,
-    };
-    let b = Vec3 {
-        x: b_x,
-        y: b_y,
-        z: b_z,
-    };
-    let c = Vec3 {
-        x: c_x,
-        y: c_y,
-        z: c_z,
-    };
-    results::put_answer(triangle::ray_triangle(ray, [a, b, c]), hit)
+        a_x,
+        a_y,
+        a_z,
+        b_x,
+        b_y,
+        b_z,
+        c_x,
+        c_y,
+        c_z,
+        hit,
+    )
 }
 
 // The cast at a height grid; the heights stand row after row.
@@ -132,7 +113,7 @@ pub extern "C" fn probe_ray_height_field(
 ) -> u32
     ensures { λ r. ⌜ record { number = r; hit = now (hit .exit) } ≡ answered (rayHeightField (rayOf «origin_x» «origin_y» «origin_z» «direction_x» «direction_y» «direction_z» «max_distance») (fieldOf rows columns «spacing_x» «spacing_y») (now (heights .entry))) (now (hit .entry)) ⌝ }
 {
-    let ray = results::ray_from(
+    near::told_height_field(
         origin_x,
         origin_y,
         origin_z,
@@ -141,14 +122,13 @@ pub extern "C" fn probe_ray_height_field(
         direction_z,
         max_distance,
         0.0,
-    );
-    let field = Field {
-        rows: rows,
-        columns: columns,
-        spacing_x: spacing_x,
-        spacing_y: spacing_y,
-    };
-    results::put_answer(cast::ray_height_field(ray, field, heights), hit)
+        rows,
+        columns,
+        spacing_x,
+        spacing_y,
+        heights,
+        hit,
+    )
 }
 
 // The cast at a distance grid; the values stand x fastest, then y.
@@ -175,7 +155,7 @@ pub extern "C" fn probe_ray_level_set(
 ) -> u32
     ensures { λ r. ⌜ record { number = r; hit = now (hit .exit) } ≡ answered (rayLevelSet (rayOf «origin_x» «origin_y» «origin_z» «direction_x» «direction_y» «direction_z» «max_distance») (gridOf «side_x» «side_y» «side_z» «grid_x» «grid_y» «grid_z» «spacing_x» «spacing_y» «spacing_z») (now (values .entry))) (now (hit .entry)) ⌝ }
 {
-    let ray = results::ray_from(
+    near::told_level_set(
         origin_x,
         origin_y,
         origin_z,
@@ -184,23 +164,16 @@ pub extern "C" fn probe_ray_level_set(
         direction_z,
         max_distance,
         0.0,
-    );
-    let grid = Grid {
-        sides: Sides {
-            x: side_x,
-            y: side_y,
-            z: side_z,
-        },
-        origin: Vec3 {
-            x: grid_x,
-            y: grid_y,
-            z: grid_z,
-        },
-        spacing: Vec3 {
-            x: spacing_x,
-            y: spacing_y,
-            z: spacing_z,
-        },
-    };
-    results::put_answer(walk::ray_level_set(ray, grid, values), hit)
+        side_x,
+        side_y,
+        side_z,
+        grid_x,
+        grid_y,
+        grid_z,
+        spacing_x,
+        spacing_y,
+        spacing_z,
+        values,
+        hit,
+    )
 }

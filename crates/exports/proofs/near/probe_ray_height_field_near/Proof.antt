@@ -2,26 +2,16 @@
 use borrow.Author.Needs.{needs}
 use Rattle.exports.proofs.near.probe_ray_height_field_near.Statement.{statement}
 use Rattle.exports.proofs.near.probe_ray_height_field_near.Tie as tie
-use Rattle.exports.proofs.results.put_answer.Reads as put-answer-reads
-use Rattle.exports.proofs.results.ray_from.Reads as ray-from-reads
-use Rattle.height_field.proofs.cast.ray_height_field.Reads as ray-height-field-reads
-
-ray-from-requires : tie.Need-ray-from-requires
-ray-from-requires c κs = search needs
-
-ray-height-field-requires : tie.Need-ray-height-field-requires
-ray-height-field-requires c κs = search needs
-
-put-answer-requires : tie.Need-put-answer-requires
-put-answer-requires c κs = search needs
-
-same-length : tie.Need-same-length
-same-length c = search needs
 
 returns : tie.Need-returns
-returns c = simp (c .before .before .put-answer .ensures, c .before .before .before .before .ray-height-field .ensures, c .before .before .before .before .before .ray-from .ensures)
+returns c =
+    let k : tie.After-told-height-field = search in
+    k .told-height-field .ensures
 
 pub probe-ray-height-field-near-spec : {M : Type 1} → statement M
 probe-ray-height-field-near-spec =
     tie.close
-    (tie.spec ray-from-requires ray-height-field-requires put-answer-requires same-length returns)
+    (tie.spec
+    (λ c κs. search needs)  -- told-height-field-requires
+    (search needs)  -- same-length
+    returns)

@@ -2,26 +2,16 @@
 use borrow.Author.Needs.{needs}
 use Rattle.exports.proofs.near.probe_ray_level_set_near.Statement.{statement}
 use Rattle.exports.proofs.near.probe_ray_level_set_near.Tie as tie
-use Rattle.exports.proofs.results.put_answer.Reads as put-answer-reads
-use Rattle.exports.proofs.results.ray_from.Reads as ray-from-reads
-use Rattle.level_set.proofs.walk.ray_level_set.Reads as ray-level-set-reads
-
-ray-from-requires : tie.Need-ray-from-requires
-ray-from-requires c κs = search needs
-
-ray-level-set-requires : tie.Need-ray-level-set-requires
-ray-level-set-requires c κs = search needs
-
-put-answer-requires : tie.Need-put-answer-requires
-put-answer-requires c κs = search needs
-
-same-length : tie.Need-same-length
-same-length c = search needs
 
 returns : tie.Need-returns
-returns c = simp (c .before .before .put-answer .ensures, c .before .before .before .before .ray-level-set .ensures, c .before .before .before .before .before .ray-from .ensures)
+returns c =
+    let k : tie.After-told-level-set = search in
+    k .told-level-set .ensures
 
 pub probe-ray-level-set-near-spec : {M : Type 1} → statement M
 probe-ray-level-set-near-spec =
     tie.close
-    (tie.spec ray-from-requires ray-level-set-requires put-answer-requires same-length returns)
+    (tie.spec
+    (λ c κs. search needs)  -- told-level-set-requires
+    (search needs)  -- same-length
+    returns)

@@ -2,25 +2,16 @@
 use borrow.Author.Needs.{needs}
 use Rattle.exports.proofs.shapes.probe_ray_plane.Statement.{statement}
 use Rattle.exports.proofs.shapes.probe_ray_plane.Tie as tie
-use Rattle.casts.proofs.plane.ray_plane.Reads as ray-plane-reads
-use Rattle.exports.proofs.results.put_answer.Reads as put-answer-reads
-use Rattle.exports.proofs.results.ray_from.Reads as ray-from-reads
-
-ray-from-requires : tie.Need-ray-from-requires
-ray-from-requires c κs = search needs
-
-ray-plane-requires : tie.Need-ray-plane-requires
-ray-plane-requires c κs = search needs
-
-put-answer-requires : tie.Need-put-answer-requires
-put-answer-requires c κs = search needs
-
-same-length : tie.Need-same-length
-same-length c = search needs
 
 returns : tie.Need-returns
-returns c = simp (c .before .before .put-answer .ensures, c .before .before .before .before .ray-plane .ensures, c .before .before .before .before .before .ray-from .ensures)
+returns c =
+    let k : tie.After-told-plane = search in
+    k .told-plane .ensures
 
 pub probe-ray-plane-spec : {M : Type 1} → statement M
 probe-ray-plane-spec =
-    tie.close (tie.spec ray-from-requires ray-plane-requires put-answer-requires same-length returns)
+    tie.close
+    (tie.spec
+    (λ c κs. search needs)  -- told-plane-requires
+    (search needs)  -- same-length
+    returns)

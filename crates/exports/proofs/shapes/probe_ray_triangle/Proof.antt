@@ -2,26 +2,16 @@
 use borrow.Author.Needs.{needs}
 use Rattle.exports.proofs.shapes.probe_ray_triangle.Statement.{statement}
 use Rattle.exports.proofs.shapes.probe_ray_triangle.Tie as tie
-use Rattle.casts.proofs.triangle.ray_triangle.Reads as ray-triangle-reads
-use Rattle.exports.proofs.results.put_answer.Reads as put-answer-reads
-use Rattle.exports.proofs.results.ray_from.Reads as ray-from-reads
-
-ray-from-requires : tie.Need-ray-from-requires
-ray-from-requires c κs = search needs
-
-ray-triangle-requires : tie.Need-ray-triangle-requires
-ray-triangle-requires c κs = search needs
-
-put-answer-requires : tie.Need-put-answer-requires
-put-answer-requires c κs = search needs
-
-same-length : tie.Need-same-length
-same-length c = search needs
 
 returns : tie.Need-returns
-returns c = simp (c .before .before .put-answer .ensures, c .before .before .before .before .ray-triangle .ensures, c .before .before .before .before .before .ray-from .ensures)
+returns c =
+    let k : tie.After-told-triangle = search in
+    k .told-triangle .ensures
 
 pub probe-ray-triangle-spec : {M : Type 1} → statement M
 probe-ray-triangle-spec =
     tie.close
-    (tie.spec ray-from-requires ray-triangle-requires put-answer-requires same-length returns)
+    (tie.spec
+    (λ c κs. search needs)  -- told-triangle-requires
+    (search needs)  -- same-length
+    returns)

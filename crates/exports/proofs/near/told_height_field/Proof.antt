@@ -1,0 +1,27 @@
+-- `exports::near::told_height_field` meets its contract. Assumes nothing.
+use borrow.Author.Needs.{needs}
+use Rattle.exports.proofs.near.told_height_field.Statement.{statement}
+use Rattle.exports.proofs.near.told_height_field.Tie as tie
+use Rattle.exports.proofs.results.put_answer.Reads as put-answer-reads
+use Rattle.exports.proofs.results.ray_from.Reads as ray-from-reads
+use Rattle.height_field.proofs.cast.ray_height_field.Reads as ray-height-field-reads
+
+ray-from-requires : tie.Need-ray-from-requires
+ray-from-requires c κs = search needs
+
+ray-height-field-requires : tie.Need-ray-height-field-requires
+ray-height-field-requires c κs = search needs
+
+put-answer-requires : tie.Need-put-answer-requires
+put-answer-requires c κs = search needs
+
+same-length : tie.Need-same-length
+same-length c = search needs
+
+returns : tie.Need-returns
+returns c = simp (c .before .before .put-answer .ensures, c .before .before .before .before .ray-height-field .ensures, c .before .before .before .before .before .ray-from .ensures)
+
+pub told-height-field-spec : {M : Type 1} → statement M
+told-height-field-spec =
+    tie.close
+    (tie.spec ray-from-requires ray-height-field-requires put-answer-requires same-length returns)

@@ -1,0 +1,26 @@
+-- `exports::near::told_plane` meets its contract. Assumes nothing.
+use borrow.Author.Needs.{needs}
+use Rattle.exports.proofs.near.told_plane.Statement.{statement}
+use Rattle.exports.proofs.near.told_plane.Tie as tie
+use Rattle.casts.proofs.plane.ray_plane.Reads as ray-plane-reads
+use Rattle.exports.proofs.results.put_answer.Reads as put-answer-reads
+use Rattle.exports.proofs.results.ray_from.Reads as ray-from-reads
+
+ray-from-requires : tie.Need-ray-from-requires
+ray-from-requires c κs = search needs
+
+ray-plane-requires : tie.Need-ray-plane-requires
+ray-plane-requires c κs = search needs
+
+put-answer-requires : tie.Need-put-answer-requires
+put-answer-requires c κs = search needs
+
+same-length : tie.Need-same-length
+same-length c = search needs
+
+returns : tie.Need-returns
+returns c = simp (c .before .before .put-answer .ensures, c .before .before .before .before .ray-plane .ensures, c .before .before .before .before .before .ray-from .ensures)
+
+pub told-plane-spec : {M : Type 1} → statement M
+told-plane-spec =
+    tie.close (tie.spec ray-from-requires ray-plane-requires put-answer-requires same-length returns)
