@@ -64,17 +64,13 @@ fn moved(tree: &Tree, nodes: usize, places: usize) -> Vec<u32> {
 /// after a merge; only its length counts here.
 pub fn merge(a: &Board, b: &Board, areas: &mut Areas, marks_length: usize) -> Result<usize, u32> {
     let whole = |board: &Board| {
-        slipped(MergeSum)
-            || board.vertices.len().is_multiple_of(3) && board.indices.len().is_multiple_of(3)
+        board.vertices.len().is_multiple_of(3) && board.indices.len().is_multiple_of(3)
     };
     let (v, n) = (
         a.vertices.len() + b.vertices.len(),
         a.indices.len() + b.indices.len(),
     );
     if !whole(a) || !whole(b) || v > 3 * MOST_VERTICES || n > 3 * MOST_TRIANGLES {
-        return Err(2);
-    }
-    if slipped(MergeSum) && !(v.is_multiple_of(3) && n.is_multiple_of(3)) {
         return Err(2);
     }
     let n = n / 3;
@@ -169,7 +165,7 @@ pub fn glue(n: u32, first: Answer, second: Answer) -> Answer {
         (Answer::Refused(number), _) | (_, Answer::Refused(number)) => Answer::Refused(number),
         (Answer::None, other) | (other, Answer::None) => other,
         (Answer::Hit { distance: d, .. }, Answer::Hit { distance: e, .. }) => {
-            if e < d {
+            if e < d || (slipped(MergeTies) && e == d) {
                 moved
             } else {
                 first

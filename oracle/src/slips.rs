@@ -149,7 +149,6 @@ slips! {
     // the merge
     MergeNodes: "in a merge a node count above 2n is 2",
     MergeMarks: "a merge's marks for the larger board are room enough",
-    MergeSum: "a merge asks three to divide the sums alone",
     MergeIndices: "a merge moves the second's indices by the triangles",
     MergeRoot: "a merge has a root over a board without triangles",
     MergeZeros: "after 5 a merge's order is zeros",
