@@ -10,18 +10,25 @@ use borrow.Author.Tests.{lt-ltb}
 use lib.Dec.{ltb}
 use lib.Ieee.{Float, lt}
 use lib.ListN.{length, getD}
+use Rattle.geometry.specs.Vector.{finiteVec, subOf}
 use Rattle.geometry.specs.declared.vec3.Vec3.{Vec3}
-use Rattle.casts.specs.Answer.{Answer, hit, refused}
+use Rattle.geometry.specs.declared.ray.Ray.{Ray}
+use Rattle.casts.specs.Answer.{Answer, hit, refused, overflow}
 use Rattle.casts.specs.Nearest.{Indexed, hitAt, noHit, stopped, nextOf, foldFrom, nearestOf, withoutIndex}
 use Rattle.casts.proofs.NearestLaws.{LowestRefusal, LowestNearest, stopped-by-lowest-refusal, hit-of-lowest-nearest}
 use Rattle.casts.proofs.AnswerLists.{Each, HitSuch, IsNumber}
+use Rattle.casts.proofs.HitLaws.{OfIndexedHit, stopped-such, cond-such, without-index-such}
 use Rattle.tree.specs.Lists.{range}
 use Rattle.tree.proofs.SortLaws.{range-ascends}
+use Rattle.mesh.specs.MeshCast.{rayMesh}
+use Rattle.mesh.proofs.HitDistances.{ray-mesh-hit-measured}
 use Rattle.cabinet.specs.declared.part.Part.{Part}
 use Rattle.cabinet.specs.declared.part.Found.{Found}
 use Rattle.cabinet.specs.declared.part.Found.the-variants.{Nothing, Hit, Refused}
+use Rattle.cabinet.specs.Parts.{Areas, meshOf, treeOfPart}
+use Rattle.cabinet.specs.PartCast.{movedRay}
 use Rattle.cabinet.specs.Cabinet.{foundNext, nextPart}
-use Rattle.cabinet.specs.Promises.{nearestPart}
+use Rattle.cabinet.specs.Promises.{nearestPart, alone}
 use Rattle.cabinet.specs.Steps.{noPart}
 
 -- the part in the triangle's place
@@ -78,3 +85,25 @@ module _ (answer : Part → Indexed) (answers : ℕ → Answer) where
     hit-of-nearest-part part index normal distance numbers e =
         hit-of-lowest-nearest answers (range 0 (length ps)) (range-ascends 0 (length ps)) normal distance part numbers
         (sym folded ∙ ap byPart e)
+
+-- ---- the parts' own mesh casts: a hit's distance is a number, so nothing is asked of the parts
+module _ (r : Ray) (a : Areas) (list stack : ℕ) where
+  alone-number : (p : Part) → OfIndexedHit IsNumber (alone r a list stack p)
+  unfolding alone
+  alone-number p =
+      let cast = rayMesh (movedRay r (p .origin)) (meshOf a p) (meshOf a p .vertices) (treeOfPart a p) list stack in
+      let told = ray-mesh-hit-measured (movedRay r (p .origin)) (meshOf a p) (meshOf a p .vertices) (treeOfPart a p) list stack in
+      cond-such IsNumber (finiteVec (subOf (r .origin) (p .origin))) cast (stopped overflow)
+      (λ (n : Vec3) (d : Float) (i : ℕ) e. told n d i e .number) (stopped-such IsNumber overflow)
+
+  -- their answers by their numbers
+  abbrev pub aloneAt : List Part → ℕ → Answer
+  aloneAt ps i = withoutIndex (alone r a list stack (getD ps i noPart))
+
+  pub nearest-alone : (ps : List Part) → length ps < 18446744073709551616 → (part index : ℕ) (normal : Vec3) (distance : Float)
+      → nearestPart (alone r a list stack) Nothing 0 ps ≡ Hit part index normal distance
+      → LowestNearest (aloneAt ps) (range 0 (length ps)) normal distance part
+  nearest-alone ps l part index normal distance e =
+      hit-of-nearest-part (alone r a list stack) (aloneAt ps) ps l
+      (λ (i : ℕ) (m : i < length ps). let z : 0 + i ≡ i = omega arith in ap (aloneAt ps) z) part index normal distance
+      (λ (x : ℕ) m. without-index-such IsNumber (alone r a list stack (getD ps x noPart)) (alone-number (getD ps x noPart))) e
