@@ -4,44 +4,23 @@ use borrow.Author.Needs.{needs}
 use Rattle.tree_build.proofs.build.zero_areas.Statement.{statement}
 use Rattle.tree_build.proofs.build.zero_areas.Tie as tie
 
-zero-numbers-requires : tie.Need-zero-numbers-requires
-zero-numbers-requires c κs = search needs
-
-zero-numbers-requires-2 : tie.Need-zero-numbers-requires-2
-zero-numbers-requires-2 c κs = search needs
-
-zero-words-requires : tie.Need-zero-words-requires
-zero-words-requires c κs = search needs
-
-zero-words-requires-2 : tie.Need-zero-words-requires-2
-zero-words-requires-2 c κs = search needs
-
-same-length : tie.Need-same-length
-same-length c = search needs
-
-same-length-2 : tie.Need-same-length-2
-same-length-2 c = search needs
-
-same-length-3 : tie.Need-same-length-3
-same-length-3 c = search needs
-
-same-length-4 : tie.Need-same-length-4
-same-length-4 c = search needs
-
 returns : tie.Need-returns
 unfolding zeroed
-returns c = rw (c .before .before .before .before .before .before .before .before .before .before .before .before .before .before .zero-numbers .ensures, c .before .before .before .before .before .before .before .before .before .before .zero-numbers2 .ensures, c .before .before .before .before .before .before .zero-words .ensures, c .before .before .zero-words2 .ensures)
+returns c =
+    let (at-zero-numbers, at-zero-numbers2, at-zero-words, at-zero-words2) :
+    tie.After-zero-numbers × tie.After-zero-numbers2 × tie.After-zero-words × tie.After-zero-words2 = search in
+    rw (at-zero-numbers .zero-numbers .ensures, at-zero-numbers2 .zero-numbers2 .ensures, at-zero-words .zero-words .ensures, at-zero-words2 .zero-words2 .ensures)
 
 pub zero-areas-spec : {M : Type 1} → statement M
 zero-areas-spec =
     tie.close
     (tie.spec
-    zero-numbers-requires
-    zero-numbers-requires-2
-    zero-words-requires
-    zero-words-requires-2
-    same-length
-    same-length-2
-    same-length-3
-    same-length-4
+    (search needs)  -- zero-numbers-requires
+    (search needs)  -- zero-numbers-requires-2
+    (search needs)  -- zero-words-requires
+    (search needs)  -- zero-words-requires-2
+    (search needs)  -- same-length
+    (search needs)  -- same-length-2
+    (search needs)  -- same-length-3
+    (search needs)  -- same-length-4
     returns)

@@ -22,24 +22,15 @@ unfolding range
 loop-holds c = (refl, (refl, omega arith))
 
 cast-area : tie.Need-cast-area Inv-loop μ-loop
-cast-area c = omega (arith, c .before .before .pre)
-
-mul-area : tie.Need-mul-area Inv-loop μ-loop
-mul-area c = search needs
-
-slice-write-area : tie.Need-slice-write-area Inv-loop μ-loop
-slice-write-area c = search needs
-
-add-i : tie.Need-add-i Inv-loop μ-loop
-add-i c = search needs
-
-loop-less : tie.Need-loop-less Inv-loop μ-loop
-loop-less c = search needs
+cast-area c =
+    let start : tie.Start Inv-loop μ-loop = search in
+    omega (arith, start .pre)
 
 loop-again : tie.Need-loop-again Inv-loop μ-loop
 loop-again c =
+    let start : tie.Start Inv-loop μ-loop = search in
     let l = c .before .loop in
-    let a = c .before .before .args in (
+    let a = start .args in (
       ap (λ (z : List ℕ). set z (l .i) (l .i)) (l .inv .0) ∙ stored-after (range 0 (l .i)) (a .area .now) (l .i) (l .i) 0 (length-range 0 (l .i)) (omega arith)
           ∙ ap (λ (z : List ℕ). z ++ drop (l .i + 1) (a .area .now)) (ap (λ (k : ℕ). range 0 (l .i) ++ (k ∷ [])) (sym (zero-add (l .i))) ∙ range-next 0 (l .i)),
       (length-set (l .area) (l .i) (l .i) ∙ l .inv .1 .0, omega arith),
@@ -50,8 +41,9 @@ same-length c = c .before .loop .inv .1 .0
 
 returns : tie.Need-returns Inv-loop μ-loop
 returns c =
+    let start : tie.Start Inv-loop μ-loop = search in
     let l = c .before .loop in
-    let a = c .before .before .args in
+    let a = start .args in
     let e : l .i ≡ length (a .area .now) = omega arith in
     l .inv .0 ∙ stored-all (range 0 (l .i)) (a .area .now) (l .i) (omega arith) ∙ ap (range 0) e
 
@@ -63,10 +55,10 @@ number-spec =
     μ-loop
     loop-holds
     cast-area
-    mul-area
-    slice-write-area
-    add-i
-    loop-less
+    (search needs)  -- mul-area
+    (search needs)  -- slice-write-area
+    (search needs)  -- add-i
+    (search needs)  -- loop-less
     loop-again
     same-length
     returns)

@@ -7,53 +7,17 @@ use borrow.Author.Needs.{needs}
 use Rattle.tree_build.proofs.writing.put_box.Statement.{statement}
 use Rattle.tree_build.proofs.writing.put_box.Tie as tie
 
-mul-area : tie.Need-mul-area
-mul-area c = search needs
-
-slice-write-area : tie.Need-slice-write-area
-slice-write-area c = search needs
-
-add-area : tie.Need-add-area
-add-area c = search needs
-
-mul-area-2 : tie.Need-mul-area-2
-mul-area-2 c = search needs
-
 slice-write-area-2 : tie.Need-slice-write-area-2
 slice-write-area-2 c = simp length-set (omega arith)
-
-add-area-2 : tie.Need-add-area-2
-add-area-2 c = search needs
-
-mul-area-3 : tie.Need-mul-area-3
-mul-area-3 c = search needs
 
 slice-write-area-3 : tie.Need-slice-write-area-3
 slice-write-area-3 c = simp length-set (omega arith)
 
-add-area-3 : tie.Need-add-area-3
-add-area-3 c = search needs
-
-mul-area-4 : tie.Need-mul-area-4
-mul-area-4 c = search needs
-
 slice-write-area-4 : tie.Need-slice-write-area-4
 slice-write-area-4 c = simp length-set (omega arith)
 
-add-area-4 : tie.Need-add-area-4
-add-area-4 c = search needs
-
-mul-area-5 : tie.Need-mul-area-5
-mul-area-5 c = search needs
-
 slice-write-area-5 : tie.Need-slice-write-area-5
 slice-write-area-5 c = simp length-set (omega arith)
-
-add-area-5 : tie.Need-add-area-5
-add-area-5 c = search needs
-
-mul-area-6 : tie.Need-mul-area-6
-mul-area-6 c = search needs
 
 slice-write-area-6 : tie.Need-slice-write-area-6
 slice-write-area-6 c = simp length-set (omega arith)
@@ -69,22 +33,22 @@ pub put-box-spec : {M : Type 1} → statement M
 put-box-spec =
     tie.close
     (tie.spec
-    mul-area
-    slice-write-area
-    add-area
-    mul-area-2
+    (search needs)  -- mul-area
+    (search needs)  -- slice-write-area
+    (search needs)  -- add-area
+    (search needs)  -- mul-area-2
     slice-write-area-2
-    add-area-2
-    mul-area-3
+    (search needs)  -- add-area-2
+    (search needs)  -- mul-area-3
     slice-write-area-3
-    add-area-3
-    mul-area-4
+    (search needs)  -- add-area-3
+    (search needs)  -- mul-area-4
     slice-write-area-4
-    add-area-4
-    mul-area-5
+    (search needs)  -- add-area-4
+    (search needs)  -- mul-area-5
     slice-write-area-5
-    add-area-5
-    mul-area-6
+    (search needs)  -- add-area-5
+    (search needs)  -- mul-area-6
     slice-write-area-6
     same-length
     returns)

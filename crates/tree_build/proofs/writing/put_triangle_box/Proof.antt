@@ -26,44 +26,46 @@ both-hold : (a b : Bool) → a ≡ true → b ≡ true → (a && b) ≡ true
 both-hold a b h k = rw (h, k)
 
 corners-inside-requires : tie.Need-corners-inside-requires
-corners-inside-requires c κs = c .before .before .before .pre .0
+corners-inside-requires c κs =
+    let start : tie.Start = search in
+    start .pre .0
 
 returns : tie.Need-returns
 unfolding triangleFits
-returns c = (sym (left-fails (cornersInside (length (c .before .before .before .before .before .args .vertices .now) / 3) (c .before .before .before .before .before .args .triangles .now) (c .before .before .before .before .before .args .index)) (validBox (triangleBox (c .before .before .before .before .before .args .vertices .now) (c .before .before .before .before .before .args .triangles .now) (c .before .before .before .before .before .args .index))) (sym (c .before .corners-inside .ensures) ∙ not-true (c .before .corners-inside .result) (c .if1 .taken))), λ e. absurd (false≢true e))
+returns c =
+    let start : tie.Start = search in
+    (sym (left-fails (cornersInside (length (start .args .vertices .now) / 3) (start .args .triangles .now) (start .args .index)) (validBox (triangleBox (start .args .vertices .now) (start .args .triangles .now) (start .args .index))) (sym (c .before .corners-inside .ensures) ∙ not-true (c .before .corners-inside .result) (c .if1 .taken))), λ e. absurd (false≢true e))
 
 triangle-box-requires : tie.Need-triangle-box-requires
-triangle-box-requires c κs = (c .before .before .before .before .before .pre .0, sym (c .before .corners-inside .ensures) ∙ not-false (c .before .corners-inside .result) (c .if1 .left))
-
-is-valid-requires : tie.Need-is-valid-requires
-is-valid-requires c κs = search needs
+triangle-box-requires c κs =
+    let start : tie.Start = search in
+    (start .pre .0, sym (c .before .corners-inside .ensures) ∙ not-false (c .before .corners-inside .result) (c .if1 .left))
 
 returns-2 : tie.Need-returns-2
 unfolding triangleFits
 returns-2 c =
-    let a = c .before .before .before .before .before .before .before .before .args in (
+    let (start, at-triangle-box) : tie.Start × tie.After-triangle-box = search in
+    let a = start .args in (
       sym (right-fails (cornersInside (length (a .vertices .now) / 3) (a .triangles .now) (a .index)) (validBox (triangleBox (a .vertices .now) (a .triangles .now) (a .index)))
-          (ap validBox (sym (c .before .before .triangle-box .ensures)) ∙ sym (c .before .is-valid .ensures) ∙ not-true (c .before .is-valid .result) (c .if2 .taken))),
+          (ap validBox (sym (at-triangle-box .triangle-box .ensures)) ∙ sym (c .before .is-valid .ensures) ∙ not-true (c .before .is-valid .result) (c .if2 .taken))),
       λ e. absurd (false≢true e),
     )
 
-mul-put-box : tie.Need-mul-put-box
-mul-put-box c = search needs
-
 put-box-requires : tie.Need-put-box-requires
-put-box-requires c κs = c .before .before .before .before .before .before .before .before .before .pre .1
-
-same-length : tie.Need-same-length
-same-length c = search needs
+put-box-requires c κs =
+    let start : tie.Start = search in
+    start .pre .1
 
 returns-3 : tie.Need-returns-3
 unfolding triangleFits
 returns-3 c =
-    let a = c .before .before .before .before .before .before .before .before .before .before .before .before .args in (
+    let (start, at-corners-inside, else1, at-triangle-box, at-is-valid, else2, at-put-box) :
+    tie.Start × tie.After-corners-inside × tie.Else1 × tie.After-triangle-box × tie.After-is-valid × tie.Else2 × tie.After-put-box = search in
+    let a = start .args in (
       sym (both-hold (cornersInside (length (a .vertices .now) / 3) (a .triangles .now) (a .index)) (validBox (triangleBox (a .vertices .now) (a .triangles .now) (a .index)))
-          (sym (c .before .before .before .before .before .before .before .before .corners-inside .ensures) ∙ not-false (c .before .before .before .before .before .before .before .before .corners-inside .result) (c .before .before .before .before .before .before .before .if1 .left))
-          (ap validBox (sym (c .before .before .before .before .before .before .triangle-box .ensures)) ∙ sym (c .before .before .before .before .before .is-valid .ensures) ∙ not-false (c .before .before .before .before .before .is-valid .result) (c .before .before .before .before .if2 .left))),
-      λ _. c .before .before .put-box .ensures ∙ ap (λ (z : Aabb). sets (a .area .now) (6 * a .index) (boxNumbers z)) (c .before .before .before .before .before .before .triangle-box .ensures),
+          (sym (at-corners-inside .corners-inside .ensures) ∙ not-false (at-corners-inside .corners-inside .result) (else1 .if1 .left))
+          (ap validBox (sym (at-triangle-box .triangle-box .ensures)) ∙ sym (at-is-valid .is-valid .ensures) ∙ not-false (at-is-valid .is-valid .result) (else2 .if2 .left))),
+      λ _. at-put-box .put-box .ensures ∙ ap (λ (z : Aabb). sets (a .area .now) (6 * a .index) (boxNumbers z)) (at-triangle-box .triangle-box .ensures),
     )
 
 pub put-triangle-box-spec : {M : Type 1} → statement M
@@ -73,9 +75,9 @@ put-triangle-box-spec =
     corners-inside-requires
     returns
     triangle-box-requires
-    is-valid-requires
+    (search needs)  -- is-valid-requires
     returns-2
-    mul-put-box
+    (search needs)  -- mul-put-box
     put-box-requires
-    same-length
+    (search needs)  -- same-length
     returns-3)

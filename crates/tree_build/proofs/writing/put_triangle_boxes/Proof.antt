@@ -32,35 +32,37 @@ unfolding eachBox range
 loop-holds c = (rw sub-zero, (refl, (refl, omega arith)))
 
 put-triangle-box-requires : tie.Need-put-triangle-box-requires Inv-loop μ-loop
-put-triangle-box-requires c κs = let s = c .before .before .before .before .before .before in let l = c .before .before .loop in let kept = l .inv .1 .1 .0 in (omega arith, omega (arith, s .pre))
+put-triangle-box-requires c κs =
+    let (start, at-loop) : (tie.Start Inv-loop μ-loop) × (tie.At-loop Inv-loop μ-loop) = search in
+    let s = start in let l = at-loop .loop in let kept = l .inv .1 .1 .0 in (omega arith, omega (arith, s .pre))
 
 same-length : tie.Need-same-length Inv-loop μ-loop
-same-length c = c .before .before .before .put-triangle-box .kept .1 .1 .1 .0 ∙ c .before .before .before .before .before .before .loop .inv .1 .1 .0
+same-length c =
+    let (at-loop, at-put-triangle-box) : (tie.At-loop Inv-loop μ-loop) × (tie.After-put-triangle-box Inv-loop μ-loop) = search in
+    at-put-triangle-box .put-triangle-box .kept .1 .1 .1 .0 ∙ at-loop .loop .inv .1 .1 .0
 
 returns : tie.Need-returns Inv-loop μ-loop
 unfolding trianglesFit
 returns c =
-    let a = c .before .before .before .before .before .before .before .before .before .before .args in
-    let l = c .before .before .before .before .before .before .loop in
-    let one = c .before .before .before .put-triangle-box in
+    let (start, at-loop, in-loop, at-put-triangle-box) :
+    (tie.Start Inv-loop μ-loop) × (tie.At-loop Inv-loop μ-loop) × (tie.In-loop Inv-loop μ-loop) × (tie.After-put-triangle-box Inv-loop μ-loop) = search in
+    let a = start .args in
+    let l = at-loop .loop in
+    let one = at-put-triangle-box .put-triangle-box in
     let fits = triangleFits (mesh (a .vertices .now) (a .triangles .now)) in
-    (sym (every-fails fits (l .i) (length (a .triangles .now) / 3) (c .before .before .before .before .before .loop-test .taken) (sym (one .ensures .0) ∙ not-true (one .result) (c .if1 .taken))) ∙ l .inv .0, λ e. absurd (false≢true e))
-
-add-i : tie.Need-add-i Inv-loop μ-loop
-add-i c = search needs
-
-loop-less : tie.Need-loop-less Inv-loop μ-loop
-loop-less c = search needs
+    (sym (every-fails fits (l .i) (length (a .triangles .now) / 3) (in-loop .loop-test .taken) (sym (one .ensures .0) ∙ not-true (one .result) (c .if1 .taken))) ∙ l .inv .0, λ e. absurd (false≢true e))
 
 loop-again : tie.Need-loop-again Inv-loop μ-loop
 loop-again c =
-    let a = c .before .before .before .before .before .before .before .before .before .before .args in
-    let l = c .before .before .before .before .before .before .loop in
-    let one = c .before .before .before .put-triangle-box in
+    let (start, at-loop, in-loop, at-put-triangle-box) :
+    (tie.Start Inv-loop μ-loop) × (tie.At-loop Inv-loop μ-loop) × (tie.In-loop Inv-loop μ-loop) × (tie.After-put-triangle-box Inv-loop μ-loop) = search in
+    let a = start .args in
+    let l = at-loop .loop in
+    let one = at-put-triangle-box .put-triangle-box in
     let fits = triangleFits (mesh (a .vertices .now) (a .triangles .now)) in
     let box = triangleBox (a .vertices .now) (a .triangles .now) in
     let went = not-false (one .result) (c .if1 .left) in (
-      every-next fits (l .i) (length (a .triangles .now) / 3) (c .before .before .before .before .before .loop-test .taken) (sym (one .ensures .0) ∙ went) ∙ l .inv .0,
+      every-next fits (l .i) (length (a .triangles .now) / 3) (in-loop .loop-test .taken) (sym (one .ensures .0) ∙ went) ∙ l .inv .0,
       (
         one .ensures .1 went ∙ ap (λ (z : List Float). sets z (6 * l .i) (boxNumbers (box (l .i)))) (l .inv .1 .0) ∙ box-stored box (a .area .now) (l .i),
         (one .kept .1 .1 .1 .0 ∙ l .inv .1 .1 .0, omega arith),
@@ -73,7 +75,8 @@ same-length-2 c = c .before .loop .inv .1 .1 .0
 returns-2 : tie.Need-returns-2 Inv-loop μ-loop
 unfolding trianglesFit boxesWritten
 returns-2 c =
-    let s = c .before .before .before .before .before in
+    let start : tie.Start Inv-loop μ-loop = search in
+    let s = start in
     let a = s .args in
     let l = c .before .loop in
     let n = length (a .triangles .now) / 3 in
@@ -95,8 +98,8 @@ put-triangle-boxes-spec =
     put-triangle-box-requires
     same-length
     returns
-    add-i
-    loop-less
+    (search needs)  -- add-i
+    (search needs)  -- loop-less
     loop-again
     same-length-2
     returns-2)

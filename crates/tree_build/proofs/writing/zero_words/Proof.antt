@@ -18,22 +18,11 @@ abbrev μ-loop : tie.MeasureT-loop
 loop-holds : tie.Need-loop-holds Inv-loop μ-loop
 loop-holds c = (refl, (refl, omega arith))
 
-mul-area : tie.Need-mul-area Inv-loop μ-loop
-mul-area c = search needs
-
-slice-write-area : tie.Need-slice-write-area Inv-loop μ-loop
-slice-write-area c = search needs
-
-add-i : tie.Need-add-i Inv-loop μ-loop
-add-i c = search needs
-
-loop-less : tie.Need-loop-less Inv-loop μ-loop
-loop-less c = search needs
-
 loop-again : tie.Need-loop-again Inv-loop μ-loop
 loop-again c =
+    let start : tie.Start Inv-loop μ-loop = search in
     let l = c .before .loop in
-    let a = c .before .before .args in (
+    let a = start .args in (
       ap (λ (z : List ℕ). set z (l .i) 0) (l .inv .0) ∙ stored-after (replicate (l .i) 0) (a .area .now) (l .i) 0 0 (length-replicate (l .i) 0) (omega arith)
           ∙ ap (λ (z : List ℕ). z ++ drop (l .i + 1) (a .area .now)) (replicate-next (l .i) 0),
       (length-set (l .area) (l .i) 0 ∙ l .inv .1 .0, omega arith),
@@ -44,8 +33,9 @@ same-length c = c .before .loop .inv .1 .0
 
 returns : tie.Need-returns Inv-loop μ-loop
 returns c =
+    let start : tie.Start Inv-loop μ-loop = search in
     let l = c .before .loop in
-    let a = c .before .before .args in
+    let a = start .args in
     let e : l .i ≡ length (a .area .now) = omega arith in
     l .inv .0 ∙ stored-all (replicate (l .i) 0) (a .area .now) (l .i) (omega arith) ∙ ap (λ (k : ℕ). replicate k 0) e
 
@@ -56,10 +46,10 @@ zero-words-spec =
     Inv-loop
     μ-loop
     loop-holds
-    mul-area
-    slice-write-area
-    add-i
-    loop-less
+    (search needs)  -- mul-area
+    (search needs)  -- slice-write-area
+    (search needs)  -- add-i
+    (search needs)  -- loop-less
     loop-again
     same-length
     returns)

@@ -9,12 +9,9 @@ returns : tie.Need-returns
 unfolding countsAdmitted
 returns c = simp (lt-leb _ _ (c .if1 .taken))
 
-mul-result : tie.Need-mul-result
-mul-result c = search needs
-
 returns-2 : tie.Need-returns-2
 unfolding countsAdmitted
 returns-2 c = simp (le-leb _ _ (c .if1 .left))
 
 pub counts-admitted-spec : {M : Type 1} → statement M
-counts-admitted-spec = tie.close (tie.spec returns mul-result returns-2)
+counts-admitted-spec = tie.close (tie.spec returns (search needs) returns-2)

@@ -1,77 +1,116 @@
--- `tree_query::query::query` meets its contract. Assumes nothing.
-use Rattle.tree_query.proofs.Queries.{counts-few, counts-nodes, fits-room, query-invalid, query-bad, query-short, query-broken, query-listed, tests-passed}
-use borrow.Author.Tests.{not-true, not-false}
+-- `tree_query::query::query` meets its contract: a refusal for each of the three tests, and past them what the walk lists, or its refusal.
+-- Assumes nothing.
+use Rattle.geometry.specs.Box.{validBox}
+use Rattle.tree.specs.Layout.{Tree}
+use Rattle.tree_query.specs.Areas.{treeOf}
+use Rattle.tree_query.specs.Query.{countsAdmitted, walkFits}
+use Rattle.geometry.proofs.JoinedTests.{test-passed, test-failed}
+use Rattle.tree_query.proofs.Queries.{counts-few, counts-nodes, fits-room, tests-passed}
+use Rattle.tree_query.proofs.Queries.{query-invalid, query-bad, query-short, query-broken, query-listed}
 use native.Mathlib.Omega.{arith}
-use mathlib.Core.Path.{refl, sym, _∙_}
+use mathlib.Core.Bool.{Bool, true}
+use mathlib.Core.Path.{_≡_, refl}
+use lib.ListN.{length}
 use borrow.Author.Needs.{needs}
 use Rattle.tree_query.proofs.query.query.Statement.{statement}
 use Rattle.tree_query.proofs.query.query.Tie as tie
 
-is-valid-requires : tie.Need-is-valid-requires
-is-valid-requires c κs = search needs
+abbrev tree : tie.Start → Tree
+tree s =
+    let a = s .args in
+    treeOf (a .nodes) (a .node-boxes .now) (a .triangle-boxes .now) (a .node-words .now) (a .order .now)
 
+-- the third test
+abbrev fitting : tie.Start → Bool
+fitting s = walkFits (s .args .count) (tree s) (length (s .args .list .now)) (length (s .args .stack .now))
+
+-- past the three tests: what each says
+start : tie.Else3 → tie.Start
+start e = search
+
+valid : (e : tie.Else3) → validBox (start e .args .bounds) ≡ true
+unfolding start
+valid e =
+    let e1 : tie.Else1 = search in
+    test-passed (e1 .before .is-valid .ensures) (e1 .if1 .left)
+
+admitted : (e : tie.Else3) → countsAdmitted (start e .args .count) (start e .args .nodes) ≡ true
+unfolding start
+admitted e =
+    let e2 : tie.Else2 = search in
+    test-passed (e2 .before .counts-admitted .ensures) (e2 .if2 .left)
+
+fits : (e : tie.Else3) → fitting (start e) ≡ true
+unfolding start
+fits e = test-passed {b = fitting (start e)} (e .before .walk-fits .ensures) (e .if3 .left)
+
+-- the box is not valid
 returns : tie.Need-returns
-returns c = (query-invalid _ _ _ _ _ (sym (c .before .is-valid .ensures) ∙ not-true (c .before .is-valid .result) (c .if1 .taken)), λ _. refl)
+returns c = (query-invalid _ _ _ _ _ (test-failed (c .before .is-valid .ensures) (c .if1 .taken)), λ _. refl)
 
-counts-admitted-requires : tie.Need-counts-admitted-requires
-counts-admitted-requires c κs = search needs
-
+-- the counts are not admitted
 returns-2 : tie.Need-returns-2
-returns-2 c = (query-bad _ _ _ _ _ (sym (c .before .before .before .is-valid .ensures) ∙ not-false (c .before .before .before .is-valid .result) (c .before .before .if1 .left)) (sym (c .before .counts-admitted .ensures) ∙ not-true (c .before .counts-admitted .result) (c .if2 .taken)), λ _. refl)
+returns-2 c =
+    let e1 : tie.Else1 = search in
+    let v = test-passed (e1 .before .is-valid .ensures) (e1 .if1 .left) in
+    (query-bad _ _ _ _ _ v (test-failed (c .before .counts-admitted .ensures) (c .if2 .taken)), λ _. refl)
 
 walk-fits-requires : tie.Need-walk-fits-requires
-walk-fits-requires c κs = counts-few _ _ (sym (c .before .counts-admitted .ensures) ∙ not-false (c .before .counts-admitted .result) (c .if2 .left))
+walk-fits-requires c κs = counts-few _ _ (test-passed (c .before .counts-admitted .ensures) (c .if2 .left))
 
+-- an area is too short
 returns-3 : tie.Need-returns-3
-returns-3 c = (query-short _ _ _ _ _ (sym (c .before .before .before .before .before .is-valid .ensures) ∙ not-false (c .before .before .before .before .before .is-valid .result) (c .before .before .before .before .if1 .left)) (sym (c .before .before .before .counts-admitted .ensures) ∙ not-false (c .before .before .before .counts-admitted .result) (c .before .before .if2 .left)) (sym (c .before .walk-fits .ensures) ∙ not-true (c .before .walk-fits .result) (c .if3 .taken)), λ _. refl)
+returns-3 c =
+    let (s, e1, e2) : tie.Start × tie.Else1 × tie.Else2 = search in
+    let v = test-passed (e1 .before .is-valid .ensures) (e1 .if1 .left) in
+    let a = test-passed (e2 .before .counts-admitted .ensures) (e2 .if2 .left) in
+    let short = test-failed {b = fitting s} (c .before .walk-fits .ensures) (c .if3 .taken) in
+    (query-short _ _ (tree s) _ _ v a short, λ _. refl)
 
 walk-requires : tie.Need-walk-requires
-walk-requires c κs = (omega (arith, counts-few _ _ (sym (c .before .before .before .before .before .counts-admitted .ensures) ∙ not-false (c .before .before .before .before .before .counts-admitted .result) (c .before .before .before .before .if2 .left))), fits-room _ _ _ _ (counts-nodes _ _ (sym (c .before .before .before .before .before .counts-admitted .ensures) ∙ not-false (c .before .before .before .before .before .counts-admitted .result) (c .before .before .before .before .if2 .left))) (sym (c .before .before .before .walk-fits .ensures) ∙ not-false (c .before .before .before .walk-fits .result) (c .before .before .if3 .left)))
+unfolding start
+walk-requires c κs =
+    let e : tie.Else3 = search in
+    (omega (arith, counts-few _ _ (admitted e)), fits-room _ (tree (start e)) _ _ (counts-nodes _ _ (admitted e)) (fits e))
 
-enum-known-walked : tie.Need-enum-known-walked
-enum-known-walked c = search needs
-
-enum-told : tie.Need-enum-told
-enum-told c = search needs
-
-clear-requires : tie.Need-clear-requires
-clear-requires c κs = search needs
-
-same-length : tie.Need-same-length
-same-length c = search needs
-
-same-length-2 : tie.Need-same-length-2
-same-length-2 c = search needs
-
+-- the walk is broken off, and the list is cleared
 returns-4 : tie.Need-returns-4
-returns-4 c = (query-broken _ _ _ _ _ (sym (c .before .before .before .before .before .before .before .before .before .before .before .before .before .before .before .before .before .before .is-valid .ensures) ∙ not-false (c .before .before .before .before .before .before .before .before .before .before .before .before .before .before .before .before .before .before .is-valid .result) (c .before .before .before .before .before .before .before .before .before .before .before .before .before .before .before .before .before .if1 .left)) (sym (c .before .before .before .before .before .before .before .before .before .before .before .before .before .before .before .before .counts-admitted .ensures) ∙ not-false (c .before .before .before .before .before .before .before .before .before .before .before .before .before .before .before .before .counts-admitted .result) (c .before .before .before .before .before .before .before .before .before .before .before .before .before .before .before .if2 .left)) (sym (c .before .before .before .before .before .before .before .before .before .before .before .before .before .before .walk-fits .ensures) ∙ not-false (c .before .before .before .before .before .before .before .before .before .before .before .before .before .before .walk-fits .result) (c .before .before .before .before .before .before .before .before .before .before .before .before .before .if3 .left)) _ _ (c .before .before .before .before .before .before .before .before .before .before .walk .ensures .0) (c .before .before .before .before .before .before .before .before .before .before .walk .ensures .1) _ (c .before .before .before .before .enum-told .given .1) (c .before .before .before .before .before .before .before .before .before .before .walk .kept .1 .1 .1 .1 .1 .1 .1 .0) (c .before .before .clear .ensures), λ failed. absurd (tests-passed _ _ _ _ _ (sym (c .before .before .before .before .before .before .before .before .before .before .before .before .before .before .before .before .before .before .is-valid .ensures) ∙ not-false (c .before .before .before .before .before .before .before .before .before .before .before .before .before .before .before .before .before .before .is-valid .result) (c .before .before .before .before .before .before .before .before .before .before .before .before .before .before .before .before .before .if1 .left)) (sym (c .before .before .before .before .before .before .before .before .before .before .before .before .before .before .before .before .counts-admitted .ensures) ∙ not-false (c .before .before .before .before .before .before .before .before .before .before .before .before .before .before .before .before .counts-admitted .result) (c .before .before .before .before .before .before .before .before .before .before .before .before .before .before .before .if2 .left)) (sym (c .before .before .before .before .before .before .before .before .before .before .before .before .before .before .walk-fits .ensures) ∙ not-false (c .before .before .before .before .before .before .before .before .before .before .before .before .before .before .walk-fits .result) (c .before .before .before .before .before .before .before .before .before .before .before .before .before .if3 .left)) failed))
+unfolding start
+returns-4 c =
+    let (e, w, told, z) : tie.Else3 × tie.After-walk × tie.After-enum-told × tie.After-clear = search in
+    let same-long = w .walk .kept .1 .1 .1 .1 .1 .1 .1 .0 in (
+      query-broken _ _ (tree (start e)) _ _ (valid e) (admitted e) (fits e) _ _ (w .walk .ensures .0) (w .walk .ensures .1)
+          _ (told .enum-told .given .1) same-long (z .clear .ensures),
+      λ failed. absurd (tests-passed _ _ (tree (start e)) _ _ (valid e) (admitted e) (fits e) failed),
+    )
 
-same-length-3 : tie.Need-same-length-3
-same-length-3 c = search needs
-
-same-length-4 : tie.Need-same-length-4
-same-length-4 c = search needs
-
+-- the walk ends
 returns-5 : tie.Need-returns-5
-returns-5 c = (query-listed _ _ _ _ _ (sym (c .before .before .before .before .before .before .before .before .before .before .before .before .before .before .before .is-valid .ensures) ∙ not-false (c .before .before .before .before .before .before .before .before .before .before .before .before .before .before .before .is-valid .result) (c .before .before .before .before .before .before .before .before .before .before .before .before .before .before .if1 .left)) (sym (c .before .before .before .before .before .before .before .before .before .before .before .before .before .counts-admitted .ensures) ∙ not-false (c .before .before .before .before .before .before .before .before .before .before .before .before .before .counts-admitted .result) (c .before .before .before .before .before .before .before .before .before .before .before .before .if2 .left)) (sym (c .before .before .before .before .before .before .before .before .before .before .before .walk-fits .ensures) ∙ not-false (c .before .before .before .before .before .before .before .before .before .before .before .walk-fits .result) (c .before .before .before .before .before .before .before .before .before .before .if3 .left)) _ _ (c .before .before .before .before .before .before .before .walk .ensures .0) (c .before .before .before .before .before .before .before .walk .ensures .1) _ (c .before .walked .given .1), λ failed. absurd (tests-passed _ _ _ _ _ (sym (c .before .before .before .before .before .before .before .before .before .before .before .before .before .before .before .is-valid .ensures) ∙ not-false (c .before .before .before .before .before .before .before .before .before .before .before .before .before .before .before .is-valid .result) (c .before .before .before .before .before .before .before .before .before .before .before .before .before .before .if1 .left)) (sym (c .before .before .before .before .before .before .before .before .before .before .before .before .before .counts-admitted .ensures) ∙ not-false (c .before .before .before .before .before .before .before .before .before .before .before .before .before .counts-admitted .result) (c .before .before .before .before .before .before .before .before .before .before .before .before .if2 .left)) (sym (c .before .before .before .before .before .before .before .before .before .before .before .walk-fits .ensures) ∙ not-false (c .before .before .before .before .before .before .before .before .before .before .before .walk-fits .result) (c .before .before .before .before .before .before .before .before .before .before .if3 .left)) failed))
+unfolding start
+returns-5 c =
+    let (e, w, k) : tie.Else3 × tie.After-walk × tie.After-walked = search in (
+      query-listed _ _ (tree (start e)) _ _ (valid e) (admitted e) (fits e) _ _ (w .walk .ensures .0) (w .walk .ensures .1)
+          _ (k .walked .given .1),
+      λ failed. absurd (tests-passed _ _ (tree (start e)) _ _ (valid e) (admitted e) (fits e) failed),
+    )
 
 pub query-spec : {M : Type 1} → statement M
 query-spec =
     tie.close
     (tie.spec
-    is-valid-requires
+    (search needs)  -- is-valid-requires
     returns
-    counts-admitted-requires
+    (search needs)  -- counts-admitted-requires
     returns-2
     walk-fits-requires
     returns-3
     walk-requires
-    enum-known-walked
-    enum-told
-    clear-requires
-    same-length
-    same-length-2
+    (search needs)  -- enum-known-walked
+    (search needs)  -- enum-told
+    (search needs)  -- clear-requires
+    (search needs)  -- same-length
+    (search needs)  -- same-length-2
     returns-4
-    same-length-3
-    same-length-4
+    (search needs)  -- same-length-3
+    (search needs)  -- same-length-4
     returns-5)

@@ -5,30 +5,25 @@ use borrow.Author.Needs.{needs}
 use Rattle.tree_query.proofs.query.tree_fits.Statement.{statement}
 use Rattle.tree_query.proofs.query.tree_fits.Tie as tie
 
-mul-if1 : tie.Need-mul-if1
-mul-if1 c = search needs
-
 returns : tie.Need-returns
 unfolding treeFits
 returns c = simp (lt-leb _ _ (c .if1 .taken))
-
-mul-if2 : tie.Need-mul-if2
-mul-if2 c = search needs
 
 returns-2 : tie.Need-returns-2
 unfolding treeFits
 returns-2 c = simp (le-leb _ _ (c .before .if1 .left), lt-leb _ _ (c .if2 .taken))
 
-mul-if3 : tie.Need-mul-if3
-mul-if3 c = search needs
-
 returns-3 : tie.Need-returns-3
 unfolding treeFits
-returns-3 c = simp (le-leb _ _ (c .before .before .if1 .left), le-leb _ _ (c .before .if2 .left), lt-leb _ _ (c .if3 .taken))
+returns-3 c =
+    let else1 : tie.Else1 = search in
+    simp (le-leb _ _ (else1 .if1 .left), le-leb _ _ (c .before .if2 .left), lt-leb _ _ (c .if3 .taken))
 
 returns-4 : tie.Need-returns-4
 unfolding treeFits
-returns-4 c = simp (le-leb _ _ (c .before .before .if1 .left), le-leb _ _ (c .before .if2 .left), le-leb _ _ (c .if3 .left))
+returns-4 c =
+    let else1 : tie.Else1 = search in
+    simp (le-leb _ _ (else1 .if1 .left), le-leb _ _ (c .before .if2 .left), le-leb _ _ (c .if3 .left))
 
 pub tree-fits-spec : {M : Type 1} → statement M
-tree-fits-spec = tie.close (tie.spec mul-if1 returns mul-if2 returns-2 mul-if3 returns-3 returns-4)
+tree-fits-spec = tie.close (tie.spec (search needs) returns (search needs) returns-2 (search needs) returns-3 returns-4)

@@ -9,20 +9,13 @@ use Rattle.tree_query.proofs.step.pop.Tie as tie
 returns : tie.Need-returns
 returns c = popped-none _ _ _ (c .if1 .taken)
 
-sub-below : tie.Need-sub-below
-sub-below c = search needs
-
-mul-t6 : tie.Need-mul-t6
-mul-t6 c = search needs
-
-shared-slice-read-t8 : tie.Need-shared-slice-read-t8
-shared-slice-read-t8 c = search needs
-
 cast-t9 : tie.Need-cast-t9
-cast-t9 c = omega (arith, c .shared-slice-known .given (c .before .before .args .top - 1))
+cast-t9 c =
+    let start : tie.Start = search in
+    omega (arith, c .shared-slice-known .given (start .args .top - 1))
 
 returns-2 : tie.Need-returns-2
 returns-2 c = popped-next _ _ _ (c .before .if1 .left)
 
 pub pop-spec : {M : Type 1} → statement M
-pop-spec = tie.close (tie.spec returns sub-below mul-t6 shared-slice-read-t8 cast-t9 returns-2)
+pop-spec = tie.close (tie.spec returns (search needs) (search needs) (search needs) cast-t9 returns-2)

@@ -15,31 +15,31 @@ abbrev μ-loop : tie.MeasureT-loop
 μ-loop bounds count triangle-boxes order start end list₀ found listed₀ place₀ list listed place = end - place
 
 loop-holds : tie.Need-loop-holds Inv-loop μ-loop
-loop-holds c = placing-begins _ _ _ _ _ _ _ _ (c .before .before .before .pre .1 .1) (c .before .before .before .pre .0)
+loop-holds c =
+    let start : tie.Start Inv-loop μ-loop = search in
+    placing-begins _ _ _ _ _ _ _ _ (start .pre .1 .1) (start .pre .0)
 
 take-place-requires : tie.Need-take-place-requires Inv-loop μ-loop
-take-place-requires c κs = (omega (arith, c .before .before .before .before .before .before .pre), placing-room _ _ _ _ _ _ _ _ (c .before .before .before .before .before .before .pre .1 .1) _ _ _ (c .before .before .loop .inv))
-
-enum-known-taken : tie.Need-enum-known-taken Inv-loop μ-loop
-enum-known-taken c = search needs
-
-enum-told : tie.Need-enum-told Inv-loop μ-loop
-enum-told c = search needs
+take-place-requires c κs =
+    let (start, at-loop) : (tie.Start Inv-loop μ-loop) × (tie.At-loop Inv-loop μ-loop) = search in
+    (omega (arith, start .pre), placing-room _ _ _ _ _ _ _ _ (start .pre .1 .1) _ _ _ (at-loop .loop .inv))
 
 same-length : tie.Need-same-length Inv-loop μ-loop
-same-length c = c .before .before .before .before .take-place .kept .1 .1 .1 .1 .1 .0 ∙ c .before .before .before .before .before .before .before .loop .inv .long
+same-length c =
+    let (at-loop, at-take-place) : (tie.At-loop Inv-loop μ-loop) × (tie.After-take-place Inv-loop μ-loop) = search in
+    at-take-place .take-place .kept .1 .1 .1 .1 .1 .0 ∙ at-loop .loop .inv .long
 
 returns : tie.Need-returns Inv-loop μ-loop
-returns c = placing-breaks _ _ _ _ _ _ _ _ _ _ _ (c .before .before .before .before .before .before .before .loop .inv) (c .before .before .before .before .before .before .loop-test .taken) _ _ (c .before .before .before .before .take-place .ensures) (c .enum-told .given .1)
-
-add-place : tie.Need-add-place Inv-loop μ-loop
-add-place c = search needs
-
-loop-less : tie.Need-loop-less Inv-loop μ-loop
-loop-less c = search needs
+returns c =
+    let (at-loop, in-loop, at-take-place) :
+    (tie.At-loop Inv-loop μ-loop) × (tie.In-loop Inv-loop μ-loop) × (tie.After-take-place Inv-loop μ-loop) = search in
+    placing-breaks _ _ _ _ _ _ _ _ _ _ _ (at-loop .loop .inv) (in-loop .loop-test .taken) _ _ (at-take-place .take-place .ensures) (c .enum-told .given .1)
 
 loop-again : tie.Need-loop-again Inv-loop μ-loop
-loop-again c = placing-goes _ _ _ _ _ _ _ _ _ _ _ (c .before .before .before .before .before .before .before .before .loop .inv) (c .before .before .before .before .before .before .before .loop-test .taken) _ _ _ (c .before .before .before .before .before .take-place .ensures) (c .before .taken .given .1) (c .before .before .before .before .before .take-place .kept .1 .1 .1 .1 .1 .0)
+loop-again c =
+    let (at-loop, in-loop, at-take-place) :
+    (tie.At-loop Inv-loop μ-loop) × (tie.In-loop Inv-loop μ-loop) × (tie.After-take-place Inv-loop μ-loop) = search in
+    placing-goes _ _ _ _ _ _ _ _ _ _ _ (at-loop .loop .inv) (in-loop .loop-test .taken) _ _ _ (at-take-place .take-place .ensures) (c .before .taken .given .1) (at-take-place .take-place .kept .1 .1 .1 .1 .1 .0)
 
 same-length-2 : tie.Need-same-length-2 Inv-loop μ-loop
 same-length-2 c = c .before .loop .inv .long
@@ -55,12 +55,12 @@ take-places-spec =
     μ-loop
     loop-holds
     take-place-requires
-    enum-known-taken
-    enum-told
+    (search needs)  -- enum-known-taken
+    (search needs)  -- enum-told
     same-length
     returns
-    add-place
-    loop-less
+    (search needs)  -- add-place
+    (search needs)  -- loop-less
     loop-again
     same-length-2
     returns-2)

@@ -22,43 +22,47 @@ loop-holds : tie.Need-loop-holds Inv-loop μ-loop
 loop-holds c = walks-begin _ _ _ _ _ (c .if1 .left)
 
 take-node-requires : tie.Need-take-node-requires Inv-loop μ-loop
-take-node-requires c κs = walks-room _ _ (c .before .before .before .before .before .before .before .before .before .before .before .args .bounds) _ _ _ _ _ _ _ _ (c .before .before .before .loop .inv) (c .before .before .loop-test .taken) (c .before .before .before .before .before .before .before .before .before .before .before .pre)
-
-enum-known-step : tie.Need-enum-known-step Inv-loop μ-loop
-enum-known-step c = search needs
-
-add-taken : tie.Need-add-taken Inv-loop μ-loop
-add-taken c = search needs
-
-loop-less : tie.Need-loop-less Inv-loop μ-loop
-loop-less c = search needs
+take-node-requires c κs =
+    let (start, at-loop, in-loop) : (tie.Start Inv-loop μ-loop) × (tie.At-loop Inv-loop μ-loop) × (tie.In-loop Inv-loop μ-loop) = search in
+    walks-room _ _ (start .args .bounds) _ _ _ _ _ _ _ _ (at-loop .loop .inv) (in-loop .loop-test .taken) (start .pre)
 
 loop-again : tie.Need-loop-again Inv-loop μ-loop
-loop-again c = walks-next _ _ _ _ _ _ _ _ _ _ _ (c .before .before .before .before .before .before .before .before .before .before .before .loop .inv) (c .before .before .before .before .before .before .before .before .before .before .loop-test .taken) _ _ _ (c .before .before .before .before .before .before .before .take-node .ensures) _ _ _ (c .before .step .given .1) (c .before .before .before .before .before .before .before .take-node .kept .1 .1 .1 .1 .1 .1 .1 .0) (c .before .before .before .before .before .before .before .take-node .kept .1 .1 .1 .1 .1 .1 .1 .1 .1 .0)
-
-enum-known-step-2 : tie.Need-enum-known-step-2 Inv-loop μ-loop
-enum-known-step-2 c = search needs
+loop-again c =
+    let (at-loop, in-loop, at-take-node) :
+    (tie.At-loop Inv-loop μ-loop) × (tie.In-loop Inv-loop μ-loop) × (tie.After-take-node Inv-loop μ-loop) = search in
+    walks-next _ _ _ _ _ _ _ _ _ _ _ (at-loop .loop .inv) (in-loop .loop-test .taken) _ _ _ (at-take-node .take-node .ensures) _ _ _ (c .before .step .given .1) (at-take-node .take-node .kept .1 .1 .1 .1 .1 .1 .1 .0) (at-take-node .take-node .kept .1 .1 .1 .1 .1 .1 .1 .1 .1 .0)
 
 same-length : tie.Need-same-length Inv-loop μ-loop
-same-length c = c .before .before .before .before .before .before .before .take-node .kept .1 .1 .1 .1 .1 .1 .1 .0 ∙ c .before .before .before .before .before .before .before .before .before .before .before .loop .inv .long
+same-length c =
+    let (at-loop, at-take-node) : (tie.At-loop Inv-loop μ-loop) × (tie.After-take-node Inv-loop μ-loop) = search in
+    at-take-node .take-node .kept .1 .1 .1 .1 .1 .1 .1 .0 ∙ at-loop .loop .inv .long
 
 same-length-2 : tie.Need-same-length-2 Inv-loop μ-loop
-same-length-2 c = c .before .before .before .before .before .before .before .take-node .kept .1 .1 .1 .1 .1 .1 .1 .1 .1 .0 ∙ c .before .before .before .before .before .before .before .before .before .before .before .loop .inv .high
+same-length-2 c =
+    let (at-loop, at-take-node) : (tie.At-loop Inv-loop μ-loop) × (tie.After-take-node Inv-loop μ-loop) = search in
+    at-take-node .take-node .kept .1 .1 .1 .1 .1 .1 .1 .1 .1 .0 ∙ at-loop .loop .inv .high
 
 returns-2 : tie.Need-returns-2 Inv-loop μ-loop
-returns-2 c = walks-ended _ _ _ _ _ _ _ _ _ _ _ (c .before .before .before .before .before .before .before .before .before .before .before .loop .inv) (c .before .before .before .before .before .before .before .before .before .before .loop-test .taken) _ _ _ (c .before .before .before .before .before .before .before .take-node .ensures) _ (c .before .step2 .given .1)
-
-enum-told : tie.Need-enum-told Inv-loop μ-loop
-enum-told c = search needs
+returns-2 c =
+    let (at-loop, in-loop, at-take-node) :
+    (tie.At-loop Inv-loop μ-loop) × (tie.In-loop Inv-loop μ-loop) × (tie.After-take-node Inv-loop μ-loop) = search in
+    walks-ended _ _ _ _ _ _ _ _ _ _ _ (at-loop .loop .inv) (in-loop .loop-test .taken) _ _ _ (at-take-node .take-node .ensures) _ (c .before .step2 .given .1)
 
 same-length-3 : tie.Need-same-length-3 Inv-loop μ-loop
-same-length-3 c = c .before .before .before .before .before .before .take-node .kept .1 .1 .1 .1 .1 .1 .1 .0 ∙ c .before .before .before .before .before .before .before .before .before .before .loop .inv .long
+same-length-3 c =
+    let (at-loop, at-take-node) : (tie.At-loop Inv-loop μ-loop) × (tie.After-take-node Inv-loop μ-loop) = search in
+    at-take-node .take-node .kept .1 .1 .1 .1 .1 .1 .1 .0 ∙ at-loop .loop .inv .long
 
 same-length-4 : tie.Need-same-length-4 Inv-loop μ-loop
-same-length-4 c = c .before .before .before .before .before .before .take-node .kept .1 .1 .1 .1 .1 .1 .1 .1 .1 .0 ∙ c .before .before .before .before .before .before .before .before .before .before .loop .inv .high
+same-length-4 c =
+    let (at-loop, at-take-node) : (tie.At-loop Inv-loop μ-loop) × (tie.After-take-node Inv-loop μ-loop) = search in
+    at-take-node .take-node .kept .1 .1 .1 .1 .1 .1 .1 .1 .1 .0 ∙ at-loop .loop .inv .high
 
 returns-3 : tie.Need-returns-3 Inv-loop μ-loop
-returns-3 c = (walks-stopped _ _ _ _ _ _ _ _ _ _ _ (c .before .before .before .before .before .before .before .before .before .before .loop .inv) (c .before .before .before .before .before .before .before .before .before .loop-test .taken) _ _ _ (c .before .before .before .before .before .before .take-node .ensures) (c .enum-told .given .1), tt)
+returns-3 c =
+    let (at-loop, in-loop, at-take-node) :
+    (tie.At-loop Inv-loop μ-loop) × (tie.In-loop Inv-loop μ-loop) × (tie.After-take-node Inv-loop μ-loop) = search in
+    (walks-stopped _ _ _ _ _ _ _ _ _ _ _ (at-loop .loop .inv) (in-loop .loop-test .taken) _ _ _ (at-take-node .take-node .ensures) (c .enum-told .given .1), tt)
 
 same-length-5 : tie.Need-same-length-5 Inv-loop μ-loop
 same-length-5 c = c .before .loop .inv .long
@@ -78,15 +82,15 @@ gather-spec =
     returns
     loop-holds
     take-node-requires
-    enum-known-step
-    add-taken
-    loop-less
+    (search needs)  -- enum-known-step
+    (search needs)  -- add-taken
+    (search needs)  -- loop-less
     loop-again
-    enum-known-step-2
+    (search needs)  -- enum-known-step-2
     same-length
     same-length-2
     returns-2
-    enum-told
+    (search needs)  -- enum-told
     same-length-3
     same-length-4
     returns-3
