@@ -12,4 +12,6 @@ pub mod Polynomials
 pub mod Cramer
 pub mod Casting
 pub mod WholeBoards
+pub mod WholeMeshes
 pub mod Examples
+pub mod MeshExamples

@@ -76,7 +76,7 @@ is-none (hit n x) = false
 is-none none = true
 is-none (refused k) = false
 
-none-no-hit : (n : Vec3) (x : Float) → none ≡ hit n x → ⊥
+pub none-no-hit : (n : Vec3) (x : Float) → none ≡ hit n x → ⊥
 unfolding is-hit
 none-no-hit n x h = subst (λ (a : Answer). T (not (is-hit a))) h tt
 

@@ -1,3 +1,4 @@
 -- What is certain on whole millimetres. Definitions only. Assumes nothing.
 pub mod Points
 pub mod Board
+pub mod Boards
