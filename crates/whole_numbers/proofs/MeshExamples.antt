@@ -1,4 +1,4 @@
--- Three triangles with whole corners in a tree that no builder of ours would write: they meet what the mesh's promise asks, so that the one below the ray is hit. Assumes nothing.
+-- The promise for meshes at three triangles with whole corners, in a tree that no builder of ours would write. Assumes nothing.
 use mathlib.Core.Path.{_≡_, refl, subst}
 use mathlib.Core.Bool.{Bool, true, false}
 use mathlib.Core.List.{List, [], _∷_}
@@ -31,10 +31,10 @@ use Rattle.whole_numbers.proofs.WholeMeshes.{meshes-exact}
 -- ---- the mesh: one at height 0, one beside it, one below it
 abbrev vertices : List Float
 vertices =
-    o ∷ (o ∷ (o ∷ (i ∷ (o ∷ (o ∷ (o ∷ (i ∷ (o ∷ (ten ∷ (o ∷ (o ∷ (eleven ∷ (o ∷ (o ∷ (ten ∷ (i ∷ (o ∷ (o ∷ (o ∷ (lower ∷ (i ∷ (o ∷ (lower ∷ (o ∷ (i ∷ (lower ∷ []))))))))))))))))))))))))))
+    o ∷ o ∷ o ∷ i ∷ o ∷ o ∷ o ∷ i ∷ o ∷ ten ∷ o ∷ o ∷ eleven ∷ o ∷ o ∷ ten ∷ i ∷ o ∷ o ∷ o ∷ lower ∷ i ∷ o ∷ lower ∷ o ∷ i ∷ lower ∷ []
 
 abbrev mesh : Mesh
-mesh = record { vertices = vertices; triangles = 0 ∷ (1 ∷ (2 ∷ (3 ∷ (4 ∷ (5 ∷ (6 ∷ (7 ∷ (8 ∷ [])))))))) }
+mesh = record { vertices = vertices; triangles = 0 ∷ 1 ∷ 2 ∷ 3 ∷ 4 ∷ 5 ∷ 6 ∷ 7 ∷ 8 ∷ [] }
 
 -- down from a millimetre above its first corner
 abbrev ray : Ray

@@ -1,4 +1,4 @@
--- Meshes whose corners are drawn on whole millimetres, bored along an axis through a checked tree: what the mesh cast answers. Definitions only. Assumes nothing.
+-- Meshes with whole corners, bored along an axis through a checked tree: what the mesh cast answers. Definitions only. Assumes nothing.
 use Prim.Native.Nat.{ℕ, _+_, _*_, _^_, _≤_, _<_}
 use mathlib.Core.Path.{_≡_}
 use mathlib.Core.Bool.{true}
