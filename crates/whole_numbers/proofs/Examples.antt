@@ -22,6 +22,7 @@ use Rattle.casts.specs.Answer.{Answer, hit, none, refused}
 use Rattle.casts.specs.Triangle.{flat, triangleNormal, triangleAbove, triangleAt, triangleOf, rayTriangle}
 use Rattle.whole_numbers.specs.Points.{Point}
 use Rattle.whole_numbers.specs.Board.{Drawing, Board, Drawn, DrawnAt, Crossing, Inside, Outside, sum as far, downward, along, ExactOnWholeNumbers}
+use Rattle.whole_numbers.specs.Boards.{Met}
 use Rattle.whole_numbers.proofs.WholeBoards.{exact-on-whole-numbers}
 
 -- ---- a drawing as floats
@@ -97,10 +98,10 @@ is-negative (pos n) = false
 is-negative (negsuc n) = true
 
 -- ---- K4, four times as large, with a depth below the maximum: promised to be hit
-abbrev k4 : Drawing
+abbrev pub k4 : Drawing
 k4 = down (at (pos 1) (pos 1) (pos 4)) 5 (at (pos 4) (pos 0) (pos 0)) (at (pos 0) (pos 4) (pos 0))
 
-k4-board : Board (rayOf k4) (cornersOf k4) k4
+pub k4-board : Board (rayOf k4) (cornersOf k4) k4
 k4-board = board-of k4 (record {
   o = record { first = lit≤ tt; second = lit≤ tt; third = lit≤ tt };
   a = zeros;
@@ -114,19 +115,26 @@ k4-board = board-of k4 (record {
 k4-crossing : Crossing k4 4 (pos 1) (pos 1) (pos 16)
 k4-crossing = record { divisor = lit≤ tt; meets = refl }
 
+pub k4-met : Met k4 4 (pos 1) (pos 1) (pos 16)
+k4-met = record {
+  apart = λ (h : _≡_ {A = ℤ} (negsuc 15) (pos 0)). subst (λ (z : ℤ). T (is-negative z)) h tt;
+  crossing = k4-crossing;
+  inside = record { first = leZ-yes tt; second = leZ-yes tt; sum = ltZ-yes tt };
+  from-zero = leZ-yes tt;
+  below-maximum = ltZ-yes tt;
+}
+
 k4-hit : (normal : Vec3) × (distance : Float) × (rayTriangle (rayOf k4) (cornersOf k4) ≡ hit normal distance)
 k4-hit =
-    exact-on-whole-numbers (rayOf k4) (cornersOf k4) k4 k4-board .hits apart 4 (pos 1) (pos 1) (pos 16) k4-crossing
-    (record { first = leZ-yes tt; second = leZ-yes tt; sum = ltZ-yes tt }) (leZ-yes tt) (ltZ-yes tt)
-  where
-    apart : _≡_ {A = ℤ} (negsuc 15) (pos 0) → ⊥
-    apart h = subst (λ (z : ℤ). T (is-negative z)) h tt
+    let m = k4-met in
+    exact-on-whole-numbers (rayOf k4) (cornersOf k4) k4 k4-board .hits (m .apart) 4 (pos 1) (pos 1) (pos 16) (m .crossing)
+    (m .inside) (m .from-zero) (m .below-maximum)
 
 -- ---- K6, four times as large: promised to be missed
-abbrev k6 : Drawing
+abbrev pub k6 : Drawing
 k6 = down (at (pos 3) (pos 2) (pos 4)) 5 (at (pos 4) (pos 0) (pos 0)) (at (pos 0) (pos 4) (pos 0))
 
-k6-board : Board (rayOf k6) (cornersOf k6) k6
+pub k6-board : Board (rayOf k6) (cornersOf k6) k6
 k6-board = board-of k6 (record {
   o = record { first = lit≤ tt; second = lit≤ tt; third = lit≤ tt };
   a = zeros;
@@ -137,10 +145,12 @@ k6-board = board-of k6 (record {
   most = lit≤ tt;
 })
 
+pub k6-crossing : Crossing k6 4 (pos 3) (pos 2) (pos 16)
+k6-crossing = record { divisor = lit≤ tt; meets = refl }
+
 k6-none : rayTriangle (rayOf k6) (cornersOf k6) ≡ none
 k6-none =
-    exact-on-whole-numbers (rayOf k6) (cornersOf k6) k6 k6-board .outside 4 (pos 3) (pos 2) (pos 16)
-    (record { divisor = lit≤ tt; meets = refl }) (far (ltZ-yes tt))
+    exact-on-whole-numbers (rayOf k6) (cornersOf k6) k6 k6-board .outside 4 (pos 3) (pos 2) (pos 16) k6-crossing (far (ltZ-yes tt))
 
 -- ---- the open cases
 abbrev is-hit : Answer → Bool

@@ -15,3 +15,4 @@ pub mod WholeBoards
 pub mod WholeMeshes
 pub mod Examples
 pub mod MeshExamples
+pub mod WholeTold
