@@ -44,8 +44,7 @@ movedRay r origin = record {
   origin = subOf (r .origin) origin;
   direction = r .direction;
   «max_distance» = r .«max_distance»;
-  near = r
-      .near;
+  near = r .near;
 }
 
 -- "one that is not finite is 6, as that part's refusal"
