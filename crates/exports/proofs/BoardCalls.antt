@@ -15,7 +15,7 @@ use Rattle.merge.specs.Merge.{mergedCount, mergedOver, testsPass, mergeOf}
 use Rattle.merge.specs.Promises.{Glued}
 use Rattle.merge.proofs.MergePasses.{merged-trees-pass}
 use Rattle.merge.proofs.MergeCasts.{merged-casts-glue}
-use Rattle.exports.specs.Results.{Counted, doneCode}
+use Rattle.results.specs.Results.{Counted, doneCode}
 use Rattle.exports.specs.Boards.{toldMerged, MergeTold, mergeRefused, mergeTold}
 
 -- the node count as its place holds it

@@ -21,7 +21,7 @@ use Rattle.cabinet.specs.Parts.{Areas}
 use Rattle.cabinet.specs.Cabinet.{Answer, hitIn, noneAfter, refused, refusedAfter, castCabinet, testsPass, withResults}
 use Rattle.cabinet.specs.Steps.{isIdle, KeptByBoth, begun, turned, stepParts, passes, lastAnswer}
 use Rattle.cabinet.proofs.Passes.{tests-keep, passes-are-cabinet}
-use Rattle.exports.specs.Results.{hitCode, noneCode}
+use Rattle.results.specs.Results.{hitCode, noneCode}
 use Rattle.exports.specs.CabinetResults.{cabinetFits, CabinetTold, cabinetTold, toldCabinet}
 
 -- ---- result slices that fit have their places

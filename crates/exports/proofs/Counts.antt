@@ -15,7 +15,7 @@ use Rattle.tree_build.specs.Build.{Areas, Outcome, buildOf}
 use Rattle.tree_build.specs.Build as Build
 use Rattle.tree_query.specs.Query.{Queried, countsAdmitted, queryOf}
 use Rattle.tree_query.specs.Query as Query
-use Rattle.exports.specs.Results.{Counted, BuildTold, QueryTold, withRoom, shortOf, toldNodes, toldFound, buildTold, queryTold}
+use Rattle.results.specs.Results.{Counted, BuildTold, QueryTold, withRoom, shortOf, toldNodes, toldFound, buildTold, queryTold}
 use Rattle.exports.proofs.Kept.{room-there}
 
 -- ---- the build

@@ -14,7 +14,7 @@ use Rattle.mesh.specs.MeshCast.{shapeAdmitted, rayMesh}
 use Rattle.mesh.specs.Builder.{treeIn}
 use Rattle.mesh.proofs.Demand3.{demand3}
 use Rattle.mesh.proofs.BuildPasses.{built-trees-pass}
-use Rattle.exports.specs.Results.{BuildTold, doneCode, resultsFit, answeredMesh, toldNodes, toldVerdict, buildTold}
+use Rattle.results.specs.Results.{BuildTold, doneCode, resultsFit, answeredMesh, toldNodes, toldVerdict, buildTold}
 use Rattle.exports.specs.Demands.{MeshCallMeetsDemand, BuildCallPasses}
 use Rattle.exports.proofs.Kept.{room-there}
 

@@ -17,7 +17,7 @@ use Rattle.mesh.specs.MeshCast.{shapeAdmitted}
 use Rattle.mesh_hits.specs.Listing.{HitArea, Outcome, rayMeshAll}
 use Rattle.mesh_hits.specs.Promise.{KeepsPromises}
 use Rattle.mesh_hits.proofs.RefusalNumbers.{refusals-small}
-use Rattle.exports.specs.Results.{Counted, doneCode, toldFound}
+use Rattle.results.specs.Results.{Counted, doneCode, toldFound}
 use Rattle.exports.specs.AllHits.{ListingTold, withoutPlace, allTold, foundTold}
 
 module _ (r : Ray) (m : Mesh) (pose : List Float) (t : Tree) (list stack : ℕ) (area : HitArea) (place : List ℕ) where

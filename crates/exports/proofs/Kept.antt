@@ -6,7 +6,7 @@ use mathlib.Core.List.{List}
 use borrow.Author.Tests.{le-leb, lt-leb}
 use lib.Ieee.{Float}
 use lib.ListN.{length}
-use Rattle.exports.specs.Results.{withRoom, resultsFit}
+use Rattle.results.specs.Results.{withRoom, resultsFit}
 
 module _ (area : List Float) (place : List ℕ) where
   pub results-fit : 4 ≤ length area → 1 ≤ length place → resultsFit area place ≡ true

@@ -13,7 +13,7 @@ use Rattle.casts.specs.Nearest.{Indexed, stopped}
 use Rattle.tree.specs.Layout.{Tree}
 use Rattle.tree.specs.Mesh.{Mesh, thirds, lengthsAdmitted}
 use Rattle.mesh.specs.MeshCast.{shapeAdmitted, rayMesh}
-use Rattle.exports.specs.Results.{ToldIndexed, withRoom, shortOf, toldIndexed, resultsFit, answeredMesh}
+use Rattle.results.specs.Results.{ToldIndexed, withRoom, shortOf, toldIndexed, resultsFit, answeredMesh}
 use Rattle.exports.proofs.Kept.{room-there}
 
 module _ (area : List Float) (place : List ℕ) where

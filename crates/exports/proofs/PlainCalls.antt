@@ -13,7 +13,7 @@ use Rattle.casts.specs.Nearest.{Indexed, stopped}
 use Rattle.tree.specs.Mesh.{Mesh, lengthsAdmitted}
 use Rattle.mesh_plain.specs.PlainCast.{plainCast, rayMeshPlain}
 use Rattle.mesh_plain.proofs.Agreement.{agrees-with-trees}
-use Rattle.exports.specs.Results.{ToldIndexed, toldIndexed, resultsFit}
+use Rattle.results.specs.Results.{ToldIndexed, toldIndexed, resultsFit}
 use Rattle.exports.specs.Plain.{toldNumber, plainTold, ToldByTrees}
 use Rattle.exports.proofs.Kept.{results-fit}
 

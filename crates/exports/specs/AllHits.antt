@@ -13,7 +13,7 @@ use Rattle.tree.specs.Mesh.{Mesh}
 use Rattle.tree_query.specs.Query as Query
 use Rattle.mesh.specs.MeshCast.{shapeAdmitted}
 use Rattle.mesh_hits.specs.Listing.{HitArea, rayMeshAll}
-use Rattle.exports.specs.Results.{doneCode, Counted, toldFound}
+use Rattle.results.specs.Results.{doneCode, Counted, toldFound}
 
 -- the number and the slice of the count, and the hit area
 pub record ListingTold : Type 0 where

@@ -7,7 +7,7 @@ use lib.ListN.{length}
 use lib.Seq.{sets}
 use Rattle.casts.specs.Answer.{badShape, noRoom}
 use Rattle.merge.specs.Merge.{Answer, nodes, refused, Board, Areas, shapesAdmitted, mergeOf}
-use Rattle.exports.specs.Results.{Counted, doneCode}
+use Rattle.results.specs.Results.{Counted, doneCode}
 
 unfoldable pub toldMerged : Answer → List ℕ → Counted
 toldMerged (nodes count) place = record { number = doneCode; count = sets place 0 (count ∷ []) }

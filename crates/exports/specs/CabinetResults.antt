@@ -6,7 +6,7 @@ use lib.Dec.{leb}
 use lib.Ieee.{Float}
 use lib.Seq.{sets}
 use Rattle.cabinet.specs.Cabinet.{Answer, hitIn, noneAfter, refused, refusedAfter}
-use Rattle.exports.specs.Results.{hitCode, noneCode}
+use Rattle.results.specs.Results.{hitCode, noneCode}
 
 -- the lengths of the result slices hit, index, part and spent
 unfoldable pub cabinetFits : ℕ → ℕ → ℕ → ℕ → Bool

@@ -15,7 +15,7 @@ use Rattle.tree_build.specs.Build.{Areas, nodes, buildOf}
 use Rattle.tree_check.specs.Verdict.{checkOf}
 use Rattle.mesh.specs.Demand3.{Admitted, MeetsDemand}
 use Rattle.mesh.specs.Builder.{treeIn}
-use Rattle.exports.specs.Results.{ToldIndexed, toldIndexed, resultsFit, answeredMesh, toldVerdict, yesCode, doneCode, buildTold}
+use Rattle.results.specs.Results.{ToldIndexed, toldIndexed, resultsFit, answeredMesh, toldVerdict, yesCode, doneCode, buildTold}
 
 -- what is told says an answer that meets the demand
 pub record TellsDemand (r : Ray) (m : Mesh) (area : List Float) (place : List ℕ) (told : ToldIndexed) : Type 0 where

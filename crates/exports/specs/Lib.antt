@@ -1,5 +1,4 @@
 -- What the calls for other languages answer and write. Definitions only. Assumes nothing.
-pub mod Results
 pub mod Plain
 pub mod Demands
 pub mod Ranges

@@ -13,7 +13,7 @@ use Rattle.tree.specs.Mesh.{Mesh, lengthsAdmitted}
 use Rattle.mesh.specs.MeshCast.{roomFor, rayMesh}
 use Rattle.mesh.specs.Demand3.{PassesCheck}
 use Rattle.mesh_plain.specs.PlainCast.{plainCast}
-use Rattle.exports.specs.Results.{ToldIndexed, toldIndexed, resultsFit}
+use Rattle.results.specs.Results.{ToldIndexed, toldIndexed, resultsFit}
 
 -- a refusal's number, and nothing written
 abbrev pub toldNumber : ℕ → List Float → List ℕ → ToldIndexed

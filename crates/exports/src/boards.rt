@@ -1,4 +1,3 @@
-use crate::results;
 use casts::answer;
 use merge::merging;
 use merge::merging::Merged;
@@ -11,7 +10,7 @@ ghost use lib.ListN.{length};
 ghost use Rattle.tree.specs.Layout.{wordAt};
 ghost use Rattle.merge.specs.Merge.{says, boardOf, areasOf, testsPass};
 ghost use Rattle.merge.specs.Promises.{Glued};
-ghost use Rattle.exports.specs.Results.{doneCode};
+ghost use Rattle.results.specs.Results.{doneCode};
 ghost use Rattle.exports.specs.Boards.{toldMerged, mergeTold};
 
 // The merge's answer as its number, the node count written. Callers show that its place is there.

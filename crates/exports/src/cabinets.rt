@@ -1,4 +1,3 @@
-use crate::results;
 use cabinet::part::Found;
 use cabinet::part::Part;
 use cabinet::part::State;
@@ -12,7 +11,7 @@ ghost use lib.ListN.{length};
 ghost use Rattle.cabinet.specs.Cabinet.{castCabinet, testsPass, withResults};
 ghost use Rattle.cabinet.specs.Promises.{Passes, LimitPromises};
 ghost use Rattle.cabinet.specs.Steps.{areas, begun, lastAnswer};
-ghost use Rattle.exports.specs.Results.{rayFrom};
+ghost use Rattle.results.specs.Results.{rayFrom};
 ghost use Rattle.exports.specs.CabinetResults.{cabinetFits, cabinetTold, toldCabinet};
 
 // Whether the result slices, by their lengths, hold an answer.

@@ -1,4 +1,3 @@
-use crate::results;
 use casts::answer;
 use geometry::ray::Ray;
 use geometry::vec3::Vec3;
@@ -14,7 +13,7 @@ ghost use Rattle.tree_query.specs.Areas.{treeOf};
 ghost use Rattle.mesh.specs.MeshCast.{mesh, testsPass};
 ghost use Rattle.mesh_hits.specs.Listing.{hitArea};
 ghost use Rattle.mesh_hits.specs.Promise.{KeepsPromises};
-ghost use Rattle.exports.specs.Results.{rayFrom};
+ghost use Rattle.results.specs.Results.{rayFrom};
 ghost use Rattle.exports.specs.AllHits.{withoutPlace, allTold, foundTold};
 
 // What is answered where the place of the count is missing: 1 and 2 go before that 3.

@@ -1,4 +1,3 @@
-use crate::results;
 use casts::answer;
 use geometry::aabb::Aabb;
 use geometry::ray::Ray;
@@ -20,7 +19,7 @@ ghost use Rattle.tree_query.specs.Areas.{treeOf};
 ghost use Rattle.tree_query.specs.Query.{countsAdmitted, testsPass as queryTestsPass};
 ghost use Rattle.tree_check.specs.Verdict.{checkOf, marksAfter};
 ghost use Rattle.mesh.specs.MeshCast.{mesh, testsPass};
-ghost use Rattle.exports.specs.Results.{rayFrom, rayOf, boxOf, shortOf, resultsFit, answeredMesh, buildTold, queryTold, toldVerdict};
+ghost use Rattle.results.specs.Results.{rayFrom, rayOf, boxOf, shortOf, resultsFit, answeredMesh, buildTold, queryTold, toldVerdict};
 
 // The mesh cast's number where a result slice is too short: 1 and 2 go before 3.
 fn short_cast(ray: Ray, vertices: usize, triangles: usize, pose: usize, nodes: usize) -> u32

@@ -1,4 +1,3 @@
-use crate::results;
 use casts::plane;
 use casts::plane::Plane;
 use casts::triangle;
@@ -13,7 +12,7 @@ ghost use Rattle.casts.specs.Plane.{rayPlane};
 ghost use Rattle.casts.specs.Triangle.{rayTriangle};
 ghost use Rattle.height_field.specs.Cast.{rayHeightField};
 ghost use Rattle.level_set.specs.Walk.{rayLevelSet};
-ghost use Rattle.exports.specs.Results.{rayFrom, planeOf, cornersOf, fieldOf, gridOf, answered};
+ghost use Rattle.results.specs.Results.{rayFrom, planeOf, cornersOf, fieldOf, gridOf, answered};
 
 // The cast by its numbers, the near distance among them: one function for both calls, so that the cast is compiled into it.
 pub fn told_plane(

@@ -1,10 +1,9 @@
-use crate::results;
 use casts::answer;
 use mesh_plain::cast;
 use tree::mesh as triangle_mesh;
 ghost use mathlib.Core.Path.{_≡_};
 ghost use Rattle.mesh.specs.MeshCast.{mesh};
-ghost use Rattle.exports.specs.Results.{rayFrom};
+ghost use Rattle.results.specs.Results.{rayFrom};
 ghost use Rattle.exports.specs.Plain.{plainTold, ToldByTrees};
 
 // The mesh cast without a tree, and without a work area.

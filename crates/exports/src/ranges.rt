@@ -1,11 +1,10 @@
-use crate::results;
 use casts::answer as refusals;
 use height_field::field::Field;
 use height_ranges::answer::Clearance;
 use height_ranges::cast;
 ghost use mathlib.Core.Path.{_≡_};
 ghost use Rattle.height_ranges.specs.RangesCast.{rayHeightRanges};
-ghost use Rattle.exports.specs.Results.{rayFrom, fieldOf};
+ghost use Rattle.results.specs.Results.{rayFrom, fieldOf};
 ghost use Rattle.exports.specs.Ranges.{shortNumber, answeredCell, KeepsPromise};
 
 // No grid within the ranges is touched, or one may be.

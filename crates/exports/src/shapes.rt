@@ -4,7 +4,7 @@ ghost use Rattle.casts.specs.Plane.{rayPlane};
 ghost use Rattle.casts.specs.Triangle.{rayTriangle};
 ghost use Rattle.height_field.specs.Cast.{rayHeightField};
 ghost use Rattle.level_set.specs.Walk.{rayLevelSet};
-ghost use Rattle.exports.specs.Results.{version, rayOf, planeOf, cornersOf, fieldOf, gridOf, answered};
+ghost use Rattle.results.specs.Results.{version, rayOf, planeOf, cornersOf, fieldOf, gridOf, answered};
 
 // The version of these calls: it changes when one of them does.
 #[no_mangle]

@@ -17,7 +17,7 @@ use Rattle.geometry.specs.declared.ray.Ray.{Ray}
 use Rattle.casts.specs.Answer.{Answer, hit, none, refused}
 use Rattle.casts.specs.Triangle.{rayTriangle}
 use Rattle.tree.specs.Layout.{numberAt}
-use Rattle.exports.specs.Results.{Told, rayFrom, rayOf, cornersOf, hitCode, noneCode, told, answered}
+use Rattle.results.specs.Results.{Told, rayFrom, rayOf, cornersOf, hitCode, noneCode, told, answered}
 use Rattle.whole_numbers.specs.Board.{Drawing, Drawn, Board, Crossing, Within, sum as far, ExactOnWholeNumbers}
 use Rattle.whole_numbers.specs.Boards.{Met, Missed, parallel, outside, behind, beyond}
 use Rattle.whole_numbers.specs.Told.{Says, ToldExact, NearCallExact, CallExact}

@@ -3,7 +3,7 @@ use mathlib.Core.Path.{_≡_, ap, _∙_}
 use mathlib.Core.Bool.{Bool}
 use Rattle.cabinet.specs.declared.part.State.{State}
 use Rattle.cabinet.specs.Steps.{begun}
-use Rattle.exports.specs.Results.{rayFrom}
+use Rattle.results.specs.Results.{rayFrom}
 use borrow.Author.Needs.{needs}
 use Rattle.exports.proofs.cabinets.begin.Statement.{statement}
 use Rattle.exports.proofs.cabinets.begin.Tie as tie

@@ -60,7 +60,7 @@ use Rattle.cabinet.proofs.pass.cast_twice as step
 use Rattle.cabinet.proofs.pass.cast_twice.Symbol as step-def
 use Rattle.cabinet.proofs.pass.cast_twice.Symbol.{name as #step}
 use Rattle.cabinet.proofs.pass.cast_twice.Met as step-thm
-use Rattle.exports.specs.Results.{rayFrom}
+use Rattle.results.specs.Results.{rayFrom}
 use Rattle.exports.specs.CabinetResults.{cabinetFits, cabinetTold, toldCabinet}
 use Rattle.exports.proofs.CabinetAnswers.{cabinet-answers, cabinet-keeps}
 use Rattle.exports.proofs.cabinets.begin as first

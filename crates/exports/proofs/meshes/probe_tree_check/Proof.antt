@@ -1,6 +1,6 @@
 -- `exports::meshes::probe_tree_check` meets its contract. Assumes nothing.
 use mathlib.Core.Path.{sym}
-use Rattle.exports.specs.Results.{toldVerdict}
+use Rattle.results.specs.Results.{toldVerdict}
 use borrow.Author.Needs.{needs}
 use Rattle.exports.proofs.meshes.probe_tree_check.Statement.{statement}
 use Rattle.exports.proofs.meshes.probe_tree_check.Tie as tie

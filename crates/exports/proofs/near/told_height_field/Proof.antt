@@ -2,8 +2,8 @@
 use borrow.Author.Needs.{needs}
 use Rattle.exports.proofs.near.told_height_field.Statement.{statement}
 use Rattle.exports.proofs.near.told_height_field.Tie as tie
-use Rattle.exports.proofs.results.put_answer.Reads as put-answer-reads
-use Rattle.exports.proofs.results.ray_from.Reads as ray-from-reads
+use Rattle.results.proofs.put_answer.Reads as put-answer-reads
+use Rattle.results.proofs.ray_from.Reads as ray-from-reads
 use Rattle.height_field.proofs.cast.ray_height_field.Reads as ray-height-field-reads
 
 ray-from-requires : tie.Need-ray-from-requires

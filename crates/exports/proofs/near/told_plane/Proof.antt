@@ -3,8 +3,8 @@ use borrow.Author.Needs.{needs}
 use Rattle.exports.proofs.near.told_plane.Statement.{statement}
 use Rattle.exports.proofs.near.told_plane.Tie as tie
 use Rattle.casts.proofs.plane.ray_plane.Reads as ray-plane-reads
-use Rattle.exports.proofs.results.put_answer.Reads as put-answer-reads
-use Rattle.exports.proofs.results.ray_from.Reads as ray-from-reads
+use Rattle.results.proofs.put_answer.Reads as put-answer-reads
+use Rattle.results.proofs.ray_from.Reads as ray-from-reads
 
 ray-from-requires : tie.Need-ray-from-requires
 ray-from-requires c κs = search needs

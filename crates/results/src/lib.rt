@@ -1,3 +1,5 @@
+// The codes of the calls for C, C++ and Rust, and how an answer goes into the lent result slices.
+
 use casts::answer;
 use casts::answer::Cast;
 use casts::nearest::IndexedCast;
@@ -19,7 +21,7 @@ ghost use Rattle.tree.specs.Mesh.{lengthsAdmitted};
 ghost use Rattle.tree_build.specs.Build.{says as saysBuilt};
 ghost use Rattle.tree_check.specs.Verdict.{says as saysVerdict};
 ghost use Rattle.tree_query.specs.Query.{saysListed};
-ghost use Rattle.exports.specs.Results.{rayFrom, shortNumber, answered, toldIndexed, toldNodes, toldFound, toldVerdict};
+ghost use Rattle.results.specs.Results.{rayFrom, shortNumber, answered, toldIndexed, toldNodes, toldFound, toldVerdict};
 
 // What a call answers where it does not refuse. Refusals, document 02's among them, stay below 256.
 pub const HIT: u32 = 256;

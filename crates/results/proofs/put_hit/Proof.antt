@@ -1,10 +1,10 @@
--- `exports::results::put_hit` meets its contract. Assumes nothing.
+-- `results::put_hit` meets its contract. Assumes nothing.
 use native.Mathlib.Omega.{arith}
 use lib.ListN.{length-set}
 use mathlib.Core.Path.{refl}
 use borrow.Author.Needs.{needs}
-use Rattle.exports.proofs.results.put_hit.Statement.{statement}
-use Rattle.exports.proofs.results.put_hit.Tie as tie
+use Rattle.results.proofs.put_hit.Statement.{statement}
+use Rattle.results.proofs.put_hit.Tie as tie
 
 slice-write-hit : tie.Need-slice-write-hit
 slice-write-hit c = search needs

@@ -1,8 +1,8 @@
--- `exports::results::verdict_number` meets its contract. Assumes nothing.
-use Rattle.exports.specs.Results.{toldVerdict}
+-- `results::verdict_number` meets its contract. Assumes nothing.
+use Rattle.results.specs.Results.{toldVerdict}
 use borrow.Author.Needs.{needs}
-use Rattle.exports.proofs.results.verdict_number.Statement.{statement}
-use Rattle.exports.proofs.results.verdict_number.Tie as tie
+use Rattle.results.proofs.verdict_number.Statement.{statement}
+use Rattle.results.proofs.verdict_number.Tie as tie
 
 enum-told : tie.Need-enum-told
 enum-told c = search needs

@@ -1,9 +1,9 @@
--- `exports::results::short_number` meets its contract. Assumes nothing.
+-- `results::short_number` meets its contract. Assumes nothing.
 use borrow.Author.Tests.{lt-ltb, le-ltb}
-use Rattle.exports.specs.Results.{shortNumber}
+use Rattle.results.specs.Results.{shortNumber}
 use borrow.Author.Needs.{needs}
-use Rattle.exports.proofs.results.short_number.Statement.{statement}
-use Rattle.exports.proofs.results.short_number.Tie as tie
+use Rattle.results.proofs.short_number.Statement.{statement}
+use Rattle.results.proofs.short_number.Tie as tie
 
 enum-told : tie.Need-enum-told
 enum-told c = search needs

@@ -1,8 +1,8 @@
--- `exports::results::put_indexed` meets its contract. Assumes nothing.
-use Rattle.exports.specs.Results.{toldIndexed}
+-- `results::put_indexed` meets its contract. Assumes nothing.
+use Rattle.results.specs.Results.{toldIndexed}
 use borrow.Author.Needs.{needs}
-use Rattle.exports.proofs.results.put_indexed.Statement.{statement}
-use Rattle.exports.proofs.results.put_indexed.Tie as tie
+use Rattle.results.proofs.put_indexed.Statement.{statement}
+use Rattle.results.proofs.put_indexed.Tie as tie
 
 enum-known-answer : tie.Need-enum-known-answer
 enum-known-answer c = search needs

@@ -1,9 +1,9 @@
--- `exports::results::short_build` meets its contract. Assumes nothing.
+-- `results::short_build` meets its contract. Assumes nothing.
 use mathlib.Core.Path.{sym, _∙_}
 use borrow.Author.Tests.{not-true, not-false}
 use borrow.Author.Needs.{needs}
-use Rattle.exports.proofs.results.short_build.Statement.{statement}
-use Rattle.exports.proofs.results.short_build.Tie as tie
+use Rattle.results.proofs.short_build.Statement.{statement}
+use Rattle.results.proofs.short_build.Tie as tie
 
 returns : tie.Need-returns
 returns c = simp (sym (c .before .lengths-admitted .ensures) ∙ not-true (c .before .lengths-admitted .result) (c .if1 .taken))

@@ -1,8 +1,8 @@
--- `exports::results::put_found` meets its contract. Assumes nothing.
-use Rattle.exports.specs.Results.{toldFound}
+-- `results::put_found` meets its contract. Assumes nothing.
+use Rattle.results.specs.Results.{toldFound}
 use borrow.Author.Needs.{needs}
-use Rattle.exports.proofs.results.put_found.Statement.{statement}
-use Rattle.exports.proofs.results.put_found.Tie as tie
+use Rattle.results.proofs.put_found.Statement.{statement}
+use Rattle.results.proofs.put_found.Tie as tie
 
 enum-known-listed : tie.Need-enum-known-listed
 enum-known-listed c = search needs

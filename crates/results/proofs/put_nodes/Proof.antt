@@ -1,8 +1,8 @@
--- `exports::results::put_nodes` meets its contract. Assumes nothing.
-use Rattle.exports.specs.Results.{toldNodes}
+-- `results::put_nodes` meets its contract. Assumes nothing.
+use Rattle.results.specs.Results.{toldNodes}
 use borrow.Author.Needs.{needs}
-use Rattle.exports.proofs.results.put_nodes.Statement.{statement}
-use Rattle.exports.proofs.results.put_nodes.Tie as tie
+use Rattle.results.proofs.put_nodes.Statement.{statement}
+use Rattle.results.proofs.put_nodes.Tie as tie
 
 enum-known-built : tie.Need-enum-known-built
 enum-known-built c = search needs

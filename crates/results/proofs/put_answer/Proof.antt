@@ -1,9 +1,9 @@
--- `exports::results::put_answer` meets its contract. Assumes nothing.
+-- `results::put_answer` meets its contract. Assumes nothing.
 use borrow.Author.Tests.{le-leb, lt-leb}
-use Rattle.exports.specs.Results.{answered, told}
+use Rattle.results.specs.Results.{answered, told}
 use borrow.Author.Needs.{needs}
-use Rattle.exports.proofs.results.put_answer.Statement.{statement}
-use Rattle.exports.proofs.results.put_answer.Tie as tie
+use Rattle.results.proofs.put_answer.Statement.{statement}
+use Rattle.results.proofs.put_answer.Tie as tie
 
 short-number-requires : tie.Need-short-number-requires
 short-number-requires c κs = search needs

@@ -1,0 +1,1 @@
+-- No law stands here; each function has its proof. Assumes nothing.
