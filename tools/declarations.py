@@ -23,6 +23,7 @@ import sys
 import tempfile
 
 RATTLE = "crates/exports/src"
+CODES = "crates/results/src/lib.rt"
 REFUSALS = ["crates/casts/src/answer.rt", "crates/height_ranges/src/answer.rt", "crates/cabinet/src/cast.rt"]
 STRUCTS = ["crates/cabinet/src/part.rt", "crates/geometry/src/vec3.rt"]
 AREAS = "crates/tree/src/lib.rt"
@@ -202,7 +203,7 @@ def read(folder):
         path: re.sub(r"/\*.*?\*/", "", (folder / path).read_text(), flags=re.S)
         for path in [*REFUSALS, AREAS, HEADER, RUST, LENGTHS] + STRUCTS
     }
-    source = "\n".join(path.read_text() for path in sorted((folder / RATTLE).glob("*.rt")))
+    source = "\n".join(path.read_text() for path in [*sorted((folder / RATTLE).glob("*.rt")), folder / CODES])
     plain = re.sub(r"//.*", "", source)
     rust = re.sub(r"//.*", "", text[RUST])
 
@@ -331,7 +332,7 @@ FAULTS = [
     (RATTLE + "/shapes.rt", "{\n    2\n}", "{\n    1\n}"),
     (RATTLE + "/meshes.rt", "fn probe_query(", "fn probe_list("),
     (RATTLE + "/meshes.rt", "#[no_mangle]\n", ""),
-    (RATTLE + "/results.rt", "pub const NO: u32 = 259;", "pub const NO: u32 = 258;"),
+    (CODES, "pub const NO: u32 = 259;", "pub const NO: u32 = 258;"),
     (REFUSALS[0], "pub const WRONG_POSE: u32 = 4;", "pub const WRONG_POSE: u32 = 9;"),
     (AREAS, "| 12n ", "| 10n "),
     (HEADER, "const probe_part *parts,", "probe_part *parts,"),
@@ -355,7 +356,7 @@ def self_test(folder, loud):
     for file, old, new in [(HEADER, "", "")] + FAULTS:
         with tempfile.TemporaryDirectory() as name:
             copy = pathlib.Path(name)
-            for path in [RATTLE, *REFUSALS, AREAS, HEADER, RUST, LENGTHS] + STRUCTS:
+            for path in [RATTLE, CODES, *REFUSALS, AREAS, HEADER, RUST, LENGTHS] + STRUCTS:
                 (copy / path).parent.mkdir(parents=True, exist_ok=True)
                 if (folder / path).is_dir():
                     shutil.copytree(folder / path, copy / path)
