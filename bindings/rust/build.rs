@@ -1,24 +1,43 @@
-//! Links the static library that `rt staticlib exports` writes.
-//! It is looked for in the folder that PROBE_RAYS_LIB names, else in the repository's target/staticlib.
+//! Links the static library: the one that `rt staticlib exports` writes in the repository, or that of an installed folder.
+//! It is looked for in the folder that PROBE_RAYS_LIB names, else in the repository's target/staticlib, else in the folder
+//! of libraries that this crate was installed with.
 use std::env;
-use std::path::PathBuf;
+use std::path::{Path, PathBuf};
+use std::process::exit;
+
+/// The library as it is called where it was installed, and where it was built.
+const NAMES: [&str; 2] = ["probe_rays", "exports"];
 
 fn main() {
     println!("cargo:rerun-if-env-changed=PROBE_RAYS_LIB");
-    let folder = match env::var_os("PROBE_RAYS_LIB") {
-        Some(folder) => PathBuf::from(folder),
-        None => {
-            PathBuf::from(env::var_os("CARGO_MANIFEST_DIR").unwrap()).join("../../target/staticlib")
-        }
+    let here = PathBuf::from(env::var_os("CARGO_MANIFEST_DIR").unwrap());
+    let folders = match env::var_os("PROBE_RAYS_LIB") {
+        Some(folder) => vec![PathBuf::from(folder)],
+        None => vec![
+            here.join("../../target/staticlib"),
+            here.join("../../../lib"),
+        ],
     };
-    let archive = folder.join("libexports.a");
-    if !archive.exists() {
-        panic!(
-            "{} is not there: run `rt staticlib exports` in the repository first",
-            archive.display()
-        );
-    }
-    println!("cargo:rerun-if-changed={}", archive.display());
+    let found = folders.iter().find_map(|folder| {
+        NAMES
+            .iter()
+            .find(|name| archive(folder, name).exists())
+            .map(|name| (folder, name))
+    });
+    let Some((folder, name)) = found else {
+        // no panic: its last line would be a note on backtraces, and the last line is what is read
+        eprintln!("error: the library for the crate probe-rays is not there, neither libprobe_rays.a nor libexports.a, in");
+        for folder in &folders {
+            eprintln!("  {}", folder.display());
+        }
+        eprintln!("help: run `rt staticlib exports` in the repository, or set PROBE_RAYS_LIB to the folder of libprobe_rays.a");
+        exit(1);
+    };
+    println!("cargo:rerun-if-changed={}", archive(folder, name).display());
     println!("cargo:rustc-link-search=native={}", folder.display());
-    println!("cargo:rustc-link-lib=static=exports");
+    println!("cargo:rustc-link-lib=static={name}");
+}
+
+fn archive(folder: &Path, name: &str) -> PathBuf {
+    folder.join(format!("lib{name}.a"))
 }

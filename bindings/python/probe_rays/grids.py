@@ -1,0 +1,53 @@
+"""Height grids, heights within ranges, and distance grids."""
+from ._arrays import lent, owned, zeros
+from ._library import CLEAR, POSSIBLE, library
+from .answers import Possible, Refused
+from .ray import cast_at_shape
+
+
+class HeightField:
+    """Heights over a grid: that of row r and column c stands over x = c * spacing[0], y = r * spacing[1]. The heights are
+    rows of numbers, or flat, row after row."""
+
+    def __init__(self, heights, rows, columns, spacing):
+        self._heights = owned(heights, "d", columns, "heights")
+        self._shape = (rows, columns, *spacing)
+
+    def cast(self, ray):
+        """The nearest Hit, whose normal faces the ray, or None. Raises Refused with 1, 2, 5, 6 or 7."""
+        return cast_at_shape(library.probe_ray_height_field_near, ray, *self._shape, *lent(self._heights))
+
+
+class HeightRanges:
+    """The same grid where only a low and a high are known for each height."""
+
+    def __init__(self, lows, highs, rows, columns, spacing):
+        self._lows, self._highs = owned(lows, "d", columns, "lows"), owned(highs, "d", columns, "highs")
+        self._shape = (rows, columns, *spacing)
+
+    def cast(self, ray):
+        """None where the height cast is none on every grid within the ranges, else Possible, the first cell in which one may
+        be met. Raises Refused with 1, 2, 6 or 9."""
+        cell = zeros("I", 1)
+        answer = library.probe_ray_height_ranges(
+            *ray.numbers(), *self._shape, *lent(self._lows), *lent(self._highs), *lent(cell)
+        )
+        if answer == CLEAR:
+            return None
+        if answer == POSSIBLE:
+            return Possible(cell[0])
+        raise Refused(answer)
+
+
+class LevelSet:
+    """Distances from a surface over a grid: that of node (i, j, k) stands at origin + (i, j, k) * spacing, and at place
+    (k * sides[1] + j) * sides[0] + i of the values, which are flat, or rows along x."""
+
+    def __init__(self, values, sides, origin, spacing):
+        self._values = owned(values, "d", sides[0], "values")
+        self._shape = (*sides, *origin, *spacing)
+
+    def cast(self, ray):
+        """The Hit at the surface, or None. Its normal points to where the distances grow, and is not turned towards the ray.
+        Raises Refused with 1, 2, 5, 6 or 8."""
+        return cast_at_shape(library.probe_ray_level_set_near, ray, *self._shape, *lent(self._values))

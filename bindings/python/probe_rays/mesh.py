@@ -1,0 +1,266 @@
+"""Meshes, with a tree and without."""
+import threading
+from array import array
+from typing import NamedTuple
+
+from ._arrays import lent, owned, read_only, shaped, zeros
+from ._library import DONE, HIT, MAX_COUNT, NO, NONE, YES, library
+from .answers import Casts, MeshHit, Refused, TreeDoesNotFit, settled
+from .stl import read_stl
+
+
+class Tree(NamedTuple):
+    """A tree, from whatever builder. The table in probe_rays.h says how long each area is and what it holds."""
+
+    nodes: int
+    node_boxes: object
+    triangle_boxes: object
+    node_words: object
+    order: object
+
+
+def _tree_owned(tree):
+    return Tree(
+        tree.nodes,
+        owned(tree.node_boxes, "d", 6, "node boxes"),
+        owned(tree.triangle_boxes, "d", 6, "triangle boxes"),
+        owned(tree.node_words, "I", 3, "node words"),
+        owned(tree.order, "I", 1, "order"),
+    )
+
+
+def _with_room(n):
+    """The areas of a tree of n triangles, all zeros. Of too many the library refuses whatever the areas, so none are made."""
+    n = n if n <= MAX_COUNT else 0
+    return Tree(0, zeros("d", 12 * n), zeros("d", 6 * n), zeros("I", 6 * n), zeros("I", n))
+
+
+def _areas(tree):
+    return (*lent(tree.node_boxes), *lent(tree.triangle_boxes), *lent(tree.node_words), *lent(tree.order))
+
+
+def _vertices(values):
+    return owned(values, "d", 3, "vertices")
+
+
+def _triangles(values):
+    return owned(values, "I", 3, "triangles")
+
+
+def _passes(vertices, triangles, tree):
+    n = len(triangles) // 3
+    marks = zeros("I", 3 * n if n <= MAX_COUNT else 0)
+    answer = library.probe_tree_check(*lent(vertices), *lent(triangles), tree.nodes, *_areas(tree), *lent(marks))
+    if answer not in (YES, NO):
+        raise Refused(answer)
+    return answer == YES
+
+
+def tree_check(vertices, triangles, tree):
+    """Whether a tree, from whatever builder, fits a mesh. Raises Refused with 2 or 3."""
+    return _passes(_vertices(vertices), _triangles(triangles), _tree_owned(tree))
+
+
+class _Scratch:
+    """The work areas and result places of one thread's casts at one mesh."""
+
+    def __init__(self, n, nodes):
+        self.list, self.stack = zeros("I", n), zeros("I", nodes + 1)
+        self.hit, self.index = zeros("d", 4), zeros("I", 1)
+        self.work = (*lent(self.list), *lent(self.stack))
+        self.results = (*lent(self.hit), *lent(self.index))
+
+
+def _rays(origins, directions, max_distance, near_distance):
+    """Eight numbers a ray, of arrays of which any may be one for all rays."""
+    origins, directions = owned(origins, "d", 3, "origins"), owned(directions, "d", 3, "directions")
+    maxima = owned(max_distance if hasattr(max_distance, "__iter__") else [max_distance], "d", 1, "maximum distances")
+    nears = owned(near_distance if hasattr(near_distance, "__iter__") else [near_distance], "d", 1, "near distances")
+    if len(origins) % 3 or len(directions) % 3:
+        raise ValueError("an origin, and a direction, is three numbers")
+    counts = {"origins": len(origins) // 3, "directions": len(directions) // 3, "maxima": len(maxima), "nears": len(nears)}
+    count = counts["origins"]
+    for what, many in counts.items():
+        if many not in (1, count):
+            raise ValueError(f"{count} origins, and {many} {what}: as many are asked for, or one")
+    one_direction, one_maximum, one_near = len(directions) == 3, len(maxima) == 1, len(nears) == 1
+    for ray in range(count):
+        at = 0 if one_direction else 3 * ray
+        yield (
+            *origins[3 * ray : 3 * ray + 3],
+            *directions[at : at + 3],
+            maxima[0 if one_maximum else ray],
+            nears[0 if one_near else ray],
+        )
+
+
+def _cast_many(cast, hit, index, rays, refused):
+    """The answers of a cast that takes eight numbers and writes its hit and index."""
+    if refused not in ("raise", "keep"):
+        raise ValueError("refused: 'raise' or 'keep'")
+    answers, distances, normals, triangles = array("I"), array("d"), array("d"), array("I")
+    for ray, numbers in enumerate(rays):
+        answer = cast(numbers)
+        if answer != HIT and answer != NONE and refused == "raise":
+            raise Refused(answer, ray=ray)
+        distance, normal, triangle = Casts.fill(answer, hit, index)
+        answers.append(answer)
+        distances.append(distance)
+        normals.extend(normal)
+        triangles.append(triangle)
+    return Casts(answers, distances, normals, triangles)
+
+
+def _mesh_hit(hit, index):
+    x, y, z, distance = hit
+    return MeshHit(distance, (x, y, z), index[0])
+
+
+class PlainMesh:
+    """A mesh without a tree, for parts of few triangles: nothing is built, and a cast looks at every triangle. That it answers
+    what Mesh.cast answers, refusals included, is proved."""
+
+    def __init__(self, vertices, triangles):
+        self._vertices, self._triangles = _vertices(vertices), _triangles(triangles)
+        self._fixed = (*lent(self._vertices), *lent(self._triangles))
+
+    def cast(self, ray):
+        """The nearest MeshHit, of equally near ones that of the lowest index, or None. Raises Refused with 1, 2, 5, 6 or 7."""
+        hit, index = zeros("d", 4), zeros("I", 1)
+        answer = library.probe_ray_mesh_plain(*ray.numbers(), *self._fixed, *lent(hit), *lent(index))
+        return settled(answer, lambda: _mesh_hit(hit, index))
+
+    def build(self):
+        """The same mesh with a tree."""
+        return Mesh(self._vertices, self._triangles)
+
+
+class Mesh:
+    """A mesh and a tree that fits it: built here, or somebody else's that passed the check. So a cast at the mesh's own
+    vertices misses no triangle whose box touches that of the ray's segment. Neither can be changed; threads may share it.
+
+    Raises Refused with 2 (more than 65,536 vertices or triangles), 5 (no triangle, an index past the vertices, a triangle whose
+    box is not finite) or 6."""
+
+    def __init__(self, vertices, triangles):
+        vertices, triangles = _vertices(vertices), _triangles(triangles)
+        tree = _with_room(len(triangles) // 3)
+        work, nodes = zeros("I", len(tree.order)), zeros("Q", 1)
+        answer = library.probe_build(*lent(vertices), *lent(triangles), *_areas(tree), *lent(work), *lent(nodes))
+        if answer != DONE:
+            raise Refused(answer)
+        self._set(vertices, triangles, tree._replace(nodes=nodes[0]))
+
+    def _set(self, vertices, triangles, tree):
+        self._vertices, self._triangles, self._tree = vertices, triangles, tree
+        self._mesh = (*lent(vertices), *lent(triangles))
+        self._areas = (tree.nodes, *_areas(tree))
+        self._own = threading.local()
+
+    @classmethod
+    def _of(cls, vertices, triangles, tree):
+        mesh = cls.__new__(cls)
+        mesh._set(vertices, triangles, tree)
+        return mesh
+
+    @classmethod
+    def from_stl(cls, path):
+        """The mesh of an STL file, binary or ASCII; equal vertices are merged. Raises StlError where the file is not right."""
+        return cls(*read_stl(path))
+
+    @classmethod
+    def with_tree(cls, vertices, triangles, tree):
+        """Takes a tree that somebody else built, if it passes the check: with one that does not, a cast could miss a surface.
+        Raises TreeDoesNotFit, or Refused with 2 or 3."""
+        vertices, triangles, tree = _vertices(vertices), _triangles(triangles), _tree_owned(tree)
+        if not _passes(vertices, triangles, tree):
+            raise TreeDoesNotFit()
+        return cls._of(vertices, triangles, tree)
+
+    def glue(self, other):
+        """Both as one mesh: the other's vertices and triangles follow this one's. A cast at it answers the nearer of the two
+        hits. Raises Refused with 2 where both together have more than 65,536 vertices or triangles."""
+        count, n = len(self._vertices) + len(other._vertices), len(self._triangles) + len(other._triangles)
+        if count > 3 * MAX_COUNT or n > 3 * MAX_COUNT:
+            count = n = 0  # it refuses whatever the areas
+        vertices, triangles, tree = zeros("d", count), zeros("I", n), _with_room(n // 3)
+        marks, nodes = zeros("I", n), zeros("Q", 1)
+        answer = library.probe_merge(
+            *self._mesh, *self._areas, *other._mesh, *other._areas,
+            *lent(vertices), *lent(triangles), *_areas(tree), *lent(marks), *lent(nodes),
+        )
+        if answer != DONE:
+            raise Refused(answer)
+        return self._of(vertices, triangles, tree._replace(nodes=nodes[0]))
+
+    def _scratch(self):
+        own = self._own
+        if not hasattr(own, "scratch"):
+            own.scratch = _Scratch(len(self._triangles) // 3, self._tree.nodes)
+        return own.scratch
+
+    def _cast(self, numbers, scratch, pose):
+        return library.probe_ray_mesh_near(
+            *numbers, *self._mesh, *lent(pose), *self._areas, *scratch.work, *scratch.results
+        )
+
+    def cast(self, ray, pose=None):
+        """The nearest MeshHit, of equally near ones that of the lowest index, or None. Raises Refused with 1, 6 or 7.
+
+        With a pose it casts at those vertices, as many as the mesh's (else 4, or 2): the tree's boxes stay those of the mesh's
+        own, and only triangles whose box there touches that of the ray's segment are cast at."""
+        scratch = self._scratch()
+        pose = self._vertices if pose is None else owned(pose, "d", 3, "pose")
+        answer = self._cast(ray.numbers(), scratch, pose)
+        return settled(answer, lambda: _mesh_hit(scratch.hit, scratch.index))
+
+    def cast_many(self, origins, directions, max_distance, near_distance=0.0, refused="raise"):
+        """Casts many rays: Casts. Directions, maxima and near distances are one for each ray, or one for all.
+
+        A ray that is refused raises Refused with its index; with refused="keep" it stands among the answers."""
+        scratch, pose = self._scratch(), self._vertices
+        rays = _rays(origins, directions, max_distance, near_distance)
+        return _cast_many(
+            lambda numbers: self._cast(numbers, scratch, pose), scratch.hit, scratch.index, rays, refused
+        )
+
+    def cast_all(self, ray, pose=None):
+        """Every triangle that a ray hits, each once, in order of depth, as a list of MeshHit; that of `cast` is the first.
+        Raises Refused with 1, 6 or 7."""
+        scratch = self._scratch()
+        pose = self._vertices if pose is None else owned(pose, "d", 3, "pose")
+        n = len(self._triangles) // 3
+        indices, numbers, found = zeros("I", n), zeros("d", 4 * n), zeros("Q", 1)
+        answer = library.probe_ray_mesh_all(
+            *ray.numbers(), *self._mesh, *lent(pose), *self._areas, *scratch.work,
+            *lent(indices), *lent(numbers), *lent(found),
+        )
+        if answer != DONE:
+            raise Refused(answer)
+        places = (numbers[4 * k : 4 * k + 4] for k in range(found[0]))
+        return [MeshHit(place[0], tuple(place[1:]), index) for place, index in zip(places, indices)]
+
+    def query(self, minimum, maximum):
+        """The triangles whose boxes touch a box, ascending, as a list of indices. Raises Refused with 1."""
+        scratch, found = self._scratch(), zeros("Q", 1)
+        answer = library.probe_query(
+            *minimum, *maximum, len(self._triangles) // 3, *self._areas, *scratch.work, *lent(found)
+        )
+        if answer != DONE:
+            raise Refused(answer)
+        return scratch.list[: found[0]].tolist()
+
+    @property
+    def vertices(self):
+        """A view to read, of three numbers a vertex."""
+        return shaped(self._vertices, 3)
+
+    @property
+    def triangles(self):
+        """A view to read, of three vertex indices a triangle."""
+        return shaped(self._triangles, 3)
+
+    @property
+    def tree(self):
+        """The tree, in views to read."""
+        return Tree(self._tree.nodes, *(read_only(area) for area in self._tree[1:]))

@@ -1,0 +1,98 @@
+"""The mesh of an STL file, binary or ASCII."""
+import math
+import struct
+from array import array
+
+from ._library import MAX_COUNT
+from .answers import NotAdmitted
+
+
+class StlError(NotAdmitted):
+    """A file that is no STL file, or one whose mesh is not admitted."""
+
+
+def read_stl(path):
+    """Vertices and triangles, as two arrays, for Mesh or PlainMesh. Equal vertices are merged, -0 and 0 too, and never near
+    ones, so that no point moves. Triangles stand in the file's order."""
+    with open(path, "rb") as file:
+        data = file.read()
+    try:
+        return _merged(_facets(data))
+    except StlError as why:
+        raise StlError(f"{path}: {why}") from None
+
+
+def _facets(data):
+    """Nine numbers a facet. A binary file may begin with 'solid', so the length decides: 84 bytes and 50 a facet."""
+    count = struct.unpack_from("<I", data, 80)[0] if len(data) >= 84 else None
+    if count is not None and len(data) == 84 + 50 * count:
+        return _binary(data)
+    if data.lstrip()[:5].lower() == b"solid":
+        return _ascii(data.decode("utf-8", "replace"))
+    if count is None:
+        raise StlError(f"no STL file: {len(data)} bytes that do not begin with 'solid'")
+    raise StlError(
+        f"no STL file: it does not begin with 'solid', and a binary file of {count} facets has {84 + 50 * count} bytes,"
+        f" not {len(data)}"
+    )
+
+
+def _finite(corners, place):
+    if not all(map(math.isfinite, corners)):
+        raise StlError(f"{place}: a coordinate is not finite")
+    return corners
+
+
+def _binary(data):
+    # 12 bytes of a normal, 36 of the corners, two that mean nothing
+    facets = struct.iter_unpack("<12x9f2x", data[84:])
+    return [_finite(corners, f"facet {index}") for index, corners in enumerate(facets)]
+
+
+def _vertex(words, place):
+    try:
+        x, y, z = map(float, words)
+    except ValueError:
+        raise StlError(f"{place}: 'vertex' takes three numbers") from None
+    return x, y, z
+
+
+def _ascii(text):
+    """The facets of an ASCII file, which may hold several solids. Their names, and the facets' normals, are passed over."""
+    facets, corners, is_open = [], [], False
+    for number, line in enumerate(text.splitlines(), 1):
+        place = f"line {number}"
+        first, *rest = line.split() or [""]
+        word = first.lower()
+        if word in ("solid", "endsolid"):
+            is_open = word == "solid"
+        elif word == "facet":
+            corners = []
+        elif word == "vertex":
+            corners.extend(_vertex(rest, place))
+        elif word == "endfacet":
+            if len(corners) != 9:
+                raise StlError(f"{place}: a facet of {len(corners) // 3} vertices")
+            facets.append(_finite(tuple(corners), place))
+        elif word not in ("", "outer", "endloop"):
+            raise StlError(f'{place}: "{word[:20]}" is no word of an STL file')
+    if is_open:
+        raise StlError("cut short: the last solid has no 'endsolid'")
+    return facets
+
+
+def _merged(facets):
+    if not facets:
+        raise StlError("no triangles")
+    places, vertices, triangles = {}, array("d"), array("I")
+    for facet in facets:
+        for at in (0, 3, 6):
+            corner = facet[at : at + 3]
+            index = places.setdefault(corner, len(places))
+            if 3 * index == len(vertices):
+                vertices.extend(corner)
+            triangles.append(index)
+    for count, what in ((len(facets), "triangles"), (len(places), "different vertices")):
+        if count > MAX_COUNT:
+            raise StlError(f"{count} {what}: at most {MAX_COUNT} are admitted")
+    return vertices, triangles

@@ -1,0 +1,893 @@
+/* Ray casts for C++17, over the calls of probe_rays.h: header only.
+ *
+ * The calls are proved; what stands here around them is not: areas that are owned, lengths that fit, and answers as types.
+ * It is tested (tests/install.sh). probe_rays.h says of each call what it asks and answers, and which refusal has which number.
+ *
+ * A CAST ANSWERS A HIT, NONE OR A REFUSAL, and a refusal is not a none: nothing is known of the surface then. So a Cast has
+ * no conversion to bool and nothing that tells 'a hit' from 'anything else'. Either all three cases are named:
+ *
+ *   mesh.cast(ray).match(
+ *       [](const probe_rays::MeshHit &hit) { ... },
+ *       []() { ... },                                       // none
+ *       [](probe_rays::Refusal refusal) { ... });
+ *
+ * or a refusal is thrown as probe_rays::Refused:
+ *
+ *   if (std::optional<probe_rays::MeshHit> hit = mesh.cast(ray).hit_or_none()) ...
+ *
+ * Without exceptions (-fno-exceptions) what would be thrown ends the program by std::abort.
+ *
+ * A const member function keeps nothing between calls: threads may share the object, each with a Scratch of its own.
+ */
+#ifndef PROBE_RAYS_HPP
+#define PROBE_RAYS_HPP
+
+#if __cplusplus < 201703L
+#error "probe_rays.hpp asks for C++17: compile with -std=c++17 or later, or include probe_rays.h"
+#endif
+
+#include <algorithm>
+#include <array>
+#include <cmath>
+#include <cstddef>
+#include <cstdint>
+#include <cstdlib>
+#include <optional>
+#include <stdexcept>
+#include <string>
+#include <utility>
+#include <variant>
+#include <vector>
+
+#include "probe_rays.h"
+
+namespace probe_rays {
+
+/* The version of the library that is linked: PROBE_VERSION, if this header is its own. */
+inline std::uint32_t version() noexcept { return probe_version(); }
+
+/* No limit of nodes for a cabinet. */
+inline constexpr std::size_t no_limit = SIZE_MAX;
+
+/* ---- refusals ---- */
+
+/* Why a call refused. A later library may have numbers that have no name here. */
+enum class Refusal : std::uint32_t {
+    invalid_input = PROBE_REFUSED_INVALID_INPUT,
+    bad_shape = PROBE_REFUSED_BAD_SHAPE,
+    no_room = PROBE_REFUSED_NO_ROOM,
+    wrong_pose = PROBE_REFUSED_WRONG_POSE,
+    out_of_bounds = PROBE_REFUSED_OUT_OF_BOUNDS,
+    overflow = PROBE_REFUSED_OVERFLOW,
+    no_normal = PROBE_REFUSED_NO_NORMAL,
+    not_convergent = PROBE_REFUSED_NOT_CONVERGENT,
+    bad_range = PROBE_REFUSED_BAD_RANGE,
+    limit_reached = PROBE_REFUSED_LIMIT_REACHED
+};
+
+inline constexpr std::uint32_t number(Refusal refusal) noexcept { return static_cast<std::uint32_t>(refusal); }
+
+/* A refusal in words, with its number. */
+inline std::string told(Refusal refusal)
+{
+    const char *words = "a refusal that this header does not know";
+    switch (refusal) {
+    case Refusal::invalid_input: words = "invalid input: a ray or a query's box that is not admitted"; break;
+    case Refusal::bad_shape: words = "bad shape: a count, length or parameter outside the limits"; break;
+    case Refusal::no_room: words = "no room: a lent slice is too short"; break;
+    case Refusal::wrong_pose: words = "wrong pose: not as many vertices as the mesh has"; break;
+    case Refusal::out_of_bounds: words = "out of bounds: an index or a box that does not fit"; break;
+    case Refusal::overflow: words = "overflow: a number on the way is not finite"; break;
+    case Refusal::no_normal: words = "no normal: the surface hit has no unit normal"; break;
+    case Refusal::not_convergent: words = "not convergent: the walk through the grid has no answer"; break;
+    case Refusal::bad_range: words = "bad range: a range of heights is out of order or not finite"; break;
+    case Refusal::limit_reached: words = "limit reached: the cast would look at more nodes than admitted"; break;
+    }
+    return "refused " + std::to_string(number(refusal)) + ", " + words;
+}
+
+/* Thrown where an answer is asked for that a call refused. */
+class Refused : public std::runtime_error {
+public:
+    explicit Refused(Refusal refusal) : std::runtime_error(told(refusal)), refusal_(refusal) {}
+    Refusal refusal() const noexcept { return refusal_; }
+
+private:
+    Refusal refusal_;
+};
+
+/* Why Mesh::with_tree did not take a tree: the check refused, or, without a refusal, it says that the tree does not fit. */
+struct TreeFault {
+    std::optional<Refusal> refusal;
+};
+
+/* Thrown where a tree does not pass the check. */
+class TreeDoesNotFit : public std::runtime_error {
+public:
+    TreeDoesNotFit() : std::runtime_error("the tree does not fit the mesh") {}
+};
+
+/* Thrown where a hit is asked for and there is none, or a refusal and there is none. */
+class NotThere : public std::logic_error {
+public:
+    using std::logic_error::logic_error;
+};
+
+namespace detail {
+
+template <class Error>
+[[noreturn]] void raise(Error &&error)
+{
+#if defined(__cpp_exceptions)
+    throw std::forward<Error>(error);
+#else
+    static_cast<void>(error);
+    std::abort();
+#endif
+}
+
+[[noreturn]] inline void fail(Refusal refusal) { raise(Refused(refusal)); }
+
+[[noreturn]] inline void fail(const TreeFault &fault)
+{
+    if (fault.refusal)
+        fail(*fault.refusal);
+    raise(TreeDoesNotFit());
+}
+
+/* An area's pointer, which is not null for an empty one either: nothing is read or written through it then. */
+template <class T>
+const T *from(const std::vector<T> &area) noexcept
+{
+    static const T nothing{};
+    return area.empty() ? &nothing : area.data();
+}
+
+template <class T>
+T *into(std::vector<T> &area) noexcept
+{
+    static T nothing{};
+    return area.empty() ? &nothing : area.data();
+}
+
+template <class T>
+void grow(std::vector<T> &area, std::size_t length)
+{
+    if (area.size() < length)
+        area.resize(length);
+}
+
+/* Of more triangles than admitted the library refuses whatever the areas, so none are made then. */
+inline std::size_t room_for(std::size_t count) noexcept { return count > PROBE_MAX_TRIANGLES ? 0 : count; }
+
+} // namespace detail
+
+/* ---- answers ---- */
+
+/* A value, or why there is none. The value of a refusal is thrown as Refused. */
+template <class T, class Why = Refusal>
+class [[nodiscard]] Result {
+public:
+    explicit Result(T value) : held_(std::in_place_index<0>, std::move(value)) {}
+    explicit Result(Why why) : held_(std::in_place_index<1>, std::move(why)) {}
+
+    bool is_refused() const noexcept { return held_.index() == 1; }
+
+    const T &value() const &
+    {
+        demand();
+        return *std::get_if<0>(&held_);
+    }
+
+    T value() &&
+    {
+        demand();
+        return std::move(*std::get_if<0>(&held_));
+    }
+
+    Why refusal() const
+    {
+        if (!is_refused())
+            detail::raise(NotThere("a refusal is asked for, and the call did not refuse"));
+        return *std::get_if<1>(&held_);
+    }
+
+private:
+    void demand() const
+    {
+        if (is_refused())
+            detail::fail(*std::get_if<1>(&held_));
+    }
+
+    std::variant<T, Why> held_;
+};
+
+/* No surface within the ray's maximum distance. */
+struct None {};
+
+/* What a switch tells apart. */
+enum class Kind { hit, none, refused };
+
+/* The answer of a cast. */
+template <class H>
+class [[nodiscard]] Cast {
+public:
+    explicit Cast(H hit) : held_(std::move(hit)) {}
+    explicit Cast(None none) : held_(none) {}
+    explicit Cast(Refusal refusal) : held_(refusal) {}
+
+    explicit operator bool() const = delete;
+
+    Kind kind() const noexcept
+    {
+        return std::holds_alternative<H>(held_) ? Kind::hit : std::holds_alternative<None>(held_) ? Kind::none : Kind::refused;
+    }
+
+    /* Calls one of three functions: the first with the hit, the second with nothing, the third with the refusal. */
+    template <class OnHit, class OnNone, class OnRefused>
+    auto match(OnHit &&on_hit, OnNone &&on_none, OnRefused &&on_refused) const
+    {
+        if (const H *hit = std::get_if<H>(&held_))
+            return on_hit(*hit);
+        if (const Refusal *refusal = std::get_if<Refusal>(&held_))
+            return on_refused(*refusal);
+        return on_none();
+    }
+
+    /* The hit, if any. A refusal is thrown. */
+    std::optional<H> hit_or_none() const
+    {
+        demand();
+        const H *hit = std::get_if<H>(&held_);
+        return hit ? std::optional<H>(*hit) : std::nullopt;
+    }
+
+    /* The hit. A refusal is thrown, and a none as NotThere. */
+    H hit() const
+    {
+        demand();
+        if (is_none())
+            detail::raise(NotThere("a hit is asked for, and the cast met nothing"));
+        return *std::get_if<H>(&held_);
+    }
+
+    /* Whether nothing is there. A refusal is thrown: it tells neither. */
+    bool is_none() const
+    {
+        demand();
+        return std::holds_alternative<None>(held_);
+    }
+
+    bool is_refused() const noexcept { return std::holds_alternative<Refusal>(held_); }
+
+    Refusal refusal() const
+    {
+        if (!is_refused())
+            detail::raise(NotThere("a refusal is asked for, and the cast did not refuse"));
+        return *std::get_if<Refusal>(&held_);
+    }
+
+private:
+    void demand() const
+    {
+        if (const Refusal *refusal = std::get_if<Refusal>(&held_))
+            detail::fail(*refusal);
+    }
+
+    std::variant<None, H, Refusal> held_;
+};
+
+using Vec3 = probe_vec3;
+
+/* Three vertex indices, from 0. */
+using Triangle = std::array<std::uint32_t, 3>;
+
+/* What a ray met. A zero of the normal may be -0: a normal that is turned turns its zeros. */
+struct Hit {
+    Vec3 normal;
+    double distance;
+};
+
+/* What a ray met of a mesh: the triangle's index, from 0. */
+struct MeshHit {
+    Vec3 normal;
+    double distance;
+    std::uint32_t triangle;
+};
+
+/* What a ray met of a cabinet: the part, from 0, and the triangle's index in its mesh. */
+struct PartHit {
+    Vec3 normal;
+    double distance;
+    std::uint32_t triangle;
+    std::size_t part;
+};
+
+namespace detail {
+
+/* Where a call writes a hit. */
+struct Places {
+    std::array<double, PROBE_HIT_LENGTH> hit{};
+    std::array<std::uint32_t, PROBE_INDEX_LENGTH> index{};
+
+    Vec3 normal() const noexcept { return Vec3{hit[0], hit[1], hit[2]}; }
+    Hit plain() const noexcept { return Hit{normal(), hit[3]}; }
+    MeshHit of_mesh() const noexcept { return MeshHit{normal(), hit[3], index[0]}; }
+};
+
+/* The answer of a call that may write a hit. What is neither of the two codes is a refusal, also a number that is new. */
+template <class H>
+Cast<H> cast_of(std::uint32_t answer, const H &hit)
+{
+    if (answer == PROBE_HIT)
+        return Cast<H>(hit);
+    if (answer == PROBE_NONE)
+        return Cast<H>(None{});
+    return Cast<H>(static_cast<Refusal>(answer));
+}
+
+} // namespace detail
+
+/* ---- a ray ---- */
+
+/* A ray: where it starts, its direction, of length 1 within 1e-12, how far it reaches, and from where on a surface is hit. */
+struct Ray {
+    Vec3 origin;
+    Vec3 direction;
+    double max_distance;
+    double near_distance = 0;
+
+    /* A ray whose direction, of any length, is made one of length 1. One that has none (zero, or not finite) is left as it
+     * is, and a cast refuses it. */
+    static Ray toward(Vec3 origin, Vec3 direction, double max_distance)
+    {
+        /* by the largest component first, so that no square overflows or vanishes */
+        const double largest = std::fmax(std::fmax(std::fabs(direction.x), std::fabs(direction.y)), std::fabs(direction.z));
+        const Vec3 scaled{direction.x / largest, direction.y / largest, direction.z / largest};
+        const double length = std::sqrt(scaled.x * scaled.x + scaled.y * scaled.y + scaled.z * scaled.z);
+        const Vec3 unit{scaled.x / length, scaled.y / length, scaled.z / length};
+        const bool whole = std::isfinite(unit.x) && std::isfinite(unit.y) && std::isfinite(unit.z);
+        return Ray{origin, whole ? unit : direction, max_distance};
+    }
+
+    /* The same ray, with surfaces nearer than a distance passed over. Distances count from the origin all the same. */
+    Ray with_near(double distance) const
+    {
+        Ray ray = *this;
+        ray.near_distance = distance;
+        return ray;
+    }
+
+    /* The point at a distance. */
+    Vec3 at(double distance) const noexcept
+    {
+        return Vec3{
+            origin.x + direction.x * distance, origin.y + direction.y * distance, origin.z + direction.z * distance};
+    }
+};
+
+/* ---- plane, triangle, grids ---- */
+
+/* The plane of all points whose dot with the normal, of length 1, is the distance. */
+struct Plane {
+    Vec3 normal;
+    double distance;
+};
+
+/* Heights over a grid: that of row r and column c stands over (c * spacing[0], r * spacing[1]), at place r * columns + c. */
+struct HeightField {
+    std::size_t rows;
+    std::size_t columns;
+    std::array<double, 2> spacing;
+    std::vector<double> heights;
+};
+
+/* The same grid where only a low and a high are known for each height. */
+struct HeightRanges {
+    std::size_t rows;
+    std::size_t columns;
+    std::array<double, 2> spacing;
+    std::vector<double> lows;
+    std::vector<double> highs;
+};
+
+/* Distances from a surface over a grid: that of node (i, j, k) stands at origin + (i, j, k) * spacing, at place
+ * (k * sides[1] + j) * sides[0] + i. */
+struct LevelSet {
+    std::array<std::uint32_t, 3> sides;
+    Vec3 origin;
+    Vec3 spacing;
+    std::vector<double> values;
+};
+
+inline Cast<Hit> ray_plane(const Ray &ray, const Plane &plane)
+{
+    detail::Places places;
+    const std::uint32_t answer = probe_ray_plane_near(
+        ray.origin.x, ray.origin.y, ray.origin.z, ray.direction.x, ray.direction.y, ray.direction.z, ray.max_distance,
+        ray.near_distance, plane.normal.x, plane.normal.y, plane.normal.z, plane.distance, places.hit.data(),
+        places.hit.size());
+    return detail::cast_of(answer, places.plain());
+}
+
+inline Cast<Hit> ray_triangle(const Ray &ray, const Vec3 &a, const Vec3 &b, const Vec3 &c)
+{
+    detail::Places places;
+    const std::uint32_t answer = probe_ray_triangle_near(
+        ray.origin.x, ray.origin.y, ray.origin.z, ray.direction.x, ray.direction.y, ray.direction.z, ray.max_distance,
+        ray.near_distance, a.x, a.y, a.z, b.x, b.y, b.z, c.x, c.y, c.z, places.hit.data(), places.hit.size());
+    return detail::cast_of(answer, places.plain());
+}
+
+inline Cast<Hit> ray_height_field(const Ray &ray, const HeightField &field)
+{
+    detail::Places places;
+    const std::uint32_t answer = probe_ray_height_field_near(
+        ray.origin.x, ray.origin.y, ray.origin.z, ray.direction.x, ray.direction.y, ray.direction.z, ray.max_distance,
+        ray.near_distance, field.rows, field.columns, field.spacing[0], field.spacing[1], detail::from(field.heights),
+        field.heights.size(), places.hit.data(), places.hit.size());
+    return detail::cast_of(answer, places.plain());
+}
+
+/* The normal points to where the distances grow, and is not turned towards the ray. */
+inline Cast<Hit> ray_level_set(const Ray &ray, const LevelSet &grid)
+{
+    detail::Places places;
+    const std::uint32_t answer = probe_ray_level_set_near(
+        ray.origin.x, ray.origin.y, ray.origin.z, ray.direction.x, ray.direction.y, ray.direction.z, ray.max_distance,
+        ray.near_distance, grid.sides[0], grid.sides[1], grid.sides[2], grid.origin.x, grid.origin.y, grid.origin.z,
+        grid.spacing.x, grid.spacing.y, grid.spacing.z, detail::from(grid.values), grid.values.size(), places.hit.data(),
+        places.hit.size());
+    return detail::cast_of(answer, places.plain());
+}
+
+/* The first cell, row * (columns - 1) + column, in which a grid within the ranges may be met. */
+struct Cell {
+    std::uint32_t number;
+};
+
+/* Whether a ray may meet a grid whose heights are known only within ranges: clear, possible, or a refusal. */
+class [[nodiscard]] Clearance {
+public:
+    Clearance(std::uint32_t answer, std::uint32_t cell) : answer_(answer), cell_{cell} {}
+
+    explicit operator bool() const = delete;
+
+    bool is_refused() const noexcept { return answer_ != PROBE_CLEAR && answer_ != PROBE_POSSIBLE; }
+
+    Refusal refusal() const
+    {
+        if (!is_refused())
+            detail::raise(NotThere("a refusal is asked for, and the cast did not refuse"));
+        return static_cast<Refusal>(answer_);
+    }
+
+    /* Whether the height cast is none on every grid within the ranges. A refusal is thrown. */
+    bool is_clear() const
+    {
+        demand();
+        return answer_ == PROBE_CLEAR;
+    }
+
+    /* The cell, if a grid may be met. A refusal is thrown. */
+    std::optional<Cell> possible() const
+    {
+        demand();
+        return answer_ == PROBE_POSSIBLE ? std::optional<Cell>(cell_) : std::nullopt;
+    }
+
+    /* Calls one of three functions: the first with nothing, the second with the cell, the third with the refusal. */
+    template <class OnClear, class OnPossible, class OnRefused>
+    auto match(OnClear &&on_clear, OnPossible &&on_possible, OnRefused &&on_refused) const
+    {
+        if (is_refused())
+            return on_refused(static_cast<Refusal>(answer_));
+        return answer_ == PROBE_CLEAR ? on_clear() : on_possible(cell_);
+    }
+
+private:
+    void demand() const
+    {
+        if (is_refused())
+            detail::fail(static_cast<Refusal>(answer_));
+    }
+
+    std::uint32_t answer_;
+    Cell cell_;
+};
+
+inline Clearance ray_height_ranges(const Ray &ray, const HeightRanges &ranges)
+{
+    std::uint32_t cell = 0;
+    const std::uint32_t answer = probe_ray_height_ranges(
+        ray.origin.x, ray.origin.y, ray.origin.z, ray.direction.x, ray.direction.y, ray.direction.z, ray.max_distance,
+        ray.near_distance, ranges.rows, ranges.columns, ranges.spacing[0], ranges.spacing[1], detail::from(ranges.lows),
+        ranges.lows.size(), detail::from(ranges.highs), ranges.highs.size(), &cell, 1);
+    return Clearance(answer, cell);
+}
+
+/* ---- meshes ---- */
+
+/* A tree in vectors of its own; the table in probe_rays.h says how long each is and what it holds. */
+struct Tree {
+    std::size_t nodes = 0;
+    std::vector<double> node_boxes;
+    std::vector<double> triangle_boxes;
+    std::vector<std::uint32_t> node_words;
+    std::vector<std::uint32_t> order;
+
+    /* The areas of a tree of n triangles, all zeros. */
+    static Tree with_room(std::size_t n)
+    {
+        Tree tree;
+        tree.node_boxes.resize(PROBE_NODE_BOXES_LENGTH(n));
+        tree.triangle_boxes.resize(PROBE_TRIANGLE_BOXES_LENGTH(n));
+        tree.node_words.resize(PROBE_NODE_WORDS_LENGTH(n));
+        tree.order.resize(PROBE_ORDER_LENGTH(n));
+        return tree;
+    }
+};
+
+/* The work areas of a cast or query. They grow to what a mesh asks, may serve any number of meshes, and hold nothing that a
+ * call depends on. A thread has its own. */
+struct Scratch {
+    std::vector<std::uint32_t> list;
+    std::vector<std::uint32_t> stack;
+    std::vector<std::uint32_t> indices;
+    std::vector<double> numbers;
+
+    void fit(std::size_t n, std::size_t nodes)
+    {
+        detail::grow(list, PROBE_LIST_LENGTH(n));
+        detail::grow(stack, PROBE_STACK_LENGTH(nodes));
+    }
+
+    /* n places always do for a listing: the walk lists no more triangles than there are. */
+    void fit_hits(std::size_t n)
+    {
+        detail::grow(indices, n);
+        detail::grow(numbers, 4 * n);
+    }
+};
+
+/* Vertices and triangles as the calls take them: three numbers a vertex, three vertex indices a triangle. */
+struct Shape {
+    std::vector<double> vertices;
+    std::vector<std::uint32_t> triangles;
+
+    Shape() = default;
+    Shape(std::vector<double> numbers, std::vector<std::uint32_t> indices)
+        : vertices(std::move(numbers)), triangles(std::move(indices))
+    {
+    }
+
+    static Shape of(const std::vector<Vec3> &points, const std::vector<Triangle> &corners)
+    {
+        Shape shape;
+        shape.vertices = flat(points);
+        shape.triangles.reserve(3 * corners.size());
+        for (const Triangle &triangle : corners)
+            shape.triangles.insert(shape.triangles.end(), triangle.begin(), triangle.end());
+        return shape;
+    }
+
+    static std::vector<double> flat(const std::vector<Vec3> &points)
+    {
+        std::vector<double> numbers;
+        numbers.reserve(3 * points.size());
+        for (const Vec3 &point : points)
+            numbers.insert(numbers.end(), {point.x, point.y, point.z});
+        return numbers;
+    }
+
+    std::size_t vertex_count() const noexcept { return vertices.size() / 3; }
+    std::size_t triangle_count() const noexcept { return triangles.size() / 3; }
+};
+
+/* Whether a tree, from whatever builder, fits a mesh. Refuses with 2 or 3. */
+inline Result<bool> tree_check(const Shape &shape, const Tree &tree)
+{
+    std::vector<std::uint32_t> marks(PROBE_MARKS_LENGTH(detail::room_for(shape.triangle_count())));
+    const std::uint32_t answer = probe_tree_check(
+        detail::from(shape.vertices), shape.vertices.size(), detail::from(shape.triangles), shape.triangles.size(), tree.nodes,
+        detail::from(tree.node_boxes), tree.node_boxes.size(), detail::from(tree.triangle_boxes), tree.triangle_boxes.size(),
+        detail::from(tree.node_words), tree.node_words.size(), detail::from(tree.order), tree.order.size(),
+        detail::into(marks), marks.size());
+    if (answer == PROBE_YES)
+        return Result<bool>(true);
+    if (answer == PROBE_NO)
+        return Result<bool>(false);
+    return Result<bool>(static_cast<Refusal>(answer));
+}
+
+/* A mesh and a tree that fits it: built here, or somebody else's that passed the check. So a cast at the mesh's own vertices
+ * misses no triangle whose box touches that of the ray's segment. Neither mesh nor tree can be changed. */
+class Mesh {
+public:
+    /* Builds the tree. Refuses with 2 (more than 65,536 vertices or triangles), 5 (no triangle, an index past the vertices, a
+     * triangle whose box is not finite) or 6. */
+    static Result<Mesh> build(const std::vector<Vec3> &vertices, const std::vector<Triangle> &triangles)
+    {
+        return build(Shape::of(vertices, triangles));
+    }
+
+    static Result<Mesh> build(Shape shape)
+    {
+        const std::size_t n = detail::room_for(shape.triangle_count());
+        Tree tree = Tree::with_room(n);
+        std::vector<std::uint32_t> work(PROBE_WORK_LENGTH(n));
+        const std::uint32_t answer = probe_build(
+            detail::from(shape.vertices), shape.vertices.size(), detail::from(shape.triangles), shape.triangles.size(),
+            detail::into(tree.node_boxes), tree.node_boxes.size(), detail::into(tree.triangle_boxes),
+            tree.triangle_boxes.size(), detail::into(tree.node_words), tree.node_words.size(), detail::into(tree.order),
+            tree.order.size(), detail::into(work), work.size(), &tree.nodes, PROBE_COUNT_LENGTH);
+        if (answer != PROBE_DONE)
+            return Result<Mesh>(static_cast<Refusal>(answer));
+        return Result<Mesh>(Mesh(std::move(shape), std::move(tree)));
+    }
+
+    /* Takes a tree that somebody else built, if it passes the check: with one that does not, a cast could miss a surface, and
+     * nothing would tell that none from a right one. */
+    static Result<Mesh, TreeFault> with_tree(Shape shape, Tree tree)
+    {
+        const Result<bool> fits = tree_check(shape, tree);
+        if (fits.is_refused())
+            return Result<Mesh, TreeFault>(TreeFault{fits.refusal()});
+        if (!fits.value())
+            return Result<Mesh, TreeFault>(TreeFault{std::nullopt});
+        return Result<Mesh, TreeFault>(Mesh(std::move(shape), std::move(tree)));
+    }
+
+    /* Glues another mesh to this one: its vertices and triangles follow this one's. A cast at the result answers the nearer
+     * of the two hits. Refuses with 2 where both together have more than 65,536 vertices or triangles. */
+    Result<Mesh> glue(const Mesh &other) const
+    {
+        std::size_t vertices = shape_.vertex_count() + other.shape_.vertex_count();
+        std::size_t n = shape_.triangle_count() + other.shape_.triangle_count();
+        if (vertices > PROBE_MAX_VERTICES || n > PROBE_MAX_TRIANGLES)
+            vertices = n = 0; /* it refuses whatever the areas */
+        Shape shape;
+        shape.vertices.resize(PROBE_VERTICES_LENGTH(vertices));
+        shape.triangles.resize(PROBE_TRIANGLES_LENGTH(n));
+        Tree tree = Tree::with_room(n);
+        std::vector<std::uint32_t> marks(PROBE_MARKS_LENGTH(n));
+        const Shape &one = shape_, &two = other.shape_;
+        const Tree &first = tree_, &second = other.tree_;
+        const std::uint32_t answer = probe_merge(
+            detail::from(one.vertices), one.vertices.size(), detail::from(one.triangles), one.triangles.size(), first.nodes,
+            detail::from(first.node_boxes), first.node_boxes.size(), detail::from(first.triangle_boxes),
+            first.triangle_boxes.size(), detail::from(first.node_words), first.node_words.size(), detail::from(first.order),
+            first.order.size(), detail::from(two.vertices), two.vertices.size(), detail::from(two.triangles),
+            two.triangles.size(), second.nodes, detail::from(second.node_boxes), second.node_boxes.size(),
+            detail::from(second.triangle_boxes), second.triangle_boxes.size(), detail::from(second.node_words),
+            second.node_words.size(), detail::from(second.order), second.order.size(), detail::into(shape.vertices),
+            shape.vertices.size(), detail::into(shape.triangles), shape.triangles.size(), detail::into(tree.node_boxes),
+            tree.node_boxes.size(), detail::into(tree.triangle_boxes), tree.triangle_boxes.size(),
+            detail::into(tree.node_words), tree.node_words.size(), detail::into(tree.order), tree.order.size(),
+            detail::into(marks), marks.size(), &tree.nodes, PROBE_COUNT_LENGTH);
+        if (answer != PROBE_DONE)
+            return Result<Mesh>(static_cast<Refusal>(answer));
+        return Result<Mesh>(Mesh(std::move(shape), std::move(tree)));
+    }
+
+    /* The nearest triangle that a ray hits; of equally near ones, that of the lowest index. Refuses with 1, 6 or 7. */
+    Cast<MeshHit> cast(const Ray &ray) { return cast(ray, scratch_); }
+
+    Cast<MeshHit> cast(const Ray &ray, Scratch &scratch) const { return cast_at(ray, shape_.vertices, scratch); }
+
+    /* The same at other vertices, as many as the mesh's, else it refuses with 4 or 2. The tree's boxes stay those of the
+     * mesh's own: only triangles whose box there touches that of the ray's segment are cast at. */
+    Cast<MeshHit> cast_at(const Ray &ray, const std::vector<Vec3> &pose, Scratch &scratch) const
+    {
+        return cast_at(ray, Shape::flat(pose), scratch);
+    }
+
+    Cast<MeshHit> cast_at(const Ray &ray, const std::vector<double> &pose, Scratch &scratch) const
+    {
+        scratch.fit(shape_.triangle_count(), tree_.nodes);
+        detail::Places places;
+        const std::uint32_t answer = probe_ray_mesh_near(
+            ray.origin.x, ray.origin.y, ray.origin.z, ray.direction.x, ray.direction.y, ray.direction.z, ray.max_distance,
+            ray.near_distance, detail::from(shape_.vertices), shape_.vertices.size(), detail::from(shape_.triangles),
+            shape_.triangles.size(), detail::from(pose), pose.size(), tree_.nodes, detail::from(tree_.node_boxes),
+            tree_.node_boxes.size(), detail::from(tree_.triangle_boxes), tree_.triangle_boxes.size(),
+            detail::from(tree_.node_words), tree_.node_words.size(), detail::from(tree_.order), tree_.order.size(),
+            detail::into(scratch.list), scratch.list.size(), detail::into(scratch.stack), scratch.stack.size(),
+            places.hit.data(), places.hit.size(), places.index.data(), places.index.size());
+        return detail::cast_of(answer, places.of_mesh());
+    }
+
+    /* Every triangle that a ray hits, each once, in order of depth, of equally near ones the lower index first. The hit of
+     * `cast` is the first of them, and there are none exactly where it answers none. */
+    Result<std::vector<MeshHit>> cast_all(const Ray &ray) { return cast_all(ray, scratch_); }
+
+    Result<std::vector<MeshHit>> cast_all(const Ray &ray, Scratch &scratch) const
+    {
+        return cast_all_at(ray, shape_.vertices, scratch);
+    }
+
+    Result<std::vector<MeshHit>> cast_all_at(const Ray &ray, const std::vector<double> &pose, Scratch &scratch) const
+    {
+        scratch.fit(shape_.triangle_count(), tree_.nodes);
+        scratch.fit_hits(shape_.triangle_count());
+        std::size_t found = 0;
+        const std::uint32_t answer = probe_ray_mesh_all(
+            ray.origin.x, ray.origin.y, ray.origin.z, ray.direction.x, ray.direction.y, ray.direction.z, ray.max_distance,
+            ray.near_distance, detail::from(shape_.vertices), shape_.vertices.size(), detail::from(shape_.triangles),
+            shape_.triangles.size(), detail::from(pose), pose.size(), tree_.nodes, detail::from(tree_.node_boxes),
+            tree_.node_boxes.size(), detail::from(tree_.triangle_boxes), tree_.triangle_boxes.size(),
+            detail::from(tree_.node_words), tree_.node_words.size(), detail::from(tree_.order), tree_.order.size(),
+            detail::into(scratch.list), scratch.list.size(), detail::into(scratch.stack), scratch.stack.size(),
+            detail::into(scratch.indices), scratch.indices.size(), detail::into(scratch.numbers), scratch.numbers.size(),
+            &found, PROBE_COUNT_LENGTH);
+        if (answer != PROBE_DONE)
+            return Result<std::vector<MeshHit>>(static_cast<Refusal>(answer));
+        std::vector<MeshHit> hits;
+        hits.reserve(found);
+        for (std::size_t k = 0; k < found; k++) {
+            const double *numbers = scratch.numbers.data() + 4 * k;
+            hits.push_back(MeshHit{Vec3{numbers[1], numbers[2], numbers[3]}, numbers[0], scratch.indices[k]});
+        }
+        return Result<std::vector<MeshHit>>(std::move(hits));
+    }
+
+    /* The triangles whose boxes touch the box from `min` to `max`, ascending. Refuses with 1. */
+    Result<std::vector<std::uint32_t>> query(const Vec3 &min, const Vec3 &max) { return query(min, max, scratch_); }
+
+    Result<std::vector<std::uint32_t>> query(const Vec3 &min, const Vec3 &max, Scratch &scratch) const
+    {
+        scratch.fit(shape_.triangle_count(), tree_.nodes);
+        std::size_t found = 0;
+        const std::uint32_t answer = probe_query(
+            min.x, min.y, min.z, max.x, max.y, max.z, shape_.triangle_count(), tree_.nodes, detail::from(tree_.node_boxes),
+            tree_.node_boxes.size(), detail::from(tree_.triangle_boxes), tree_.triangle_boxes.size(),
+            detail::from(tree_.node_words), tree_.node_words.size(), detail::from(tree_.order), tree_.order.size(),
+            detail::into(scratch.list), scratch.list.size(), detail::into(scratch.stack), scratch.stack.size(), &found,
+            PROBE_COUNT_LENGTH);
+        using List = std::vector<std::uint32_t>;
+        if (answer != PROBE_DONE)
+            return Result<List>(static_cast<Refusal>(answer));
+        return Result<List>(List(scratch.list.begin(), scratch.list.begin() + static_cast<std::ptrdiff_t>(found)));
+    }
+
+    const Shape &shape() const noexcept { return shape_; }
+    const Tree &tree() const noexcept { return tree_; }
+    std::size_t triangle_count() const noexcept { return shape_.triangle_count(); }
+    std::size_t vertex_count() const noexcept { return shape_.vertex_count(); }
+
+private:
+    Mesh(Shape shape, Tree tree) : shape_(std::move(shape)), tree_(std::move(tree)) {}
+
+    Shape shape_;
+    Tree tree_;
+    Scratch scratch_;
+};
+
+/* A mesh without a tree, for parts of few triangles: nothing is built, and a cast looks at every triangle. That it answers
+ * what Mesh::cast answers, refusals included, is proved. Threads may share it. */
+class PlainMesh {
+public:
+    PlainMesh(const std::vector<Vec3> &vertices, const std::vector<Triangle> &triangles)
+        : shape_(Shape::of(vertices, triangles))
+    {
+    }
+
+    explicit PlainMesh(Shape shape) : shape_(std::move(shape)) {}
+
+    /* Refuses with 1, 2, 5, 6 or 7. No triangles is none. */
+    Cast<MeshHit> cast(const Ray &ray) const
+    {
+        detail::Places places;
+        const std::uint32_t answer = probe_ray_mesh_plain(
+            ray.origin.x, ray.origin.y, ray.origin.z, ray.direction.x, ray.direction.y, ray.direction.z, ray.max_distance,
+            ray.near_distance, detail::from(shape_.vertices), shape_.vertices.size(), detail::from(shape_.triangles),
+            shape_.triangles.size(), places.hit.data(), places.hit.size(), places.index.data(), places.index.size());
+        return detail::cast_of(answer, places.of_mesh());
+    }
+
+    /* The same mesh with a tree. */
+    Result<Mesh> build() const { return Mesh::build(shape_); }
+
+    const Shape &shape() const noexcept { return shape_; }
+
+private:
+    Shape shape_;
+};
+
+/* ---- a cabinet ---- */
+
+/* The answer of a cast at a cabinet, and the nodes spent on it: 0 where it was refused before the first part. */
+struct [[nodiscard]] CabinetCast {
+    Cast<PartHit> answer;
+    std::size_t spent;
+};
+
+/* Meshes with their trees, each at an origin of its own. It owns copies of them. */
+class Cabinet {
+public:
+    /* Adds a mesh at an origin, and gives the part's number. */
+    std::size_t push(const Mesh &mesh, const Vec3 &origin)
+    {
+        const Shape &shape = mesh.shape();
+        const Tree &tree = mesh.tree();
+        probe_part part{};
+        part.origin = origin;
+        part.nodes = tree.nodes;
+        part.vertices = appended(vertices_, shape.vertices);
+        part.triangles = appended(triangles_, shape.triangles);
+        part.node_boxes = appended(node_boxes_, tree.node_boxes);
+        part.triangle_boxes = appended(triangle_boxes_, tree.triangle_boxes);
+        part.node_words = appended(node_words_, tree.node_words);
+        part.order = appended(order_, tree.order);
+        parts_.push_back(part);
+        largest_ = std::max(largest_, shape.triangle_count());
+        most_nodes_ = std::max(most_nodes_, tree.nodes);
+        return parts_.size() - 1;
+    }
+
+    /* The mesh of a part once more, at another origin: nothing but the part is added. */
+    std::size_t place_again(std::size_t part, const Vec3 &origin)
+    {
+        if (part >= parts_.size())
+            detail::raise(std::out_of_range("the cabinet has no such part"));
+        probe_part again = parts_[part];
+        again.origin = origin;
+        parts_.push_back(again);
+        return parts_.size() - 1;
+    }
+
+    std::size_t size() const noexcept { return parts_.size(); }
+
+    /* The sum of the parts' node counts: a limit that suffices for every ray. */
+    std::size_t nodes() const noexcept
+    {
+        std::size_t sum = 0;
+        for (const probe_part &part : parts_)
+            sum += part.nodes;
+        return sum;
+    }
+
+    /* The nearest triangle of all parts, where at most `limit` nodes are looked at; of equally near ones, that of the lowest
+     * part and then of the lowest index. Refuses with 1, 6, 7 or 10. */
+    CabinetCast cast(const Ray &ray, std::size_t limit = no_limit) { return cast(ray, limit, scratch_); }
+
+    CabinetCast cast(const Ray &ray, std::size_t limit, Scratch &scratch) const
+    {
+        scratch.fit(largest_, most_nodes_);
+        detail::Places places;
+        std::size_t part = 0, spent = 0;
+        const std::uint32_t answer = probe_ray_cabinet(
+            ray.origin.x, ray.origin.y, ray.origin.z, ray.direction.x, ray.direction.y, ray.direction.z, ray.max_distance,
+            ray.near_distance, detail::from(parts_), parts_.size(), detail::from(vertices_), vertices_.size(),
+            detail::from(triangles_), triangles_.size(), detail::from(node_boxes_), node_boxes_.size(),
+            detail::from(triangle_boxes_), triangle_boxes_.size(), detail::from(node_words_), node_words_.size(),
+            detail::from(order_), order_.size(), limit, detail::into(scratch.list), scratch.list.size(),
+            detail::into(scratch.stack), scratch.stack.size(), places.hit.data(), places.hit.size(), places.index.data(),
+            places.index.size(), &part, PROBE_COUNT_LENGTH, &spent, PROBE_COUNT_LENGTH);
+        return CabinetCast{detail::cast_of(answer, PartHit{places.normal(), places.hit[3], places.index[0], part}), spent};
+    }
+
+private:
+    template <class T>
+    static probe_span appended(std::vector<T> &area, const std::vector<T> &more)
+    {
+        const probe_span span{area.size(), more.size()};
+        area.insert(area.end(), more.begin(), more.end());
+        return span;
+    }
+
+    std::vector<probe_part> parts_;
+    std::vector<double> vertices_;
+    std::vector<std::uint32_t> triangles_;
+    std::vector<double> node_boxes_;
+    std::vector<double> triangle_boxes_;
+    std::vector<std::uint32_t> node_words_;
+    std::vector<std::uint32_t> order_;
+    std::size_t largest_ = 0;
+    std::size_t most_nodes_ = 0;
+    Scratch scratch_;
+};
+
+} // namespace probe_rays
+
+#endif

@@ -1,0 +1,313 @@
+// The C++ header against document 01's marked answers K1 to K13, document 02's requests, and boards whose measures tell the
+// answer. K14 and K15 are of functions that the library does not offer. Directions are (0,0,-1) unless given, and T is the
+// triangle (0,0,0), (1,0,0), (0,1,0). It prints how many checks held; the first that fails ends it with status 1.
+#include <cmath>
+#include <cstdio>
+#include <cstdlib>
+#include <limits>
+#include <string>
+#include <thread>
+#include <vector>
+
+#include "probe_rays.hpp"
+
+using namespace probe_rays;
+
+namespace {
+
+int checks = 0;
+
+void check(bool held, const char *what, int line)
+{
+    if (!held) {
+        std::fprintf(stderr, "answers.cpp:%d: %s\n", line, what);
+        std::exit(1);
+    }
+    checks++;
+}
+
+#define CHECK(what) check((what), #what, __LINE__)
+
+/* Whether an expression throws just this. */
+template <class Error, class Call>
+bool throws(Call &&call)
+{
+    try {
+        call();
+    } catch (const Error &) {
+        return true;
+    }
+    return false;
+}
+
+template <class Call>
+bool throws_refusal(Refusal refusal, Call &&call)
+{
+    try {
+        call();
+    } catch (const Refused &refused) {
+        return refused.refusal() == refusal;
+    }
+    return false;
+}
+
+const double infinite = std::numeric_limits<double>::infinity();
+const Vec3 down{0, 0, -1};
+const std::vector<Vec3> T{{0, 0, 0}, {1, 0, 0}, {0, 1, 0}};
+const Plane ground{{0, 0, 1}, 0};
+
+Ray from(double x, double y, double z, double max) { return Ray{{x, y, z}, down, max}; }
+
+bool is(const Vec3 &v, double x, double y, double z) { return v.x == x && v.y == y && v.z == z; }
+
+/* A hit from above at a distance. */
+template <class H>
+bool hits_at(const Cast<H> &cast, double distance)
+{
+    return cast.kind() == Kind::hit && cast.hit().distance == distance && is(cast.hit().normal, 0, 0, 1);
+}
+
+/* The same to within a rounding or two: 1e-12 of the distance. */
+bool close(double found, double expected) { return std::fabs(found - expected) <= 1e-12 * expected; }
+
+template <class H>
+bool hits_near(const Cast<H> &cast, double distance)
+{
+    return cast.kind() == Kind::hit && close(cast.hit().distance, distance) && is(cast.hit().normal, 0, 0, 1);
+}
+
+template <class H>
+bool refuses(const Cast<H> &cast, std::uint32_t expected)
+{
+    return cast.kind() == Kind::refused && cast.is_refused() && number(cast.refusal()) == expected &&
+           throws_refusal(static_cast<Refusal>(expected), [&] { static_cast<void>(cast.hit()); }) &&
+           throws_refusal(static_cast<Refusal>(expected), [&] { static_cast<void>(cast.hit_or_none()); }) &&
+           throws_refusal(static_cast<Refusal>(expected), [&] { static_cast<void>(cast.is_none()); });
+}
+
+template <class T, class Why>
+bool refuses(const Result<T, Why> &result, std::uint32_t expected)
+{
+    return result.is_refused() && number(result.refusal()) == expected &&
+           throws_refusal(result.refusal(), [&] { static_cast<void>(result.value()); });
+}
+
+/* T, as often as asked for. */
+Result<Mesh> layers(std::size_t count) { return Mesh::build(T, std::vector<Triangle>(count, Triangle{0, 1, 2})); }
+
+void marked()
+{
+    CHECK(hits_at(ray_plane(from(0, 0, 2, 2), ground), 2));                           // K1
+    CHECK(ray_plane(from(0, 0, 2, 1), ground).is_none());                             // K2
+    CHECK(ray_plane(Ray{{0, 0, 2}, {1, 0, 0}, 2}, ground).is_none());                 // K3
+    CHECK(hits_at(ray_triangle(from(0.25, 0.25, 1, 1), T[0], T[1], T[2]), 1));        // K4
+    CHECK(hits_at(ray_triangle(from(0.5, 0.5, 1, 1), T[0], T[1], T[2]), 1));          // K5
+    CHECK(ray_triangle(from(0.75, 0.5, 1, 1), T[0], T[1], T[2]).is_none());           // K6
+    // K7 and K8 as document 02 changes them: a normal that is scaled first, and a distance that is not a number refused
+    CHECK(hits_at(ray_triangle(from(2.5e159, 0.25, 1, 10), {0, 0, 0}, {1e160, 0, 0}, {0, 1, 0}), 1));
+    CHECK(refuses(ray_triangle(from(5e159, 5e159, 1, 10), {0, 0, 0}, {1e160, 1e160, 0}, {0, 1e-7, 0}), 6));
+    const Mesh twice = layers(2).value();                                             // K9
+    Scratch scratch;
+    CHECK(hits_at(twice.cast(from(0.25, 0.25, 1, 1), scratch), 1));
+    CHECK(twice.cast(from(0.25, 0.25, 1, 1), scratch).hit().triangle == 0);
+    CHECK(refuses(layers(0), 5));                                                     // K10
+    CHECK(layers(4).value().tree().nodes == 1 && layers(5).value().tree().nodes == 3); // K11
+    const HeightField field{2, 2, {1, 1}, std::vector<double>(4, 0.0)};               // K12
+    CHECK(hits_at(ray_height_field(from(0.75, 0.25, 1, 2), field), 1));
+    const LevelSet grid{{2, 2, 2}, {0, 0, 0}, {1, 1, 1}, std::vector<double>(8, 0.0)}; // K13
+    CHECK(refuses(ray_level_set(from(0.5, 0.5, 2, 5), grid), 8));
+    // document 01's printed result
+    CHECK(hits_at(ray_plane(from(0, 0, 2, 5), ground), 2));
+    CHECK(refuses(ray_plane(Ray{{0, 0, 2}, {0, 0, -2}, 5}, ground), 1));
+}
+
+/* Document 02's M-106: a surface at just the near distance is hit, a nearer one is passed over. */
+void near_distances()
+{
+    const Ray ray = from(0.25, 0.25, 2, 5);
+    const HeightField field{2, 2, {1, 1}, std::vector<double>(4, 0.0)};
+    const LevelSet grid{{2, 2, 2}, {0, 0, 0}, {1, 1, 1}, {-0.5, -0.5, -0.5, -0.5, 0.5, 0.5, 0.5, 0.5}};
+    const PlainMesh plain(T, {{0, 1, 2}});
+    Mesh mesh = layers(1).value();
+    CHECK(hits_at(ray_plane(ray.with_near(2), ground), 2) && ray_plane(ray.with_near(2.5), ground).is_none());
+    CHECK(hits_at(ray_triangle(ray.with_near(2), T[0], T[1], T[2]), 2));
+    CHECK(ray_triangle(ray.with_near(2.5), T[0], T[1], T[2]).is_none());
+    CHECK(hits_at(ray_height_field(ray.with_near(2), field), 2) && ray_height_field(ray.with_near(2.5), field).is_none());
+    CHECK(std::fabs(ray_level_set(ray.with_near(1.25), grid).hit().distance - 1.5) < 1e-12);
+    CHECK(ray_level_set(ray.with_near(1.75), grid).is_none());
+    CHECK(hits_at(plain.cast(ray.with_near(2)), 2) && plain.cast(ray.with_near(2.5)).is_none());
+    CHECK(hits_at(mesh.cast(ray.with_near(2)), 2) && mesh.cast(ray.with_near(2.5)).is_none());
+    CHECK(mesh.cast_all(ray.with_near(2)).value().size() == 1 && mesh.cast_all(ray.with_near(2.5)).value().empty());
+    CHECK(refuses(mesh.cast(ray.with_near(5.5)), 1));
+}
+
+/* Document 01's table of refusals, each number by what it says. */
+void refusals()
+{
+    Scratch scratch;
+    Mesh mesh = layers(1).value();
+    const Ray ray = from(0.25, 0.25, 1, 10);
+    CHECK(refuses(mesh.cast(from(infinite, 0, 0, 1)), 1));
+    CHECK(refuses(mesh.cast_all(from(0, 0, 0, -1)), 1));
+    CHECK(refuses(mesh.query({1, 0, 0}, {0, 1, 1}), 1));
+    CHECK(refuses(layers(65537), 2) && refuses(PlainMesh(T, std::vector<Triangle>(65537)).cast(ray), 2));
+    CHECK(refuses(Mesh::build(Shape({0, 0, 0, 1}, {0, 0, 0})), 2)); // three does not divide four
+    Tree tree = mesh.tree();
+    tree.order.clear();
+    CHECK(refuses(tree_check(mesh.shape(), tree), 3));
+    const Result<Mesh, TreeFault> short_tree = Mesh::with_tree(mesh.shape(), tree);
+    CHECK(short_tree.is_refused() && short_tree.refusal().refusal == Refusal::no_room);
+    CHECK(throws_refusal(Refusal::no_room, [&] { static_cast<void>(short_tree.value()); }));
+    CHECK(refuses(mesh.cast_at(ray, std::vector<Vec3>{{0, 0, 0}, {1, 0, 0}}, scratch), 4));
+    CHECK(refuses(Mesh::build(T, {{0, 1, 3}}), 5) && refuses(PlainMesh(T, {{0, 1, 3}}).cast(ray), 5));
+    CHECK(refuses(Mesh::build({{0, 0, 0}, {infinite, 0, 0}, {0, 1, 0}}, {{0, 1, 2}}), 5));
+    // the segment's end is past the largest float
+    const double most = std::numeric_limits<double>::max();
+    CHECK(refuses(mesh.cast(Ray{{0, 0, most}, {0, 0, 1}, most}), 6));
+    // the cross of the edges is infinite, and the determinant is not
+    const double x = std::ldexp(1, 610), y = std::ldexp(1, 210), p = std::ldexp(1, -10);
+    CHECK(refuses(ray_triangle(Ray{{x / 4, y, p / 4}, {1, 0, 0}, 1}, {0, 0, 0}, {x, 0, p}, {0, x, 0}), 7));
+    CHECK(told(Refusal::no_normal) == "refused 7, no normal: the surface hit has no unit normal");
+    CHECK(told(static_cast<Refusal>(200)) == "refused 200, a refusal that this header does not know");
+    CHECK(std::string(Refused(Refusal::overflow).what()).find("refused 6, ") == 0);
+}
+
+/* What asks for a thing that is not there. */
+void not_there()
+{
+    const Cast<Hit> none = ray_plane(from(0, 0, 2, 1), ground), hit = ray_plane(from(0, 0, 2, 5), ground);
+    CHECK(none.kind() == Kind::none && !none.is_refused() && !none.hit_or_none() && hit.hit_or_none());
+    CHECK(throws<NotThere>([&] { static_cast<void>(none.hit()); }));
+    CHECK(throws<NotThere>([&] { static_cast<void>(none.refusal()); }));
+    CHECK(throws<NotThere>([&] { static_cast<void>(layers(1).refusal()); }));
+    const auto which = [](const Cast<Hit> &cast) {
+        return cast.match([](const Hit &) { return 'h'; }, [] { return 'n'; }, [](Refusal) { return 'r'; });
+    };
+    CHECK(which(none) == 'n' && which(hit) == 'h' && which(ray_plane(from(0, 0, 2, -1), ground)) == 'r');
+}
+
+/* A tree from elsewhere is taken if it passes the check. */
+void trees()
+{
+    const Mesh mesh = layers(5).value();
+    CHECK(tree_check(mesh.shape(), mesh.tree()).value());
+    CHECK(Mesh::with_tree(mesh.shape(), mesh.tree()).value().tree().nodes == 3);
+    Tree small = mesh.tree();
+    small.node_boxes[3] = 0.5; // the root's maximum x
+    CHECK(!tree_check(mesh.shape(), small).value());
+    const Result<Mesh, TreeFault> taken = Mesh::with_tree(mesh.shape(), small);
+    CHECK(taken.is_refused() && !taken.refusal().refusal);
+    CHECK(throws<TreeDoesNotFit>([&] { static_cast<void>(taken.value()); }));
+}
+
+/* A box from one corner to another, two triangles a side. */
+PlainMesh box(const Vec3 &a, const Vec3 &b)
+{
+    std::vector<Vec3> corners;
+    for (int k = 0; k < 8; k++)
+        corners.push_back(Vec3{k & 1 ? b.x : a.x, k & 2 ? b.y : a.y, k & 4 ? b.z : a.z});
+    const std::vector<std::array<std::uint32_t, 4>> sides{
+        {0, 2, 3, 1}, {4, 5, 7, 6}, {0, 1, 5, 4}, {2, 6, 7, 3}, {0, 4, 6, 2}, {1, 3, 7, 5}};
+    std::vector<Triangle> triangles;
+    for (const auto &side : sides) {
+        triangles.push_back({side[0], side[1], side[2]});
+        triangles.push_back({side[0], side[2], side[3]});
+    }
+    return PlainMesh(corners, triangles);
+}
+
+/* A board 60 by 40 by 18, and one 22 thick on it: what a ray straight down meets is told by their measures. */
+void boards()
+{
+    const PlainMesh plain = box({0, 0, 0}, {60, 40, 18});
+    Mesh lower = plain.build().value(), upper = box({0, 0, 18}, {60, 40, 40}).build().value();
+    Mesh glued = lower.glue(upper).value();
+    CHECK(glued.vertex_count() == 16 && glued.triangle_count() == 24);
+    CHECK(tree_check(glued.shape(), glued.tree()).value());
+    Scratch scratch;
+    for (int x = 1; x < 60; x += 7)
+        for (int y = 2; y < 40; y += 5) {
+            const Ray ray = from(x + 0.25, y + 0.125, 100, 200); // on no edge: 2x/3 is no y here
+            CHECK(hits_near(plain.cast(ray), 82) && hits_near(lower.cast(ray), 82) && hits_near(glued.cast(ray), 60));
+            // down through both: the upper's top and bottom, the lower's top and bottom
+            const std::vector<MeshHit> all = glued.cast_all(ray).value();
+            CHECK(all.size() == 4 && close(all[0].distance, 60) && close(all[1].distance, 82) && close(all[2].distance, 82));
+            CHECK(close(all[3].distance, 100) && (all[1].triangle < 12) != (all[2].triangle < 12) && all[3].triangle < 12);
+            // moved up by 5
+            std::vector<Vec3> moved;
+            for (std::size_t v = 0; v < lower.vertex_count(); v++) {
+                const double *at = &lower.shape().vertices[3 * v];
+                moved.push_back(Vec3{at[0], at[1], at[2] + 5});
+            }
+            CHECK(hits_near(lower.cast_at(ray, moved, scratch), 77));
+        }
+    CHECK(lower.cast(from(61, 20, 100, 200)).is_none() && plain.cast(from(61, 20, 100, 200)).is_none());
+    // a box about the bottom: the two triangles of each side but the top
+    CHECK((lower.query({-1, -1, -1}, {61, 41, 0.5}).value() == std::vector<std::uint32_t>{0, 1, 4, 5, 6, 7, 8, 9, 10, 11}));
+    const Result<Mesh> many = layers(40000).value().glue(layers(40000).value());
+    CHECK(refuses(many, 2));
+    // threads share a mesh
+    std::vector<std::thread> threads;
+    std::vector<char> right(4, 0);
+    const Mesh &shared = glued;
+    for (std::size_t k = 0; k < right.size(); k++)
+        threads.emplace_back([&shared, &right, k] {
+            Scratch own;
+            right[k] = hits_near(shared.cast(from(10.25 + double(k), 20.125, 100, 200), own), 60);
+        });
+    for (std::thread &thread : threads)
+        thread.join();
+    CHECK(right == std::vector<char>(4, 1));
+}
+
+/* Veneer of 18 to 19 mm: a probe that ends 18.5 over the ground may meet it, one that ends at 20 is clear. */
+void ranges()
+{
+    const HeightRanges veneer{2, 3, {100, 100}, std::vector<double>(6, 18.0), std::vector<double>(6, 19.0)};
+    const HeightRanges swapped{2, 3, {100, 100}, veneer.highs, veneer.lows};
+    const Clearance possible = ray_height_ranges(from(150, 50, 30, 11.5), veneer);
+    CHECK(!possible.is_clear() && possible.possible() && possible.possible()->number == 1);
+    CHECK(ray_height_ranges(from(150, 50, 30, 10), veneer).is_clear());
+    const Clearance refused = ray_height_ranges(from(150, 50, 30, 10), swapped);
+    CHECK(refused.is_refused() && refused.refusal() == Refusal::bad_range);
+    CHECK(throws_refusal(Refusal::bad_range, [&] { static_cast<void>(refused.is_clear()); }));
+    CHECK(throws_refusal(Refusal::bad_range, [&] { static_cast<void>(refused.possible()); }));
+    CHECK(possible.match([] { return -1; }, [](Cell cell) { return int(cell.number); }, [](Refusal) { return -2; }) == 1);
+}
+
+/* A square of two triangles, one leaf, placed twice, 10 apart. */
+void cabinets()
+{
+    const Mesh square = Mesh::build({{0, 0, 0}, {1, 0, 0}, {1, 1, 0}, {0, 1, 0}}, {{0, 1, 2}, {0, 2, 3}}).value();
+    Cabinet cabinet;
+    CHECK(cabinet.cast(from(0.25, 0.5, 12, 20)).answer.is_none());
+    CHECK(cabinet.push(square, {0, 0, 0}) == 0 && cabinet.place_again(0, {0, 0, 10}) == 1);
+    CHECK(cabinet.size() == 2 && cabinet.nodes() == 2);
+    const CabinetCast cast = cabinet.cast(from(0.25, 0.5, 12, 20));
+    CHECK(hits_at(cast.answer, 2) && cast.answer.hit().part == 1 && cast.answer.hit().triangle == 1 && cast.spent == 2);
+    const CabinetCast passed = cabinet.cast(from(0.25, 0.5, 12, 20).with_near(3), 2);
+    CHECK(hits_at(passed.answer, 12) && passed.answer.hit().part == 0);
+    const CabinetCast limited = cabinet.cast(from(0.25, 0.5, 12, 20), 1);
+    CHECK(refuses(limited.answer, 10) && limited.spent == 1);
+    CHECK(throws<std::out_of_range>([&] { cabinet.place_again(2, {0, 0, 0}); }));
+}
+
+} // namespace
+
+int main()
+{
+    CHECK(version() == PROBE_VERSION);
+    const Ray aslant = Ray::toward({0, 0, 0}, {0, 3, 4}, 10);
+    CHECK(is(aslant.direction, 0, 0.6, 0.8) && is(aslant.at(5), 0, 3, 4) && aslant.near_distance == 0);
+    CHECK(refuses(ray_plane(Ray::toward({0, 0, 1}, {0, 0, 0}, 10), ground), 1));
+    marked();
+    near_distances();
+    refusals();
+    not_there();
+    trees();
+    boards();
+    ranges();
+    cabinets();
+    std::printf("%d checks\n", checks);
+    return 0;
+}
