@@ -50,9 +50,7 @@ CLEAR, POSSIBLE = CODES["CLEAR"], CODES["POSSIBLE"]
 MAX_COUNT = CODES["MAX_TRIANGLES"]
 
 library = _loaded(VERSION)
-for _name, _kinds in declared(_text).items():
-    _call = getattr(library, _name)
-    _call.argtypes, _call.restype = _kinds, ctypes.c_uint32
+library.probe_version.restype = ctypes.c_uint32
 
 
 def version():
@@ -62,3 +60,8 @@ def version():
 
 if version() != VERSION:
     raise ImportError(f"the library's calls have version {version()}, and those of the header {VERSION}")
+for _name, _kinds in declared(_text).items():
+    _call = getattr(library, _name, None)
+    if _call is None:
+        raise ImportError(f"the library has no {_name}, which the header has: they are not of one release")
+    _call.argtypes, _call.restype = _kinds, ctypes.c_uint32

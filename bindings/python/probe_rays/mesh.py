@@ -6,6 +6,7 @@ from typing import NamedTuple
 from ._arrays import lent, owned, read_only, shaped, zeros
 from ._library import DONE, HIT, MAX_COUNT, NO, NONE, YES, library
 from .answers import Casts, MeshHit, Refused, TreeDoesNotFit, settled
+from .ray import HAIR, careful
 from .stl import read_stl
 
 
@@ -213,6 +214,10 @@ class Mesh:
         pose = self._vertices if pose is None else owned(pose, "d", 3, "pose")
         answer = self._cast(ray.numbers(), scratch, pose)
         return settled(answer, lambda: _mesh_hit(scratch.hit, scratch.index))
+
+    def cast_careful(self, ray, hair=HAIR):
+        """The cast and three more a hair beside it, as `careful` has it: a guard, and no proof."""
+        return careful(ray, self.cast, hair)
 
     def cast_many(self, origins, directions, max_distance, near_distance=0.0, refused="raise"):
         """Casts many rays: Casts. Directions, maxima and near distances are one for each ray, or one for all.

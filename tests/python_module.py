@@ -1,0 +1,522 @@
+#!/usr/bin/env python3
+"""The Python module against document 01's marked answers, document 02's requests, the panel of examples/, whose answers were
+found by hand, and a computation in exact fractions. tests/python.sh calls it with a folder for files; its last line says how
+many tests passed.
+
+Directions are (0,0,-1) unless given, and T is the triangle (0,0,0), (1,0,0), (0,1,0). K14 and K15 are of functions that the
+library does not offer."""
+import ctypes
+import math
+import pathlib
+import random
+import subprocess
+import sys
+import unittest
+from array import array
+from concurrent.futures import ThreadPoolExecutor
+from fractions import Fraction
+
+import probe_rays
+from probe_rays import Cabinet, HeightField, HeightRanges, LevelSet, Mesh, PlainMesh, Ray, Refused, ray_plane, ray_triangle
+
+HERE = pathlib.Path(__file__).resolve().parent
+EXAMPLES = HERE.parent / "examples"
+WORK = pathlib.Path(sys.argv.pop(1))
+
+DOWN = (0, 0, -1)
+UP = (0.0, 0.0, 1.0)
+T = [(0, 0, 0), (1, 0, 0), (0, 1, 0)]
+SQUARE = [(0, 0, 0), (4, 0, 0), (4, 4, 0), (0, 4, 0)], [(0, 1, 2), (0, 2, 3)]
+
+
+def down(x, y, z, most, near=0.0):
+    return Ray((x, y, z), DOWN, most, near)
+
+
+def layers(count):
+    """T, as often as asked for."""
+    return Mesh(T, [(0, 1, 2)] * count)
+
+
+def box(a, b):
+    """A box from one corner to another: vertices and triangles, two a side."""
+    corners = [[b[axis] if k >> axis & 1 else a[axis] for axis in range(3)] for k in range(8)]
+    sides = [(0, 2, 3, 1), (4, 5, 7, 6), (0, 1, 5, 4), (2, 6, 7, 3), (0, 4, 6, 2), (1, 3, 7, 5)]
+    return corners, [three for p, q, r, s in sides for three in ((p, q, r), (p, r, s))]
+
+
+class Case(unittest.TestCase):
+    def refuses(self, number, call):
+        with self.assertRaises(Refused) as caught:
+            call()
+        self.assertEqual(caught.exception.number, number)
+        return caught.exception
+
+    def hits(self, hit, distance):
+        self.assertEqual((hit.distance, hit.normal), (distance, UP))
+
+
+class Marked(Case):
+    """Document 01's K1 to K13, with K7 and K8 as document 02 changes them."""
+
+    def test_k1_to_k3_plane(self):
+        self.hits(ray_plane(down(0, 0, 2, 2), UP, 0), 2)
+        self.assertIsNone(ray_plane(down(0, 0, 2, 1), UP, 0))
+        self.assertIsNone(ray_plane(Ray((0, 0, 2), (1, 0, 0), 2), UP, 0))
+
+    def test_k4_to_k6_triangle(self):
+        self.hits(ray_triangle(down(0.25, 0.25, 1, 1), *T), 1)
+        self.hits(ray_triangle(down(0.5, 0.5, 1, 1), *T), 1)
+        self.assertIsNone(ray_triangle(down(0.75, 0.5, 1, 1), *T))
+
+    def test_k7_and_k8_large_triangles(self):
+        self.hits(ray_triangle(down(2.5e159, 0.25, 1, 10), (0, 0, 0), (1e160, 0, 0), (0, 1, 0)), 1)
+        self.refuses(6, lambda: ray_triangle(down(5e159, 5e159, 1, 10), (0, 0, 0), (1e160, 1e160, 0), (0, 1e-7, 0)))
+
+    def test_k9_to_k11_mesh(self):
+        hit = layers(2).cast(down(0.25, 0.25, 1, 1))
+        self.hits(hit, 1)
+        self.assertEqual(hit.triangle, 0)
+        self.refuses(5, lambda: layers(0))
+        self.assertEqual((layers(4).tree.nodes, layers(5).tree.nodes), (1, 3))
+
+    def test_k12_heights_and_k13_distances(self):
+        self.hits(HeightField([[0, 0], [0, 0]], 2, 2, (1, 1)).cast(down(0.75, 0.25, 1, 2)), 1)
+        grid = LevelSet([0.0] * 8, (2, 2, 2), (0, 0, 0), (1, 1, 1))
+        self.refuses(8, lambda: grid.cast(down(0.5, 0.5, 2, 5)))
+
+    def test_printed_result(self):
+        self.hits(ray_plane(down(0, 0, 2, 5), UP, 0), 2)
+        self.refuses(1, lambda: ray_plane(Ray((0, 0, 2), (0, 0, -2), 5), UP, 0))
+
+
+class Refusals(Case):
+    def test_numbers(self):
+        mesh, ray = layers(1), down(0.25, 0.25, 1, 10)
+        self.refuses(1, lambda: mesh.cast(down(math.inf, 0, 0, 1)))
+        self.refuses(1, lambda: mesh.cast_all(down(0, 0, 0, -1)))
+        self.refuses(1, lambda: mesh.cast(down(0, 0, 0, 1, near=2)))
+        self.refuses(1, lambda: mesh.query((1, 0, 0), (0, 1, 1)))
+        self.refuses(2, lambda: layers(65537))
+        self.refuses(2, lambda: PlainMesh(T, [(0, 1, 2)] * 65537).cast(ray))
+        self.refuses(2, lambda: Mesh([0, 0, 0, 1], [0, 0, 0]))
+        self.refuses(2, lambda: HeightField([0.0] * 5, 2, 2, (1, 1)).cast(ray))
+        self.refuses(3, lambda: probe_rays.tree_check(T, [(0, 1, 2)], mesh.tree._replace(order=[])))
+        self.refuses(4, lambda: mesh.cast(ray, pose=T[:2]))
+        self.refuses(5, lambda: Mesh(T, [(0, 1, 3)]))
+        self.refuses(5, lambda: PlainMesh(T, [(0, 1, 3)]).cast(ray))
+        self.refuses(5, lambda: Mesh([(0, 0, 0), (math.inf, 0, 0), (0, 1, 0)], [(0, 1, 2)]))
+        most = sys.float_info.max
+        self.refuses(6, lambda: mesh.cast(Ray((0, 0, most), (0, 0, 1), most)))
+        # the cross of the edges is infinite, and the determinant is not
+        x, y, p = 2.0**610, 2.0**210, 2.0**-10
+        self.refuses(7, lambda: ray_triangle(Ray((x / 4, y, p / 4), (1, 0, 0), 1), (0, 0, 0), (x, 0, p), (0, x, 0)))
+
+    def test_words(self):
+        self.assertEqual(str(Refused(7)), "refused 7, no normal: the surface hit has no unit normal")
+        self.assertEqual(str(Refused(200)), "refused 200, a refusal that this module does not know")
+        self.assertEqual(str(Refused(1, ray=4))[-8:], " (ray 4)")
+
+    def test_every_refusal_of_the_header_has_words(self):
+        for number in probe_rays._library.REFUSALS:
+            self.assertNotIn("does not know", str(Refused(number)))
+
+
+class Near(Case):
+    """Document 02's M-106: a surface at just the near distance is hit, a nearer one is passed over."""
+
+    def test_all_shapes(self):
+        plain, mesh = PlainMesh(T, [(0, 1, 2)]), layers(1)
+        field = HeightField([0.0] * 4, 2, 2, (1, 1))
+        casts = [
+            lambda ray: ray_plane(ray, UP, 0), lambda ray: ray_triangle(ray, *T), plain.cast, mesh.cast, field.cast,
+            lambda ray: (mesh.cast_all(ray) or [None])[0],
+        ]
+        for cast in casts:
+            self.hits(cast(down(0.25, 0.25, 2, 5, near=2)), 2)
+            self.assertIsNone(cast(down(0.25, 0.25, 2, 5, near=2.5)))
+        # the surface z = 0.5: each value is the node's height less 0.5
+        grid = LevelSet([-0.5] * 4 + [0.5] * 4, (2, 2, 2), (0, 0, 0), (1, 1, 1))
+        self.assertAlmostEqual(grid.cast(down(0.5, 0.5, 2, 5, near=1.25)).distance, 1.5, places=12)
+        self.assertIsNone(grid.cast(down(0.5, 0.5, 2, 5, near=1.75)))
+
+
+class Trees(Case):
+    def test_one_from_elsewhere(self):
+        mesh = layers(5)
+        self.assertTrue(probe_rays.tree_check(mesh.vertices, mesh.triangles, mesh.tree))
+        again = Mesh.with_tree(mesh.vertices, mesh.triangles, mesh.tree)
+        self.assertEqual(again.tree.nodes, 3)
+        boxes = array("d", mesh.tree.node_boxes)
+        boxes[3] = 0.5  # the root's maximum x
+        wrong = mesh.tree._replace(node_boxes=boxes)
+        self.assertFalse(probe_rays.tree_check(mesh.vertices, mesh.triangles, wrong))
+        with self.assertRaises(probe_rays.TreeDoesNotFit):
+            Mesh.with_tree(mesh.vertices, mesh.triangles, wrong)
+
+    def test_a_mesh_cannot_be_changed(self):
+        mesh = layers(1)
+        for view in (mesh.vertices, mesh.triangles, *mesh.tree[1:]):
+            self.assertTrue(view.readonly)
+        given = array("d", [0, 0, 0, 1, 0, 0, 0, 1, 0])
+        mesh = Mesh(given, [(0, 1, 2)])
+        given[0] = 1e9
+        self.assertEqual(mesh.vertices.tolist()[0], [0, 0, 0])
+
+    def test_query(self):
+        # a box about a board's bottom: the two triangles of each side but the top
+        self.assertEqual(Mesh(*box((0, 0, 0), (60, 40, 18))).query((-1, -1, -1), (61, 41, 0.5)), [0, 1, 4, 5, 6, 7, 8, 9, 10, 11])
+
+
+class Boards(Case):
+    """A board 60 by 40 by 18, and one 22 thick on it: their measures tell what a ray straight down meets."""
+
+    def test_glued(self):
+        lower, upper = Mesh(*box((0, 0, 0), (60, 40, 18))), Mesh(*box((0, 0, 18), (60, 40, 40)))
+        glued = lower.glue(upper)
+        self.assertEqual((glued.vertices.shape, glued.triangles.shape), ((16, 3), (24, 3)))
+        self.assertTrue(probe_rays.tree_check(glued.vertices, glued.triangles, glued.tree))
+        for x in range(1, 60, 7):
+            for y in range(2, 40, 5):
+                ray = down(x + 0.25, y + 0.125, 100, 200)
+                self.assertAlmostEqual(lower.cast(ray).distance, 82, places=9)
+                self.assertAlmostEqual(glued.cast(ray).distance, 60, places=9)
+                depths = [hit.distance for hit in glued.cast_all(ray)]
+                for found, expected in zip(depths, (60, 82, 82, 100), strict=True):
+                    self.assertAlmostEqual(found, expected, places=9)
+                moved = [(a, b, c + 5) for a, b, c in lower.vertices.tolist()]
+                self.assertAlmostEqual(lower.cast(ray, pose=moved).distance, 77, places=9)
+        self.assertIsNone(glued.cast(down(61, 20, 100, 200)))
+        self.assertEqual(glued.cast_all(down(61, 20, 100, 200)), [])
+        many = layers(40000)
+        self.refuses(2, lambda: many.glue(many))
+
+    def test_plain_agrees(self):
+        shape = box((0, 0, 0), (60, 40, 18))
+        plain, mesh = PlainMesh(*shape), Mesh(*shape)
+        for x in range(-3, 64):
+            ray = Ray.toward((x + 0.3, 20.1, 30), (0.1, 0.2, -1), 100)
+            self.assertEqual(plain.cast(ray), mesh.cast(ray))
+        self.assertEqual(plain.build().cast(down(30, 10, 30, 100)), mesh.cast(down(30, 10, 30, 100)))
+        self.assertIsNone(PlainMesh([], []).cast(down(0, 0, 1, 2)))
+
+    def test_cabinet(self):
+        # a square of two triangles, one leaf, placed twice, 10 apart
+        square = Mesh([(0, 0, 0), (1, 0, 0), (1, 1, 0), (0, 1, 0)], [(0, 1, 2), (0, 2, 3)])
+        cabinet = Cabinet()
+        self.assertEqual(cabinet.cast(down(0.25, 0.5, 12, 20)), (None, 0))
+        self.assertEqual((cabinet.add(square, (0, 0, 0)), cabinet.add(square, (0, 0, 10))), (0, 1))
+        self.assertEqual((len(cabinet), cabinet.nodes), (2, 2))
+        cast = cabinet.cast(down(0.25, 0.5, 12, 20))
+        self.assertEqual((cast.hit.distance, cast.hit.part, cast.hit.triangle, cast.spent), (2, 1, 1, 2))
+        passed = cabinet.cast(down(0.25, 0.5, 12, 20, near=3), limit=2)
+        self.assertEqual((passed.hit.distance, passed.hit.part), (12, 0))
+        self.assertEqual(self.refuses(10, lambda: cabinet.cast(down(0.25, 0.5, 12, 20), limit=1)).spent, 1)
+        # the other mesh stands behind the first in the areas that they share
+        cabinet.add(layers(3), (10, 0, 5))
+        self.assertEqual(cabinet.cast(down(10.25, 0.25, 12, 20)).hit[::3], (7, 2))
+
+    def test_cabinet_of_examples(self):
+        # examples/cabinet.c, whose answers were found by hand: examples/cabinet.expected
+        upright, flat = Mesh(*box((0, 0, 0), (18, 560, 720))), Mesh(*box((0, 0, 0), (564, 560, 18)))
+        cabinet = Cabinet()
+        for mesh, origin in ((upright, (0, 0, 0)), (upright, (582, 0, 0)), *((flat, (18, 0, z)) for z in (0, 350, 702))):
+            cabinet.add(mesh, origin)
+        names = ["left side", "right side", "bottom", "shelf", "top"]
+        above, within, beside = (300, 280, 1000), (300, 280, 600), (700, 280, 600)
+        left, right = (-1, 0, 0), (1, 0, 0)
+        probes = [(above, DOWN, 0, None), (above, DOWN, 290, None), (within, DOWN, 0, None), (within, left, 0, None)]
+        probes += [(within, right, 0, None), (beside, left, 0, None), (beside, right, 0, None), (above, DOWN, 0, 4)]
+        lines = []
+        for origin, direction, near, limit in probes:
+            start = "from (%g, %g, %g) along (%g, %g, %g): " % (*origin, *direction)
+            try:
+                hit = cabinet.cast(Ray(origin, direction, 2000, near), limit).hit
+            except Refused as why:
+                lines.append(f"{start}refused {why.number} after {why.spent} nodes")
+                continue
+            normal = "(%g, %g, %g)" % tuple(part + 0.0 for part in hit.normal) if hit else ""
+            lines.append(start + (f"{names[hit.part]} at {hit.distance:g}, normal {normal}" if hit else "none"))
+        self.assertEqual(lines, (EXAMPLES / "cabinet.expected").read_text().splitlines())
+
+
+class Ranges(Case):
+    def test_veneer(self):
+        # veneer of 18 to 19 mm: a probe that ends 18.5 over the ground may meet it, one that ends at 20 is clear
+        veneer = HeightRanges([18.0] * 6, [19.0] * 6, 2, 3, (100, 100))
+        self.assertEqual(veneer.cast(down(150, 50, 30, 11.5)), probe_rays.Possible(1))
+        self.assertEqual(veneer.cast(down(50, 50, 30, 11.5)), probe_rays.Possible(0))
+        self.assertTrue(veneer.cast(down(50, 50, 30, 11.5)), "cell 0 is no no")
+        self.assertIsNone(veneer.cast(down(150, 50, 30, 10)))
+        swapped = HeightRanges([19.0] * 6, [18.0] * 6, 2, 3, (100, 100))
+        self.refuses(9, lambda: swapped.cast(down(150, 50, 30, 10)))
+
+
+def exact(mesh, numbers):
+    """The least depth at which a ray crosses a triangle, by exact fractions of the floats; None where there is none, and
+    NotImplemented where a crossing lies so near a side or an end that rounding may decide."""
+    vertices, triangles = mesh
+    origin, direction, most = numbers[:3], numbers[3:6], Fraction(numbers[6])
+    sub = lambda a, b: [Fraction(p) - Fraction(q) for p, q in zip(a, b)]
+    cross = lambda a, b: [a[1] * b[2] - a[2] * b[1], a[2] * b[0] - a[0] * b[2], a[0] * b[1] - a[1] * b[0]]
+    dot = lambda a, b: sum(p * q for p, q in zip(a, b))
+    ray = [Fraction(part) for part in direction]
+    least = None
+    for one, two, three in triangles:
+        edge, other, start = sub(vertices[two], vertices[one]), sub(vertices[three], vertices[one]), sub(origin, vertices[one])
+        p = cross(ray, other)
+        determinant = dot(edge, p)
+        if abs(determinant) < Fraction(1, 10**6):
+            if determinant:
+                return NotImplemented
+            continue
+        q = cross(start, edge)
+        u, v, t = dot(start, p) / determinant, dot(ray, q) / determinant, dot(other, q) / determinant
+        inside = min(u, v, 1 - u - v, t, most - t)
+        if abs(inside) < Fraction(1, 10**9):
+            return NotImplemented
+        if inside > 0:
+            least = t if least is None else min(t, least)
+    return least
+
+
+class Batches(Case):
+    def soup(self, seed, count):
+        """Triangles anywhere in a cube of 20, and rays about it."""
+        pick = random.Random(seed)
+        coordinate = lambda: pick.uniform(-10, 10)
+        vertices = [(coordinate(), coordinate(), coordinate()) for _ in range(3 * count)]
+        return vertices, [(k, k + 1, k + 2) for k in range(0, 3 * count, 3)]
+
+    def test_against_exact_fractions(self):
+        pick = random.Random(7)
+        shape = self.soup(3, 40)
+        mesh = Mesh(*shape)
+        origins = [tuple(pick.uniform(-15, 15) for _ in range(3)) for _ in range(400)]
+        aims = [[pick.uniform(-10, 10) - part for part in origin] for origin in origins]
+        rays = [Ray.toward(origin, aim, pick.uniform(5, 60)) for origin, aim in zip(origins, aims)]
+        casts = mesh.cast_many(origins, [ray.direction for ray in rays], [ray.max_distance for ray in rays])
+        self.assertEqual(len(casts), 400)
+        told = {"hit": 0, "none": 0, "open": 0}
+        for ray, hit, distance in zip(rays, casts, casts.distances):
+            expected = exact(shape, ray.numbers())
+            if expected is NotImplemented:
+                told["open"] += 1
+            elif expected is None:
+                told["none"] += 1
+                self.assertIsNone(hit)
+                self.assertEqual(distance, math.inf)
+            else:
+                told["hit"] += 1
+                self.assertAlmostEqual(hit.distance, float(expected), places=9)
+                self.assertEqual(distance, hit.distance)
+            self.assertEqual(mesh.cast(ray), hit)
+        self.assertGreater(min(told["hit"], told["none"]), 100)
+        self.assertLess(told["open"], 10)
+
+    def test_arrays(self):
+        mesh = Mesh(*SQUARE)
+        casts = mesh.cast_many([(1, 3, 5), (9, 9, 5)], DOWN, 10)
+        self.assertEqual((casts[0].triangle, casts[1], casts[-1]), (1, None, None))
+        self.assertEqual((casts.distances.tolist(), casts.triangles.tolist()), ([5.0, math.inf], [1, 2**32 - 1]))
+        self.assertEqual(casts.normals.tolist()[0], [0.0, 0.0, 1.0])
+        self.assertTrue(all(map(math.isnan, casts.normals.tolist()[1])))
+        self.assertEqual((casts.normals.shape, casts.answers.tolist(), casts.refused), ((2, 3), [256, 257], []))
+        self.assertEqual(len(mesh.cast_many([], DOWN, 10)), 0)
+        with self.assertRaises(IndexError):
+            casts[2]
+        for wrong in (([(1, 3)], DOWN, 10), ([(1, 3, 5)] * 3, [DOWN] * 2, 10), ([(1, 3, 5)] * 3, DOWN, [1, 2])):
+            with self.assertRaises(ValueError):
+                mesh.cast_many(*wrong)
+
+    def test_refusals_are_no_nones(self):
+        mesh = Mesh(*SQUARE)
+        origins = [(1, 3, 5), (math.nan, 3, 5), (9, 9, 5)]
+        self.assertEqual(self.refuses(1, lambda: mesh.cast_many(origins, DOWN, 10)).ray, 1)
+        kept = mesh.cast_many(origins, DOWN, 10, refused="keep")
+        self.assertEqual((kept.answers.tolist(), kept.refused), ([256, 1, 257], [1]))
+        self.assertTrue(math.isnan(kept.distances[1]))
+        self.assertEqual(self.refuses(1, lambda: kept[1]).ray, 1)
+        self.refuses(1, lambda: list(kept))
+        with self.assertRaises(ValueError):
+            mesh.cast_many(origins, DOWN, 10, refused="none")
+
+    def test_threads_share_a_mesh(self):
+        shape = self.soup(5, 200)
+        mesh = Mesh(*shape)
+        pick = random.Random(11)
+        origins = [tuple(pick.uniform(-15, 15) for _ in range(3)) for _ in range(300)]
+        once = mesh.cast_many(origins, DOWN, 30).distances.tolist()
+        with ThreadPoolExecutor(4) as threads:
+            for found in threads.map(lambda _: mesh.cast_many(origins, DOWN, 30).distances.tolist(), range(8)):
+                self.assertEqual(found, once)
+
+
+class Buffers(Case):
+    """Any buffer, and rows of numbers, are the same mesh."""
+
+    def test_kinds(self):
+        vertices, triangles = SQUARE
+        flat = [float(number) for row in vertices for number in row]
+        indices = [index for row in triangles for index in row]
+        kinds = [
+            (vertices, triangles),
+            (flat, indices),
+            (array("d", flat), array("I", indices)),
+            (array("f", flat), array("H", indices)),
+            (memoryview(array("d", flat)).cast("B").cast("d", (4, 3)), memoryview(array("I", indices)).cast("B").cast("I", (2, 3))),
+            (memoryview(array("d", flat)).toreadonly(), array("Q", indices)),
+            ((ctypes.c_double * 12)(*flat), (ctypes.c_uint32 * 6)(*indices)),
+            ((tuple(row) for row in vertices), iter(triangles)),
+        ]
+        for kind in kinds:
+            mesh = Mesh(*kind)
+            self.assertEqual((mesh.vertices.tolist(), mesh.triangles.tolist()), ([list(map(float, v)) for v in vertices], [list(t) for t in triangles]))
+        for wrong in ([(0, 0), (1, 1)], memoryview(array("d", flat)).cast("B").cast("d", (6, 2))):
+            with self.assertRaises(ValueError):
+                Mesh(wrong, triangles)
+        for wrong in ([(0, 1, -1)], [(0, 1, 2**32)]):
+            with self.assertRaises(OverflowError):
+                Mesh(vertices, wrong)
+
+    def test_numpy(self):
+        try:
+            import numpy
+        except ImportError:
+            self.skipTest("numpy is not there: pip install numpy, or apt-get install python3-numpy")
+        mesh = Mesh(numpy.array(SQUARE[0], dtype=float), numpy.array(SQUARE[1], dtype=numpy.uint32))
+        casts = mesh.cast_many(numpy.array([[1.0, 3.0, 5.0], [9.0, 9.0, 5.0]]), numpy.array([0.0, 0.0, -1.0]), 10.0)
+        self.assertEqual(numpy.asarray(casts.normals).shape, (2, 3))
+        self.assertEqual(numpy.asarray(casts.distances).tolist(), [5.0, math.inf])
+        self.assertEqual(Mesh(numpy.asfortranarray(numpy.array(SQUARE[0], dtype=float)), SQUARE[1]).vertices.tolist()[1], [4, 0, 0])
+
+
+class Stl(Case):
+    """The panel of examples/, from all the files of tests/stl_files.py, and the files that are not right."""
+
+    def fixed(self, number):
+        text = f"{number:.3f}"
+        return "0.000" if text == "-0.000" else text
+
+    def vector(self, parts):
+        return "(" + ", ".join(map(self.fixed, parts)) + ")"
+
+    def place(self, ray, hit):
+        at = self.vector(ray.at(hit.distance))
+        return f"at {self.fixed(hit.distance)} mm, point {at}, normal {self.vector(hit.normal)}, triangle {hit.triangle}"
+
+    def rays(self, file):
+        words = [word for line in (EXAMPLES / file).read_text().splitlines() for word in line.split("#")[0].split()]
+        numbers = list(map(float, words))
+        return [Ray.toward(n[:3], n[3:6], n[6]) for n in (numbers[k : k + 7] for k in range(0, len(numbers), 7))]
+
+    def told(self, mesh, rays, cast):
+        lines = [f"{len(mesh.triangles)} triangles, {len(mesh.vertices)} vertices, {mesh.tree.nodes} nodes"]
+        for number, ray in enumerate(rays, 1):
+            try:
+                lines.append(f"ray {number}: {cast(ray)}")
+            except Refused as why:
+                lines.append(f"ray {number}: {why}")
+        return "\n".join(lines) + "\n"
+
+    def first(self, mesh):
+        return self.told(mesh, self.rays("panel.rays"), lambda ray: self.one(ray, mesh.cast(ray)))
+
+    def one(self, ray, hit):
+        return "none" if hit is None else f"hit {self.place(ray, hit)}"
+
+    def every(self, ray, hits):
+        lines = "".join(f"\n  {self.place(ray, hit)}" for hit in hits)
+        return f"{len(hits)} hit{'s' * (len(hits) != 1)}{lines}" if hits else "none"
+
+    def test_panel(self):
+        mesh = Mesh.from_stl(EXAMPLES / "panel.stl")
+        self.assertEqual(self.first(mesh), (EXAMPLES / "panel.hits").read_text())
+        depths = self.told(mesh, self.rays("panel.bores"), lambda ray: self.every(ray, mesh.cast_all(ray)))
+        self.assertEqual(depths, (EXAMPLES / "panel.depths").read_text())
+
+    def test_files(self):
+        subprocess.run([HERE / "stl_files.py", WORK], check=True)
+        same, wrong = sorted(WORK.glob("same-*.stl")), sorted(WORK.glob("wrong-*.stl"))
+        self.assertGreaterEqual((len(same), len(wrong)), (3, 12))
+        for file in same:
+            self.assertEqual(self.first(Mesh.from_stl(file)), (EXAMPLES / "panel.hits").read_text())
+        for file in wrong:
+            with self.assertRaises(probe_rays.StlError) as caught:
+                Mesh.from_stl(file)
+            self.assertEqual(f"stl: {caught.exception}\n", file.with_suffix(".says").read_text())
+
+
+class Careful(Case):
+    def test_a_mesh_that_leaks(self):
+        # docs/DIFFERENCES.md, 'Found in the Rust', 2: the ray runs on the square's diagonal, and passes
+        mesh = Mesh([(0, 0, 0), (31, 0, 0), (0, 31, 0), (31, 31, 0)], [(0, 1, 2), (3, 2, 1)])
+        ray = down(1, 30, 1, 10)
+        self.assertIsNone(mesh.cast(ray))
+        self.assertEqual(mesh.cast_careful(ray).distance, 1)
+        self.assertIsNone(mesh.cast_careful(down(40, 40, 1, 10)))
+        self.refuses(1, lambda: mesh.cast_careful(down(1, 30, 1, -1)))
+
+    def test_three_beside(self):
+        for direction in ((0, 0, -1), (1, 0, 0), (0.6, 0, -0.8)):
+            ray = Ray((1, 2, 3), direction, 10, 0.5)
+            besides = list(ray.beside(0.5))
+            for beside in besides:
+                aside = [a - b for a, b in zip(beside.origin, ray.origin)]
+                self.assertAlmostEqual(math.hypot(*aside), 0.5, places=12)
+                self.assertAlmostEqual(sum(a * b for a, b in zip(aside, direction)), 0, places=12)
+                self.assertEqual(beside[1:], ray[1:])
+            self.assertAlmostEqual(math.dist(besides[0].origin, besides[1].origin), 0.5 * math.sqrt(3), places=12)
+            self.assertAlmostEqual(math.dist(besides[0].origin, besides[2].origin), 0.5 * math.sqrt(3), places=12)
+
+    def test_the_nearest_of_four(self):
+        answers = [None, probe_rays.Hit(3.0, UP), probe_rays.Hit(2.0, UP), None]
+        given = iter(answers)
+        self.assertEqual(probe_rays.careful(down(0, 0, 0, 5), lambda _: next(given)).distance, 2.0)
+
+        def fourth(ray, seen=[]):
+            seen.append(ray)
+            if len(seen) == 4:
+                raise Refused(6)
+            return probe_rays.Hit(1.0, UP)
+
+        self.refuses(6, lambda: probe_rays.careful(down(0, 0, 0, 5), fourth))
+
+
+class Library(Case):
+    def test_rays(self):
+        ray = Ray.toward((0, 0, 0), (0, 3, 4), 10)
+        self.assertEqual((ray.direction, ray.at(5), ray.near_distance), ((0, 0.6, 0.8), (0, 3, 4), 0))
+        self.assertEqual(Ray.toward((0, 0, 0), (0, 0, 0), 1).direction, (0, 0, 0))
+
+    def test_the_part_is_the_header_s(self):
+        part = probe_rays.cabinet.Part
+        fields = [(name, getattr(part, name).offset) for name, _ in part._fields_]
+        lines = [f'printf("%zu\\n", offsetof(probe_part, {name}));' for name, _ in fields] + ['printf("%zu\\n", sizeof(probe_part));']
+        program = WORK / "part.c"
+        program.write_text("#include <stdio.h>\n#include \"probe_rays.h\"\nint main(void) { " + " ".join(lines) + " return 0; }\n")
+        include = pathlib.Path(probe_rays.__file__).resolve().parents[3] / "include"
+        subprocess.run(["gcc", f"-I{include}", program, "-o", WORK / "part"], check=True)
+        said = subprocess.run([WORK / "part"], check=True, capture_output=True, text=True).stdout.split()
+        self.assertEqual(list(map(int, said)), [offset for _, offset in fields] + [ctypes.sizeof(part)])
+
+    def test_calls(self):
+        self.assertEqual(probe_rays.version(), probe_rays.VERSION)
+        calls = probe_rays._library.declared(probe_rays._library._text)
+        self.assertEqual(len(calls["probe_ray_plane_near"]), 14)
+        self.assertEqual(calls["probe_ray_plane_near"].count(ctypes.c_double), 12)
+        self.assertEqual(calls["probe_version"], [])
+        self.assertGreaterEqual(len(calls), 19)
+
+
+if __name__ == "__main__":
+    import doctest
+
+    program = unittest.main(exit=False, verbosity=0)
+    docs = doctest.testmod(probe_rays)
+    skipped = program.result.skipped
+    for _, why in skipped:
+        print(f"SKIPPED: {why}", file=sys.stderr)
+    if not program.result.wasSuccessful() or docs.failed or not docs.attempted:
+        sys.exit(1)
+    print(f"{program.result.testsRun - len(skipped) + docs.attempted} tests")
