@@ -42,6 +42,9 @@ expect() {
 fresh
 expect 0 "7 passed, 0 failed" "all suites pass"
 for suite in $suites; do
+  grep -q "tests/$suite.sh passed" "$work/errors" || { echo "error: standard error does not tell that $suite is done" >&2; exit 1; }
+done
+for suite in $suites; do
   fresh
   echo "exit 1" > "$work/repository/tests/$suite.sh"
   expect 1 "7 passed, 1 failed" "$suite fails"

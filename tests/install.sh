@@ -170,32 +170,33 @@ accepted() {
   compiles "$@" || { cat "$log" >&2; fail "$1 does not compile"; }
   ran=$((ran + 1))
 }
+# rejected STATEMENTS WHY: they do not compile, and the compiler says why
 rejected() {
-  if compiles "$@"; then fail "$1 compiles"; fi
+  if compiles "$1" "${@:3}"; then fail "$1 compiles"; fi
+  grep -m 1 'error' "$log" | grep -qF -- "$2" || { cat "$log" >&2; fail "$1 does not compile, but for another reason than '$2'"; }
   ran=$((ran + 1))
 }
 accepted 'if (auto hit = mesh.cast(ray).hit_or_none()) (void)hit->distance;'
 accepted 'if (auto hit = mesh.cast(ray).hit_or_none()) (void)hit->distance;' -fno-exceptions
 accepted 'if (ray_height_ranges(ray, ranges).is_clear()) return;'
 # an answer is no yes or no, and is not thrown away; all three cases are named
-rejected 'if (mesh.cast(ray)) return;'
-rejected 'if (!mesh.cast(ray)) return;'
-rejected 'bool met = mesh.cast(ray); (void)met;'
-rejected 'mesh.cast(ray);'
-rejected 'mesh.cast_all(ray);'
-rejected 'Mesh::build(std::vector<Vec3>(), std::vector<Triangle>());'
-rejected 'cabinet.cast(ray);'
-rejected 'if (cabinet.cast(ray).answer) return;'
-rejected 'if (ray_height_ranges(ray, ranges)) return;'
-rejected 'mesh.cast(ray).match([](const MeshHit &) {}, [] {});'
-rejected 'switch (mesh.cast(ray).kind()) { case Kind::hit: break; case Kind::none: break; }'
-rejected 'std::optional<MeshHit> hit = mesh.cast(ray); (void)hit;'
-rejected 'Mesh mine = Mesh::build(std::vector<Vec3>(), std::vector<Triangle>()); (void)mine;'
+rejected 'if (mesh.cast(ray)) return;' 'deleted function'
+rejected 'if (!mesh.cast(ray)) return;' 'deleted function'
+rejected 'bool met = mesh.cast(ray); (void)met;' 'cannot convert'
+rejected 'mesh.cast(ray);' 'nodiscard'
+rejected 'mesh.cast_all(ray);' 'nodiscard'
+rejected 'Mesh::build(std::vector<Vec3>(), std::vector<Triangle>());' 'nodiscard'
+rejected 'cabinet.cast(ray);' 'nodiscard'
+rejected 'if (cabinet.cast(ray).answer) return;' 'deleted function'
+rejected 'if (ray_height_ranges(ray, ranges)) return;' 'deleted function'
+rejected 'mesh.cast(ray).match([](const MeshHit &) {}, [] {});' 'no matching function'
+rejected 'switch (mesh.cast(ray).kind()) { case Kind::hit: break; case Kind::none: break; }' 'not handled in switch'
+rejected 'std::optional<MeshHit> hit = mesh.cast(ray); (void)hit;' 'conversion from'
+rejected 'Mesh mine = Mesh::build(std::vector<Vec3>(), std::vector<Triangle>()); (void)mine;' 'conversion from'
 # a mesh cannot be made of a tree that was not checked, nor changed
-rejected 'Mesh mine(mesh.shape(), mesh.tree()); (void)mine;'
-rejected 'mesh.tree().nodes = 0;'
-rejected '' -std=c++14
-grep -q 'asks for C++17' "$log" || fail "an older C++ is not told what is asked for"
+rejected 'Mesh mine(mesh.shape(), mesh.tree()); (void)mine;' 'is private'
+rejected 'mesh.tree().nodes = 0;' 'read-only'
+rejected '' 'asks for C++17' -std=c++14
 echo "C++: an answer cannot be taken for another"
 
 # the Rust crate of the folder, with the folder's library; and without one, the line that helps stands last
@@ -234,6 +235,16 @@ import os, pty, sys
 status = pty.spawn([sys.argv[1]])
 sys.exit(os.waitstatus_to_exitcode(status))' "$program"
 done
+
+# mesh FACETS: a mesh of no vertices and so many triangles, in 66 bytes and 12 a triangle
+mesh() {
+  echo "mesh origin 0 0 1 direction 0 0 -1 max 2 counts 0 $1 vertices indices $(yes 0 | head -n $((3 * $1)) | tr '\n' ' ')"
+}
+# 8,190 bytes are a record (its build refuses an index past the vertices with 5, as document 01 has it), and 8,202 are not written
+same "a long record" "$(mesh 677 | tools/records.py write | tools/probe)" "1 refused 5"
+mesh 678 > "$work/long.txt"
+refused 1 'line 1: a record of 8202 bytes; `probe` reads 8,192 at most, a mesh of about 340 triangles' \
+  bash -c "tools/records.py write < $work/long.txt"
 
 # the archive: the same bytes each time, and the same files
 quiet tools/install --archive "$work/one.tar.gz"

@@ -91,6 +91,8 @@ def write():
         words = line.split("#")[0].split()
         if words:
             record = body(number, words)
+            if len(record) > 8192:
+                fail(number, f"a record of {len(record)} bytes; `probe` reads 8,192 at most, a mesh of about 340 triangles")
             sys.stdout.buffer.write(struct.pack(">I", len(record)) + record)
 
 

@@ -70,7 +70,7 @@ pub fn version() -> u32 {
     unsafe { sys::probe_version() }
 }
 
-// The Rust in the repository's README.md is run as a doc example; its other code has a language.
+// The Rust in the repository's docs/RUST.md is run as a doc example; its other code has a language.
 #[cfg(doctest)]
-#[doc = include_str!("../../../README.md")]
-struct Readme;
+#[doc = include_str!("../../../docs/RUST.md")]
+struct RustPage;
