@@ -1,6 +1,7 @@
 /* Ray casts at a plane, a triangle, a triangle mesh with its box tree, a height grid and a distance grid.
  *
- * The library is target/staticlib/libexports.a, which `rt staticlib exports` proves and writes, for x86-64.
+ * The library is libprobe_rays.a or libprobe_rays.so, as `tools/install` calls what `rt staticlib exports` proves and writes
+ * (target/staticlib/libexports.a), for Linux on x86-64. probe_rays.hpp is for C++17.
  * C99 or later, and C++. tests/declarations.sh compares this header with the proved source and with the Rust crate.
  *
  * HOW TO CALL

@@ -379,6 +379,26 @@ class Buffers(Case):
             with self.assertRaises(OverflowError):
                 Mesh(vertices, wrong)
 
+    def test_counts_are_not_cut(self):
+        # ctypes would pass 2**32 + 2 as 2, and -1 as no limit
+        cabinet, mesh = Cabinet(), layers(1)
+        cabinet.add(mesh, (0, 0, 0))
+        for wrong in (
+            lambda: LevelSet([0.0] * 8, (2**32 + 2, 2, 2), (0, 0, 0), (1, 1, 1)),
+            lambda: HeightField([0.0] * 4, 2**64 + 2, 2, (1, 1)),
+            lambda: HeightField([0.0] * 4, 2, -1, (1, 1)),
+            lambda: HeightRanges([0.0] * 4, [0.0] * 4, 2, 2**64 + 2, (1, 1)),
+            lambda: cabinet.cast(down(0.25, 0.25, 1, 2), limit=-1),
+            lambda: probe_rays.tree_check(T, [(0, 1, 2)], mesh.tree._replace(nodes=2**64 + 1)),
+        ):
+            with self.assertRaises(OverflowError):
+                wrong()
+        with self.assertRaises(TypeError):
+            HeightField([0.0] * 4, 2.0, 2, (1, 1))
+        for wrong in (lambda: HeightField([0.0] * 4, 2, 2, (1,)), lambda: LevelSet([0.0] * 8, (2, 2), (0, 0, 0), (1, 1, 1))):
+            with self.assertRaises(ValueError):
+                wrong()
+
     def test_numpy(self):
         try:
             import numpy

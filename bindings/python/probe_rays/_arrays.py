@@ -1,5 +1,6 @@
 """Arrays that the module owns, and the pointers to lend."""
 import ctypes
+import operator
 import sys
 from array import array
 
@@ -17,9 +18,17 @@ def zeros(code, length):
 
 
 def lent(area):
-    """The two parameters of a slice: an address and a length. The area must outlive the call."""
+    """The two parameters of a slice: an address and a length. The area must outlive the call, and not change its length."""
     address, length = area.buffer_info()
-    return address or _SPARE_ADDRESS, length
+    return ctypes.c_void_p(address or _SPARE_ADDRESS), ctypes.c_size_t(length)
+
+
+def whole(number, bits, what):
+    """A whole number of so many bits: ctypes would cut a larger one down to an admitted one in silence."""
+    number = operator.index(number)
+    if not 0 <= number < 2**bits:
+        raise OverflowError(f"{what}: {number} has no {bits} bits")
+    return number
 
 
 def _view(values):

@@ -3,7 +3,7 @@ import ctypes
 from array import array
 from typing import NamedTuple, Optional
 
-from ._arrays import lent, zeros
+from ._arrays import lent, whole, zeros
 from ._library import library
 from .answers import PartHit, settled
 
@@ -98,7 +98,7 @@ class Cabinet:
         shared = self._lent
         if shared is None:
             shared = self._lent = _Lent(list(self._placed))
-        limit = NO_LIMIT if limit is None else limit
+        limit = NO_LIMIT if limit is None else whole(limit, 64, "limit")
         listed, stack = zeros("I", shared.largest), zeros("I", shared.most_nodes + 1)
         hit, index, part, spent = zeros("d", 4), zeros("I", 1), zeros("Q", 1), zeros("Q", 1)
         answer = library.probe_ray_cabinet(

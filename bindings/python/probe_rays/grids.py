@@ -1,8 +1,16 @@
 """Height grids, heights within ranges, and distance grids."""
-from ._arrays import lent, owned, zeros
+from ._arrays import lent, owned, whole, zeros
 from ._library import CLEAR, POSSIBLE, library
 from .answers import Possible, Refused
 from .ray import cast_at_shape
+
+
+def _numbers(values, count, what):
+    """So many numbers."""
+    numbers = tuple(values)
+    if len(numbers) != count:
+        raise ValueError(f"{what}: {len(numbers)} numbers, and {count} are asked for")
+    return numbers
 
 
 class HeightField:
@@ -11,7 +19,7 @@ class HeightField:
 
     def __init__(self, heights, rows, columns, spacing):
         self._heights = owned(heights, "d", columns, "heights")
-        self._shape = (rows, columns, *spacing)
+        self._shape = (whole(rows, 64, "rows"), whole(columns, 64, "columns"), *_numbers(spacing, 2, "spacing"))
 
     def cast(self, ray):
         """The nearest Hit, whose normal faces the ray, or None. Raises Refused with 1, 2, 5, 6 or 7."""
@@ -23,7 +31,7 @@ class HeightRanges:
 
     def __init__(self, lows, highs, rows, columns, spacing):
         self._lows, self._highs = owned(lows, "d", columns, "lows"), owned(highs, "d", columns, "highs")
-        self._shape = (rows, columns, *spacing)
+        self._shape = (whole(rows, 64, "rows"), whole(columns, 64, "columns"), *_numbers(spacing, 2, "spacing"))
 
     def cast(self, ray):
         """None where the height cast is none on every grid within the ranges, else Possible, the first cell in which one may
@@ -45,7 +53,8 @@ class LevelSet:
 
     def __init__(self, values, sides, origin, spacing):
         self._values = owned(values, "d", sides[0], "values")
-        self._shape = (*sides, *origin, *spacing)
+        sides = [whole(side, 32, "a side") for side in _numbers(sides, 3, "sides")]
+        self._shape = (*sides, *_numbers(origin, 3, "origin"), *_numbers(spacing, 3, "spacing"))
 
     def cast(self, ray):
         """The Hit at the surface, or None. Its normal points to where the distances grow, and is not turned towards the ray.

@@ -3,7 +3,7 @@ import threading
 from array import array
 from typing import NamedTuple
 
-from ._arrays import lent, owned, read_only, shaped, zeros
+from ._arrays import lent, owned, read_only, shaped, whole, zeros
 from ._library import DONE, HIT, MAX_COUNT, NO, NONE, YES, library
 from .answers import Casts, MeshHit, Refused, TreeDoesNotFit, settled
 from .ray import HAIR, careful
@@ -22,7 +22,7 @@ class Tree(NamedTuple):
 
 def _tree_owned(tree):
     return Tree(
-        tree.nodes,
+        whole(tree.nodes, 64, "nodes"),
         owned(tree.node_boxes, "d", 6, "node boxes"),
         owned(tree.triangle_boxes, "d", 6, "triangle boxes"),
         owned(tree.node_words, "I", 3, "node words"),
@@ -63,13 +63,23 @@ def tree_check(vertices, triangles, tree):
 
 
 class _Scratch:
-    """The work areas and result places of one thread's casts at one mesh."""
+    """The work areas of one thread's casts at one mesh: what they hold before a call changes nothing."""
 
     def __init__(self, n, nodes):
         self.list, self.stack = zeros("I", n), zeros("I", nodes + 1)
+        self.lent = (*lent(self.list), *lent(self.stack))
+
+
+class _Place:
+    """Where a cast writes its hit."""
+
+    def __init__(self):
         self.hit, self.index = zeros("d", 4), zeros("I", 1)
-        self.work = (*lent(self.list), *lent(self.stack))
-        self.results = (*lent(self.hit), *lent(self.index))
+        self.lent = (*lent(self.hit), *lent(self.index))
+
+    def met(self):
+        x, y, z, distance = self.hit
+        return MeshHit(distance, (x, y, z), self.index[0])
 
 
 def _rays(origins, directions, max_distance, near_distance):
@@ -95,28 +105,6 @@ def _rays(origins, directions, max_distance, near_distance):
         )
 
 
-def _cast_many(cast, hit, index, rays, refused):
-    """The answers of a cast that takes eight numbers and writes its hit and index."""
-    if refused not in ("raise", "keep"):
-        raise ValueError("refused: 'raise' or 'keep'")
-    answers, distances, normals, triangles = array("I"), array("d"), array("d"), array("I")
-    for ray, numbers in enumerate(rays):
-        answer = cast(numbers)
-        if answer != HIT and answer != NONE and refused == "raise":
-            raise Refused(answer, ray=ray)
-        distance, normal, triangle = Casts.fill(answer, hit, index)
-        answers.append(answer)
-        distances.append(distance)
-        normals.extend(normal)
-        triangles.append(triangle)
-    return Casts(answers, distances, normals, triangles)
-
-
-def _mesh_hit(hit, index):
-    x, y, z, distance = hit
-    return MeshHit(distance, (x, y, z), index[0])
-
-
 class PlainMesh:
     """A mesh without a tree, for parts of few triangles: nothing is built, and a cast looks at every triangle. That it answers
     what Mesh.cast answers, refusals included, is proved."""
@@ -127,9 +115,9 @@ class PlainMesh:
 
     def cast(self, ray):
         """The nearest MeshHit, of equally near ones that of the lowest index, or None. Raises Refused with 1, 2, 5, 6 or 7."""
-        hit, index = zeros("d", 4), zeros("I", 1)
-        answer = library.probe_ray_mesh_plain(*ray.numbers(), *self._fixed, *lent(hit), *lent(index))
-        return settled(answer, lambda: _mesh_hit(hit, index))
+        place = _Place()
+        answer = library.probe_ray_mesh_plain(*ray.numbers(), *self._fixed, *place.lent)
+        return settled(answer, place.met)
 
     def build(self):
         """The same mesh with a tree."""
@@ -200,20 +188,17 @@ class Mesh:
             own.scratch = _Scratch(len(self._triangles) // 3, self._tree.nodes)
         return own.scratch
 
-    def _cast(self, numbers, scratch, pose):
-        return library.probe_ray_mesh_near(
-            *numbers, *self._mesh, *lent(pose), *self._areas, *scratch.work, *scratch.results
-        )
-
     def cast(self, ray, pose=None):
         """The nearest MeshHit, of equally near ones that of the lowest index, or None. Raises Refused with 1, 6 or 7.
 
         With a pose it casts at those vertices, as many as the mesh's (else 4, or 2): the tree's boxes stay those of the mesh's
         own, and only triangles whose box there touches that of the ray's segment are cast at."""
-        scratch = self._scratch()
         pose = self._vertices if pose is None else owned(pose, "d", 3, "pose")
-        answer = self._cast(ray.numbers(), scratch, pose)
-        return settled(answer, lambda: _mesh_hit(scratch.hit, scratch.index))
+        place = _Place()
+        answer = library.probe_ray_mesh_near(
+            *ray.numbers(), *self._mesh, *lent(pose), *self._areas, *self._scratch().lent, *place.lent
+        )
+        return settled(answer, place.met)
 
     def cast_careful(self, ray, hair=HAIR):
         """The cast and three more a hair beside it, as `careful` has it: a guard, and no proof."""
@@ -223,21 +208,30 @@ class Mesh:
         """Casts many rays: Casts. Directions, maxima and near distances are one for each ray, or one for all.
 
         A ray that is refused raises Refused with its index; with refused="keep" it stands among the answers."""
-        scratch, pose = self._scratch(), self._vertices
-        rays = _rays(origins, directions, max_distance, near_distance)
-        return _cast_many(
-            lambda numbers: self._cast(numbers, scratch, pose), scratch.hit, scratch.index, rays, refused
-        )
+        if refused not in ("raise", "keep"):
+            raise ValueError("refused: 'raise' or 'keep'")
+        place, call = _Place(), library.probe_ray_mesh_near
+        fixed = (*self._mesh, *lent(self._vertices), *self._areas, *self._scratch().lent, *place.lent)
+        answers, distances, normals, triangles = array("I"), array("d"), array("d"), array("I")
+        for ray, numbers in enumerate(_rays(origins, directions, max_distance, near_distance)):
+            answer = call(*numbers, *fixed)
+            if answer != HIT and answer != NONE and refused == "raise":
+                raise Refused(answer, ray=ray)
+            distance, normal, triangle = Casts.fill(answer, place.hit, place.index)
+            answers.append(answer)
+            distances.append(distance)
+            normals.extend(normal)
+            triangles.append(triangle)
+        return Casts(answers, distances, normals, triangles)
 
     def cast_all(self, ray, pose=None):
         """Every triangle that a ray hits, each once, in order of depth, as a list of MeshHit; that of `cast` is the first.
         Raises Refused with 1, 6 or 7."""
-        scratch = self._scratch()
         pose = self._vertices if pose is None else owned(pose, "d", 3, "pose")
         n = len(self._triangles) // 3
         indices, numbers, found = zeros("I", n), zeros("d", 4 * n), zeros("Q", 1)
         answer = library.probe_ray_mesh_all(
-            *ray.numbers(), *self._mesh, *lent(pose), *self._areas, *scratch.work,
+            *ray.numbers(), *self._mesh, *lent(pose), *self._areas, *self._scratch().lent,
             *lent(indices), *lent(numbers), *lent(found),
         )
         if answer != DONE:
@@ -247,13 +241,12 @@ class Mesh:
 
     def query(self, minimum, maximum):
         """The triangles whose boxes touch a box, ascending, as a list of indices. Raises Refused with 1."""
-        scratch, found = self._scratch(), zeros("Q", 1)
-        answer = library.probe_query(
-            *minimum, *maximum, len(self._triangles) // 3, *self._areas, *scratch.work, *lent(found)
-        )
+        n = len(self._triangles) // 3
+        listed, stack, found = zeros("I", n), zeros("I", self._tree.nodes + 1), zeros("Q", 1)
+        answer = library.probe_query(*minimum, *maximum, n, *self._areas, *lent(listed), *lent(stack), *lent(found))
         if answer != DONE:
             raise Refused(answer)
-        return scratch.list[: found[0]].tolist()
+        return listed[: found[0]].tolist()
 
     @property
     def vertices(self):
