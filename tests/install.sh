@@ -223,6 +223,12 @@ refused 101 'help: run `rt staticlib exports` in the repository, or set PROBE_RA
   env PROBE_RAYS_LIB="$work/nowhere" CARGO_TARGET_DIR="$work/cargo" cargo build --offline --manifest-path "$work/user/Cargo.toml"
 echo "Rust: a crate against the folder"
 
+# the program over the crate, where it is
+if [ -d bindings/probe-part ]; then
+  quiet "$prefix/bin/probe-part" --help
+  ran=$((ran + 1))
+fi
+
 # the program: document 01's example, and a word on what it reads to whoever gives it arguments or a terminal
 "$prefix/bin/probe" < examples/plane.records | diff - examples/plane.lines
 "$prefix/bin/probe-records" write < examples/mesh.txt | cmp - examples/mesh.records

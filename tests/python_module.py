@@ -371,7 +371,8 @@ class Buffers(Case):
         ]
         for kind in kinds:
             mesh = Mesh(*kind)
-            self.assertEqual((mesh.vertices.tolist(), mesh.triangles.tolist()), ([list(map(float, v)) for v in vertices], [list(t) for t in triangles]))
+            self.assertEqual(mesh.vertices.tolist(), [list(map(float, vertex)) for vertex in vertices])
+            self.assertEqual(mesh.triangles.tolist(), [list(triangle) for triangle in triangles])
         for wrong in ([(0, 0), (1, 1)], memoryview(array("d", flat)).cast("B").cast("d", (6, 2))):
             with self.assertRaises(ValueError):
                 Mesh(wrong, triangles)
