@@ -62,7 +62,14 @@ enum class Refusal : std::uint32_t {
     no_normal = PROBE_REFUSED_NO_NORMAL,
     not_convergent = PROBE_REFUSED_NOT_CONVERGENT,
     bad_range = PROBE_REFUSED_BAD_RANGE,
-    limit_reached = PROBE_REFUSED_LIMIT_REACHED
+    limit_reached = PROBE_REFUSED_LIMIT_REACHED,
+/* of calls that not every release has */
+#ifdef PROBE_REFUSED_NOT_HELD
+    not_held = PROBE_REFUSED_NOT_HELD,
+#endif
+#ifdef PROBE_REFUSED_NOT_WHOLE
+    not_whole = PROBE_REFUSED_NOT_WHOLE,
+#endif
 };
 
 inline constexpr std::uint32_t number(Refusal refusal) noexcept { return static_cast<std::uint32_t>(refusal); }
@@ -82,6 +89,12 @@ inline std::string told(Refusal refusal)
     case Refusal::not_convergent: words = "not convergent: the walk through the grid has no answer"; break;
     case Refusal::bad_range: words = "bad range: a range of heights is out of order or not finite"; break;
     case Refusal::limit_reached: words = "limit reached: the cast would look at more nodes than admitted"; break;
+#ifdef PROBE_REFUSED_NOT_HELD
+    case Refusal::not_held: words = "not held: a record's float is NaN, or is no f32 exactly"; break;
+#endif
+#ifdef PROBE_REFUSED_NOT_WHOLE
+    case Refusal::not_whole: words = "not whole: a ray or a corner that is not on whole millimetres"; break;
+#endif
     }
     return "refused " + std::to_string(number(refusal)) + ", " + words;
 }

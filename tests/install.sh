@@ -129,11 +129,10 @@ done
 echo "CMake: C and C++, shared and static"
 
 # the C++ header: every call of the C header is called by it, but those without a near distance, of which the header says that
-# they are the others with 0, and those that are called as they are
-by_themselves="probe_ray_plane probe_ray_triangle probe_ray_height_field probe_ray_level_set probe_ray_mesh"
-by_themselves+=" probe_record_to_short probe_record_to_long probe_ray_mesh_exact probe_ray_mesh_exact_plain"
+# they are the others with 0, and those that are called as they are: records, and exact casts
+by_themselves='^probe_ray_(plane|triangle|height_field|level_set|mesh)$|^probe_record_|_exact'
 while read -r call; do
-  [[ " $by_themselves " == *" $call "* ]] || grep -qE "\b$call\(" include/probe_rays.hpp || fail "probe_rays.hpp has no call of $call"
+  [[ $call =~ $by_themselves ]] || grep -qE "\b$call\(" include/probe_rays.hpp || fail "probe_rays.hpp has no call of $call"
   ran=$((ran + 1))
 done < "$work/declared"
 
@@ -230,13 +229,13 @@ if [ -d bindings/probe-part ]; then
 fi
 
 # the program: document 01's example, and a word on what it reads to whoever gives it arguments or a terminal
-"$prefix/bin/probe" < examples/plane.records | diff - examples/plane.lines
+env -u PROBE "$prefix/bin/probe" < examples/plane.records | diff - examples/plane.lines
 "$prefix/bin/probe-records" write < examples/mesh.txt | cmp - examples/mesh.records
 ran=$((ran + 2))
 for program in "$prefix/bin/probe" tools/probe; do
-  refused 2 "bin/probe and bin/probe-records." "$program" examples/plane.records
-  refused 0 "bin/probe and bin/probe-records." "$program" --help
-  refused 2 "bin/probe and bin/probe-records." python3 -c '
+  refused 2 "docs/PROGRAM.md has the rest." "$program" examples/plane.records
+  refused 0 "docs/PROGRAM.md has the rest." "$program" --help
+  refused 2 "docs/PROGRAM.md has the rest." python3 -c '
 import os, pty, sys
 status = pty.spawn([sys.argv[1]])
 sys.exit(os.waitstatus_to_exitcode(status))' "$program"

@@ -323,9 +323,16 @@ class Batches(Case):
         self.assertTrue(all(map(math.isnan, casts.normals.tolist()[1])))
         self.assertEqual((casts.normals.shape, casts.answers.tolist(), casts.refused), ((2, 3), [256, 257], []))
         self.assertEqual(len(mesh.cast_many([], DOWN, 10)), 0)
+        # one origin, and a direction, maximum and near distance for each ray: straight down, aslant (5 in x, past the side), up
+        fan = mesh.cast_many((1, 3, 5), [DOWN, (math.sqrt(0.5), 0, -math.sqrt(0.5)), (0, 0, 1)], [5, 10, 10], [5, 0, 0])
+        self.assertEqual(fan.distances.tolist(), [5.0, math.inf, math.inf])
+        self.assertIsNone(mesh.cast_many((1, 3, 5), DOWN, 10, 5.5)[0])
         with self.assertRaises(IndexError):
             casts[2]
-        for wrong in (([(1, 3)], DOWN, 10), ([(1, 3, 5)] * 3, [DOWN] * 2, 10), ([(1, 3, 5)] * 3, DOWN, [1, 2])):
+        for wrong in (
+            ([(1, 3)], DOWN, 10), ([(1, 3, 5)] * 3, [DOWN] * 2, 10), ([(1, 3, 5)] * 3, DOWN, [1, 2]), ([], [DOWN] * 2, 10),
+            ([1, 3, 5, 9], DOWN, 10), ((1, 3, 5), [DOWN] * 2, [1] * 3),
+        ):
             with self.assertRaises(ValueError):
                 mesh.cast_many(*wrong)
 

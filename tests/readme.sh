@@ -13,7 +13,7 @@ pages=(README.md docs/C.md docs/PYTHON.md docs/PROGRAM.md docs/RUST.md)
 tests/pages.py "$work/home" "${pages[@]}" 2> "$work/errors" | tee "$work/said" || { cat "$work/errors" >&2; exit 1; }
 ran=$(tail -n 1 "$work/said")
 
-# every page that README.md names is there, or is docs/STEP.md; and what it says of times and limits is said
+# every page that README.md names is there
 for page in $(grep -oE '\]\(docs/[A-Z]+\.md\)' README.md | tr -d ']()' | sort -u); do
   [ -f "$page" ] || [ "$page" = docs/STEP.md ] || { echo "error: README.md names $page, which is not there" >&2; exit 1; }
   ran=$((ran + 1))

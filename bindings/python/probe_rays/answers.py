@@ -17,6 +17,8 @@ _WORDS = {
     "NOT_CONVERGENT": "not convergent: the walk through the grid has no answer",
     "BAD_RANGE": "bad range: a range of heights is out of order or not finite",
     "LIMIT_REACHED": "limit reached: the cast would look at more nodes than admitted",
+    "NOT_HELD": "not held: a record's float is NaN, or is no f32 exactly",
+    "NOT_WHOLE": "not whole: a ray or a corner that is not on whole millimetres",
 }
 
 

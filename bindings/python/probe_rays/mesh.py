@@ -84,25 +84,24 @@ class _Place:
 
 def _rays(origins, directions, max_distance, near_distance):
     """Eight numbers a ray, of arrays of which any may be one for all rays."""
-    origins, directions = owned(origins, "d", 3, "origins"), owned(directions, "d", 3, "directions")
-    maxima = owned(max_distance if hasattr(max_distance, "__iter__") else [max_distance], "d", 1, "maximum distances")
-    nears = owned(near_distance if hasattr(near_distance, "__iter__") else [near_distance], "d", 1, "near distances")
-    if len(origins) % 3 or len(directions) % 3:
-        raise ValueError("an origin, and a direction, is three numbers")
-    counts = {"origins": len(origins) // 3, "directions": len(directions) // 3, "maxima": len(maxima), "nears": len(nears)}
-    count = counts["origins"]
-    for what, many in counts.items():
+    columns = []
+    for values, width, what in (
+        (origins, 3, "origins"), (directions, 3, "directions"), (max_distance, 1, "maxima"), (near_distance, 1, "near distances")
+    ):
+        column = owned(values if hasattr(values, "__iter__") else [values], "d", width, what)
+        if len(column) % width:
+            raise ValueError(f"{what}: {len(column)} numbers, which {width} does not divide")
+        columns.append((column, width, len(column) // width, what))
+    counts = [many for _, _, many, _ in columns]
+    count = max(counts) if all(counts) else 0
+    for _, _, many, what in columns:
         if many not in (1, count):
-            raise ValueError(f"{count} origins, and {many} {what}: as many are asked for, or one")
-    one_direction, one_maximum, one_near = len(directions) == 3, len(maxima) == 1, len(nears) == 1
+            raise ValueError(f"{count} rays, and {many} {what}: as many are asked for, or one")
+    (starts, _, _, _), (ways, _, _, _), (maxima, _, _, _), (nears, _, _, _) = columns
+    start, way, maximum, near = (many > 1 for many in counts)
     for ray in range(count):
-        at = 0 if one_direction else 3 * ray
-        yield (
-            *origins[3 * ray : 3 * ray + 3],
-            *directions[at : at + 3],
-            maxima[0 if one_maximum else ray],
-            nears[0 if one_near else ray],
-        )
+        at, to = 3 * ray * start, 3 * ray * way
+        yield (*starts[at : at + 3], *ways[to : to + 3], maxima[ray * maximum], nears[ray * near])
 
 
 class PlainMesh:
@@ -205,7 +204,7 @@ class Mesh:
         return careful(ray, self.cast, hair)
 
     def cast_many(self, origins, directions, max_distance, near_distance=0.0, refused="raise"):
-        """Casts many rays: Casts. Directions, maxima and near distances are one for each ray, or one for all.
+        """Casts many rays: Casts. Origins, directions, maxima and near distances are one for each ray, or one for all.
 
         A ray that is refused raises Refused with its index; with refused="keep" it stands among the answers."""
         if refused not in ("raise", "keep"):
