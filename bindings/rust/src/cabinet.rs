@@ -1,8 +1,7 @@
 //! A cabinet of many parts, cast at under one limit of nodes.
 use crate::answer::Cast;
-use crate::lent;
 use crate::sys::{self, Part, Span, Vec3};
-use crate::{Mesh, Ray};
+use crate::{Mesh, Ray, Scratch};
 
 /// What a ray met of a cabinet.
 #[derive(Clone, Copy, Debug, PartialEq)]
@@ -133,8 +132,9 @@ pub struct Cabinet {
     triangle_boxes: Vec<f64>,
     node_words: Vec<u32>,
     order: Vec<u32>,
-    list: Vec<u32>,
-    stack: Vec<u32>,
+    /// The most triangles, and the most nodes, of a part.
+    most: [usize; 2],
+    scratch: Scratch,
 }
 
 /// Adds elements to an area, and tells where they stand.
@@ -144,13 +144,6 @@ fn appended<T: Copy>(area: &mut Vec<T>, more: &[T]) -> Span {
     Span {
         start,
         length: more.len(),
-    }
-}
-
-/// Makes an area at least so long.
-fn grown(area: &mut Vec<u32>, length: usize) {
-    if area.len() < length {
-        area.resize(length, 0);
     }
 }
 
@@ -175,8 +168,8 @@ impl Cabinet {
             node_words: appended(&mut self.node_words, &tree.node_words),
             order: appended(&mut self.order, &tree.order),
         };
-        grown(&mut self.list, lent::list_length(mesh.triangles().len()));
-        grown(&mut self.stack, lent::stack_length(tree.nodes));
+        let [triangles, nodes] = self.most;
+        self.most = [triangles.max(mesh.triangles().len()), nodes.max(tree.nodes)];
         self.parts.push(part);
         self.parts.len() - 1
     }
@@ -228,10 +221,15 @@ impl Cabinet {
     /// The nearest triangle of all parts that a ray hits, where at most `limit` nodes are looked at; of equally near
     /// ones, that of the lowest part and then of the lowest index. Refuses with 1, 6, 7 or 10.
     pub fn cast(&mut self, ray: &Ray, limit: usize) -> CabinetCast {
-        let (mut list, mut stack) = (
-            std::mem::take(&mut self.list),
-            std::mem::take(&mut self.stack),
-        );
+        let mut scratch = std::mem::take(&mut self.scratch);
+        let answer = self.cast_with(ray, limit, &mut scratch);
+        self.scratch = scratch;
+        answer
+    }
+
+    /// The same with work areas of the caller's, so that threads may share the cabinet.
+    pub fn cast_with(&self, ray: &Ray, limit: usize, scratch: &mut Scratch) -> CabinetCast {
+        scratch.fit(self.most[0], self.most[1]);
         let mut hit = [0.0; 4];
         let (mut index, mut part, mut spent) = ([0_u32], [0_usize], [0_usize]);
         let answer = ray_cabinet(
@@ -239,14 +237,13 @@ impl Cabinet {
             &self.parts,
             self.areas(),
             limit,
-            &mut list,
-            &mut stack,
+            &mut scratch.list,
+            &mut scratch.stack,
             &mut hit,
             &mut index,
             &mut part,
             &mut spent,
         );
-        (self.list, self.stack) = (list, stack);
         let [x, y, z, distance] = hit;
         CabinetCast {
             answer: Cast::of(answer, || PartHit {

@@ -31,24 +31,32 @@
 //! # Ok::<(), Refusal>(())
 //! ```
 //!
+//! [`Mesh::cast_many`] casts many rays over threads, [`careful`] guards a cast against passing between two triangles, and
+//! [`stl`] reads STL files.
+//!
 //! [`lent`] has the same calls over slices of the caller's, for those who allocate nothing, [`calls`] the numbers that
 //! they answer, and [`sys`] the declarations as C sees them.
 #![deny(missing_docs)]
 #![deny(unsafe_op_in_unsafe_fn)]
 
 mod answer;
+mod batch;
 pub mod cabinet;
 pub mod calls;
+mod careful;
 pub mod lent;
 mod mesh;
 mod plain;
 mod ranges;
 mod ray;
 mod shapes;
+pub mod stl;
 pub mod sys;
 
 pub use answer::{Cast, Hit, MeshHit, Refusal};
+pub use batch::Batch;
 pub use cabinet::{Cabinet, CabinetCast, PartHit};
+pub use careful::{careful, AtDistance, HAIR};
 pub use mesh::{Mesh, Scratch, Tree, TreeError};
 pub use plain::PlainMesh;
 pub use ranges::{ray_height_ranges, Clearance, HeightRanges};

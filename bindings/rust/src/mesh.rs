@@ -48,8 +48,8 @@ impl Tree {
 /// nothing that a call depends on. A thread has its own.
 #[derive(Clone, Debug, Default)]
 pub struct Scratch {
-    list: Vec<u32>,
-    stack: Vec<u32>,
+    pub(crate) list: Vec<u32>,
+    pub(crate) stack: Vec<u32>,
     /// The hit area of a listing, which only a listing asks for.
     indices: Vec<u32>,
     numbers: Vec<f64>,
@@ -62,7 +62,7 @@ impl Scratch {
     }
 
     /// Makes room for n triangles and a node count.
-    fn fit(&mut self, n: usize, nodes: usize) {
+    pub(crate) fn fit(&mut self, n: usize, nodes: usize) {
         if self.list.len() < lent::list_length(n) {
             self.list.resize(lent::list_length(n), 0);
         }

@@ -1,0 +1,353 @@
+//! `probe-part`: probes a part in an STL file. `probe-part --help` says how.
+//!
+//! Exit status: 0 if all was answered, 1 if a cast was refused, 2 if the call or a file is not right.
+use probe_part::bores::{search, Recess};
+use probe_part::faces::{Face, View, FACES};
+use probe_part::pictures::DepthMap;
+use probe_part::raster::{Grid, Raster};
+use probe_part::rays::{from_words, Lines};
+use probe_part::shape::Shape;
+use probe_part::words::{all_told, fixed, told};
+use probe_part::{svg, tables};
+use probe_rays::{Cast, Ray};
+use std::fs::{self, File};
+use std::io::{self, BufRead, BufReader, BufWriter, Write};
+use std::process::ExitCode;
+
+const HELP: &str = "\
+probe-part probes a part in an STL file, binary or ASCII, in millimetres.
+
+  probe-part cast FILE [--all | --careful] [--rays FILE] [X Y Z  DX DY DZ  MAX]...
+      what rays hit: origin, direction of any length, how far; --rays reads them from a file, one a line (- is standard
+      input; # begins a comment); --all tells every depth along a ray; --careful casts three more a hair beside each
+      ray and tells the nearest hit
+  probe-part bores FILE [--face NAME]... [--step MM] [--from-corner] [--csv]
+      the bores and pockets of the part's faces: outline, size, depth, through or not, middle; --face asks for some faces
+      alone; the faces are probed every MM (1); --from-corner counts x, y, z from the least corner of the part; --csv
+      prints commas
+  probe-part depth FILE --face NAME [--step MM] [--png FILE] [--svg FILE]
+      a picture of how deep a face is; the SVG has its bores numbered as `bores --face NAME` numbers them
+  probe-part --help
+
+Faces: top (+z), bottom (-z), front (-y), back (+y), left (-x), right (+x).
+A part of more than 65,536 triangles is cast at in pieces.
+Proved are the casts. What `bores` finds between its probes, and the pictures, are tested and not proved.
+Exit status: 0 if all was answered, 1 if a cast was refused, 2 if the call or a file is not right.
+";
+
+/// So many rays of a file are cast at a time.
+const BLOCK: usize = 100_000;
+
+/// The most places of a raster.
+const MOST_PLACES: f64 = 100_000_000.0;
+
+fn main() -> ExitCode {
+    let words: Vec<String> = std::env::args().skip(1).collect();
+    match run(&words) {
+        Ok(true) => ExitCode::SUCCESS,
+        Ok(false) => ExitCode::from(1),
+        Err(why) => {
+            eprintln!("probe-part: {why}");
+            ExitCode::from(2)
+        }
+    }
+}
+
+/// Does what the words ask; whether no cast was refused.
+fn run(words: &[String]) -> Result<bool, String> {
+    let asks_help = |word: &String| word == "--help" || word == "-h" || word == "help";
+    let mut out = Output::new();
+    let Some((command, rest)) = words.split_first() else {
+        return Err(format!("what is to be done?\n\n{HELP}"));
+    };
+    if words.iter().any(asks_help) {
+        out.print(HELP)?;
+        return out.done().map(|()| true);
+    }
+    let answered = match command.as_str() {
+        "cast" => cast(&Call::new(rest, &["--all", "--careful"], &["--rays"])?, &mut out)?,
+        "bores" => bores(&Call::new(rest, &["--from-corner", "--csv"], &["--face", "--step"])?, &mut out)?,
+        "depth" => depth(&Call::new(rest, &[], &["--face", "--step", "--png", "--svg"])?, &mut out)?,
+        other => {
+            return Err(format!("{other:?} is none of cast, bores, depth; probe-part --help says more"));
+        }
+    };
+    out.done()?;
+    Ok(answered)
+}
+
+/// Standard output, whose faults are told.
+struct Output(BufWriter<io::Stdout>);
+
+impl Output {
+    fn new() -> Output {
+        Output(BufWriter::new(io::stdout()))
+    }
+
+    fn print(&mut self, text: &str) -> Result<(), String> {
+        let written = self.0.write_all(text.as_bytes());
+        written.map_err(|why| format!("standard output: {why}"))
+    }
+
+    fn done(&mut self) -> Result<(), String> {
+        self.0.flush().map_err(|why| format!("standard output: {why}"))
+    }
+}
+
+/// The words of a command: a file, switches, options with a value, and the rest, which are numbers.
+struct Call {
+    file: String,
+    switches: Vec<String>,
+    options: Vec<(String, String)>,
+    rest: Vec<String>,
+}
+
+impl Call {
+    fn new(words: &[String], switches: &[&str], options: &[&str]) -> Result<Call, String> {
+        let mut call = Call {
+            file: String::new(),
+            switches: Vec::new(),
+            options: Vec::new(),
+            rest: Vec::new(),
+        };
+        let mut files = Vec::new();
+        let mut words = words.iter();
+        while let Some(word) = words.next() {
+            if switches.contains(&word.as_str()) {
+                call.switches.push(word.clone());
+            } else if options.contains(&word.as_str()) {
+                let value = words.next().ok_or_else(|| format!("{word} takes a value"))?;
+                call.options.push((word.clone(), value.clone()));
+            } else if word.starts_with("--") {
+                return Err(format!("{word} is not known here; probe-part --help says what is"));
+            } else if files.is_empty() {
+                files.push(word.clone());
+            } else {
+                call.rest.push(word.clone());
+            }
+        }
+        call.file = files.pop().ok_or("which file?")?;
+        Ok(call)
+    }
+
+    fn has(&self, switch: &str) -> bool {
+        self.switches.iter().any(|word| word == switch)
+    }
+
+    fn values<'a>(&'a self, option: &'a str) -> impl Iterator<Item = &'a str> {
+        let same = move |(name, _): &&(String, String)| name == option;
+        self.options.iter().filter(same).map(|(_, value)| value.as_str())
+    }
+
+    fn value<'a>(&'a self, option: &'a str) -> Option<&'a str> {
+        self.values(option).last()
+    }
+
+    fn no_rest(&self) -> Result<(), String> {
+        match self.rest.first() {
+            Some(word) => Err(format!("{word:?} is one word too many")),
+            None => Ok(()),
+        }
+    }
+
+    fn faces(&self) -> Result<Vec<Face>, String> {
+        self.values("--face")
+            .map(|name| {
+                Face::named(name).ok_or_else(|| {
+                    format!("{name:?} is no face: top, bottom, front, back, left, right are")
+                })
+            })
+            .collect()
+    }
+
+    /// The step, if it is given.
+    fn step(&self) -> Result<Option<f64>, String> {
+        let Some(word) = self.value("--step") else {
+            return Ok(None);
+        };
+        match word.parse::<f64>() {
+            Ok(step) if step.is_finite() && step > 0.0 => Ok(Some(step)),
+            _ => Err(format!("--step takes millimetres above 0, not {word:?}")),
+        }
+    }
+}
+
+/// Refuses a step that asks for more places than fit.
+fn check_step(view: &View<'_>, step: f64) -> Result<(), String> {
+    let (low, high) = (view.low(), view.high());
+    let places = ((high[0] - low[0]) / step).max(1.0) * ((high[1] - low[1]) / step).max(1.0);
+    if places > MOST_PLACES {
+        return Err(format!(
+            "a step of {step} mm asks for {places:.0} probes of the {} face: take a larger one",
+            view.face.name()
+        ));
+    }
+    Ok(())
+}
+
+/// The first line about a part.
+fn counts(shape: &Shape) -> String {
+    let pieces = match shape.pieces() {
+        1 => String::new(),
+        pieces => format!(", in {pieces} pieces"),
+    };
+    format!(
+        "{} triangles, {} vertices, {} nodes{pieces}\n",
+        shape.triangles().len(),
+        shape.vertices().len(),
+        shape.nodes()
+    )
+}
+
+/// `probe-part cast`.
+fn cast(call: &Call, out: &mut Output) -> Result<bool, String> {
+    if call.has("--all") && call.has("--careful") {
+        return Err("--careful is about the first hit, --all about every one: take one of them".into());
+    }
+    let given = from_words(&call.rest)?;
+    let shape = Shape::load(&call.file)?;
+    out.print(&counts(&shape))?;
+    let mut casting = Casting {
+        shape: &shape,
+        all: call.has("--all"),
+        careful: call.has("--careful"),
+        number: 0,
+        answered: true,
+    };
+    casting.block(&given, out)?;
+    for file in call.values("--rays") {
+        let source: Box<dyn BufRead> = if file == "-" {
+            Box::new(io::stdin().lock())
+        } else {
+            let opened = File::open(file).map_err(|why| format!("{file}: {why}"))?;
+            Box::new(BufReader::new(opened))
+        };
+        let name = if file == "-" { "standard input" } else { file };
+        let mut lines = Lines::new(source, name);
+        loop {
+            let rays = lines.block(BLOCK)?;
+            if rays.is_empty() {
+                break;
+            }
+            casting.block(&rays, out)?;
+        }
+    }
+    Ok(casting.answered)
+}
+
+struct Casting<'a> {
+    shape: &'a Shape,
+    all: bool,
+    careful: bool,
+    number: usize,
+    answered: bool,
+}
+
+impl Casting<'_> {
+    /// Casts some rays and prints what they hit.
+    fn block(&mut self, rays: &[Ray], out: &mut Output) -> Result<(), String> {
+        if self.all {
+            for (ray, hits) in rays.iter().zip(self.shape.cast_all_many(rays)) {
+                self.answered &= hits.is_ok();
+                self.line(&all_told(ray, &hits), out)?;
+            }
+        } else {
+            for (ray, cast) in rays.iter().zip(self.shape.cast_many(rays, self.careful)) {
+                self.answered &= !matches!(cast, Cast::Refused(_));
+                self.line(&told(ray, &cast), out)?;
+            }
+        }
+        Ok(())
+    }
+
+    fn line(&mut self, words: &str, out: &mut Output) -> Result<(), String> {
+        self.number += 1;
+        out.print(&format!("ray {}: {words}\n", self.number))
+    }
+}
+
+/// `probe-part bores`.
+fn bores(call: &Call, out: &mut Output) -> Result<bool, String> {
+    call.no_rest()?;
+    let (asked, step) = (call.faces()?, call.step()?.unwrap_or(1.0));
+    let faces = if asked.is_empty() { FACES.to_vec() } else { asked };
+    let shape = Shape::load(&call.file)?;
+    for &face in &faces {
+        check_step(&View::new(&shape, face), step)?;
+    }
+    let found = match search(&shape, &faces, step) {
+        Ok(found) => found,
+        Err(refusal) => {
+            eprintln!("probe-part: a cast was {refusal}");
+            return Ok(false);
+        }
+    };
+    let bounds = shape.bounds();
+    let origin = if call.has("--from-corner") { bounds.low } else { [0.0; 3] };
+    if call.has("--csv") {
+        out.print(&tables::csv(&found, origin))?;
+    } else {
+        let sides: [String; 3] =
+            std::array::from_fn(|axis| fixed(bounds.high[axis] - bounds.low[axis], 2));
+        out.print(&format!(
+            "{} mm, {} triangles, probed every {step} mm\n",
+            sides.join(" x "),
+            shape.triangles().len()
+        ))?;
+        out.print(&tables::table(&found, origin))?;
+    }
+    for face in &found.not_flat {
+        eprintln!("probe-part: the {} face has no flat surface, and was left out", face.name());
+    }
+    Ok(true)
+}
+
+/// `probe-part depth`.
+fn depth(call: &Call, out: &mut Output) -> Result<bool, String> {
+    call.no_rest()?;
+    let faces = call.faces()?;
+    let &[face] = faces.as_slice() else {
+        return Err("depth takes one --face: top, bottom, front, back, left or right".into());
+    };
+    if call.value("--png").is_none() && call.value("--svg").is_none() {
+        return Err("where to? --png FILE, --svg FILE or both".into());
+    }
+    let step = call.step()?;
+    let shape = Shape::load(&call.file)?;
+    let view = View::new(&shape, face);
+    let (low, high) = (view.low(), view.high());
+    let longest = (high[0] - low[0]).max(high[1] - low[1]);
+    let step = step.unwrap_or(longest / 1000.0);
+    check_step(&view, step)?;
+    let raster = match Raster::of_face(&view, step) {
+        Ok(raster) => raster,
+        Err(refusal) => {
+            eprintln!("probe-part: a cast was {refusal}");
+            return Ok(false);
+        }
+    };
+    let map = DepthMap::new(face, &raster);
+    if let Some(file) = call.value("--png") {
+        written(file, &map.picture().to_png())?;
+        out.print(&format!("{file}: {}\n", size(&raster.grid)))?;
+    }
+    if let Some(file) = call.value("--svg") {
+        let found = search(&shape, &[face], step.max(1.0)).map_err(|why| format!("a cast was {why}"))?;
+        let numbered: Vec<(usize, Recess)> =
+            found.recesses.into_iter().enumerate().map(|(place, recess)| (place + 1, recess)).collect();
+        let title = format!("{}, {} face", call.file, face.name());
+        written(file, svg::svg(&map, &title, &numbered).as_bytes())?;
+        out.print(&format!("{file}: {}\n", size(&raster.grid)))?;
+    }
+    Ok(true)
+}
+
+fn size(grid: &Grid) -> String {
+    let [columns, rows] = grid.counts();
+    let [step_x, step_y] = grid.step().map(|step| fixed(step, 3));
+    format!("{columns} x {rows} probes, {step_x} x {step_y} mm apart")
+}
+
+fn written(file: &str, bytes: &[u8]) -> Result<(), String> {
+    fs::write(file, bytes).map_err(|why| format!("{file}: {why}"))
+}

@@ -1,0 +1,227 @@
+//! Many rays at one mesh, over threads.
+use crate::answer::{Cast, MeshHit, Refusal};
+use crate::careful::careful;
+use crate::{Mesh, Ray, Scratch};
+use std::io::{self, IsTerminal, Write};
+use std::num::NonZeroUsize;
+use std::sync::atomic::{AtomicUsize, Ordering};
+use std::sync::mpsc::{self, RecvTimeoutError};
+use std::thread;
+use std::time::{Duration, Instant};
+
+/// A thread takes at most so many items at a time.
+const MOST_AT_ONCE: usize = 256;
+
+/// Each thread takes items at least so often, so that none waits long for the last one.
+const TURNS: usize = 16;
+
+/// Work shorter than this shows no progress.
+const PATIENCE: Duration = Duration::from_secs(1);
+
+/// How often the line is written anew.
+const TICK: Duration = Duration::from_millis(200);
+
+/// How a batch runs: over how many threads, and whether its progress is shown.
+///
+/// ```
+/// use probe_rays::{Batch, Cast, Mesh, Ray, Refusal};
+///
+/// let square = [[0.0, 0.0, 0.0], [4.0, 0.0, 0.0], [4.0, 4.0, 0.0], [0.0, 4.0, 0.0]];
+/// let mesh = Mesh::build(square, [[0, 1, 2], [0, 2, 3]])?;
+/// let rays: Vec<Ray> = (0..1000)
+///     .map(|n| Ray::new([f64::from(n) / 100.0, 0.5, 5.0], [0.0, 0.0, -1.0], 10.0))
+///     .collect();
+///
+/// // the answer of each ray, in the order of the rays
+/// let casts = mesh.cast_many(&rays);
+/// assert!(matches!(casts[399], Cast::Hit(hit) if hit.distance == 5.0));
+/// assert_eq!(casts[401], Cast::None);
+///
+/// // any work with a scratch of its own, here over two threads
+/// let counts = Batch::new().threads(2).run(&rays, |ray, scratch| mesh.cast_all_with(ray, scratch).map(|hits| hits.len()));
+/// assert_eq!((counts[399], counts[401]), (Ok(1), Ok(0)));
+/// # Ok::<(), Refusal>(())
+/// ```
+#[derive(Clone, Debug, Default)]
+pub struct Batch {
+    threads: Option<NonZeroUsize>,
+    label: Option<String>,
+}
+
+impl Batch {
+    /// As many threads as the machine runs at once, and no progress line.
+    pub fn new() -> Batch {
+        Batch::default()
+    }
+
+    /// Over so many threads; 0 stands for as many as the machine runs at once.
+    pub fn threads(self, count: usize) -> Batch {
+        Batch {
+            threads: NonZeroUsize::new(count),
+            ..self
+        }
+    }
+
+    /// Work that takes longer than a second shows a line on standard error, if that is a terminal: the label, how many
+    /// are done of how many, and about how long the rest takes. The line is wiped at the end.
+    pub fn progress(self, label: impl Into<String>) -> Batch {
+        Batch {
+            label: Some(label.into()),
+            ..self
+        }
+    }
+
+    /// What `answer` gives for each item, in the order of the items. Each thread has a [`Scratch`] of its own.
+    ///
+    /// Panics where `answer` panics.
+    pub fn run<T, A>(&self, items: &[T], answer: impl Fn(&T, &mut Scratch) -> A + Sync) -> Vec<A>
+    where
+        T: Sync,
+        A: Send,
+    {
+        let mut line = ProgressLine::new(self.label.as_deref(), items.len());
+        let threads = self.thread_count().min(items.len());
+        let at_once = (items.len() / (threads.max(1) * TURNS)).clamp(1, MOST_AT_ONCE);
+        if threads <= 1 {
+            let mut scratch = Scratch::new();
+            let mut answers = Vec::with_capacity(items.len());
+            for share in items.chunks(at_once) {
+                answers.extend(share.iter().map(|item| answer(item, &mut scratch)));
+                line.show(answers.len());
+            }
+            return answers;
+        }
+        let next = AtomicUsize::new(0);
+        let shares = items.len().div_ceil(at_once);
+        let mut parts: Vec<Option<Vec<A>>> = (0..shares).map(|_| None).collect();
+        thread::scope(|scope| {
+            let (sender, receiver) = mpsc::channel();
+            for _ in 0..threads {
+                let (sender, next, answer) = (sender.clone(), &next, &answer);
+                scope.spawn(move || {
+                    let mut scratch = Scratch::new();
+                    loop {
+                        let number = next.fetch_add(1, Ordering::Relaxed);
+                        let Some(share) = items.chunks(at_once).nth(number) else {
+                            return;
+                        };
+                        let answers = share.iter().map(|item| answer(item, &mut scratch));
+                        if sender.send((number, answers.collect::<Vec<A>>())).is_err() {
+                            return;
+                        }
+                    }
+                });
+            }
+            drop(sender);
+            let mut done = 0;
+            loop {
+                match receiver.recv_timeout(TICK) {
+                    Ok((number, answers)) => {
+                        done += answers.len();
+                        parts[number] = Some(answers);
+                    }
+                    Err(RecvTimeoutError::Timeout) => {}
+                    // every thread has ended; one that panicked passes its panic on at the scope's end
+                    Err(RecvTimeoutError::Disconnected) => return,
+                }
+                line.show(done);
+            }
+        });
+        parts.into_iter().flatten().flatten().collect()
+    }
+
+    fn thread_count(&self) -> usize {
+        self.threads
+            .or_else(|| thread::available_parallelism().ok())
+            .map_or(1, NonZeroUsize::get)
+    }
+}
+
+/// The line on standard error. It is there only where a label asks for it and standard error is a terminal.
+struct ProgressLine<'a> {
+    label: Option<&'a str>,
+    total: usize,
+    start: Instant,
+    shown: Option<Instant>,
+}
+
+impl<'a> ProgressLine<'a> {
+    fn new(label: Option<&'a str>, total: usize) -> ProgressLine<'a> {
+        ProgressLine {
+            label: label.filter(|_| io::stderr().is_terminal()),
+            total,
+            start: Instant::now(),
+            shown: None,
+        }
+    }
+
+    /// Writes the line anew, if it is time.
+    fn show(&mut self, done: usize) {
+        let Some(label) = self.label else { return };
+        let now = Instant::now();
+        let spent = now - self.start;
+        let due = self.shown.map_or(spent >= PATIENCE, |at| now - at >= TICK);
+        if !due {
+            return;
+        }
+        self.shown = Some(now);
+        // a terminal that is gone is no reason to stop casting
+        let _ = write!(io::stderr(), "\r{}\x1b[K", told(label, done, self.total, spent));
+    }
+}
+
+impl Drop for ProgressLine<'_> {
+    fn drop(&mut self) {
+        if self.shown.is_some() {
+            let _ = write!(io::stderr(), "\r\x1b[K");
+        }
+    }
+}
+
+/// The line's words. The time left is that of the rest at the speed so far.
+fn told(label: &str, done: usize, total: usize, spent: Duration) -> String {
+    let share = if total == 0 { 100 } else { 100 * done / total };
+    let mut words = format!("{label}: {done} of {total} ({share} %)");
+    if done > 0 {
+        let left = spent.as_secs_f64() * (total - done) as f64 / done as f64;
+        words += &format!(", about {left:.0} s left");
+    }
+    words
+}
+
+impl Mesh {
+    /// The [`cast`](Mesh::cast) of each ray, in the order of the rays, over as many threads as the machine runs at
+    /// once. [`Batch`] chooses the threads and shows progress.
+    pub fn cast_many(&self, rays: &[Ray]) -> Vec<Cast<MeshHit>> {
+        Batch::new().run(rays, |ray, scratch| self.cast_with(ray, scratch))
+    }
+
+    /// The [`cast_careful`](Mesh::cast_careful) of each ray, in the same way.
+    pub fn cast_careful_many(&self, rays: &[Ray], hair: f64) -> Vec<Cast<MeshHit>> {
+        Batch::new().run(rays, |ray, scratch| {
+            careful(ray, hair, |ray| self.cast_with(ray, scratch))
+        })
+    }
+
+    /// The [`cast_all`](Mesh::cast_all) of each ray, in the same way.
+    pub fn cast_all_many(&self, rays: &[Ray]) -> Vec<Result<Vec<MeshHit>, Refusal>> {
+        Batch::new().run(rays, |ray, scratch| self.cast_all_with(ray, scratch))
+    }
+}
+
+#[cfg(test)]
+mod tests {
+    use super::*;
+
+    #[test]
+    fn the_line_says_how_long_the_rest_takes() {
+        // 250 of 1,000 in 3 s: the other 750 take 9
+        let spent = Duration::from_secs(3);
+        assert_eq!(
+            told("casting", 250, 1000, spent),
+            "casting: 250 of 1000 (25 %), about 9 s left"
+        );
+        assert_eq!(told("casting", 0, 1000, spent), "casting: 0 of 1000 (0 %)");
+        assert_eq!(told("casting", 0, 0, spent), "casting: 0 of 0 (100 %)");
+    }
+}
