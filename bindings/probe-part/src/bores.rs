@@ -18,6 +18,9 @@ const FLAT: f64 = 0.01;
 /// How far corners and outlines may be off a circle or a straight side: 0.02 mm.
 const OFF: f64 = 0.02;
 
+/// How far the points of an outline may end before the end of an arc: 0.05 mm.
+const NEARLY: f64 = 0.05;
+
 /// How finely an outline is found.
 const FINE: f64 = 1e-5;
 
@@ -33,8 +36,8 @@ const MOST_CELLS: f64 = 250_000.0;
 /// How many probes look for the walls of a round bore.
 const WALL_PROBES: usize = 360;
 
-/// A circle has at least so many sides.
-const LEAST_SIDES: usize = 8;
+/// A circle has at least so many sides: gmsh gives one no fewer, and six are a pocket for a nut.
+pub const LEAST_SIDES: usize = 7;
 
 /// How deep a recess is below its face.
 #[derive(Clone, Copy, Debug, PartialEq)]
@@ -77,8 +80,8 @@ pub struct Found {
     pub not_flat: Vec<Face>,
 }
 
-/// The bores and pockets of some faces, in the order of [`FACES`]. What goes through is told once, of the first face
-/// that shows it.
+/// The bores and pockets of some faces, in the order of [`FACES`], and on a face by their coordinates. What goes through
+/// is told once, of the first face that shows it.
 pub fn search(shape: &Shape, faces: &[Face], step: f64) -> Result<Found, Refusal> {
     let mut found = Found::default();
     for face in FACES.into_iter().filter(|face| faces.contains(face)) {
@@ -88,8 +91,16 @@ pub fn search(shape: &Shape, faces: &[Face], step: f64) -> Result<Found, Refusal
             found.not_flat.push(face);
             continue;
         };
-        for recesses in of_face(&view, &raster, level)? {
-            add(&mut found.recesses, recesses);
+        let mut recesses = of_face(&view, &raster, level)?;
+        let place = |group: &Vec<Recess>| {
+            let axes = face.along();
+            group
+                .first()
+                .map(|recess| axes.map(|axis| (10.0 * recess.centre[axis]).round() as i64))
+        };
+        recesses.sort_by_key(place);
+        for group in recesses {
+            add(&mut found.recesses, group);
         }
     }
     Ok(found)
@@ -151,12 +162,14 @@ fn of_face(view: &View<'_>, raster: &Raster, level: f64) -> Result<Vec<Vec<Reces
         jobs.extend(found.into_iter().map(|group| (side, group)));
     }
     let label = format!("looking at the {} face, recesses", view.face.name());
-    let explored = Batch::new().progress(label).run(&jobs, |(side, group), scratch| {
-        let search = Search { view, level };
-        let mut recesses = Vec::new();
-        search.explore(*side, raster, group, None, &mut recesses, scratch)?;
-        Ok(recesses)
-    });
+    let explored = Batch::new()
+        .progress(label)
+        .run(&jobs, |(side, group), scratch| {
+            let search = Search { view, level };
+            let mut recesses = Vec::new();
+            search.explore(*side, raster, group, None, &mut recesses, scratch)?;
+            Ok(recesses)
+        });
     explored.into_iter().collect()
 }
 
@@ -196,7 +209,11 @@ impl Search<'_> {
         scratch: &mut Scratch,
     ) -> Result<(), Refusal> {
         let fine = Raster::of_grid(self.view, self.finer(&coarse.grid, group), scratch)?;
-        let found = groups(&fine.grid, |cell| side.holds(fine.depths[cell]), |_, _| true);
+        let found = groups(
+            &fine.grid,
+            |cell| side.holds(fine.depths[cell]),
+            |_, _| true,
+        );
         let mut ours = vec![false; coarse.grid.len()];
         for &cell in group {
             ours[cell] = true;
@@ -205,8 +222,9 @@ impl Search<'_> {
             // of the cells that any group has, more lie in this one than in others
             let coarse_cell = |&cell: &usize| coarse.grid.cell(fine.grid.place(cell));
             let marked = part.iter().map(coarse_cell);
-            let marked: Vec<usize> =
-                marked.filter(|&cell| side.holds(coarse.depths[cell])).collect();
+            let marked: Vec<usize> = marked
+                .filter(|&cell| side.holds(coarse.depths[cell]))
+                .collect();
             let here = marked.iter().filter(|&&cell| ours[cell]).count();
             if here > 0 && 2 * here > marked.len() {
                 self.measure(side, &fine, &part, within, recesses, scratch)?;
@@ -220,8 +238,10 @@ impl Search<'_> {
         let places: Vec<[f64; 2]> = group.iter().map(|&cell| coarse.place(cell)).collect();
         let [low, high] = box_around(&places);
         let (least, most, step) = (self.view.low(), self.view.high(), coarse.step());
-        let low: [f64; 2] = std::array::from_fn(|side| (low[side] - 2.0 * step[side]).max(least[side]));
-        let high: [f64; 2] = std::array::from_fn(|side| (high[side] + 2.0 * step[side]).min(most[side]));
+        let low: [f64; 2] =
+            std::array::from_fn(|side| (low[side] - 2.0 * step[side]).max(least[side]));
+        let high: [f64; 2] =
+            std::array::from_fn(|side| (high[side] + 2.0 * step[side]).min(most[side]));
         let [width, height] = [high[0] - low[0], high[1] - low[1]];
         let finest = (width * height / MOST_CELLS).sqrt();
         let wanted = (width.min(height) / 32.0).min(step[0].min(step[1]));
@@ -288,7 +308,11 @@ impl Search<'_> {
             (_, Floor::Uneven(least, most)) => {
                 // the tip of a drill stands in the middle, where no cell need be
                 let middle = self.view.depth(centre, scratch)?;
-                let most = if middle.is_finite() { most.max(middle) } else { most };
+                let most = if middle.is_finite() {
+                    most.max(middle)
+                } else {
+                    most
+                };
                 Depth::Uneven(least - self.level, most - self.level)
             }
         })
@@ -349,7 +373,9 @@ impl Search<'_> {
                 outside = middle;
             }
         }
-        Ok(std::array::from_fn(|axis| (inside[axis] + outside[axis]) / 2.0))
+        Ok(std::array::from_fn(|axis| {
+            (inside[axis] + outside[axis]) / 2.0
+        }))
     }
 
     /// The corners of the walls around a recess: of the triangles that probes from its middle meet, half way down.
@@ -415,20 +441,19 @@ enum Floor {
 }
 
 /// The floor of a recess, the highest of its flat ones, and the depth below which another recess within it begins. A
-/// slope above the floors, such as a countersink's, counts as a floor of its own.
+/// slope above the floors, such as a countersink's, counts as a floor of its own; a wall does not.
 fn floor(raster: &Raster, part: &[usize]) -> (Floor, Option<f64>) {
     let depth = |cell: usize| raster.depths[cell];
-    let level = |a: usize, b: usize| {
-        depth(a) == depth(b) || (depth(a) - depth(b)).abs() <= FLAT
-    };
+    let level = |a: usize, b: usize| depth(a) == depth(b) || (depth(a) - depth(b)).abs() <= FLAT;
     let mut member = vec![false; raster.grid.len()];
     for &cell in part {
         member[cell] = true;
     }
     let flat = |cell: usize| {
-        let even = |other: Option<usize>| other.is_some_and(|other| member[other] && level(cell, other));
+        let even =
+            |other: Option<usize>| other.is_some_and(|other| member[other] && level(cell, other));
         let [left, right, below, above] = raster.grid.neighbours(cell).map(even);
-        member[cell] && (left || right) && (below || above)
+        member[cell] && !raster.walls[cell] && (left || right) && (below || above)
     };
     let top = groups(&raster.grid, flat, level)
         .into_iter()
@@ -454,12 +479,14 @@ fn floor(raster: &Raster, part: &[usize]) -> (Floor, Option<f64>) {
     };
     let slope: Vec<f64> = part
         .iter()
+        .filter(|&&cell| !raster.walls[cell] && depth(cell) < top - FLAT)
         .map(|&cell| depth(cell))
-        .filter(|&depth| depth < top - FLAT)
         .collect();
-    if slope.len() >= FLOOR_CELLS && 10 * slope.len() >= part.len() {
+    if slope.len() >= FLOOR_CELLS && 5 * slope.len() >= part.len() {
         let (least, most) = range(&slope);
-        return (Floor::Uneven(least, most), Some(most));
+        // half way down to the floors, where the slope has ended
+        let below = (most + top.min(most + 1.0)) / 2.0;
+        return (Floor::Uneven(least, most), Some(below));
     }
     (Floor::Flat(top), top.is_finite().then_some(top))
 }
@@ -472,39 +499,39 @@ fn told_outline(
     open: bool,
 ) -> (Outline, [f64; 2], [f64; 2]) {
     if !open {
-        if let Some(circle) = Circle::through(walls) {
-            let sides = distinct(walls, &circle);
-            if sides >= LEAST_SIDES && circle.fits(walls, points, OFF) {
-                return (Outline::Circle { sides }, circle.centre, [2.0 * circle.radius; 2]);
-            }
+        if let Some((circle, sides)) = Circle::around(walls, points, OFF) {
+            return (
+                Outline::Circle { sides },
+                circle.centre,
+                [2.0 * circle.radius; 2],
+            );
         }
         // walls that are not straight down, as a countersink's: the circle around the outline
         if let Some(circle) = Circle::through(points) {
             let radii = || points.iter().map(|&point| circle.radius_of(point));
-            let (least, most) = (radii().fold(f64::MAX, f64::min), radii().fold(0.0, f64::max));
+            let (least, most) = (
+                radii().fold(f64::MAX, f64::min),
+                radii().fold(0.0, f64::max),
+            );
             if most - least <= OFF.max(0.02 * most) {
                 return (Outline::Circle { sides: 0 }, circle.centre, [2.0 * most; 2]);
             }
         }
     }
     let [low, high] = box_around(points);
+    let low: [f64; 2] =
+        std::array::from_fn(|axis| -drawn_out(-low[axis], walls.iter().map(|w| -w[axis])));
+    let high: [f64; 2] =
+        std::array::from_fn(|axis| drawn_out(high[axis], walls.iter().map(|w| w[axis])));
     let centre = std::array::from_fn(|axis| (low[axis] + high[axis]) / 2.0);
     let size = std::array::from_fn(|axis| high[axis] - low[axis]);
-    (outline(points, OFF), centre, size)
+    (outline(points, low, high, OFF), centre, size)
 }
 
-/// How many corners there are at different angles.
-fn distinct(corners: &[[f64; 2]], circle: &Circle) -> usize {
-    let angle =
-        |corner: &[f64; 2]| (corner[1] - circle.centre[1]).atan2(corner[0] - circle.centre[0]);
-    let mut angles: Vec<f64> = corners.iter().map(angle).collect();
-    angles.sort_by(f64::total_cmp);
-    let near = |a: f64, b: f64| (a - b).abs() * circle.radius <= OFF;
-    let mut count = 1 + angles.windows(2).filter(|pair| !near(pair[0], pair[1])).count();
-    if let (Some(first), Some(last)) = (angles.first(), angles.last()) {
-        if count > 1 && near(first + std::f64::consts::TAU, *last) {
-            count -= 1;
-        }
-    }
-    count
+/// The end of an outline, drawn out to the corner of a wall that lies just past it: the points of an outline need not
+/// meet the end of an arc.
+fn drawn_out(end: f64, corners: impl Iterator<Item = f64>) -> f64 {
+    corners
+        .filter(|&corner| corner - end <= NEARLY)
+        .fold(end, f64::max)
 }

@@ -1,4 +1,5 @@
 //! Which outline goes through points.
+use crate::bores::LEAST_SIDES;
 
 /// An outline in a face.
 #[derive(Clone, Copy, Debug, PartialEq)]
@@ -68,8 +69,7 @@ impl Circle {
     /// The widest angle at the centre between neighbours of these points.
     pub fn widest_gap(&self, points: &[[f64; 2]]) -> f64 {
         let turn = std::f64::consts::TAU;
-        let angle =
-            |point: &[f64; 2]| (point[1] - self.centre[1]).atan2(point[0] - self.centre[0]);
+        let angle = |point: &[f64; 2]| (point[1] - self.centre[1]).atan2(point[0] - self.centre[0]);
         let mut angles: Vec<f64> = points.iter().map(angle).collect();
         angles.sort_by(f64::total_cmp);
         let Some(&first) = angles.first() else {
@@ -82,20 +82,63 @@ impl Circle {
             .fold(0.0, f64::max)
     }
 
-    /// Whether the points lie on the sides between corners that lie on the circle, all within a tolerance.
-    pub fn fits(&self, corners: &[[f64; 2]], points: &[[f64; 2]], tolerance: f64) -> bool {
-        let gap = self.widest_gap(corners);
-        let least = self.radius * (gap / 2.0).cos() - tolerance;
-        gap < std::f64::consts::FRAC_PI_2
-            && corners
-                .iter()
-                .all(|&corner| (self.radius_of(corner) - self.radius).abs() <= tolerance)
-            && points.iter().all(|&point| {
-                let radius = self.radius_of(point);
-                least <= radius && radius <= self.radius + tolerance
-            })
+    /// The circle through the outermost corners of a polygon's walls, if it is round: they lie on it all around, and
+    /// neither the other corners nor the points of the outline are further within it than the sides of the fewest
+    /// corners; all within a tolerance. With the number of the outermost corners.
+    ///
+    /// Corners within are those that a finer mesh has on the sides of a coarser one.
+    pub fn around(
+        corners: &[[f64; 2]],
+        points: &[[f64; 2]],
+        tolerance: f64,
+    ) -> Option<(Circle, usize)> {
+        let mut outer = corners.to_vec();
+        let mut circle = Circle::through(&outer)?;
+        for _ in 0..ROUNDS {
+            let on = |corner: &[f64; 2]| circle.radius_of(*corner) >= circle.radius - EXACT;
+            if outer.iter().all(on) {
+                break;
+            }
+            outer.retain(on);
+            circle = Circle::through(&outer)?;
+        }
+        let half_side = std::f64::consts::PI / LEAST_SIDES as f64;
+        let least = circle.radius * half_side.cos() - tolerance;
+        let near = |place: &[f64; 2]| {
+            let radius = circle.radius_of(*place);
+            least <= radius && radius <= circle.radius + tolerance
+        };
+        let on = |corner: &[f64; 2]| (circle.radius_of(*corner) - circle.radius).abs() <= tolerance;
+        let round = circle.widest_gap(&outer) <= 2.0 * half_side + 0.01
+            && outer.iter().all(on)
+            && corners.iter().chain(points).all(near);
+        round.then(|| (circle, circle.distinct(&outer, tolerance)))
+    }
+
+    /// How many of these places on the circle are different ones.
+    fn distinct(&self, places: &[[f64; 2]], tolerance: f64) -> usize {
+        let angle = |place: &[f64; 2]| (place[1] - self.centre[1]).atan2(place[0] - self.centre[0]);
+        let mut angles: Vec<f64> = places.iter().map(angle).collect();
+        angles.sort_by(f64::total_cmp);
+        let near = |a: f64, b: f64| (a - b).abs() * self.radius <= tolerance;
+        let mut count = 1 + angles
+            .windows(2)
+            .filter(|pair| !near(pair[0], pair[1]))
+            .count();
+        if let (Some(first), Some(last)) = (angles.first(), angles.last()) {
+            if count > 1 && near(first + std::f64::consts::TAU, *last) {
+                count -= 1;
+            }
+        }
+        count
     }
 }
+
+/// How far coordinates of single precision may be off a circle: 0.0005 mm, for parts of some metres.
+const EXACT: f64 = 5e-4;
+
+/// So many times the corners within a circle are left out and the rest is fitted again.
+const ROUNDS: usize = 12;
 
 /// The box around points: its least and largest coordinates.
 pub fn box_around(points: &[[f64; 2]]) -> [[f64; 2]; 2] {
@@ -106,9 +149,8 @@ pub fn box_around(points: &[[f64; 2]]) -> [[f64; 2]; 2] {
     ]
 }
 
-/// Which outline other than a circle goes through points, within a tolerance.
-pub fn outline(points: &[[f64; 2]], tolerance: f64) -> Outline {
-    let [low, high] = box_around(points);
+/// Which outline other than a circle goes through points in a box around them, within a tolerance.
+pub fn outline(points: &[[f64; 2]], low: [f64; 2], high: [f64; 2], tolerance: f64) -> Outline {
     // how far a point is from the nearer side of either direction
     let inward = |point: &[f64; 2]| -> [f64; 2] {
         std::array::from_fn(|side| (point[side] - low[side]).min(high[side] - point[side]))

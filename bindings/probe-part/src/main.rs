@@ -65,11 +65,22 @@ fn run(words: &[String]) -> Result<bool, String> {
         return out.done().map(|()| true);
     }
     let answered = match command.as_str() {
-        "cast" => cast(&Call::new(rest, &["--all", "--careful"], &["--rays"])?, &mut out)?,
-        "bores" => bores(&Call::new(rest, &["--from-corner", "--csv"], &["--face", "--step"])?, &mut out)?,
-        "depth" => depth(&Call::new(rest, &[], &["--face", "--step", "--png", "--svg"])?, &mut out)?,
+        "cast" => cast(
+            &Call::new(rest, &["--all", "--careful"], &["--rays"])?,
+            &mut out,
+        )?,
+        "bores" => bores(
+            &Call::new(rest, &["--from-corner", "--csv"], &["--face", "--step"])?,
+            &mut out,
+        )?,
+        "depth" => depth(
+            &Call::new(rest, &[], &["--face", "--step", "--png", "--svg"])?,
+            &mut out,
+        )?,
         other => {
-            return Err(format!("{other:?} is none of cast, bores, depth; probe-part --help says more"));
+            return Err(format!(
+                "{other:?} is none of cast, bores, depth; probe-part --help says more"
+            ));
         }
     };
     out.done()?;
@@ -90,7 +101,9 @@ impl Output {
     }
 
     fn done(&mut self) -> Result<(), String> {
-        self.0.flush().map_err(|why| format!("standard output: {why}"))
+        self.0
+            .flush()
+            .map_err(|why| format!("standard output: {why}"))
     }
 }
 
@@ -116,10 +129,14 @@ impl Call {
             if switches.contains(&word.as_str()) {
                 call.switches.push(word.clone());
             } else if options.contains(&word.as_str()) {
-                let value = words.next().ok_or_else(|| format!("{word} takes a value"))?;
+                let value = words
+                    .next()
+                    .ok_or_else(|| format!("{word} takes a value"))?;
                 call.options.push((word.clone(), value.clone()));
             } else if word.starts_with("--") {
-                return Err(format!("{word} is not known here; probe-part --help says what is"));
+                return Err(format!(
+                    "{word} is not known here; probe-part --help says what is"
+                ));
             } else if files.is_empty() {
                 files.push(word.clone());
             } else {
@@ -136,7 +153,10 @@ impl Call {
 
     fn values<'a>(&'a self, option: &'a str) -> impl Iterator<Item = &'a str> {
         let same = move |(name, _): &&(String, String)| name == option;
-        self.options.iter().filter(same).map(|(_, value)| value.as_str())
+        self.options
+            .iter()
+            .filter(same)
+            .map(|(_, value)| value.as_str())
     }
 
     fn value<'a>(&'a self, option: &'a str) -> Option<&'a str> {
@@ -202,7 +222,9 @@ fn counts(shape: &Shape) -> String {
 /// `probe-part cast`.
 fn cast(call: &Call, out: &mut Output) -> Result<bool, String> {
     if call.has("--all") && call.has("--careful") {
-        return Err("--careful is about the first hit, --all about every one: take one of them".into());
+        return Err(
+            "--careful is about the first hit, --all about every one: take one of them".into(),
+        );
     }
     let given = from_words(&call.rest)?;
     let shape = Shape::load(&call.file)?;
@@ -270,7 +292,11 @@ impl Casting<'_> {
 fn bores(call: &Call, out: &mut Output) -> Result<bool, String> {
     call.no_rest()?;
     let (asked, step) = (call.faces()?, call.step()?.unwrap_or(1.0));
-    let faces = if asked.is_empty() { FACES.to_vec() } else { asked };
+    let faces = if asked.is_empty() {
+        FACES.to_vec()
+    } else {
+        asked
+    };
     let shape = Shape::load(&call.file)?;
     for &face in &faces {
         check_step(&View::new(&shape, face), step)?;
@@ -283,7 +309,11 @@ fn bores(call: &Call, out: &mut Output) -> Result<bool, String> {
         }
     };
     let bounds = shape.bounds();
-    let origin = if call.has("--from-corner") { bounds.low } else { [0.0; 3] };
+    let origin = if call.has("--from-corner") {
+        bounds.low
+    } else {
+        [0.0; 3]
+    };
     if call.has("--csv") {
         out.print(&tables::csv(&found, origin))?;
     } else {
@@ -297,7 +327,10 @@ fn bores(call: &Call, out: &mut Output) -> Result<bool, String> {
         out.print(&tables::table(&found, origin))?;
     }
     for face in &found.not_flat {
-        eprintln!("probe-part: the {} face has no flat surface, and was left out", face.name());
+        eprintln!(
+            "probe-part: the {} face has no flat surface, and was left out",
+            face.name()
+        );
     }
     Ok(true)
 }
@@ -332,9 +365,14 @@ fn depth(call: &Call, out: &mut Output) -> Result<bool, String> {
         out.print(&format!("{file}: {}\n", size(&raster.grid)))?;
     }
     if let Some(file) = call.value("--svg") {
-        let found = search(&shape, &[face], step.max(1.0)).map_err(|why| format!("a cast was {why}"))?;
-        let numbered: Vec<(usize, Recess)> =
-            found.recesses.into_iter().enumerate().map(|(place, recess)| (place + 1, recess)).collect();
+        let found =
+            search(&shape, &[face], step.max(1.0)).map_err(|why| format!("a cast was {why}"))?;
+        let numbered: Vec<(usize, Recess)> = found
+            .recesses
+            .into_iter()
+            .enumerate()
+            .map(|(place, recess)| (place + 1, recess))
+            .collect();
         let title = format!("{}, {} face", call.file, face.name());
         written(file, svg::svg(&map, &title, &numbered).as_bytes())?;
         out.print(&format!("{file}: {}\n", size(&raster.grid)))?;

@@ -84,10 +84,12 @@ impl<'a> DepthMap<'a> {
 
     /// The depths to mark beside the colours, from the face on.
     pub fn marks(&self) -> Vec<f64> {
-        let step = [0.1, 0.2, 0.5, 1.0, 2.0, 5.0, 10.0, 20.0, 50.0, 100.0, 200.0, 500.0]
-            .into_iter()
-            .find(|step| self.deepest / step <= 8.0)
-            .unwrap_or(1000.0);
+        let step = [
+            0.1, 0.2, 0.5, 1.0, 2.0, 5.0, 10.0, 20.0, 50.0, 100.0, 200.0, 500.0,
+        ]
+        .into_iter()
+        .find(|step| self.deepest / step <= 8.0)
+        .unwrap_or(1000.0);
         let count = (self.deepest / step + 1e-9).floor() as usize;
         (0..=count).map(|mark| mark as f64 * step).collect()
     }
@@ -119,8 +121,16 @@ impl<'a> DepthMap<'a> {
             for column in bar..bar + 4 {
                 picture.set(left + column, edge + row, INK);
             }
-            let text = if mark.fract() == 0.0 { fixed(mark, 0) } else { fixed(mark, 1) };
-            write(&mut picture, [left + bar + 7, (edge + row).saturating_sub(5)], &text);
+            let text = if mark.fract() == 0.0 {
+                fixed(mark, 0)
+            } else {
+                fixed(mark, 1)
+            };
+            write(
+                &mut picture,
+                [left + bar + 7, (edge + row).saturating_sub(5)],
+                &text,
+            );
         }
         picture
     }

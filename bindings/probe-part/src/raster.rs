@@ -1,5 +1,5 @@
 //! Depths at a raster of places.
-use crate::faces::View;
+use crate::faces::{Probe, View};
 use probe_rays::{Batch, Refusal, Scratch};
 
 /// Where the places of a raster stand: in the middles of equal cells that fill a rectangle.
@@ -72,6 +72,9 @@ impl Grid {
     }
 }
 
+/// Depths that differ by less are one: 0.01 mm.
+const SAME: f64 = 0.01;
+
 /// Depths below the box's face, one for each cell of a grid, row after row; infinite where there is no surface.
 #[derive(Clone, Debug)]
 pub struct Raster {
@@ -79,10 +82,13 @@ pub struct Raster {
     pub grid: Grid,
     /// The depths.
     pub depths: Vec<f64>,
+    /// Whether the surface is a wall.
+    pub walls: Vec<bool>,
 }
 
 impl Raster {
-    /// Probes the whole face of a view, over the machine's threads.
+    /// Probes the whole face of a view, over the machine's threads. Where a place is as deep as its neighbours, one cast
+    /// has told it; elsewhere, as at a rim, and where a ray has passed between two triangles, the careful cast does.
     pub fn of_face(view: &View<'_>, step: f64) -> Result<Raster, Refusal> {
         let grid = Grid::new(view.low(), view.high(), step);
         let [columns, rows] = grid.counts();
@@ -90,31 +96,44 @@ impl Raster {
         let label = format!("probing the {} face, rows", view.face.name());
         let rows = Batch::new().progress(label).run(&numbers, |row, scratch| {
             let cells = row * columns..(row + 1) * columns;
-            probed(view, &grid, cells, scratch)
+            let glance = |cell: usize| view.glance(grid.place(cell), scratch);
+            cells.map(glance).collect::<Result<Vec<Probe>, Refusal>>()
         });
-        let mut depths = Vec::with_capacity(grid.len());
+        let mut probes = Vec::with_capacity(grid.len());
         for row in rows {
-            depths.append(&mut row?);
+            probes.append(&mut row?);
         }
-        Ok(Raster { grid, depths })
+        let depth = |cell: usize| probes[cell].depth;
+        let differs = |cell: usize, other: usize| {
+            depth(cell) != depth(other) && (depth(cell) - depth(other)).abs() > SAME
+        };
+        let neighbours = |cell: usize| grid.neighbours(cell).into_iter().flatten();
+        let unsure: Vec<usize> = (0..grid.len())
+            .filter(|&cell| neighbours(cell).any(|other| differs(cell, other)))
+            .collect();
+        let label = format!("probing the {} face with care", view.face.name());
+        let sure = Batch::new().progress(label).run(&unsure, |&cell, scratch| {
+            view.probe(grid.place(cell), scratch)
+        });
+        for (cell, probe) in unsure.into_iter().zip(sure) {
+            probes[cell] = probe?;
+        }
+        Ok(Raster::of_probes(grid, probes.into_iter()))
     }
 
     /// Probes the places of a grid, here and now.
     pub fn of_grid(view: &View<'_>, grid: Grid, scratch: &mut Scratch) -> Result<Raster, Refusal> {
-        let depths = probed(view, &grid, 0..grid.len(), scratch)?;
-        Ok(Raster { grid, depths })
+        let probe = |cell: usize| view.probe(grid.place(cell), scratch);
+        let probes: Vec<Probe> = (0..grid.len()).map(probe).collect::<Result<_, _>>()?;
+        Ok(Raster::of_probes(grid, probes.into_iter()))
     }
-}
 
-/// The depths at some cells.
-fn probed(
-    view: &View<'_>,
-    grid: &Grid,
-    mut cells: std::ops::Range<usize>,
-    scratch: &mut Scratch,
-) -> Result<Vec<f64>, Refusal> {
-    cells.try_fold(Vec::with_capacity(cells.len()), |mut depths, cell| {
-        depths.push(view.depth(grid.place(cell), scratch)?);
-        Ok(depths)
-    })
+    fn of_probes(grid: Grid, probes: impl Iterator<Item = Probe>) -> Raster {
+        let (depths, walls) = probes.map(|probe| (probe.depth, probe.is_wall)).unzip();
+        Raster {
+            grid,
+            depths,
+            walls,
+        }
+    }
 }

@@ -62,7 +62,10 @@ impl<R: BufRead> Lines<R> {
             }
             let content = text.split('#').next().unwrap_or("");
             let blank = |c: char| c.is_whitespace() || c == ',' || c == ';';
-            let mut words = content.split(blank).filter(|word| !word.is_empty()).peekable();
+            let mut words = content
+                .split(blank)
+                .filter(|word| !word.is_empty())
+                .peekable();
             if words.peek().is_some() {
                 rays.push(ray(words).map_err(place)?);
             }

@@ -64,7 +64,9 @@ impl Shape {
             cabinet: Cabinet::new(),
         };
         let all = (0..facets.len() as u32).collect();
-        shape.add(facets, all, most).map_err(|why| why.to_string())?;
+        shape
+            .add(facets, all, most)
+            .map_err(|why| why.to_string())?;
         if shape.meshes.len() > 1 {
             for piece in &shape.meshes {
                 shape.cabinet.push(&piece.mesh, [0.0; 3]);
@@ -74,7 +76,12 @@ impl Shape {
     }
 
     /// Adds the triangles of these numbers as one piece, or halves them along the longest side of their box.
-    fn add(&mut self, facets: &[Corners], mut numbers: Vec<u32>, most: usize) -> Result<(), Refusal> {
+    fn add(
+        &mut self,
+        facets: &[Corners],
+        mut numbers: Vec<u32>,
+        most: usize,
+    ) -> Result<(), Refusal> {
         if numbers.len() <= most.max(1) {
             let some: Vec<Corners> = numbers.iter().map(|&n| facets[n as usize]).collect();
             let (vertices, triangles) = stl::merged(&some);
@@ -128,13 +135,26 @@ impl Shape {
 
     /// How many nodes the trees have together.
     pub fn nodes(&self) -> usize {
-        self.meshes.iter().map(|piece| piece.mesh.tree().nodes).sum()
+        self.meshes
+            .iter()
+            .map(|piece| piece.mesh.tree().nodes)
+            .sum()
     }
 
     /// The box around it.
     pub fn bounds(&self) -> Bounds {
-        let least = |axis: usize| self.vertices.iter().map(|v| v[axis]).fold(f64::MAX, f64::min);
-        let most = |axis: usize| self.vertices.iter().map(|v| v[axis]).fold(f64::MIN, f64::max);
+        let least = |axis: usize| {
+            self.vertices
+                .iter()
+                .map(|v| v[axis])
+                .fold(f64::MAX, f64::min)
+        };
+        let most = |axis: usize| {
+            self.vertices
+                .iter()
+                .map(|v| v[axis])
+                .fold(f64::MIN, f64::max)
+        };
         Bounds {
             low: std::array::from_fn(least),
             high: std::array::from_fn(most),
@@ -147,7 +167,11 @@ impl Shape {
         if let [piece] = self.meshes.as_slice() {
             return piece.mesh.cast_with(ray, scratch);
         }
-        match self.cabinet.cast_with(ray, self.cabinet.nodes(), scratch).answer {
+        match self
+            .cabinet
+            .cast_with(ray, self.cabinet.nodes(), scratch)
+            .answer
+        {
             Cast::Hit(hit) => Cast::Hit(self.numbered(&hit)),
             Cast::None => Cast::None,
             Cast::Refused(refusal) => Cast::Refused(refusal),
@@ -183,7 +207,11 @@ impl Shape {
         }
         // a distance is a number, and 0 and -0 are equal depths
         let depth = |hit: &MeshHit| hit.distance + 0.0;
-        all.sort_by(|a, b| depth(a).total_cmp(&depth(b)).then(a.triangle.cmp(&b.triangle)));
+        all.sort_by(|a, b| {
+            depth(a)
+                .total_cmp(&depth(b))
+                .then(a.triangle.cmp(&b.triangle))
+        });
         Ok(all)
     }
 

@@ -60,25 +60,47 @@ pub fn svg(map: &DepthMap<'_>, title: &str, recesses: &[(usize, Recess)]) -> Str
         "<g transform=\"translate({left:.2} {top:.2})\" fill=\"none\" stroke=\"#282828\" stroke-width=\"{:.3}\">",
         letter / 12.0
     ));
-    line(format!("<rect width=\"{}\" height=\"{}\"/>", fixed(width, 3), fixed(height, 3)));
+    line(format!(
+        "<rect width=\"{}\" height=\"{}\"/>",
+        fixed(width, 3),
+        fixed(height, 3)
+    ));
     for (_, recess) in recesses {
         line(drawn(map, recess));
     }
     line("</g>".into());
-    line(format!("<g transform=\"translate({left:.2} {top:.2})\" text-anchor=\"middle\" fill=\"#a01020\">"));
+    line(format!(
+        "<g transform=\"translate({left:.2} {top:.2})\" text-anchor=\"middle\" fill=\"#a01020\">"
+    ));
     for (number, recess) in recesses {
         let [x, y] = seen(map, recess);
         // beside what is too small to be written into
-        let beside = if recess.size[1] < 2.0 * letter { recess.size[1] / 2.0 + letter } else { letter / 3.0 };
-        line(format!("<text x=\"{x:.3}\" y=\"{:.3}\">{number}</text>", y + beside));
+        let beside = if recess.size[1] < 2.0 * letter {
+            recess.size[1] / 2.0 + letter
+        } else {
+            letter / 3.0
+        };
+        line(format!(
+            "<text x=\"{x:.3}\" y=\"{:.3}\">{number}</text>",
+            y + beside
+        ));
     }
     line("</g>".into());
-    scale(&mut line, map, [left + width + 2.0 * letter, top], height.max(12.0 * letter), letter);
+    scale(
+        &mut line,
+        map,
+        [left + width + 2.0 * letter, top],
+        height.max(12.0 * letter),
+        letter,
+    );
     ticks(&mut line, map, [left, top], [width, height], letter);
     let mut y = top + height + 5.0 * letter;
     for (number, recess) in recesses {
         let text = format!("{number}: {}, {}", size_words(recess), depth_words(recess));
-        line(format!("<text x=\"{left:.2}\" y=\"{y:.2}\">{}</text>", escaped(&text)));
+        line(format!(
+            "<text x=\"{left:.2}\" y=\"{y:.2}\">{}</text>",
+            escaped(&text)
+        ));
         y += 1.4 * letter;
     }
     line("</svg>".into());
@@ -94,7 +116,11 @@ fn seen(map: &DepthMap<'_>, recess: &Recess) -> [f64; 2] {
     let corner = grid.place(0);
     let x = recess.centre[first] - (corner[0] - step_x / 2.0);
     let y = recess.centre[second] - (corner[1] - step_y / 2.0);
-    let x = if map.face.is_mirrored() { columns as f64 * step_x - x } else { x };
+    let x = if map.face.is_mirrored() {
+        columns as f64 * step_x - x
+    } else {
+        x
+    };
     [x, rows as f64 * step_y - y]
 }
 
@@ -126,7 +152,13 @@ fn drawn(map: &DepthMap<'_>, recess: &Recess) -> String {
 }
 
 /// The colours and their depths.
-fn scale(line: &mut impl FnMut(String), map: &DepthMap<'_>, [x, y]: [f64; 2], height: f64, letter: f64) {
+fn scale(
+    line: &mut impl FnMut(String),
+    map: &DepthMap<'_>,
+    [x, y]: [f64; 2],
+    height: f64,
+    letter: f64,
+) {
     let bands = 60;
     line(format!("<g transform=\"translate({x:.2} {y:.2})\">"));
     for band in 0..bands {
@@ -155,7 +187,11 @@ fn scale(line: &mut impl FnMut(String), map: &DepthMap<'_>, [x, y]: [f64; 2], he
         hex(OPEN),
         letter / 12.0
     ));
-    line(format!("<text x=\"{:.2}\" y=\"{:.2}\">through</text>", 1.5 * letter, height + 1.9 * letter));
+    line(format!(
+        "<text x=\"{:.2}\" y=\"{:.2}\">through</text>",
+        1.5 * letter,
+        height + 1.9 * letter
+    ));
     line("</g>".into());
 }
 
@@ -180,13 +216,19 @@ fn ticks(
         while mark <= low[side] + extent + 1e-9 {
             let at = mark - low[side];
             let (x, y, anchor) = if side == 0 {
-                let x = if map.face.is_mirrored() { extent - at } else { at };
+                let x = if map.face.is_mirrored() {
+                    extent - at
+                } else {
+                    at
+                };
                 (left + x, top + height + 1.3 * letter, "middle")
             } else {
                 (left - letter / 2.0, top + height - at + letter / 3.0, "end")
             };
             let text = fixed(mark, 0);
-            line(format!("<text x=\"{x:.2}\" y=\"{y:.2}\" text-anchor=\"{anchor}\">{text}</text>"));
+            line(format!(
+                "<text x=\"{x:.2}\" y=\"{y:.2}\" text-anchor=\"{anchor}\">{text}</text>"
+            ));
             mark += step;
         }
     }
@@ -195,7 +237,11 @@ fn ticks(
         left + width / 2.0,
         top + height + 2.8 * letter,
         axes[0],
-        if map.face.is_mirrored() { "left" } else { "right" },
+        if map.face.is_mirrored() {
+            "left"
+        } else {
+            "right"
+        },
         axes[1]
     ));
 }
@@ -210,5 +256,7 @@ fn hex([red, green, blue]: [u8; 3]) -> String {
 }
 
 fn escaped(text: &str) -> String {
-    text.replace('&', "&amp;").replace('<', "&lt;").replace('>', "&gt;")
+    text.replace('&', "&amp;")
+        .replace('<', "&lt;")
+        .replace('>', "&gt;")
 }

@@ -73,7 +73,17 @@ pub fn table(found: &Found, origin: [f64; 3]) -> String {
         let number = (place + 1).to_string();
         let face = recess.face.name().to_string();
         let word = outline_word(recess).to_string();
-        rows.push([number, face, word, size(recess), depth, x, y, z, notes(recess)]);
+        rows.push([
+            number,
+            face,
+            word,
+            size(recess),
+            depth,
+            x,
+            y,
+            z,
+            notes(recess),
+        ]);
     }
     let widths: [usize; 9] =
         std::array::from_fn(|column| rows.iter().map(|row| row[column].len()).max().unwrap_or(0));
@@ -129,7 +139,9 @@ pub fn csv(found: &Found, origin: [f64; 3]) -> String {
             x,
             y,
             z,
-            recess.within.map_or_else(none, |within| (within + 1).to_string()),
+            recess
+                .within
+                .map_or_else(none, |within| (within + 1).to_string()),
             if recess.open { "yes" } else { "no" }.into(),
         ];
         text += &cells.join(",");

@@ -166,7 +166,11 @@ impl<'a> ProgressLine<'a> {
         }
         self.shown = Some(now);
         // a terminal that is gone is no reason to stop casting
-        let _ = write!(io::stderr(), "\r{}\x1b[K", told(label, done, self.total, spent));
+        let _ = write!(
+            io::stderr(),
+            "\r{}\x1b[K",
+            told(label, done, self.total, spent)
+        );
     }
 }
 

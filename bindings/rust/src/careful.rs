@@ -133,12 +133,7 @@ impl Mesh {
     }
 
     /// The same with work areas of the caller's, so that threads may share the mesh.
-    pub fn cast_careful_with(
-        &self,
-        ray: &Ray,
-        hair: f64,
-        scratch: &mut Scratch,
-    ) -> Cast<MeshHit> {
+    pub fn cast_careful_with(&self, ray: &Ray, hair: f64, scratch: &mut Scratch) -> Cast<MeshHit> {
         careful(ray, hair, |ray| self.cast_with(ray, scratch))
     }
 }
