@@ -1,6 +1,7 @@
 #!/usr/bin/env bash
 # The library for other languages: proves and writes it, runs the C example built as C and as C++, the Rust crate's
-# tests and doc examples, and the STL example. What the examples print is held to files written from the geometry.
+# tests and doc examples, the STL example, and the program probe-part. What the examples print is held to files written
+# from the geometry.
 # usage: tests/bindings.sh   (PROBE_RAYS_LIB names a folder with another libexports.a, which is then taken as it is)
 set -euo pipefail
 cd "$(dirname "$0")/.."
@@ -87,4 +88,16 @@ for wrong in "$work"/wrong-*.stl; do
   expect 2 "$work/$name.says" "$stl" "$wrong" "${words[@]}"
 done
 echo "the STL example prints what the panel's measures say, from ASCII and binary files"
-echo "bindings: $((4 + rust + files)) tests passed"
+
+# the program over the crate: its tests, its documents, and its pictures seen by other eyes
+(
+  cd bindings/probe-part
+  cargo test --release --offline > "$log" 2>&1 || { cat "$log" >&2; exit 1; }
+  RUSTDOCFLAGS="-D warnings" cargo doc --offline --no-deps > "$work/doc" 2>&1 || { cat "$work/doc" >&2; exit 1; }
+)
+program=$(awk '/^test result: ok/ { sum += $4 } END { print sum + 0 }' "$log")
+[ "$program" -gt 0 ] || { echo "error: probe-part has no test" >&2; exit 1; }
+echo "$program tests of probe-part passed"
+"$CARGO_TARGET_DIR/release/probe-part" depth examples/panel.stl --face top --png "$work/top.png" --svg "$work/top.svg" > "$work/said"
+tests/depth_pictures.py "$work/top.png" "$work/top.svg"
+echo "bindings: $((4 + rust + files + program + 1)) tests passed"

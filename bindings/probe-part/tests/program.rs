@@ -1,0 +1,450 @@
+//! The program `probe-part` as it is called. What rays hit at examples/panel.stl was found by hand (examples/panel.rays);
+//! other expectations are said where they stand.
+mod board;
+
+use board::{binary, board as made, finer, Cut, Side};
+use std::io::Write;
+use std::path::PathBuf;
+use std::process::{Command, Output, Stdio};
+use std::{env, fs};
+
+const PANEL: &str = concat!(env!("CARGO_MANIFEST_DIR"), "/../../examples/panel.stl");
+
+fn run(words: &[&str], input: &[u8]) -> Output {
+    let mut child = Command::new(env!("CARGO_BIN_EXE_probe-part"))
+        .args(words)
+        .stdin(Stdio::piped())
+        .stdout(Stdio::piped())
+        .stderr(Stdio::piped())
+        .spawn()
+        .unwrap();
+    let mut stdin = child.stdin.take().unwrap();
+    let input = input.to_vec();
+    // a program that ends without reading closes the pipe
+    let writer = std::thread::spawn(move || stdin.write_all(&input).is_ok());
+    let output = child.wait_with_output().unwrap();
+    let _ = writer.join();
+    output
+}
+
+/// The exit status, standard output and standard error.
+fn said(words: &[&str], input: &[u8]) -> (i32, String, String) {
+    let output = run(words, input);
+    let text = |bytes: Vec<u8>| String::from_utf8(bytes).unwrap();
+    (
+        output.status.code().unwrap(),
+        text(output.stdout),
+        text(output.stderr),
+    )
+}
+
+/// A folder that is gone at the end of the test.
+struct Folder(PathBuf);
+
+impl Folder {
+    fn new(name: &str) -> Folder {
+        let path = env::temp_dir().join(format!("probe-part-{name}-{}", std::process::id()));
+        fs::create_dir_all(&path).unwrap();
+        Folder(path)
+    }
+
+    fn file(&self, name: &str, bytes: &[u8]) -> String {
+        let path = self.0.join(name);
+        fs::write(&path, bytes).unwrap();
+        path.to_str().unwrap().into()
+    }
+
+    fn path(&self, name: &str) -> String {
+        self.0.join(name).to_str().unwrap().into()
+    }
+}
+
+impl Drop for Folder {
+    fn drop(&mut self) {
+        let _ = fs::remove_dir_all(&self.0);
+    }
+}
+
+#[test]
+fn help_names_every_command() {
+    for words in [&["--help"][..], &["cast", "--help"], &["-h"], &["help"]] {
+        let (status, out, err) = said(words, b"");
+        assert_eq!((status, err.as_str()), (0, ""));
+        for word in [
+            "probe-part cast",
+            "probe-part bores",
+            "probe-part depth",
+            "--rays",
+        ] {
+            assert!(out.contains(word), "{word}");
+        }
+    }
+    let (status, out, err) = said(&[], b"");
+    assert_eq!((status, out.as_str()), (2, ""));
+    assert!(err.contains("probe-part bores"));
+}
+
+#[test]
+fn calls_that_are_not_right() {
+    let wrong: [(&[&str], &str); 14] = [
+        (&["drill", PANEL], "\"drill\" is none of cast, bores, depth"),
+        (&["cast"], "which file?"),
+        (
+            &["cast", PANEL, "1", "2"],
+            "a ray is seven numbers (origin, direction, maximum), and 2 are given",
+        ),
+        (
+            &["cast", PANEL, "1", "2", "3", "0", "0", "x", "9"],
+            "no number: x",
+        ),
+        (&["cast", PANEL, "--every"], "--every is not known here"),
+        (&["cast", PANEL, "--all", "--careful"], "take one of them"),
+        (&["cast", PANEL, "--rays"], "--rays takes a value"),
+        (
+            &["cast", "/no/such/file.stl"],
+            "/no/such/file.stl: No such file",
+        ),
+        (&["bores", PANEL, "7"], "\"7\" is one word too many"),
+        (
+            &["bores", PANEL, "--step", "0"],
+            "--step takes millimetres above 0, not \"0\"",
+        ),
+        (
+            &["bores", PANEL, "--step", "0.0001"],
+            "asks for 2000000000000 probes of the top face",
+        ),
+        (&["bores", PANEL, "--face", "upper"], "\"upper\" is no face"),
+        (
+            &["depth", PANEL, "--png", "x.png"],
+            "depth takes one --face",
+        ),
+        (&["depth", PANEL, "--face", "top"], "where to?"),
+    ];
+    for (words, why) in wrong {
+        let (status, out, err) = said(words, b"");
+        assert_eq!((status, out.as_str()), (2, ""), "{words:?}");
+        assert!(
+            err.starts_with("probe-part: ") && err.contains(why),
+            "{words:?}: {err}"
+        );
+    }
+}
+
+/// The first bytes of files as their formats' own documents have them.
+#[test]
+fn a_file_that_is_no_stl_is_named() {
+    let folder = Folder::new("kinds");
+    let obj = b"# Blender\nmtllib cube.mtl\no Cube\nv 1.0 1.0 -1.0\nf 1 2 3\n";
+    let iges = format!("{:72}S      1\n{:72}G      1\n", "a part", "1H,,1H;");
+    let zip = |member: &str| [b"PK\x03\x04\x14\x00\x00\x00", member.as_bytes()].concat();
+    let files: [(&str, Vec<u8>, &str, &str); 22] = [
+        (
+            "a.step",
+            b"ISO-10303-21;\nHEADER;\n".to_vec(),
+            "a STEP file",
+            "gmsh",
+        ),
+        (
+            "b.stp",
+            b"\xef\xbb\xbf\r\nISO-10303-21;\r\n".to_vec(),
+            "a STEP file",
+            "docs/STEP.md",
+        ),
+        ("c.igs", iges.into_bytes(), "an IGES file", "gmsh"),
+        ("d.obj", obj.to_vec(), "an OBJ file", "STL"),
+        (
+            "e.3mf",
+            zip("[Content_Types].xml ... 3D/3dmodel.model"),
+            "a 3MF file",
+            "slicer",
+        ),
+        ("f.zip", zip("part.stl"), "a zip archive", "unpack"),
+        (
+            "g.ply",
+            b"ply\nformat ascii 1.0\n".to_vec(),
+            "a PLY file",
+            "STL",
+        ),
+        (
+            "h.gz",
+            b"\x1f\x8b\x08\x00".to_vec(),
+            "packed by gzip",
+            "gunzip",
+        ),
+        ("i.xz", b"\xfd7zXZ\x00\x00".to_vec(), "packed by xz", "unxz"),
+        ("j.off", b"OFF\n8 6 12\n".to_vec(), "an OFF file", "STL"),
+        (
+            "k.amf",
+            b"<?xml version=\"1.0\"?>\n<amf unit=\"millimeter\">".to_vec(),
+            "an AMF file",
+            "STL",
+        ),
+        (
+            "l.dxf",
+            b"  0\r\nSECTION\r\n  2\r\nHEADER\r\n".to_vec(),
+            "a DXF drawing",
+            "no solid",
+        ),
+        ("m.dwg", b"AC1032\x00\x00".to_vec(), "a DWG drawing", "CAD"),
+        (
+            "n.sldprt",
+            b"\xd0\xcf\x11\xe0\xa1\xb1\x1a\xe1".to_vec(),
+            "CAD or office",
+            "STEP",
+        ),
+        ("o.brep", b"DBRep_DrawableShape\n".to_vec(), "BREP", "gmsh"),
+        (
+            "p.msh",
+            b"$MeshFormat\n4.1 0 8\n".to_vec(),
+            "gmsh mesh",
+            "gmsh",
+        ),
+        ("q.glb", b"glTF\x02\x00\x00\x00".to_vec(), "glTF", "STL"),
+        (
+            "r.html",
+            b"<!DOCTYPE html>\n<html>".to_vec(),
+            "a web page",
+            "download",
+        ),
+        (
+            "s.pdf",
+            b"%PDF-1.7\n".to_vec(),
+            "a PDF document",
+            "no solid",
+        ),
+        ("t.FCStd", zip("Document.xml"), "a FreeCAD document", "CAD"),
+        ("u.stl", b"".to_vec(), "empty", "export"),
+        ("v.wrl", b"#VRML V2.0 utf8\n".to_vec(), "a VRML file", "STL"),
+    ];
+    for (name, bytes, kind, advice) in files {
+        let file = folder.file(name, &bytes);
+        let (status, out, err) = said(&["bores", &file], b"");
+        assert_eq!((status, out.as_str()), (2, ""), "{name}");
+        let start = format!("probe-part: {file}: this file is ");
+        assert!(err.starts_with(&start), "{name}: {err}");
+        assert!(err.contains(kind) && err.contains(advice), "{name}: {err}");
+    }
+    // what is not known is said as before, and a folder is one
+    let file = folder.file("w.stl", b"nothing that anybody knows");
+    let (_, _, err) = said(&["cast", &file], b"");
+    assert!(
+        err.contains("no STL file: 26 bytes that do not begin with 'solid'"),
+        "{err}"
+    );
+    let (status, _, err) = said(&["cast", folder.0.to_str().unwrap()], b"");
+    assert!(status == 2 && err.contains("directory"), "{err}");
+}
+
+/// examples/panel.rays, on the command line, from a file and from standard input, and what stands in panel.hits.
+#[test]
+fn rays_from_words_a_file_and_standard_input() {
+    let folder = concat!(env!("CARGO_MANIFEST_DIR"), "/../../examples");
+    let read = |name: &str| fs::read_to_string(format!("{folder}/{name}")).unwrap();
+    let rays = read("panel.rays");
+    let hits = read("panel.hits");
+    let words: Vec<&str> = rays
+        .lines()
+        .map(|line| line.split('#').next().unwrap())
+        .flat_map(str::split_whitespace)
+        .collect();
+    let (status, out, _) = said(&[&["cast", PANEL], words.as_slice()].concat(), b"");
+    assert_eq!((status, out.as_str()), (1, hits.as_str()));
+    let file = format!("{folder}/panel.rays");
+    let (status, out, _) = said(&["cast", PANEL, "--rays", &file], b"");
+    assert_eq!((status, out.as_str()), (1, hits.as_str()));
+    let commas = rays.replace("  ", ", ").into_bytes();
+    let (status, out, _) = said(&["cast", "--rays", "-", PANEL], &commas);
+    assert_eq!((status, out.as_str()), (1, hits.as_str()));
+    let depths = read("panel.depths");
+    let (status, out, _) = said(
+        &[
+            "cast",
+            PANEL,
+            "--all",
+            "--rays",
+            &format!("{folder}/panel.bores"),
+        ],
+        b"",
+    );
+    assert_eq!((status, out.as_str()), (1, depths.as_str()));
+    // no ray meets a surface aslant but the seventh, from a hair aside of which it is 0.0000008 nearer
+    let (status, out, _) = said(&["cast", "--careful", PANEL, "--rays", "-"], &commas);
+    assert_eq!((status, out.as_str()), (1, hits.as_str()));
+}
+
+/// 250,000 rays, more than a command line holds and than one block: over the panel's top, at 32 mm.
+#[test]
+fn a_quarter_of_a_million_rays() {
+    let count = 250_000;
+    let ray = |n: u32| {
+        format!(
+            "{} 5 50 0 0 -1 100\n",
+            1.0 + f64::from(n) * 98.0 / f64::from(count)
+        )
+    };
+    let text: String = (0..count).map(ray).collect();
+    let (status, out, _) = said(
+        &["cast", PANEL, "--careful", "--rays", "-"],
+        text.as_bytes(),
+    );
+    assert_eq!(status, 0);
+    let lines: Vec<&str> = out.lines().skip(1).collect();
+    assert_eq!(lines.len(), count as usize);
+    for (place, line) in lines.iter().enumerate() {
+        assert!(
+            line.starts_with(&format!("ray {}: hit at 32.000 mm", place + 1)),
+            "{line}"
+        );
+    }
+}
+
+#[test]
+fn a_line_that_is_no_ray_is_named() {
+    let text = b"# rays\n\n47 52 50 0 0 -1 100\n47 52 50 0 0 -1\n";
+    let (status, out, err) = said(&["cast", PANEL, "--rays", "-"], text);
+    assert_eq!(status, 2);
+    assert!(out.is_empty() || out.starts_with("120 triangles"));
+    assert!(
+        err.contains("standard input, line 4: a ray is seven numbers"),
+        "{err}"
+    );
+}
+
+/// The octagons of examples/panel_stl.py: 35 across the flats is 2 · √(17.5² + 7.25²) = 37.885 across the corners, and
+/// 8 is 2 · √(4² + 1.625²) = 8.635.
+#[test]
+fn the_panels_bores() {
+    let (status, out, err) = said(&["bores", PANEL], b"");
+    assert_eq!((status, err.as_str()), (0, ""));
+    let table = "\
+200.00 x 100.00 x 18.00 mm, 120 triangles, probed every 1 mm
+no  face  outline   size    depth       x      y      z
+ 1  top   circle   37.88    13.00   50.00  50.00  18.00  of 8 sides
+ 2  top   circle    8.63  through  150.00  50.00  18.00  of 8 sides
+";
+    assert_eq!(out, table);
+    let (_, out, _) = said(&["bores", PANEL, "--csv", "--face", "bottom"], b"");
+    let lines: Vec<&str> = out.lines().collect();
+    assert_eq!(
+        lines[1..],
+        ["1,bottom,circle,8.635,8.635,,8,yes,,,,150.000,50.000,0.000,,no"]
+    );
+    assert_eq!(lines[0].split(',').count(), lines[1].split(',').count());
+}
+
+/// A board elsewhere: from its own corner its bores are where they were drawn.
+#[test]
+fn from_the_corner() {
+    let folder = Folder::new("corner");
+    let facets = made(
+        [120.0, 80.0, 18.0],
+        &[Cut::bore(Side::Top, [30.0, 20.0], 10.0, 6.0)],
+    );
+    let facets = board::moved(&facets, [-500.0, 250.0, 40.0]);
+    let file = folder.file("board.stl", &binary(&facets));
+    let lines = |words: &[&str]| said(words, b"").1.lines().last().unwrap().to_string();
+    let csv = lines(&["bores", &file, "--csv"]);
+    assert_eq!(
+        csv,
+        "1,top,circle,10.000,10.000,,32,no,6.000,6.000,,-470.000,270.000,58.000,,no"
+    );
+    let csv = lines(&["bores", &file, "--csv", "--from-corner"]);
+    assert_eq!(
+        csv,
+        "1,top,circle,10.000,10.000,,32,no,6.000,6.000,,30.000,20.000,18.000,,no"
+    );
+}
+
+/// More than 65,536 triangles: the same answers as of the same surfaces of few, in pieces.
+#[test]
+fn a_part_of_many_triangles() {
+    let folder = Folder::new("many");
+    let cuts = [
+        Cut::bore(Side::Top, [40.0, 50.0], 35.0, 13.0),
+        Cut::bore(Side::Left, [50.0, 9.0], 8.0, 20.0),
+    ];
+    let few = made([200.0, 100.0, 18.0], &cuts);
+    let many = finer(&few, 4);
+    assert!(many.len() > 65_536);
+    let (few, many) = (
+        folder.file("few.stl", &binary(&few)),
+        folder.file("many.stl", &binary(&many)),
+    );
+    let mut rays = String::new();
+    for x in 0..40 {
+        for y in 0..20 {
+            rays += &format!("{} {} 60 0 0 -1 100\n", 5 * x + 2, 5 * y + 2);
+            rays += &format!("-10 {}.3 {} 1 0.01 0.02 300\n", 5 * y, (x % 18) + 1);
+        }
+    }
+    for switch in ["--careful", "--all"] {
+        let of = |file: &str| said(&["cast", file, switch, "--rays", "-"], rays.as_bytes());
+        let (one, other) = (of(&few), of(&many));
+        assert_eq!((one.0, other.0), (0, 0));
+        assert!(other.1.lines().next().unwrap().ends_with(" pieces"));
+        // triangles have other numbers, and where a ray meets an edge both of its triangles are told
+        let plain = |text: &str| -> Vec<String> {
+            let mut lines: Vec<String> = text
+                .lines()
+                .skip(1)
+                .map(|line| line.split(", triangle").next().unwrap().to_string())
+                .map(|line| {
+                    if line.contains(" hits") || line.contains(" hit\n") {
+                        String::new()
+                    } else {
+                        line
+                    }
+                })
+                .collect();
+            lines.dedup();
+            lines
+        };
+        let (one, other) = (plain(&one.1), plain(&other.1));
+        if switch == "--careful" {
+            assert_eq!(one, other);
+            assert_eq!(one.len(), 1600);
+        } else {
+            assert!(other.len() > 2 * 1600);
+        }
+    }
+    let table = |file: &str| -> Vec<String> {
+        said(&["bores", file, "--csv"], b"")
+            .1
+            .lines()
+            .map(String::from)
+            .collect()
+    };
+    let bores = table(&many);
+    assert_eq!(bores.len(), 3);
+    assert!(bores[1].starts_with("1,top,circle,35.0"), "{bores:?}");
+    assert!(bores[2].starts_with("2,left,circle,8.0"), "{bores:?}");
+}
+
+/// The pictures are files of their kinds; tests/bindings.sh reads them with another program's eyes.
+#[test]
+fn pictures_are_written() {
+    let folder = Folder::new("pictures");
+    let (png, svg) = (folder.path("top.png"), folder.path("top.svg"));
+    let (status, out, err) = said(
+        &[
+            "depth", PANEL, "--face", "top", "--png", &png, "--svg", &svg,
+        ],
+        b"",
+    );
+    assert_eq!((status, err.as_str()), (0, ""));
+    assert_eq!(out.lines().count(), 2);
+    assert!(fs::read(&png).unwrap().starts_with(b"\x89PNG\r\n\x1a\n"));
+    assert!(fs::read_to_string(&svg).unwrap().starts_with("<svg "));
+    let (status, _, err) = said(
+        &[
+            "depth",
+            PANEL,
+            "--face",
+            "top",
+            "--png",
+            "/no/such/folder/x.png",
+        ],
+        b"",
+    );
+    assert!(status == 2 && err.contains("/no/such/folder/x.png"));
+}
