@@ -100,4 +100,26 @@ program=$(awk '/^test result: ok/ { sum += $4 } END { print sum + 0 }' "$log")
 echo "$program tests of probe-part passed"
 "$CARGO_TARGET_DIR/release/probe-part" depth examples/panel.stl --face top --png "$work/top.png" --svg "$work/top.svg" > "$work/said"
 tests/depth_pictures.py "$work/top.png" "$work/top.svg"
-echo "bindings: $((4 + rust + files + program + 1)) tests passed"
+
+# from STEP to a list of bores, where gmsh is: the list by the drawing's measures, and the setting for a board of 216 bores
+step=0
+if command -v gmsh > /dev/null; then
+  export PROBE_PART=$CARGO_TARGET_DIR/release/probe-part
+  examples/board.sh "$work/board" > "$work/said"
+  tail -n +2 "$work/board/board.bores" | diff - examples/board.bores
+  "$PROBE_PART" bores "$work/board/board.step" > "$work/printed" 2>&1 && { echo "error: a STEP file was taken" >&2; exit 1; }
+  grep -q 'board.step: this is a STEP file' "$work/printed"
+  gmsh examples/board.geo -setnumber pegs 216 -0 -o "$work/pegs.step" > "$log" 2>&1
+  setting=$(grep -o 'Mesh.StlLinearDeflection.*0.35' "$work/printed")
+  gmsh "$work/pegs.step" -0 -setnumber $setting -format stl -bin -o "$work/pegs.stl" > "$log" 2>&1
+  "$PROBE_PART" cast "$work/pegs.stl" > "$work/counts"
+  triangles=$(cut -d' ' -f1 "$work/counts")
+  [ "$triangles" -le 65536 ] || { echo "error: the board of 216 bores has $triangles triangles" >&2; exit 1; }
+  "$PROBE_PART" bores "$work/pegs.stl" --face top --step 2 --csv | awk -F, 'NR > 1 && /circle,5.000,5.000/ && $9 == "12.000"' > "$work/pegs"
+  [ "$(wc -l < "$work/pegs")" = 216 ] || { echo "error: $(wc -l < "$work/pegs") of 216 bores were found" >&2; exit 1; }
+  step=4
+  echo "from STEP: the board's list is the drawing's, and a board of 216 bores has $triangles triangles"
+else
+  echo "SKIPPED: from a STEP file to a list of bores, since gmsh is not installed (apt-get install gmsh)"
+fi
+echo "bindings: $((4 + rust + files + program + 1 + step)) tests passed"

@@ -525,7 +525,7 @@ fn told_outline(
         std::array::from_fn(|axis| drawn_out(high[axis], walls.iter().map(|w| w[axis])));
     let centre = std::array::from_fn(|axis| (low[axis] + high[axis]) / 2.0);
     let size = std::array::from_fn(|axis| high[axis] - low[axis]);
-    (outline(points, low, high, OFF), centre, size)
+    (outline(points, walls, [low, high], OFF), centre, size)
 }
 
 /// The end of an outline, drawn out to the corner of a wall that lies just past it: the points of an outline need not

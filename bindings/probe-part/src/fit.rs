@@ -149,8 +149,14 @@ pub fn box_around(points: &[[f64; 2]]) -> [[f64; 2]; 2] {
     ]
 }
 
-/// Which outline other than a circle goes through points in a box around them, within a tolerance.
-pub fn outline(points: &[[f64; 2]], low: [f64; 2], high: [f64; 2], tolerance: f64) -> Outline {
+/// Which outline other than a circle goes through points in a box around them, within a tolerance. The corners of its
+/// walls say more exactly how large a round corner is.
+pub fn outline(
+    points: &[[f64; 2]],
+    corners: &[[f64; 2]],
+    [low, high]: [[f64; 2]; 2],
+    tolerance: f64,
+) -> Outline {
     // how far a point is from the nearer side of either direction
     let inward = |point: &[f64; 2]| -> [f64; 2] {
         std::array::from_fn(|side| (point[side] - low[side]).min(high[side] - point[side]))
@@ -179,6 +185,14 @@ pub fn outline(points: &[[f64; 2]], low: [f64; 2], high: [f64; 2], tolerance: f6
     } else if least > half - tolerance.max(0.01 * half) {
         Outline::Slot
     } else {
-        Outline::Rounded { radius: least }
+        let near = |radius: &f64| (radius - least).abs() <= 0.03 * least;
+        let exact = corners.iter().map(inward).filter(|place| told(&place));
+        let radius = exact
+            .map(|place| radius(&place))
+            .filter(near)
+            .fold(f64::INFINITY, f64::min);
+        Outline::Rounded {
+            radius: if radius.is_finite() { radius } else { least },
+        }
     }
 }

@@ -9,8 +9,8 @@ pub struct Kind {
     pub advice: &'static str,
 }
 
-const STEP_ADVICE: &str =
-    "make an STL file of it with gmsh: gmsh FILE -2 -clcurv 24 -format stl -o part.stl (docs/STEP.md)";
+const STEP_ADVICE: &str = "make an STL file of it with gmsh (docs/STEP.md):
+  gmsh FILE -0 -setnumber Mesh.StlLinearDeflection 0.05 -setnumber Mesh.StlAngularDeflection 0.35 -format stl -bin -o part.stl";
 const CAD_ADVICE: &str = "open it in your CAD program and export it as STEP or STL";
 const MESH_ADVICE: &str =
     "a mesh program converts it to STL, such as MeshLab, Blender, or gmsh where it reads it";

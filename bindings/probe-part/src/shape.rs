@@ -40,7 +40,7 @@ impl Shape {
     /// The part of an STL file's bytes.
     pub fn read(bytes: &[u8]) -> Result<Shape, String> {
         let facets = stl::facets(bytes).map_err(|why| match kind_of(bytes) {
-            Some(kind) => format!("this file is {}: {}", kind.name, kind.advice),
+            Some(kind) => format!("this is {}: {}", kind.name, kind.advice),
             None => why.to_string(),
         })?;
         Shape::of(&facets)

@@ -15,7 +15,9 @@ pub fn svg(map: &DepthMap<'_>, title: &str, recesses: &[(usize, Recess)]) -> Str
     // letters, lines and margins grow with the part
     let letter = (width.max(height) / 60.0).max(2.0);
     let (left, top, right) = (4.0 * letter, 4.0 * letter, 9.0 * letter);
-    let legend = recesses.len() as f64 * 1.4 * letter + 2.0 * letter;
+    let list = ((width / (26.0 * letter)) as usize).max(1);
+    let lines = recesses.len().div_ceil(list);
+    let legend = lines as f64 * 1.4 * letter + 2.0 * letter;
     let (whole_width, whole_height) = (left + width + right, top + height + 4.0 * letter + legend);
     let mut out = String::new();
     let mut line = |text: String| {
@@ -70,20 +72,21 @@ pub fn svg(map: &DepthMap<'_>, title: &str, recesses: &[(usize, Recess)]) -> Str
     }
     line("</g>".into());
     line(format!(
-        "<g transform=\"translate({left:.2} {top:.2})\" text-anchor=\"middle\" fill=\"#a01020\">"
+        "<g transform=\"translate({left:.2} {top:.2})\" text-anchor=\"middle\" fill=\"#a01020\" stroke=\"#ffffff\" stroke-width=\"{:.3}\" paint-order=\"stroke\">",
+        letter / 5.0
     ));
     for (number, recess) in recesses {
         let [x, y] = seen(map, recess);
-        // beside what is too small to be written into
-        let beside = if recess.size[1] < 2.0 * letter {
-            recess.size[1] / 2.0 + letter
+        let [width, height] = recess.size;
+        // beside what is too small to be written into, and what lies within another to its right
+        let (x, y) = if recess.within.is_some() {
+            (x + width / 2.0 + letter, y + letter / 3.0)
+        } else if height < 2.0 * letter || holds_another(recesses, *number) {
+            (x, y + height / 2.0 + letter)
         } else {
-            letter / 3.0
+            (x, y + letter / 3.0)
         };
-        line(format!(
-            "<text x=\"{x:.3}\" y=\"{:.3}\">{number}</text>",
-            y + beside
-        ));
+        line(format!("<text x=\"{x:.3}\" y=\"{y:.3}\">{number}</text>"));
     }
     line("</g>".into());
     scale(
@@ -94,17 +97,24 @@ pub fn svg(map: &DepthMap<'_>, title: &str, recesses: &[(usize, Recess)]) -> Str
         letter,
     );
     ticks(&mut line, map, [left, top], [width, height], letter);
-    let mut y = top + height + 5.0 * letter;
-    for (number, recess) in recesses {
+    for (place, (number, recess)) in recesses.iter().enumerate() {
         let text = format!("{number}: {}, {}", size_words(recess), depth_words(recess));
+        let x = left + (place / lines) as f64 * width / list as f64;
+        let y = top + height + 5.0 * letter + (place % lines) as f64 * 1.4 * letter;
         line(format!(
-            "<text x=\"{left:.2}\" y=\"{y:.2}\">{}</text>",
+            "<text x=\"{x:.2}\" y=\"{y:.2}\">{}</text>",
             escaped(&text)
         ));
-        y += 1.4 * letter;
     }
     line("</svg>".into());
     out
+}
+
+/// Whether another recess lies within the one of a number.
+fn holds_another(recesses: &[(usize, Recess)], number: usize) -> bool {
+    recesses
+        .iter()
+        .any(|(_, other)| other.within == Some(number - 1))
 }
 
 /// The middle of a recess, from the left and from the top.

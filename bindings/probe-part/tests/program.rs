@@ -220,7 +220,7 @@ fn a_file_that_is_no_stl_is_named() {
         let file = folder.file(name, &bytes);
         let (status, out, err) = said(&["bores", &file], b"");
         assert_eq!((status, out.as_str()), (2, ""), "{name}");
-        let start = format!("probe-part: {file}: this file is ");
+        let start = format!("probe-part: {file}: this is ");
         assert!(err.starts_with(&start), "{name}: {err}");
         assert!(err.contains(kind) && err.contains(advice), "{name}: {err}");
     }
