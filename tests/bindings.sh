@@ -100,6 +100,7 @@ program=$(awk '/^test result: ok/ { sum += $4 } END { print sum + 0 }' "$log")
 echo "$program tests of probe-part passed"
 "$CARGO_TARGET_DIR/release/probe-part" depth examples/panel.stl --face top --png "$work/top.png" --svg "$work/top.svg" > "$work/said"
 tests/depth_pictures.py "$work/top.png" "$work/top.svg"
+tests/progress.py "$CARGO_TARGET_DIR/release/probe-part" examples/panel.stl
 
 # from STEP to a list of bores, where gmsh is: the list by the drawing's measures, and the setting for a board of 216 bores
 step=0
@@ -122,4 +123,4 @@ if command -v gmsh > /dev/null; then
 else
   echo "SKIPPED: from a STEP file to a list of bores, since gmsh is not installed (apt-get install gmsh)"
 fi
-echo "bindings: $((4 + rust + files + program + 1 + step)) tests passed"
+echo "bindings: $((4 + rust + files + program + 2 + step)) tests passed"

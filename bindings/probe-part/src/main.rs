@@ -9,9 +9,9 @@ use probe_part::rays::{from_words, Lines};
 use probe_part::shape::Shape;
 use probe_part::words::{all_told, fixed, told};
 use probe_part::{svg, tables};
-use probe_rays::{Cast, Ray};
+use probe_rays::{Cast, Progress, Ray};
 use std::fs::{self, File};
-use std::io::{self, BufRead, BufReader, BufWriter, Write};
+use std::io::{self, BufRead, BufReader, BufWriter, IsTerminal, Write};
 use std::process::ExitCode;
 
 const HELP: &str = "\
@@ -235,6 +235,8 @@ fn cast(call: &Call, out: &mut Output) -> Result<bool, String> {
         careful: call.has("--careful"),
         number: 0,
         answered: true,
+        // where the answers go to a terminal, they are the progress
+        line: (!io::stdout().is_terminal()).then(|| Progress::new("casting", None)),
     };
     casting.block(&given, out)?;
     for file in call.values("--rays") {
@@ -263,6 +265,7 @@ struct Casting<'a> {
     careful: bool,
     number: usize,
     answered: bool,
+    line: Option<Progress>,
 }
 
 impl Casting<'_> {
@@ -278,6 +281,9 @@ impl Casting<'_> {
                 self.answered &= !matches!(cast, Cast::Refused(_));
                 self.line(&told(ray, &cast), out)?;
             }
+        }
+        if let Some(line) = &mut self.line {
+            line.show(self.number);
         }
         Ok(())
     }

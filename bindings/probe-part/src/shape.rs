@@ -217,7 +217,7 @@ impl Shape {
 
     /// The answer of each ray, in their order, over the machine's threads.
     pub fn cast_many(&self, rays: &[Ray], with_care: bool) -> Vec<Cast<MeshHit>> {
-        Batch::new().progress("casting").run(rays, |ray, scratch| {
+        Batch::new().run(rays, |ray, scratch| {
             if with_care {
                 self.cast_careful(ray, scratch)
             } else {
@@ -228,8 +228,6 @@ impl Shape {
 
     /// Every depth along each ray, in the same way.
     pub fn cast_all_many(&self, rays: &[Ray]) -> Vec<Result<Vec<MeshHit>, Refusal>> {
-        Batch::new()
-            .progress("casting")
-            .run(rays, |ray, scratch| self.cast_all(ray, scratch))
+        Batch::new().run(rays, |ray, scratch| self.cast_all(ray, scratch))
     }
 }

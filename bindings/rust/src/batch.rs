@@ -79,7 +79,15 @@ impl Batch {
         T: Sync,
         A: Send,
     {
-        let mut line = ProgressLine::new(self.label.as_deref(), items.len());
+        let mut line = self
+            .label
+            .as_ref()
+            .map(|label| Progress::new(label, Some(items.len())));
+        let mut show = |done| {
+            if let Some(line) = &mut line {
+                line.show(done);
+            }
+        };
         let threads = self.thread_count().min(items.len());
         let at_once = (items.len() / (threads.max(1) * TURNS)).clamp(1, MOST_AT_ONCE);
         if threads <= 1 {
@@ -87,7 +95,7 @@ impl Batch {
             let mut answers = Vec::with_capacity(items.len());
             for share in items.chunks(at_once) {
                 answers.extend(share.iter().map(|item| answer(item, &mut scratch)));
-                line.show(answers.len());
+                show(answers.len());
             }
             return answers;
         }
@@ -124,7 +132,7 @@ impl Batch {
                     // every thread has ended; one that panicked passes its panic on at the scope's end
                     Err(RecvTimeoutError::Disconnected) => return,
                 }
-                line.show(done);
+                show(done);
             }
         });
         parts.into_iter().flatten().flatten().collect()
@@ -137,44 +145,55 @@ impl Batch {
     }
 }
 
-/// The line on standard error. It is there only where a label asks for it and standard error is a terminal.
-struct ProgressLine<'a> {
-    label: Option<&'a str>,
-    total: usize,
+/// A line on standard error that says how far a work is, if that is a terminal and the work takes longer than a second.
+/// It is written anew a few times a second, and wiped when this is dropped.
+///
+/// ```
+/// use probe_rays::Progress;
+///
+/// let mut line = Progress::new("casting", None);
+/// for block in 1..=10 {
+///     // cast at a thousand rays
+///     line.show(1000 * block);
+/// }
+/// ```
+#[derive(Debug)]
+pub struct Progress {
+    label: String,
+    total: Option<usize>,
     start: Instant,
     shown: Option<Instant>,
+    seen: bool,
 }
 
-impl<'a> ProgressLine<'a> {
-    fn new(label: Option<&'a str>, total: usize) -> ProgressLine<'a> {
-        ProgressLine {
-            label: label.filter(|_| io::stderr().is_terminal()),
+impl Progress {
+    /// Of a work that begins now, of so many items, if that is known.
+    pub fn new(label: impl Into<String>, total: Option<usize>) -> Progress {
+        Progress {
+            label: label.into(),
             total,
             start: Instant::now(),
             shown: None,
+            seen: io::stderr().is_terminal(),
         }
     }
 
-    /// Writes the line anew, if it is time.
-    fn show(&mut self, done: usize) {
-        let Some(label) = self.label else { return };
+    /// Says that so many items are done, if it is time.
+    pub fn show(&mut self, done: usize) {
         let now = Instant::now();
         let spent = now - self.start;
         let due = self.shown.map_or(spent >= PATIENCE, |at| now - at >= TICK);
-        if !due {
+        if !self.seen || !due {
             return;
         }
         self.shown = Some(now);
+        let words = told(&self.label, done, self.total, spent);
         // a terminal that is gone is no reason to stop casting
-        let _ = write!(
-            io::stderr(),
-            "\r{}\x1b[K",
-            told(label, done, self.total, spent)
-        );
+        let _ = write!(io::stderr(), "\r{words}\x1b[K");
     }
 }
 
-impl Drop for ProgressLine<'_> {
+impl Drop for Progress {
     fn drop(&mut self) {
         if self.shown.is_some() {
             let _ = write!(io::stderr(), "\r\x1b[K");
@@ -183,7 +202,10 @@ impl Drop for ProgressLine<'_> {
 }
 
 /// The line's words. The time left is that of the rest at the speed so far.
-fn told(label: &str, done: usize, total: usize, spent: Duration) -> String {
+fn told(label: &str, done: usize, total: Option<usize>, spent: Duration) -> String {
+    let Some(total) = total else {
+        return format!("{label}: {done} so far");
+    };
     let share = if total == 0 { 100 } else { 100 * done / total };
     let mut words = format!("{label}: {done} of {total} ({share} %)");
     if done > 0 {
@@ -220,12 +242,13 @@ mod tests {
     #[test]
     fn the_line_says_how_long_the_rest_takes() {
         // 250 of 1,000 in 3 s: the other 750 take 9
-        let spent = Duration::from_secs(3);
+        let words = |done, total| told("casting", done, total, Duration::from_secs(3));
         assert_eq!(
-            told("casting", 250, 1000, spent),
+            words(250, Some(1000)),
             "casting: 250 of 1000 (25 %), about 9 s left"
         );
-        assert_eq!(told("casting", 0, 1000, spent), "casting: 0 of 1000 (0 %)");
-        assert_eq!(told("casting", 0, 0, spent), "casting: 0 of 0 (100 %)");
+        assert_eq!(words(0, Some(1000)), "casting: 0 of 1000 (0 %)");
+        assert_eq!(words(0, Some(0)), "casting: 0 of 0 (100 %)");
+        assert_eq!(words(70, None), "casting: 70 so far");
     }
 }

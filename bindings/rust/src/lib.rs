@@ -54,7 +54,7 @@ pub mod stl;
 pub mod sys;
 
 pub use answer::{Cast, Hit, MeshHit, Refusal};
-pub use batch::Batch;
+pub use batch::{Batch, Progress};
 pub use cabinet::{Cabinet, CabinetCast, PartHit};
 pub use careful::{careful, AtDistance, HAIR};
 pub use mesh::{Mesh, Scratch, Tree, TreeError};
@@ -82,3 +82,7 @@ pub fn version() -> u32 {
 #[cfg(doctest)]
 #[doc = include_str!("../../../docs/RUST.md")]
 struct RustPage;
+
+#[cfg(doctest)]
+#[doc = include_str!("../../../docs/TOOL.md")]
+struct ToolPage;
