@@ -8,7 +8,7 @@
 use crate::faces::{Face, View, FACES};
 use crate::fit::{box_around, outline, Circle, Outline};
 use crate::raster::{Grid, Raster};
-use crate::regions::{filled, groups};
+use crate::regions::{filled, groups, members};
 use crate::shape::Shape;
 use probe_rays::{Batch, Cast, Ray, Refusal, Scratch};
 
@@ -214,10 +214,7 @@ impl Search<'_> {
             |cell| side.holds(fine.depths[cell]),
             |_, _| true,
         );
-        let mut ours = vec![false; coarse.grid.len()];
-        for &cell in group {
-            ours[cell] = true;
-        }
+        let ours = members(&coarse.grid, group);
         for part in found {
             // of the cells that any group has, more lie in this one than in others
             let coarse_cell = |&cell: &usize| coarse.grid.cell(fine.grid.place(cell));
@@ -258,7 +255,7 @@ impl Search<'_> {
         recesses: &mut Vec<Recess>,
         scratch: &mut Scratch,
     ) -> Result<(), Refusal> {
-        let (floor, deeper) = floor(raster, part);
+        let (floor, deeper) = floor(raster, part, self.view.thickness());
         let (points, open) = self.outline_points(side, raster, part, scratch)?;
         if points.is_empty() {
             return Ok(());
@@ -279,10 +276,7 @@ impl Search<'_> {
         let nested = recesses_above(recesses, place) + 1 < NESTED;
         if let (Side::Deeper(_), Some(bottom), true) = (side, deeper, nested) {
             let below = Side::Deeper(bottom);
-            let mut member = vec![false; raster.grid.len()];
-            for &cell in part {
-                member[cell] = true;
-            }
+            let member = members(&raster.grid, part);
             let lower = |cell: usize| member[cell] && below.holds(raster.depths[cell]);
             for group in groups(&raster.grid, lower, |_, _| true) {
                 self.explore(below, raster, &group, Some(place), recesses, scratch)?;
@@ -329,10 +323,7 @@ impl Search<'_> {
     ) -> Result<(Vec<[f64; 2]>, bool), Refusal> {
         let grid = &raster.grid;
         let whole = filled(grid, part);
-        let mut member = vec![false; grid.len()];
-        for &cell in &whole {
-            member[cell] = true;
-        }
+        let member = members(grid, &whole);
         let (low, high) = (self.view.low(), self.view.high());
         let mut points = Vec::new();
         let mut open = false;
@@ -442,53 +433,62 @@ enum Floor {
 
 /// The floor of a recess, the highest of its flat ones, and the depth below which another recess within it begins. A
 /// slope above the floors, such as a countersink's, counts as a floor of its own; a wall does not.
-fn floor(raster: &Raster, part: &[usize]) -> (Floor, Option<f64>) {
+fn floor(raster: &Raster, part: &[usize], thickness: f64) -> (Floor, Option<f64>) {
+    let Some(top) = highest_floor(raster, part) else {
+        return (uneven(raster, part), None);
+    };
+    let slope: Vec<f64> = part
+        .iter()
+        .filter(|&&cell| !raster.walls[cell] && raster.depths[cell] < top - FLAT)
+        .map(|&cell| raster.depths[cell])
+        .collect();
+    if slope.len() >= FLOOR_CELLS && 5 * slope.len() >= part.len() {
+        let [least, most] = range(&slope);
+        // half way down to the floors, where the slope has ended
+        let below = (most + top.min(thickness)) / 2.0;
+        return (Floor::Uneven(least, most), Some(below));
+    }
+    (Floor::Flat(top), top.is_finite().then_some(top))
+}
+
+/// The depth of the highest flat floor of a recess: cells that are even with a neighbour along either axis.
+fn highest_floor(raster: &Raster, part: &[usize]) -> Option<f64> {
     let depth = |cell: usize| raster.depths[cell];
     let level = |a: usize, b: usize| depth(a) == depth(b) || (depth(a) - depth(b)).abs() <= FLAT;
-    let mut member = vec![false; raster.grid.len()];
-    for &cell in part {
-        member[cell] = true;
-    }
+    let member = members(&raster.grid, part);
     let flat = |cell: usize| {
         let even =
             |other: Option<usize>| other.is_some_and(|other| member[other] && level(cell, other));
         let [left, right, below, above] = raster.grid.neighbours(cell).map(even);
         member[cell] && !raster.walls[cell] && (left || right) && (below || above)
     };
-    let top = groups(&raster.grid, flat, level)
+    groups(&raster.grid, flat, level)
         .into_iter()
         .filter(|group| group.len() >= FLOOR_CELLS)
         .map(|group| depth(group[group.len() / 2]))
-        .min_by(f64::total_cmp);
-    let range = |cells: &[f64]| {
-        let least = cells.iter().copied().fold(f64::INFINITY, f64::min);
-        let most = cells.iter().copied().fold(f64::NEG_INFINITY, f64::max);
-        (least, most)
-    };
-    let Some(top) = top else {
-        let all: Vec<f64> = part.iter().map(|&cell| depth(cell)).collect();
-        let (least, most) = range(&all);
-        return if least.is_infinite() {
-            (Floor::Flat(least), None)
-        } else if most - least <= FLAT {
-            (Floor::Flat(most), None)
-        } else {
-            let finite: Vec<f64> = all.into_iter().filter(|depth| depth.is_finite()).collect();
-            (Floor::Uneven(least, range(&finite).1), None)
-        };
-    };
-    let slope: Vec<f64> = part
-        .iter()
-        .filter(|&&cell| !raster.walls[cell] && depth(cell) < top - FLAT)
-        .map(|&cell| depth(cell))
-        .collect();
-    if slope.len() >= FLOOR_CELLS && 5 * slope.len() >= part.len() {
-        let (least, most) = range(&slope);
-        // half way down to the floors, where the slope has ended
-        let below = (most + top.min(most + 1.0)) / 2.0;
-        return (Floor::Uneven(least, most), Some(below));
+        .min_by(f64::total_cmp)
+}
+
+/// The floor of a recess that has no flat one.
+fn uneven(raster: &Raster, part: &[usize]) -> Floor {
+    let depths = part.iter().map(|&cell| raster.depths[cell]);
+    let finite: Vec<f64> = depths.filter(|depth| depth.is_finite()).collect();
+    let [least, most] = range(&finite);
+    if finite.is_empty() {
+        Floor::Flat(f64::INFINITY)
+    } else if most - least <= FLAT && finite.len() == part.len() {
+        Floor::Flat(most)
+    } else {
+        Floor::Uneven(least, most)
     }
-    (Floor::Flat(top), top.is_finite().then_some(top))
+}
+
+/// The least and the largest.
+fn range(depths: &[f64]) -> [f64; 2] {
+    [
+        depths.iter().copied().fold(f64::INFINITY, f64::min),
+        depths.iter().copied().fold(f64::NEG_INFINITY, f64::max),
+    ]
 }
 
 /// The outline, its middle and its size: a circle through the corners of the walls, or else what the points of the

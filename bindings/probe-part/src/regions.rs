@@ -31,12 +31,18 @@ pub fn groups(
     groups
 }
 
-/// A group with what it encloses.
-pub fn filled(grid: &Grid, group: &[usize]) -> Vec<usize> {
+/// Which cells belong to a group.
+pub fn members(grid: &Grid, group: &[usize]) -> Vec<bool> {
     let mut member = vec![false; grid.len()];
     for &cell in group {
         member[cell] = true;
     }
+    member
+}
+
+/// A group with what it encloses.
+pub fn filled(grid: &Grid, group: &[usize]) -> Vec<usize> {
+    let member = members(grid, group);
     let mut outside = vec![false; grid.len()];
     let on_side = |cell: usize| grid.neighbours(cell).iter().any(Option::is_none);
     let mut open: Vec<usize> = (0..grid.len())

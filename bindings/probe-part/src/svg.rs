@@ -8,106 +8,165 @@ use std::fmt::Write;
 
 /// The picture. Its unit is a millimetre of the part; the recesses carry their numbers in the list, from 1.
 pub fn svg(map: &DepthMap<'_>, title: &str, recesses: &[(usize, Recess)]) -> String {
-    let grid = &map.raster.grid;
-    let [columns, rows] = map.counts();
-    let [step_x, step_y] = grid.step();
-    let [width, height] = [columns as f64 * step_x, rows as f64 * step_y];
-    // letters, lines and margins grow with the part
-    let letter = (width.max(height) / 60.0).max(2.0);
-    let (left, top, right) = (4.0 * letter, 4.0 * letter, 9.0 * letter);
-    let list = ((width / (26.0 * letter)) as usize).max(1);
-    let lines = recesses.len().div_ceil(list);
-    let legend = lines as f64 * 1.4 * letter + 2.0 * letter;
-    let (whole_width, whole_height) = (left + width + right, top + height + 4.0 * letter + legend);
+    let sheet = Sheet::new(map, recesses.len());
     let mut out = String::new();
     let mut line = |text: String| {
         out += &text;
         out.push('\n');
     };
+    let [left, top] = [sheet.left, sheet.top];
+    let [width, height] = sheet.size;
+    let letter = sheet.letter;
+    head(&mut line, &sheet, title);
+    cells(&mut line, map, &sheet);
+    outlines(&mut line, map, &sheet, recesses);
+    numbers(&mut line, map, &sheet, recesses);
+    let scale_at = [left + width + 2.0 * letter, top];
+    scale(&mut line, map, scale_at, height.max(12.0 * letter), letter);
+    ticks(&mut line, map, [left, top], [width, height], letter);
+    list(&mut line, &sheet, recesses);
+    line("</svg>".into());
+    out
+}
+
+/// Where things stand on the sheet. Letters, lines and margins grow with the part.
+struct Sheet {
+    letter: f64,
+    left: f64,
+    top: f64,
+    size: [f64; 2],
+    /// The list's columns, and the lines of each.
+    columns: usize,
+    lines: usize,
+}
+
+impl Sheet {
+    fn new(map: &DepthMap<'_>, recesses: usize) -> Sheet {
+        let (counts, step) = (map.counts(), map.raster.grid.step());
+        let size: [f64; 2] = std::array::from_fn(|side| counts[side] as f64 * step[side]);
+        let letter = (size[0].max(size[1]) / 60.0).max(2.0);
+        let columns = ((size[0] / (26.0 * letter)) as usize).max(1);
+        Sheet {
+            letter,
+            left: 4.0 * letter,
+            top: 4.0 * letter,
+            size,
+            columns,
+            lines: recesses.div_ceil(columns),
+        }
+    }
+
+    /// The beginning of a group that counts from the part's upper left corner.
+    fn group(&self, more: &str) -> String {
+        format!(
+            "<g transform=\"translate({:.2} {:.2})\" {more}>",
+            self.left, self.top
+        )
+    }
+}
+
+fn head(line: &mut impl FnMut(String), sheet: &Sheet, title: &str) {
+    let letter = sheet.letter;
+    let width = fixed(sheet.left + sheet.size[0] + 9.0 * letter, 2);
+    let listed = sheet.lines as f64 * 1.4 * letter;
+    let height = fixed(sheet.top + sheet.size[1] + 6.0 * letter + listed, 2);
+    let size =
+        format!("width=\"{width}mm\" height=\"{height}mm\" viewBox=\"0 0 {width} {height}\"");
+    let font = format!("font-family=\"sans-serif\" font-size=\"{letter:.2}\"");
     line(format!(
-        "<svg xmlns=\"http://www.w3.org/2000/svg\" width=\"{w}mm\" height=\"{h}mm\" viewBox=\"0 0 {w} {h}\" font-family=\"sans-serif\" font-size=\"{letter:.2}\">",
-        w = fixed(whole_width, 2),
-        h = fixed(whole_height, 2),
+        "<svg xmlns=\"http://www.w3.org/2000/svg\" {size} {font}>"
     ));
     line(format!("<title>{}</title>", escaped(title)));
     line("<rect width=\"100%\" height=\"100%\" fill=\"#fafafa\"/>".into());
-    line(format!(
-        "<text x=\"{left:.2}\" y=\"{:.2}\">{}</text>",
-        2.2 * letter,
-        escaped(title)
-    ));
-    line(format!(
-        "<g transform=\"translate({left:.2} {top:.2})\" shape-rendering=\"crispEdges\">"
-    ));
+    line(text([sheet.left, 2.2 * letter], &escaped(title)));
+}
+
+fn text([x, y]: [f64; 2], words: &str) -> String {
+    format!("<text x=\"{x:.2}\" y=\"{y:.2}\">{words}</text>")
+}
+
+/// The depths: a rectangle for each run of one colour in a row.
+fn cells(line: &mut impl FnMut(String), map: &DepthMap<'_>, sheet: &Sheet) {
+    let [columns, rows] = map.counts();
+    let [step_x, step_y] = map.raster.grid.step();
+    line(sheet.group("shape-rendering=\"crispEdges\""));
     for row in 0..rows {
-        let colour = |column: usize| map.colour(map.depth(column, row));
+        let colours: Vec<[u8; 3]> = (0..columns)
+            .map(|column| map.colour(map.depth(column, row)))
+            .collect();
         let mut start = 0;
-        for column in 1..=columns {
-            if column < columns && colour(column) == colour(start) {
-                continue;
-            }
+        for run in colours.chunk_by(|a, b| a == b) {
             line(format!(
                 "<rect x=\"{}\" y=\"{}\" width=\"{}\" height=\"{}\" fill=\"{}\"/>",
                 fixed(start as f64 * step_x, 3),
                 fixed(row as f64 * step_y, 3),
-                fixed((column - start) as f64 * step_x, 3),
+                fixed(run.len() as f64 * step_x, 3),
                 fixed(step_y, 3),
-                hex(colour(start))
+                hex(run[0])
             ));
-            start = column;
+            start += run.len();
         }
     }
     line("</g>".into());
-    line(format!(
-        "<g transform=\"translate({left:.2} {top:.2})\" fill=\"none\" stroke=\"#282828\" stroke-width=\"{:.3}\">",
-        letter / 12.0
-    ));
-    line(format!(
-        "<rect width=\"{}\" height=\"{}\"/>",
-        fixed(width, 3),
-        fixed(height, 3)
-    ));
+}
+
+fn outlines(
+    line: &mut impl FnMut(String),
+    map: &DepthMap<'_>,
+    sheet: &Sheet,
+    recesses: &[(usize, Recess)],
+) {
+    let [width, height] = sheet.size.map(|side| fixed(side, 3));
+    let stroke = format!(
+        "stroke=\"#282828\" stroke-width=\"{:.3}\"",
+        sheet.letter / 12.0
+    );
+    line(sheet.group(&format!("fill=\"none\" {stroke}")));
+    line(format!("<rect width=\"{width}\" height=\"{height}\"/>"));
     for (_, recess) in recesses {
         line(drawn(map, recess));
     }
     line("</g>".into());
-    line(format!(
-        "<g transform=\"translate({left:.2} {top:.2})\" text-anchor=\"middle\" fill=\"#a01020\" stroke=\"#ffffff\" stroke-width=\"{:.3}\" paint-order=\"stroke\">",
+}
+
+/// The numbers of the recesses.
+fn numbers(
+    line: &mut impl FnMut(String),
+    map: &DepthMap<'_>,
+    sheet: &Sheet,
+    recesses: &[(usize, Recess)],
+) {
+    let letter = sheet.letter;
+    let halo = format!(
+        "stroke=\"#ffffff\" stroke-width=\"{:.3}\" paint-order=\"stroke\"",
         letter / 5.0
-    ));
+    );
+    line(sheet.group(&format!("text-anchor=\"middle\" fill=\"#a01020\" {halo}")));
     for (number, recess) in recesses {
         let [x, y] = seen(map, recess);
         let [width, height] = recess.size;
         // beside what is too small to be written into, and what lies within another to its right
-        let (x, y) = if recess.within.is_some() {
-            (x + width / 2.0 + letter, y + letter / 3.0)
+        let place = if recess.within.is_some() {
+            [x + width / 2.0 + letter, y + letter / 3.0]
         } else if height < 2.0 * letter || holds_another(recesses, *number) {
-            (x, y + height / 2.0 + letter)
+            [x, y + height / 2.0 + letter]
         } else {
-            (x, y + letter / 3.0)
+            [x, y + letter / 3.0]
         };
-        line(format!("<text x=\"{x:.3}\" y=\"{y:.3}\">{number}</text>"));
+        line(text(place, &number.to_string()));
     }
     line("</g>".into());
-    scale(
-        &mut line,
-        map,
-        [left + width + 2.0 * letter, top],
-        height.max(12.0 * letter),
-        letter,
-    );
-    ticks(&mut line, map, [left, top], [width, height], letter);
+}
+
+/// What the numbers stand for, in columns below.
+fn list(line: &mut impl FnMut(String), sheet: &Sheet, recesses: &[(usize, Recess)]) {
     for (place, (number, recess)) in recesses.iter().enumerate() {
-        let text = format!("{number}: {}, {}", size_words(recess), depth_words(recess));
-        let x = left + (place / lines) as f64 * width / list as f64;
-        let y = top + height + 5.0 * letter + (place % lines) as f64 * 1.4 * letter;
-        line(format!(
-            "<text x=\"{x:.2}\" y=\"{y:.2}\">{}</text>",
-            escaped(&text)
-        ));
+        let words = format!("{number}: {}, {}", size_words(recess), depth_words(recess));
+        let [column, row] = [place / sheet.lines, place % sheet.lines].map(|count| count as f64);
+        let x = sheet.left + column * sheet.size[0] / sheet.columns as f64;
+        let y = sheet.top + sheet.size[1] + (5.0 + 1.4 * row) * sheet.letter;
+        line(text([x, y], &escaped(&words)));
     }
-    line("</svg>".into());
-    out
 }
 
 /// Whether another recess lies within the one of a number.

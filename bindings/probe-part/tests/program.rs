@@ -377,36 +377,42 @@ fn a_part_of_many_triangles() {
             rays += &format!("-10 {}.3 {} 1 0.01 0.02 300\n", 5 * y, (x % 18) + 1);
         }
     }
-    for switch in ["--careful", "--all"] {
-        let of = |file: &str| said(&["cast", file, switch, "--rays", "-"], rays.as_bytes());
-        let (one, other) = (of(&few), of(&many));
-        assert_eq!((one.0, other.0), (0, 0));
-        assert!(other.1.lines().next().unwrap().ends_with(" pieces"));
-        // triangles have other numbers, and where a ray meets an edge both of its triangles are told
-        let plain = |text: &str| -> Vec<String> {
-            let mut lines: Vec<String> = text
-                .lines()
-                .skip(1)
-                .map(|line| line.split(", triangle").next().unwrap().to_string())
-                .map(|line| {
-                    if line.contains(" hits") || line.contains(" hit\n") {
-                        String::new()
-                    } else {
-                        line
-                    }
-                })
-                .collect();
-            lines.dedup();
-            lines
-        };
-        let (one, other) = (plain(&one.1), plain(&other.1));
-        if switch == "--careful" {
-            assert_eq!(one, other);
-            assert_eq!(one.len(), 1600);
-        } else {
-            assert!(other.len() > 2 * 1600);
+    // triangles have other numbers, and where a ray meets an edge each triangle there is told
+    let of = |file: &str, switch: &str| {
+        let (status, out, _) = said(&["cast", file, switch, "--rays", "-"], rays.as_bytes());
+        assert_eq!(status, 0);
+        out
+    };
+    let first = |out: &str| -> Vec<String> {
+        let before = |line: &str| line.split(", triangle").next().unwrap().to_string();
+        out.lines().skip(1).map(before).collect()
+    };
+    let (one, other) = (of(&few, "--careful"), of(&many, "--careful"));
+    assert!(!one.lines().next().unwrap().contains("pieces"));
+    assert!(other.lines().next().unwrap().ends_with(" pieces"));
+    assert_eq!(first(&one), first(&other));
+    assert_eq!(first(&one).len(), 1600);
+    // the different depths along each ray
+    let depths = |out: &str| -> Vec<Vec<String>> {
+        let mut all: Vec<Vec<String>> = Vec::new();
+        for line in out.lines().skip(1) {
+            match line.strip_prefix("  at ") {
+                None => all.push(Vec::new()),
+                Some(rest) => all
+                    .last_mut()
+                    .unwrap()
+                    .push(rest.split(" mm").next().unwrap().into()),
+            }
         }
-    }
+        all.iter_mut().for_each(|depths| depths.dedup());
+        all
+    };
+    let (one, other) = (depths(&of(&few, "--all")), depths(&of(&many, "--all")));
+    assert_eq!(one.len(), 1600);
+    assert!(one.iter().any(|depths| depths.len() >= 4));
+    // one cast may pass an edge, of which the finer mesh has more
+    let same = one.iter().zip(&other).filter(|(a, b)| a == b).count();
+    assert_eq!(same, 1600);
     let table = |file: &str| -> Vec<String> {
         said(&["bores", file, "--csv"], b"")
             .1
