@@ -102,6 +102,24 @@ echo "$program tests of probe-part passed"
 tests/depth_pictures.py "$work/top.png" "$work/top.svg"
 tests/progress.py "$CARGO_TARGET_DIR/release/probe-part" examples/panel.stl
 
+# the tool's page: what its commands print; the page on STEP files: the board's list
+awk -v out="$work" '
+  /^```/ { if (file) { close(file); file = "" } else { file = sprintf("%s/page%02d.%s", out, ++n, substr($0, 4)) } next }
+  file { print > file }' docs/TOOL.md
+pages=0
+previous=
+for code in "$work"/page*; do
+  case $previous:$code in
+    *.sh:*.text)
+      PATH=$CARGO_TARGET_DIR/release:$PATH bash -euo pipefail "$previous" | diff - "$code"
+      pages=$((pages + 1)) ;;
+  esac
+  previous=$code
+done
+[ "$pages" = 2 ] || { echo "error: $pages commands of docs/TOOL.md were found, not 2" >&2; exit 1; }
+awk '/^```text/ { inside = 1; next } /^```/ { inside = 0 } inside' docs/STEP.md | tail -n +2 | diff - examples/board.bores
+echo "the commands of docs/TOOL.md print what it says, and docs/STEP.md has the board's list"
+
 # from STEP to a list of bores, where gmsh is: the list by the drawing's measures, and the setting for a board of 216 bores
 step=0
 if command -v gmsh > /dev/null; then
@@ -123,4 +141,4 @@ if command -v gmsh > /dev/null; then
 else
   echo "SKIPPED: from a STEP file to a list of bores, since gmsh is not installed (apt-get install gmsh)"
 fi
-echo "bindings: $((4 + rust + files + program + 2 + step)) tests passed"
+echo "bindings: $((4 + rust + files + program + 5 + step)) tests passed"

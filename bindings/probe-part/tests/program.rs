@@ -410,7 +410,6 @@ fn a_part_of_many_triangles() {
     let (one, other) = (depths(&of(&few, "--all")), depths(&of(&many, "--all")));
     assert_eq!(one.len(), 1600);
     assert!(one.iter().any(|depths| depths.len() >= 4));
-    // one cast may pass an edge, of which the finer mesh has more
     let same = one.iter().zip(&other).filter(|(a, b)| a == b).count();
     assert_eq!(same, 1600);
     let table = |file: &str| -> Vec<String> {
