@@ -322,7 +322,7 @@ fn a_drill_leaves_a_tip() {
         panic!("{bore:?}");
     };
     assert!(
-        10.0 <= least && least < 10.2 && (most - 12.4).abs() < 0.01,
+        (10.0..10.2).contains(&least) && (most - 12.4).abs() < 0.01,
         "{bore:?}"
     );
 }

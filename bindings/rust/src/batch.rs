@@ -206,7 +206,7 @@ fn told(label: &str, done: usize, total: Option<usize>, spent: Duration) -> Stri
     let Some(total) = total else {
         return format!("{label}: {done} so far");
     };
-    let share = if total == 0 { 100 } else { 100 * done / total };
+    let share = (100 * done).checked_div(total).unwrap_or(100);
     let mut words = format!("{label}: {done} of {total} ({share} %)");
     if done > 0 {
         let left = spent.as_secs_f64() * (total - done) as f64 / done as f64;
