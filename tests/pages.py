@@ -4,9 +4,9 @@
   pages.py FOLDER PAGE..    FOLDER is for the files that are made; its last line says how many pieces were run
 
 A block of code under a line that says only a file's name (`first.c`:) is that file, in the reader's folder. A block of sh is run,
-and what it prints is the block of text behind it. It is run in the repository where a command of it is one of tools/, and else
-in the reader's folder; HOME is FOLDER, and $REPOSITORY the repository. README.md's tools/test is what runs this, so it is left
-out. Blocks of Rust are doc examples of the crate, which tests/bindings.sh runs; the page must be named in its src/lib.rs."""
+and what it prints is the block of text behind it. It is run in the repository where a command of it is one of tools/ or it
+goes to bindings/, and else in the reader's folder; HOME is FOLDER. README.md's tools/test is what runs this, so it is left out.
+Blocks of Rust are doc examples of the crate, which tests/bindings.sh runs; the page must be named in its src/lib.rs."""
 import os
 import pathlib
 import re
@@ -34,7 +34,7 @@ def run(page, home):
     text = (REPOSITORY / page).read_text()
     folder = home / pathlib.Path(page).stem
     folder.mkdir(parents=True)
-    environment = {**os.environ, "HOME": str(home), "REPOSITORY": str(REPOSITORY)}
+    environment = {**os.environ, "HOME": str(home)}
     # what the toolchains keep under HOME
     for name in ("CARGO_HOME", "RUSTUP_HOME"):
         environment.setdefault(name, os.path.expanduser(f"~/.{name.split('_')[0].lower()}"))
@@ -44,10 +44,10 @@ def run(page, home):
             (folder / name).write_text(content)
         elif language == "sh":
             commands = "".join(line for line in content.splitlines(True) if not line.startswith("tools/test"))
-            of_tools = re.search(r"(^|\| )tools/", content, re.M)
+            in_repository = re.search(r"(^|\| )tools/|^cd bindings/", content, re.M)
             found = subprocess.run(
                 ["bash", "-euo", "pipefail", "-c", commands],
-                cwd=REPOSITORY if of_tools else folder, env=environment, stdout=subprocess.PIPE, text=True,
+                cwd=REPOSITORY if in_repository else folder, env=environment, stdout=subprocess.PIPE, text=True,
             )
             if found.returncode:
                 fail(f"{page}: status {found.returncode} of\n{content}")
