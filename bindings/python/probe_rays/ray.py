@@ -96,7 +96,7 @@ def careful(ray, cast, hair=HAIR):
     None where all four are. Raises Refused where one is refused.
 
     It is a guard and no proof: a ray that meets a mesh on the edge between two triangles, within rounding, may pass between
-    them, and of three neighbours a third of a turn apart at most one runs close to such an edge. docs/STEP.md has figures."""
+    them, and of three neighbours a third of a turn apart at most one runs close to such an edge. docs/TOOL.md has figures."""
     nearest = cast(ray)
     for beside in ray.beside(hair):
         hit = cast(beside)
