@@ -68,6 +68,11 @@ pub use shapes::{
 /// The most vertices, and the most triangles, of a mesh.
 pub const MAX_COUNT: usize = 65_536;
 
+// The Rust in the repository's docs/RUST.md is run as a doc example.
+#[cfg(doctest)]
+#[doc = include_str!("../../../docs/RUST.md")]
+struct RustPage;
+
 /// The version of the library that is linked: [`sys::VERSION`], if this crate is its own.
 ///
 /// ```
@@ -78,10 +83,10 @@ pub fn version() -> u32 {
     unsafe { sys::probe_version() }
 }
 
-// The Rust in the repository's docs/RUST.md is run as a doc example; its other code has a language.
+// The Rust in the repository's README.md is run as a doc example; its other code has a language.
 #[cfg(doctest)]
-#[doc = include_str!("../../../docs/RUST.md")]
-struct RustPage;
+#[doc = include_str!("../../../README.md")]
+struct Readme;
 
 #[cfg(doctest)]
 #[doc = include_str!("../../../docs/TOOL.md")]
