@@ -14,7 +14,7 @@ use Rattle.geometry.specs.declared.ray.Ray.{Ray}
 use Rattle.casts.specs.Nearest.{Indexed}
 use Rattle.tree.specs.Layout.{Tree}
 use Rattle.tree.specs.Mesh.{Mesh, thirds, candidates}
-use Rattle.tree.proofs.Corners.{and-first, and-second}
+use Rattle.lists.proofs.JoinedTests.{and-first, and-second}
 use Rattle.tree_check.proofs.Answers.{yes-passes}
 use Rattle.tree_limit.specs.Looking.{nodesLooked}
 use Rattle.tree_limit.proofs.Limits.{walk-looks-few}

@@ -15,7 +15,7 @@ use Rattle.geometry.specs.Segment.{unitLength, rayAdmitted, segmentEnd, segment
 use Rattle.casts.specs.Surface.{outOfRange, facing}
 use Rattle.casts.specs.Triangle.{flat, triangleNormal, triangleAbove, triangleAt, triangleOf}
 use Rattle.casts.specs.Nearest.{Indexed, hitAt, noHit, stopped, nextOf, foldFrom}
-use Rattle.tree.specs.Lists.{range, insertBy, sortBy}
+use Rattle.lists.specs.Lists.{range, insertBy, sortBy}
 use Rattle.tree.specs.Layout.{vectorAt, boxAt}
 use Rattle.tree.specs.Mesh.{Mesh, lengthsAdmitted, cornersInside, cornerAt, triangleAnswer}
 use Rattle.tree_query.specs.Walk.{times, takePlace, takePlaces, atLeaf, childFits, atBranch, atNode, takeNode, start, ended, walkOf}

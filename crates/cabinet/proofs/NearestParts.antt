@@ -16,10 +16,11 @@ use Rattle.geometry.specs.declared.ray.Ray.{Ray}
 use Rattle.casts.specs.Answer.{Answer, hit, refused, overflow}
 use Rattle.casts.specs.Nearest.{Indexed, hitAt, noHit, stopped, nextOf, foldFrom, nearestOf, withoutIndex}
 use Rattle.casts.proofs.NearestLaws.{LowestRefusal, LowestNearest, stopped-by-lowest-refusal, hit-of-lowest-nearest}
-use Rattle.casts.proofs.AnswerLists.{Each, HitSuch, IsNumber}
+use Rattle.lists.proofs.Members.{Each}
+use Rattle.casts.proofs.AnswerLists.{HitSuch, IsNumber}
 use Rattle.casts.proofs.HitLaws.{OfIndexedHit, stopped-such, cond-such, without-index-such}
-use Rattle.tree.specs.Lists.{range}
-use Rattle.tree.proofs.SortLaws.{range-ascends}
+use Rattle.lists.specs.Lists.{range}
+use Rattle.lists.proofs.SortLaws.{range-ascends}
 use Rattle.mesh.specs.MeshCast.{rayMesh}
 use Rattle.mesh.proofs.HitDistances.{ray-mesh-hit-measured}
 use Rattle.cabinet.specs.declared.part.Part.{Part}

@@ -18,7 +18,7 @@ use Rattle.casts.specs.Answer.{overflow}
 use Rattle.casts.specs.Nearest.{Indexed, stopped}
 use Rattle.tree.specs.Layout.{Tree}
 use Rattle.tree.specs.Mesh.{Mesh, thirds}
-use Rattle.tree.proofs.Corners.{and-first, and-second}
+use Rattle.lists.proofs.JoinedTests.{and-first, and-second}
 use Rattle.tree_query.specs.Walk.{walkOf}
 use Rattle.tree_limit.specs.Looking.{Looked, looked, usedUp, nodesLooked, walkWithin}
 use Rattle.tree_limit.proofs.Limits.{within-is}

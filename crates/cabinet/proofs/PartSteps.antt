@@ -11,12 +11,10 @@ use lib.ListN.{length, take, drop}
 use Rattle.geometry.specs.declared.vec3.Vec3.{Vec3}
 use Rattle.casts.specs.Answer.{badShape, noRoom}
 use Rattle.casts.specs.Nearest.{saysIndexed}
-use Rattle.tree.specs.Layout.{Tree}
-use Rattle.tree.specs.Mesh.{Mesh, thirds, lengthsAdmitted}
-use Rattle.tree.proofs.Corners.{and-first, and-second}
+use Rattle.tree.specs.Layout.{Tree, treeOf}
+use Rattle.tree.specs.Mesh.{Mesh, thirds, lengthsAdmitted, mesh}
+use Rattle.lists.proofs.JoinedTests.{and-first, and-second}
 use Rattle.tree_query.specs.Query.{walkFits}
-use Rattle.tree_query.specs.Areas.{treeOf}
-use Rattle.mesh.specs.MeshCast.{mesh}
 use Rattle.cabinet.specs.declared.part.Span.{Span}
 use Rattle.cabinet.specs.declared.part.Part.{Part}
 use Rattle.cabinet.specs.declared.part.Found.{Found}

@@ -15,11 +15,11 @@ use Rattle.geometry.specs.declared.aabb.Aabb.{Aabb}
 use Rattle.geometry.specs.declared.ray.Ray.{Ray}
 use Rattle.casts.specs.Answer.{outOfBounds, overflow}
 use Rattle.casts.specs.Nearest.{Indexed, stopped, nearestOf}
-use Rattle.tree.specs.Lists.{sorted}
+use Rattle.lists.specs.Lists.{sorted, allBelow}
 use Rattle.tree.specs.Layout.{Tree}
 use Rattle.tree.specs.Mesh.{Mesh, thirds, triangleAnswer}
 use Rattle.tree_query.specs.Walk.{walking, broken, ended}
-use Rattle.tree_query.specs.Areas.{allBelow, Grown}
+use Rattle.tree_query.specs.Areas.{Grown}
 use Rattle.tree_limit.specs.Looking.{Looked, looked, usedUp, endedLook, walkWithin}
 use Rattle.tree_limit.specs.Areas.{lookedBy, GrownBy}
 use Rattle.tree_limit.specs.declared.within.Limited.{Limited}

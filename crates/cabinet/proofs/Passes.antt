@@ -9,7 +9,7 @@ use Rattle.geometry.specs.Segment.{rayAdmitted}
 use Rattle.geometry.specs.declared.ray.Ray.{Ray}
 use Rattle.casts.specs.Answer.{invalidInput, badShape, noRoom}
 use Rattle.tree.specs.Mesh.{thirds, lengthsAdmitted}
-use Rattle.tree.proofs.Corners.{and-first, and-second}
+use Rattle.lists.proofs.JoinedTests.{and-first, and-second}
 use Rattle.tree_query.specs.Query.{walkFits}
 use Rattle.mesh.specs.MeshCast.{shapeAdmitted, roomFor}
 use Rattle.cabinet.specs.declared.part.Part.{Part}

@@ -5,10 +5,9 @@ use mathlib.Core.List.{List}
 use lib.Dec.{leb}
 use lib.Ieee.{Float}
 use lib.ListN.{length, take, drop}
-use Rattle.tree.specs.Layout.{Tree}
-use Rattle.tree.specs.Mesh.{Mesh}
-use Rattle.tree_query.specs.Areas.{treeOf}
-use Rattle.mesh.specs.MeshCast.{mesh, shapeAdmitted, roomFor}
+use Rattle.tree.specs.Layout.{Tree, treeOf}
+use Rattle.tree.specs.Mesh.{Mesh, mesh}
+use Rattle.mesh.specs.MeshCast.{shapeAdmitted, roomFor}
 use Rattle.cabinet.specs.declared.part.Span.{Span}
 use Rattle.cabinet.specs.declared.part.Part.{Part}
 

@@ -9,9 +9,9 @@ ghost use mathlib.Core.Path.{_≡_};
 ghost use mathlib.Core.Bool.{true};
 ghost use lib.ListN.{length};
 ghost use Rattle.geometry.specs.Vector.{finiteVec};
-ghost use Rattle.tree.specs.Mesh.{thirds};
-ghost use Rattle.tree_query.specs.Areas.{treeOf, WalkRoom};
-ghost use Rattle.mesh.specs.MeshCast.{mesh};
+ghost use Rattle.tree.specs.Mesh.{thirds, mesh};
+ghost use Rattle.tree.specs.Layout.{treeOf};
+ghost use Rattle.tree_query.specs.Areas.{WalkRoom};
 ghost use Rattle.cabinet.specs.PartCast.{castWithin, castMoved};
 ghost use Rattle.cabinet.specs.Steps.{saysCost};
 

@@ -14,9 +14,8 @@ ghost use mathlib.Core.Bool.{false, _&&_};
 ghost use Prim.Native.Nat.{_*_};
 ghost use lib.Dec.{leb};
 ghost use lib.ListN.{length};
-ghost use Rattle.tree.specs.Mesh.{thirds, lengthsAdmitted};
-ghost use Rattle.tree_query.specs.Areas.{treeOf};
-ghost use Rattle.mesh.specs.MeshCast.{mesh};
+ghost use Rattle.tree.specs.Mesh.{thirds, lengthsAdmitted, mesh};
+ghost use Rattle.tree.specs.Layout.{treeOf};
 ghost use Rattle.cabinet.specs.Parts.{staysIn, rangesInside};
 ghost use Rattle.cabinet.specs.Steps.{lowerRefusal, refuseWith, isOver, ownStep, stepPart, areas, Kept};
 

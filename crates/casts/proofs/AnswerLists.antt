@@ -1,20 +1,14 @@
--- What a list of indices holds, by the answers of its members, and that the cases of an answer tell each other apart. Assumes nothing.
-use Prim.Native.Nat.{ℕ, _<_, _≤_}
+-- What answers are, and that the cases of an answer tell each other apart. Assumes nothing.
+use Prim.Native.Nat.{ℕ}
 use mathlib.Core.Path.{_≡_}
-use mathlib.Core.Logic.{⊎-elim}
 use mathlib.Core.Bool.{true, false}
-use mathlib.Core.List.{List, [], _∷_, List·Memᴰ, List·Memᴰ·tail, List·Memᴰ·cases-cons}
 use native.Mathlib.Omega.{arith}
 use lib.Ieee.{Float, lt, le, isNan}
 use Rattle.geometry.specs.declared.vec3.Vec3.{Vec3}
 use Rattle.casts.specs.Answer.{Answer, hit, none, refused}
 use Rattle.casts.specs.Nearest.{hitAt, noHit, stopped}
 
--- ---- what a list holds
-
--- every one that stands in a list
-abbrev pub Each : (ℕ → Type 0) → List ℕ → Type 0
-Each P l = (j : ℕ) → List·Memᴰ j l → P j
+-- ---- what answers are
 
 abbrev pub AnswersNone : (ℕ → Answer) → ℕ → Type 0
 AnswersNone answer j = answer j ≡ none
@@ -41,22 +35,6 @@ AtLeast d distance = le d distance ≡ true
 
 abbrev pub Farther : Float → Float → Type 0
 Farther d distance = lt d distance ≡ true
-
--- ascending
-abbrev pub Ascending : List ℕ → Type 0
-Ascending [] = Unit
-Ascending (x ∷ xs) = Each (λ (y : ℕ). x < y) xs × Ascending xs
-
--- not falling
-abbrev pub Rising : List ℕ → Type 0
-Rising [] = Unit
-Rising (x ∷ xs) = Each (λ (y : ℕ). x ≤ y) xs × Rising xs
-
-pub each-cons : (P : ℕ → Type 0) (x : ℕ) (xs : List ℕ) → ((j : ℕ) → j ≡ x → P j) → Each P xs → Each P (x ∷ xs)
-each-cons P x xs p ps j m = ⊎-elim (λ e. p j e) (λ n. ps j n) (List·Memᴰ·cases-cons m)
-
-pub each-rest : (P : ℕ → Type 0) (x : ℕ) (xs : List ℕ) → Each P (x ∷ xs) → Each P xs
-each-rest P x xs h j m = h j (List·Memᴰ·tail m)
 
 -- ---- the cases of an answer tell each other apart
 pub stopped-not-none : (number : ℕ) → stopped number ≡ noHit → ⊥

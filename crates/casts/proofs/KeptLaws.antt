@@ -8,7 +8,7 @@ use borrow.Author.Tests.{lt-ltb, le-ltb, ltb-true, ltb-false}
 use lib.Dec.{ltb}
 use lib.Ieee.{Float, lt, le, isNan}
 use Rattle.arithmetic.proofs.Order.{not-lt-of-le, lt-asymmetric, le-of-not-lt, le-transitive, lt-of-lt-le, lt-of-le-lt, lt-transitive}
-use Rattle.geometry.proofs.JoinedTests.{and-first, and-second}
+use Rattle.lists.proofs.JoinedTests.{and-first, and-second}
 use Rattle.casts.specs.Summary.{Kept, nobody, kept, keepOf, Found, found, lower, nearer}
 
 -- a test that goes one way only, and on

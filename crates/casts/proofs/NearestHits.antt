@@ -9,7 +9,8 @@ use Rattle.arithmetic.proofs.Order.{le-of-not-lt, lt-transitive, lt-of-lt-le}
 use Rattle.geometry.specs.declared.vec3.Vec3.{Vec3}
 use Rattle.casts.specs.Answer.{Answer, hit, none, refused}
 use Rattle.casts.specs.Nearest.{hitAt, noHit, nextOf, foldFrom, nearestOf}
-use Rattle.casts.proofs.AnswerLists.{Each, HitSuch, IsNumber, AtLeast, Farther, each-cons, each-rest, hit-not-none, hit-not-stopped, none-not-hit, same-distance}
+use Rattle.lists.proofs.Members.{Each, each-cons, each-rest}
+use Rattle.casts.proofs.AnswerLists.{HitSuch, IsNumber, AtLeast, Farther, hit-not-none, hit-not-stopped, none-not-hit, same-distance}
 use Rattle.casts.proofs.NearestRefusals.{fold-stays-stopped}
 
 -- the first of a list's nearest hits

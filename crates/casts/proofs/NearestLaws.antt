@@ -10,7 +10,8 @@ use Rattle.arithmetic.proofs.Order.{le-of-lt, le-reflexive}
 use Rattle.geometry.specs.declared.vec3.Vec3.{Vec3}
 use Rattle.casts.specs.Answer.{Answer, hit, refused}
 use Rattle.casts.specs.Nearest.{hitAt, noHit, stopped, nearestOf}
-use Rattle.casts.proofs.AnswerLists.{Each, HitSuch, IsNumber, AtLeast, Farther, Ascending, stopped-not-none}
+use Rattle.lists.proofs.Members.{Each, Ascending}
+use Rattle.casts.proofs.AnswerLists.{HitSuch, IsNumber, AtLeast, Farther, stopped-not-none}
 use Rattle.casts.proofs.NearestRefusals.{FirstRefusal, stopped-by-first-refusal}
 use Rattle.casts.proofs.NearestHits.{FirstNearest, hit-such, hit-of-first-nearest}
 

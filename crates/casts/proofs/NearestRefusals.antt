@@ -8,7 +8,8 @@ use lib.Ieee.{Float, lt}
 use Rattle.geometry.specs.declared.vec3.Vec3.{Vec3}
 use Rattle.casts.specs.Answer.{Answer, hit, none, refused}
 use Rattle.casts.specs.Nearest.{Indexed, hitAt, noHit, stopped, nextOf, foldFrom, nearestOf}
-use Rattle.casts.proofs.AnswerLists.{Each, AnswersNone, NotRefused, each-cons, each-rest, stopped-not-none, hit-not-none, hit-not-stopped, none-not-refused, hit-not-refused, same-number}
+use Rattle.lists.proofs.Members.{Each, each-cons, each-rest}
+use Rattle.casts.proofs.AnswerLists.{AnswersNone, NotRefused, stopped-not-none, hit-not-none, hit-not-stopped, none-not-refused, hit-not-refused, same-number}
 
 -- the first of a list that refuses
 pub record FirstRefusal (answer : ℕ → Answer) (l : List ℕ) (number : ℕ) : Type 0 where

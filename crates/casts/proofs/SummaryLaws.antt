@@ -11,7 +11,8 @@ use Rattle.casts.specs.Answer.{Answer, hit, none, refused}
 use Rattle.casts.specs.Nearest.{Indexed, hitAt, noHit, stopped, nextOf, foldFrom, nearestOf}
 use Rattle.casts.specs.Reach.{reachOf}
 use Rattle.casts.specs.Summary.{Kept, nobody, kept, keepOf, Found, found, lower, nearer, Summary, nothing, noteOf, summaryFrom, winnerOf, winner, answerAt, nearestNoted}
-use Rattle.casts.proofs.AnswerLists.{Each, Rising, HitsAreNumbers}
+use Rattle.lists.proofs.Members.{Each, Rising}
+use Rattle.casts.proofs.AnswerLists.{HitsAreNumbers}
 use Rattle.casts.proofs.KeptLaws.{nearer-by-distance, stays-nearest}
 use Rattle.casts.proofs.SummaryOrder.{Reordered, summary-order-free}
 

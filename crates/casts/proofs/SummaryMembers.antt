@@ -11,7 +11,7 @@ use Rattle.casts.specs.declared.answer.Reach.{Reach}
 use Rattle.casts.specs.declared.answer.Reach.the-variants.{At, Miss, Refused}
 use Rattle.casts.specs.declared.summary.Outcome.{Outcome}
 use Rattle.casts.specs.declared.summary.Outcome.the-variants.{Nobody, Refused as RefusedBy, Struck}
-use Rattle.casts.proofs.AnswerLists.{Each, each-rest}
+use Rattle.lists.proofs.Members.{Each, each-rest}
 
 -- of the one that is kept
 abbrev OfKept : {A : Type 0} → (A → Type 0) → Kept A → Type 0

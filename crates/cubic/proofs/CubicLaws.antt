@@ -22,7 +22,7 @@ use Rattle.cubic.specs.declared.roots.Root.{Root}
 use Rattle.cubic.specs.declared.roots.Root.the-variants.{None}
 use Rattle.cubic.specs.declared.halving.Halving.{Halving}
 use Rattle.cubic.specs.declared.halving.Halving.the-variants.{Found}
-use Rattle.geometry.proofs.JoinedTests.{and-first, and-second}
+use Rattle.lists.proofs.JoinedTests.{and-first, and-second}
 
 -- ---- the halvings: what is left gives the whole
 module _ (p : Cubic) (tolerance : Float) where

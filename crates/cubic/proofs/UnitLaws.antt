@@ -21,7 +21,7 @@ use Rattle.cubic.specs.Halving.{middleOf, halveAt, halve}
 use Rattle.cubic.specs.declared.polynomial.Cubic.{Cubic}
 use Rattle.cubic.specs.declared.halving.Halving.{Halving}
 use Rattle.cubic.specs.declared.halving.Halving.the-variants.{Open, Found}
-use Rattle.geometry.proofs.JoinedTests.{and-first, and-second}
+use Rattle.lists.proofs.JoinedTests.{and-first, and-second}
 use Rattle.cubic.proofs.ValueLaws.{evaluate-number}
 
 -- a number from 0 to 1 / k

@@ -17,7 +17,7 @@ use Rattle.arithmetic.proofs.RoundedNumbers.{round-number, sum-number}
 use Rattle.geometry.specs.Numbers.{_+ᶠ_, _*ᶠ_}
 use Rattle.cubic.specs.Polynomial.{evaluate, finiteCubic}
 use Rattle.cubic.specs.declared.polynomial.Cubic.{Cubic}
-use Rattle.geometry.proofs.JoinedTests.{and-first, and-second}
+use Rattle.lists.proofs.JoinedTests.{and-first, and-second}
 
 -- ---- at a point that is not zero
 product-number : (v : Float) (s : Bool) (m : ℕ) (e : ℤ) → isNan v ≡ false → isNan (v *ᶠ fin s (suc m) e) ≡ false

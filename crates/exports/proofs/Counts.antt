@@ -9,9 +9,9 @@ use lib.ListN.{length}
 use Rattle.geometry.specs.Box.{validBox}
 use Rattle.geometry.specs.declared.aabb.Aabb.{Aabb}
 use Rattle.casts.specs.Answer.{invalidInput, badShape, noRoom}
-use Rattle.tree.specs.Layout.{Tree}
+use Rattle.tree.specs.Layout.{Tree, Areas}
 use Rattle.tree.specs.Mesh.{Mesh, lengthsAdmitted}
-use Rattle.tree_build.specs.Build.{Areas, Outcome, buildOf}
+use Rattle.tree_build.specs.Build.{Outcome, buildOf}
 use Rattle.tree_build.specs.Build as Build
 use Rattle.tree_query.specs.Query.{Queried, countsAdmitted, queryOf}
 use Rattle.tree_query.specs.Query as Query

@@ -8,10 +8,10 @@ use lib.ListN.{length}
 use lib.Seq.{sets}
 use Rattle.geometry.specs.Segment.{rayAdmitted}
 use Rattle.tree.specs.Mesh.{Mesh, lengthsAdmitted}
-use Rattle.tree_build.specs.Build.{Areas, nodes, buildOf}
+use Rattle.tree.specs.Layout.{Areas, treeIn}
+use Rattle.tree_build.specs.Build.{nodes, buildOf}
 use Rattle.tree_check.specs.Verdict.{checkOf}
 use Rattle.mesh.specs.MeshCast.{shapeAdmitted, rayMesh}
-use Rattle.mesh.specs.Builder.{treeIn}
 use Rattle.mesh.proofs.Demand3.{demand3}
 use Rattle.mesh.proofs.BuildPasses.{built-trees-pass}
 use Rattle.results.specs.Results.{BuildTold, doneCode, resultsFit, answeredMesh, toldNodes, toldVerdict, buildTold}

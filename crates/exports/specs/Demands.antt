@@ -9,12 +9,11 @@ use lib.ListN.{length}
 use lib.Seq.{sets}
 use Rattle.geometry.specs.declared.ray.Ray.{Ray}
 use Rattle.casts.specs.Nearest.{Indexed}
-use Rattle.tree.specs.Layout.{Tree}
+use Rattle.tree.specs.Layout.{Tree, Areas, treeIn}
 use Rattle.tree.specs.Mesh.{Mesh, thirds}
-use Rattle.tree_build.specs.Build.{Areas, nodes, buildOf}
+use Rattle.tree_build.specs.Build.{nodes, buildOf}
 use Rattle.tree_check.specs.Verdict.{checkOf}
 use Rattle.mesh.specs.Demand3.{Admitted, MeetsDemand}
-use Rattle.mesh.specs.Builder.{treeIn}
 use Rattle.results.specs.Results.{ToldIndexed, toldIndexed, resultsFit, answeredMesh, toldVerdict, yesCode, doneCode, buildTold}
 
 -- what is told says an answer that meets the demand

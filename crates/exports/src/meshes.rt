@@ -13,12 +13,12 @@ ghost use lib.Dec.{leb};
 ghost use lib.ListN.{length};
 ghost use Rattle.geometry.specs.Box.{validBox};
 ghost use Rattle.geometry.specs.Segment.{rayAdmitted};
-ghost use Rattle.tree.specs.Mesh.{thirds, lengthsAdmitted};
-ghost use Rattle.tree_build.specs.Build.{areas, testsPass as buildTestsPass};
-ghost use Rattle.tree_query.specs.Areas.{treeOf};
+ghost use Rattle.tree.specs.Mesh.{thirds, lengthsAdmitted, mesh};
+ghost use Rattle.tree.specs.Layout.{areas, treeOf};
+ghost use Rattle.tree_build.specs.Build.{testsPass as buildTestsPass};
 ghost use Rattle.tree_query.specs.Query.{countsAdmitted, testsPass as queryTestsPass};
 ghost use Rattle.tree_check.specs.Verdict.{checkOf, marksAfter};
-ghost use Rattle.mesh.specs.MeshCast.{mesh, testsPass};
+ghost use Rattle.mesh.specs.MeshCast.{testsPass};
 ghost use Rattle.results.specs.Results.{rayFrom, rayOf, boxOf, shortOf, resultsFit, answeredMesh, buildTold, queryTold, toldVerdict};
 
 // The mesh cast's number where a result slice is too short: 1 and 2 go before 3.

@@ -2,7 +2,7 @@ use casts::answer;
 use mesh_plain::cast;
 use tree::mesh as triangle_mesh;
 ghost use mathlib.Core.Path.{_≡_};
-ghost use Rattle.mesh.specs.MeshCast.{mesh};
+ghost use Rattle.tree.specs.Mesh.{mesh};
 ghost use Rattle.results.specs.Results.{rayFrom};
 ghost use Rattle.exports.specs.Plain.{plainTold, ToldByTrees};
 

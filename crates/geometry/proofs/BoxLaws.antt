@@ -18,7 +18,7 @@ use Rattle.geometry.specs.Segment.{rayAdmitted, rangeAdmitted, unitLengt
 use Rattle.geometry.specs.declared.vec3.Vec3.{Vec3}
 use Rattle.geometry.specs.declared.aabb.Aabb.{Aabb}
 use Rattle.geometry.specs.declared.ray.Ray.{Ray}
-use Rattle.geometry.proofs.JoinedTests.{and-both, and-first, and-second, and-three}
+use Rattle.lists.proofs.JoinedTests.{and-both, and-first, and-second, and-three}
 use Rattle.geometry.proofs.FiniteVectors.{finite-x, finite-y, finite-z, min-finite, max-finite}
 
 -- ---- equal numbers are at most the same, and at least the same

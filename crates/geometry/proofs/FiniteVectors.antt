@@ -7,7 +7,7 @@ use Rattle.arithmetic.proofs.Numbers.{finite-number}
 use Rattle.arithmetic.proofs.ExtremesOrder.{minimum-finite, maximum-finite}
 use Rattle.geometry.specs.Vector.{finiteVec, Numbers, minOf, maxOf}
 use Rattle.geometry.specs.declared.vec3.Vec3.{Vec3}
-use Rattle.geometry.proofs.JoinedTests.{and-first, and-second, and-three}
+use Rattle.lists.proofs.JoinedTests.{and-first, and-second, and-three}
 
 module _ (v : Vec3) (h : finiteVec v ≡ true) where
   pub finite-x : isFinite (v .x) ≡ true

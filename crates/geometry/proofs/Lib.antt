@@ -1,5 +1,4 @@
 -- Laws about the geometry's definitions. Assumes nothing.
-pub mod JoinedTests
 pub mod FiniteVectors
 pub mod BoxLaws
 pub mod UnitLength

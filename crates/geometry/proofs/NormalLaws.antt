@@ -26,7 +26,7 @@ use Rattle.geometry.specs.declared.vec3.Vec3.{Vec3}
 use Rattle.geometry.specs.declared.vec3.Normalized.{Normalized}
 use Rattle.geometry.specs.declared.vec3.Normalized.the-variants.{Unit as UnitOf, Degenerate}
 use Rattle.geometry.proofs.FiniteVectors.{finite-x, finite-y, finite-z}
-use Rattle.geometry.proofs.JoinedTests.{and-first, and-second, and-both, and-three}
+use Rattle.lists.proofs.JoinedTests.{and-first, and-second, and-both, and-three}
 use Rattle.geometry.proofs.UnitLength.{square-of-infinite, square-sign, first-sign, first-sum}
 
 -- ---- what can be normalised

@@ -12,13 +12,14 @@ use Rattle.geometry.specs.Box.{validBox, touches}
 use Rattle.geometry.specs.declared.vec3.Vec3.{Vec3}
 use Rattle.geometry.specs.declared.aabb.Aabb.{Aabb}
 use Rattle.geometry.specs.declared.ray.Ray.{Ray}
-use Rattle.geometry.proofs.JoinedTests.{and-first, and-second}
+use Rattle.lists.proofs.JoinedTests.{and-first, and-second}
 use Rattle.geometry.proofs.BoxLaws.{corners-box-valid}
 use Rattle.casts.specs.Answer.{Answer, outOfBounds, overflow}
 use Rattle.casts.specs.Nearest.{Indexed, nextOf, foldFrom}
 use Rattle.height_field.specs.declared.field.Field.{Field}
 use Rattle.height_field.specs.Grid.{cellAt, cellRow, cellColumn, cornersAt, featureCorners}
-use Rattle.height_field.specs.Listing.{listed, unlisted, keep, allFinite, cellFinite, featureBox, listCell}
+use Rattle.height_field.specs.Listing.{listed, unlisted, allFinite, cellFinite, featureBox, listCell}
+use Rattle.lists.specs.Lists.{keep}
 use Rattle.height_field.specs.Cast.{answerOf}
 use Rattle.height_field.specs.Pass.{Passed, going, ended, passFrom, FiniteCorners, halfOf, passTriangle, passTriangles}
 use Rattle.height_field.proofs.Sizes.{row-of-cell, column-of-cell}

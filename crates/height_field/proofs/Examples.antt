@@ -21,7 +21,8 @@ use Rattle.casts.specs.Nearest.{nextOf, foldFrom, withoutIndex}
 use Rattle.height_field.specs.declared.field.Field.{Field}
 use Rattle.height_field.specs.Grid.{sideAdmitted, spacingAdmitted, fieldAdmitted, floatOf, vertexAt, cellAt, cellRow, cellColumn, cornersAt, featureCorners}
 use Rattle.height_field.specs.Cells.{spanOf, scaledRange, cellRange, run, rangeCells, gridCells, columnRange, rowRange, visitedCells}
-use Rattle.height_field.specs.Listing.{both, listAll, keep, allFinite, cellFinite, featureBox, listCell, gridListing}
+use Rattle.height_field.specs.Listing.{both, listAll, allFinite, cellFinite, featureBox, listCell, gridListing}
+use Rattle.lists.specs.Lists.{keep}
 use Rattle.height_field.specs.Cast.{answerOf, castListed, spanFinite, heightCast, rayHeightField}
 
 -- numbers that are not named elsewhere: 1/4, 3/4, 3/2, 2 and 2^532, whose square is not finite

@@ -10,7 +10,7 @@ use lib.ListN.{length}
 use lib.Ieee.{Float}
 use borrow.Author.Tests.{leb-true, eqb-true}
 use lib.Arith.{digits-lt}
-use Rattle.geometry.proofs.JoinedTests.{and-first, and-second}
+use Rattle.lists.proofs.JoinedTests.{and-first, and-second}
 use Rattle.height_field.specs.declared.field.Field.{Field}
 use Rattle.height_field.specs.Grid.{sideAdmitted, spacingAdmitted, fieldAdmitted, Sized, cellAt, cellRow, cellColumn}
 

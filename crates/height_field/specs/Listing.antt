@@ -3,6 +3,7 @@ use Prim.Native.Nat.{ℕ, _+_, _*_}
 use mathlib.Core.Bool.{Bool, _&&_, cond}
 use mathlib.Core.List.{List, [], _∷_, _++_}
 use lib.Ieee.{Float}
+use Rattle.lists.specs.Lists.{keep}
 use Rattle.geometry.specs.Vector.{finiteVec}
 use Rattle.geometry.specs.Box.{validBox, touches, cornersBox}
 use Rattle.geometry.specs.declared.vec3.Vec3.{Vec3}
@@ -26,11 +27,6 @@ both (listed features) (listed others) = listed (features ++ others)
 unfoldable pub listAll : (ℕ → Listing) → List ℕ → Listing
 listAll list [] = listed []
 listAll list (cell ∷ cells) = both (list cell) (listAll list cells)
-
--- the numbers of a list that pass a test
-unfoldable pub keep : (ℕ → Bool) → List ℕ → List ℕ
-keep test [] = []
-keep test (n ∷ ns) = cond (test n) (n ∷ keep test ns) (keep test ns)
 
 -- the four vertices of a cell
 unfoldable pub allFinite : Vec3 → Vec3 → Vec3 → Vec3 → Bool

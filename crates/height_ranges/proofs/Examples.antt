@@ -17,10 +17,11 @@ use Rattle.height_field.specs.declared.field.Field.{Field}
 use Rattle.height_field.specs.Grid.{sideAdmitted, spacingAdmitted, fieldAdmitted, floatOf, vertexAt, cellAt, cellRow, cellColumn}
 use Rattle.height_field.specs.Grid.{cornersAt, featureCorners}
 use Rattle.height_field.specs.Cells.{spanOf, scaledRange, cellRange, run, rangeCells, gridCells, columnRange, rowRange, visitedCells}
-use Rattle.height_field.specs.Listing.{both, listAll, keep, allFinite, cellFinite, featureBox, listCell, gridListing}
+use Rattle.height_field.specs.Listing.{both, listAll, allFinite, cellFinite, featureBox, listCell, gridListing}
+use Rattle.lists.specs.Lists.{keep, every}
 use Rattle.height_field.specs.Cast.{spanFinite}
 use Rattle.height_ranges.specs.declared.answer.Clearance.the-variants.{Clear, Possible, Refused}
-use Rattle.height_ranges.specs.Ranges.{rangesAdmitted, nodeAt, cellNodes, nodesOf, nodeInOrder, every, nearestHeights}
+use Rattle.height_ranges.specs.Ranges.{rangesAdmitted, nodeAt, cellNodes, nodesOf, nodeInOrder, nearestHeights}
 use Rattle.height_ranges.specs.RangesCast.{answerListed, visitedAnswer, rangesCast, rayHeightRanges}
 
 abbrev quarter : Float

@@ -11,11 +11,12 @@ use Rattle.geometry.specs.Numbers.{_*ᶠ_}
 use Rattle.geometry.specs.Vector.{finiteVec}
 use Rattle.geometry.specs.Box.{touches}
 use Rattle.geometry.specs.declared.aabb.Aabb.{Aabb}
-use Rattle.geometry.proofs.JoinedTests.{and-both, and-three}
+use Rattle.lists.proofs.JoinedTests.{and-both, and-three}
 use Rattle.height_field.specs.declared.field.Field.{Field}
 use Rattle.height_field.specs.Grid.{floatOf, vertexAt, cellRow, cellColumn}
 use Rattle.height_field.specs.Cells.{spanOf}
-use Rattle.height_field.specs.Listing.{listed, keep, allFinite, cellFinite, featureBox, listCell}
+use Rattle.height_field.specs.Listing.{listed, allFinite, cellFinite, featureBox, listCell}
+use Rattle.lists.specs.Lists.{keep}
 use Rattle.height_field.proofs.Sizes.{row-of-cell, column-of-cell}
 use Rattle.height_field.proofs.CellPass.{feature-valid}
 use Rattle.height_ranges.specs.Ranges.{nodeAt, cellNodes}

@@ -10,7 +10,8 @@ use Rattle.geometry.specs.Box.{touches}
 use Rattle.geometry.specs.declared.aabb.Aabb.{Aabb}
 use Rattle.height_field.specs.declared.field.Field.{Field}
 use Rattle.height_field.specs.Grid.{cellRow, cellColumn}
-use Rattle.height_field.specs.Listing.{Listing, listed, both, listAll, keep, cellFinite, featureBox, listCell}
+use Rattle.height_field.specs.Listing.{Listing, listed, both, listAll, cellFinite, featureBox, listCell}
+use Rattle.lists.specs.Lists.{keep}
 use Rattle.height_ranges.specs.declared.answer.Clearance.{Clearance}
 use Rattle.height_ranges.specs.declared.answer.Clearance.the-variants.{Clear, Possible, Refused}
 use Rattle.height_ranges.specs.RangesCast.{answerListed}

@@ -5,9 +5,10 @@ use mathlib.Core.Logic.{⊎-elim}
 use mathlib.Core.Bool.{Bool, true, false, _&&_, true≢false}
 use mathlib.Core.List.{List, [], _∷_, List·Memᴰ·head, List·Memᴰ·tail, List·Memᴰ·not-nil, List·Memᴰ·cases-cons, Memᴰ·append-left}
 use mathlib.Core.List.{Memᴰ·append-right}
-use Rattle.geometry.proofs.JoinedTests.{and-both, and-first, and-second}
+use Rattle.lists.proofs.JoinedTests.{and-both, and-first, and-second}
 use Rattle.height_field.specs.declared.field.Field.{Field}
-use Rattle.height_ranges.specs.Ranges.{cellNodes, nodesOf, every}
+use Rattle.height_ranges.specs.Ranges.{cellNodes, nodesOf}
+use Rattle.lists.specs.Lists.{every}
 use Rattle.height_ranges.specs.Promise.{Among}
 
 module _ (test : ℕ → Bool) where

@@ -11,7 +11,7 @@ use Rattle.arithmetic.specs.Basic.{isFinite, clampTo}
 use Rattle.arithmetic.proofs.Numbers.{finite-number}
 use Rattle.geometry.specs.Box.{validSide, validBox, touches, cornersBox}
 use Rattle.geometry.specs.declared.aabb.Aabb.{Aabb}
-use Rattle.geometry.proofs.JoinedTests.{and-second}
+use Rattle.lists.proofs.JoinedTests.{and-second}
 use Rattle.height_field.specs.declared.field.Field.{Field}
 use Rattle.height_field.specs.Grid.{vertexAt, cellRow, cellColumn, cornersAt, featureCorners}
 use Rattle.height_field.specs.Listing.{featureBox}

@@ -13,7 +13,7 @@ use Rattle.arithmetic.proofs.ExtremesOrder.{maximum-above-second}
 use Rattle.geometry.specs.Vector.{vector, minOf, maxOf}
 use Rattle.geometry.specs.Box.{validSide, touchSide, touches, cornersBox}
 use Rattle.geometry.specs.declared.aabb.Aabb.{Aabb}
-use Rattle.geometry.proofs.JoinedTests.{and-both, and-first, and-second, and-three}
+use Rattle.lists.proofs.JoinedTests.{and-both, and-first, and-second, and-three}
 use Rattle.height_ranges.proofs.Clamps.{clamp-finite, clamp-below, clamp-reaches}
 
 -- ---- the least and the greatest of three

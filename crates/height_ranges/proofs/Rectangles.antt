@@ -12,7 +12,8 @@ use Rattle.height_field.specs.declared.field.Field.{Field}
 use Rattle.height_field.specs.Grid.{cellAt, cellColumn}
 use Rattle.height_field.specs.Cells.{run, gridCells}
 use Rattle.height_field.proofs.Sizes.{row-of-cell, column-of-cell}
-use Rattle.height_ranges.specs.Ranges.{nodeAt, nodesAt, cellNodes, nodesOf, every}
+use Rattle.height_ranges.specs.Ranges.{nodeAt, nodesAt, cellNodes, nodesOf}
+use Rattle.lists.specs.Lists.{every}
 use Rattle.height_ranges.specs.Pass.{gridNodes}
 use Rattle.height_ranges.specs.Promise.{Among}
 use Rattle.height_ranges.proofs.Members.{every-at, every-of, nodes-of-cell}

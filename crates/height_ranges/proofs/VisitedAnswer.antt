@@ -16,7 +16,8 @@ use Rattle.height_field.specs.Listing.{listAll, gridListing}
 use Rattle.height_field.proofs.Ranges.{visited-cells, visited-stands}
 use Rattle.height_field.proofs.Sizes.{admitted-sized}
 use Rattle.height_ranges.specs.declared.answer.Clearance.the-variants.{Clear, Refused}
-use Rattle.height_ranges.specs.Ranges.{nodesOf, nodeInOrder, every, nearestHeights}
+use Rattle.height_ranges.specs.Ranges.{nodesOf, nodeInOrder, nearestHeights}
+use Rattle.lists.specs.Lists.{every}
 use Rattle.height_ranges.specs.RangesCast.{badRange, answerListed, visitedAnswer}
 use Rattle.height_ranges.specs.Pass.{cellTouches, firstCell, gridNodes}
 use Rattle.height_ranges.specs.Promise.{Tested}

@@ -1,7 +1,7 @@
 -- A low and a high for each node: which nodes count, which ranges are in order, and the one grid that decides. Definitions only.
 -- Assumes nothing.
 use Prim.Native.Nat.{ℕ, _+_, _*_}
-use mathlib.Core.Bool.{Bool, true, _&&_}
+use mathlib.Core.Bool.{Bool, _&&_}
 use mathlib.Core.List.{List, [], _∷_, _++_}
 use lib.Dec.{eqb}
 use lib.Ieee.{Float, nan}
@@ -38,11 +38,6 @@ nodesOf f (cell ∷ cells) = cellNodes f cell ++ nodesOf f cells
 -- not "out of order or not finite": both ends are finite, and the low is at most the high, as a valid box's side
 unfoldable pub nodeInOrder : List Float → List Float → ℕ → Bool
 nodeInOrder lows highs node = validSide (getD lows node nan) (getD highs node nan)
-
--- whether all numbers of a list pass a test
-unfoldable pub every : (ℕ → Bool) → List ℕ → Bool
-every test [] = true
-every test (n ∷ ns) = test n && every test ns
 
 -- ---- the grid that decides
 

@@ -14,7 +14,8 @@ use Rattle.height_field.specs.Listing.{Listing, listed, unlisted, gridListing}
 use Rattle.height_field.specs.Cast.{spanFinite}
 use Rattle.height_ranges.specs.declared.answer.Clearance.{Clearance}
 use Rattle.height_ranges.specs.declared.answer.Clearance.the-variants.{Clear, Possible, Refused}
-use Rattle.height_ranges.specs.Ranges.{rangesAdmitted, nodesOf, nodeInOrder, every, nearestHeights}
+use Rattle.height_ranges.specs.Ranges.{rangesAdmitted, nodesOf, nodeInOrder, nearestHeights}
+use Rattle.lists.specs.Lists.{every}
 
 -- "number 9 for a range of a visited cell that is out of order or not finite"
 abbrev pub badRange : ℕ

@@ -3,7 +3,7 @@ use mathlib.Core.Path.{_≡_, refl}
 use mathlib.Core.Bool.{Bool, true, false, _&&_}
 use mathlib.Core.List.{List, [], _∷_}
 use lib.Ieee.{span, climb, size, odd, units, round, neg, sum, add, sub, mul, div, lt, eq, le, ne, ofInt, toUnsigned, isNan, ofFields, ofBits, toBits}
-use Rattle.geometry.proofs.JoinedTests.{and-first, and-second}
+use Rattle.lists.proofs.JoinedTests.{and-first, and-second}
 use Rattle.arithmetic.specs.Basic.{isFinite, absolute, negative, signPositive, clampTo}
 use Rattle.arithmetic.specs.Extremes.{minimumOf, maximumOf}
 use Rattle.arithmetic.specs.Root.{rootDigits, wholeRoot, rootRound, rootOf}
@@ -19,7 +19,8 @@ use Rattle.casts.specs.Triangle.{flat, triangleNormal, hasNormal, triangleAbove
 use Rattle.casts.specs.Nearest.{nextOf, foldFrom, withoutIndex}
 use Rattle.height_field.specs.Grid.{sideAdmitted, spacingAdmitted, fieldAdmitted, floatOf, vertexAt, cellAt, cellRow, cellColumn, cornersAt, featureCorners}
 use Rattle.height_field.specs.Cells.{scaledRange, spanOf, cellRange, run, rangeCells, gridCells, columnRange, rowRange, visitedCells}
-use Rattle.height_field.specs.Listing.{both, listAll, keep, allFinite, cellFinite, featureBox, listCell, gridListing}
+use Rattle.height_field.specs.Listing.{both, listAll, allFinite, cellFinite, featureBox, listCell, gridListing}
+use Rattle.lists.specs.Lists.{keep, range, count, every, gather, insertBy, sortBy, folded}
 use Rattle.height_field.specs.Cast.{answerOf, castListed, spanFinite, heightCast, rayHeightField}
 use Rattle.cubic.specs.Polynomial.{cubicBy, cubicOf, finiteCubic, evaluate, rootTolerance}
 use Rattle.cubic.specs.Turns.{betweenEnds, keptPoint, keptPoints, vertex, turningBy, turningPoints, extrema}
@@ -35,20 +36,23 @@ use Rattle.level_set.specs.Sampling.{gathered, sampleFaces, sampleCell, sample}
 use Rattle.level_set.specs.Heights.{across, cellValue, isFraction, smallValue, smallFace, fairSide, fairSpacing}
 use Rattle.level_set.specs.Hits.{pointAt, along, hitWith, hitAlong, touchAt, valueAlong, samplesOf, samplesAlong}
 use Rattle.level_set.specs.Walk.{goesOn, cellBy, cellCast, goesTo, walkStep, cellLimit, walkFrom, levelSetCast, rayLevelSet}
-use Rattle.tree.specs.Lists.{range, count, keep as tree-keep, every, gather, insertBy, sortBy}
-use Rattle.tree.specs.Layout.{vectorAt, boxAt}
+use Rattle.tree.specs.Layout.{vectorAt, boxAt, boxNumbers}
 use Rattle.tree.specs.Mesh.{lengthsAdmitted, cornersInside, cornerAt, cornersOf, triangleBox, triangleAnswer, candidates}
 use Rattle.tree_build.specs.Shape.{shapeWithin, shapeOf, sizeOf, nodesOf, wordsOf}
-use Rattle.tree_build.specs.Ranges.{boxNumbers, folded, longestAxis, laneOf, hullOf, centreOf, extentOf, keyOf, standsBefore, sortedRange, leftRange, rightRange, extentsFinite, orderBelow, boxesBelow}
-use Rattle.tree_build.specs.Build.{zeroed, roomFor, eachBox, triangleFits, trianglesFit, boxesWritten, treeWritten, builtOf, buildOf}
+use Rattle.tree_ranges.specs.Extents.{longestAxis, hullOf, centreOf, extentOf}
+use Rattle.tree_ranges.specs.Keys.{laneOf, keyOf, standsBefore}
+use Rattle.tree_build.specs.Ranges.{sortedRange, leftRange, rightRange, extentsFinite, orderBelow, boxesBelow}
+use Rattle.tree_build.specs.Build.{zeroed, roomFor, treeWritten, builtOf, buildOf}
+use Rattle.tree.specs.Mesh.{eachBox, triangleFits, trianglesFit, boxesWritten}
 use Rattle.tree_query.specs.Walk.{times, takePlace, takePlaces, atLeaf, childFits, atBranch, atNode, takeNode, start, ended, walkOf}
 use Rattle.tree_query.specs.Query.{treeFits, walkFits}
 use Rattle.mesh.specs.MeshCast.{shapeAdmitted, roomFor as mesh-roomFor, overWalk, meshCast, rayMesh}
-use Rattle.known_answers.specs.Cases.{outcome, areasFor, built, throughTree, ofBuilt}
+use Rattle.mesh.specs.Through.{throughBuilt}
+use Rattle.known_answers.specs.Cases.{outcome, ofBuilt}
 use Rattle.known_answers.specs.Table.{Entry, table, right, allRight, repeated}
 
 pub known-answers-hold : allRight table ≡ true
-unfolding table right allRight repeated outcome areasFor built throughTree ofBuilt span climb size odd units round neg sum add sub mul div lt eq le ne ofInt toUnsigned isNan ofFields ofBits toBits isFinite absolute negative signPositive clampTo minimumOf maximumOf rootDigits wholeRoot rootRound rootOf wholeBy floorOf roundOf totalOrder component finiteVec addOf subOf negOf scaleOf minOf maxOf absOf maxElement dotOf checkedDot crossOf lengthOf normalizable zeroVec dotTells scaledToOne overLength tryNormalize digitsOf scaledBy unit validSide validBox touchSide touches withinSide encloses sameSide sameBox unionOf centre cornersBox unitLength rayAdmitted segmentEnd segmentBox outOfRange facing planeAdmitted planeAt planeCast rayPlane flat triangleNormal hasNormal triangleAbove triangleAt triangleOf rayTriangle nextOf foldFrom withoutIndex sideAdmitted spacingAdmitted fieldAdmitted floatOf vertexAt cellAt cellRow cellColumn cornersAt featureCorners scaledRange spanOf cellRange run rangeCells gridCells columnRange rowRange visitedCells both listAll keep allFinite cellFinite featureBox listCell gridListing answerOf castListed spanFinite heightCast rayHeightField cubicBy cubicOf finiteCubic evaluate rootTolerance betweenEnds keptPoint keptPoints vertex turningBy turningPoints extrema middleOf halveAt halve halvings settled insert sorted points rootBetween searchOn searchFrom searchList rootOfCubic firstCubicRoot levelset-sideAdmitted levelset-spacingAdmitted sidesAdmitted gridAdmitted lastNode lastCorner gridBox kept cut slabFrom slab started rayAabbInterval upTo slack floorCell leavesNode wholeCell levelset-cellAt cellOnAxis rayCellIndices nodeAhead boundaryDistance boundaryBy axisBoundary nextCellBoundary topOf drawnTo drawn drawnPoint cellBelow placeOf placeAt locateAxis locateInside locate valueAt faceAt checked blend lerp checkedDifference over lerpFace valueOn slopeOn gathered sampleFaces sampleCell sample across cellValue isFraction smallValue smallFace fairSide fairSpacing pointAt along hitWith hitAlong touchAt valueAlong samplesOf samplesAlong goesOn cellBy cellCast goesTo walkStep cellLimit walkFrom levelSetCast rayLevelSet range count tree-keep every gather insertBy sortBy vectorAt boxAt lengthsAdmitted cornersInside cornerAt cornersOf triangleBox triangleAnswer candidates shapeWithin shapeOf sizeOf nodesOf wordsOf boxNumbers folded longestAxis laneOf hullOf centreOf extentOf keyOf standsBefore sortedRange leftRange rightRange extentsFinite orderBelow boxesBelow zeroed roomFor eachBox triangleFits trianglesFit boxesWritten treeWritten builtOf buildOf times takePlace takePlaces atLeaf childFits atBranch atNode takeNode start ended walkOf treeFits walkFits shapeAdmitted mesh-roomFor overWalk meshCast rayMesh
+unfolding table right allRight repeated outcome throughBuilt ofBuilt span climb size odd units round neg sum add sub mul div lt eq le ne ofInt toUnsigned isNan ofFields ofBits toBits isFinite absolute negative signPositive clampTo minimumOf maximumOf rootDigits wholeRoot rootRound rootOf wholeBy floorOf roundOf totalOrder component finiteVec addOf subOf negOf scaleOf minOf maxOf absOf maxElement dotOf checkedDot crossOf lengthOf normalizable zeroVec dotTells scaledToOne overLength tryNormalize digitsOf scaledBy unit validSide validBox touchSide touches withinSide encloses sameSide sameBox unionOf centre cornersBox unitLength rayAdmitted segmentEnd segmentBox outOfRange facing planeAdmitted planeAt planeCast rayPlane flat triangleNormal hasNormal triangleAbove triangleAt triangleOf rayTriangle nextOf foldFrom withoutIndex sideAdmitted spacingAdmitted fieldAdmitted floatOf vertexAt cellAt cellRow cellColumn cornersAt featureCorners scaledRange spanOf cellRange run rangeCells gridCells columnRange rowRange visitedCells both listAll keep allFinite cellFinite featureBox listCell gridListing answerOf castListed spanFinite heightCast rayHeightField cubicBy cubicOf finiteCubic evaluate rootTolerance betweenEnds keptPoint keptPoints vertex turningBy turningPoints extrema middleOf halveAt halve halvings settled insert sorted points rootBetween searchOn searchFrom searchList rootOfCubic firstCubicRoot levelset-sideAdmitted levelset-spacingAdmitted sidesAdmitted gridAdmitted lastNode lastCorner gridBox kept cut slabFrom slab started rayAabbInterval upTo slack floorCell leavesNode wholeCell levelset-cellAt cellOnAxis rayCellIndices nodeAhead boundaryDistance boundaryBy axisBoundary nextCellBoundary topOf drawnTo drawn drawnPoint cellBelow placeOf placeAt locateAxis locateInside locate valueAt faceAt checked blend lerp checkedDifference over lerpFace valueOn slopeOn gathered sampleFaces sampleCell sample across cellValue isFraction smallValue smallFace fairSide fairSpacing pointAt along hitWith hitAlong touchAt valueAlong samplesOf samplesAlong goesOn cellBy cellCast goesTo walkStep cellLimit walkFrom levelSetCast rayLevelSet range count every gather insertBy sortBy vectorAt boxAt lengthsAdmitted cornersInside cornerAt cornersOf triangleBox triangleAnswer candidates shapeWithin shapeOf sizeOf nodesOf wordsOf boxNumbers folded longestAxis laneOf hullOf centreOf extentOf keyOf standsBefore sortedRange leftRange rightRange extentsFinite orderBelow boxesBelow zeroed roomFor eachBox triangleFits trianglesFit boxesWritten treeWritten builtOf buildOf times takePlace takePlaces atLeaf childFits atBranch atNode takeNode start ended walkOf treeFits walkFits shapeAdmitted mesh-roomFor overWalk meshCast rayMesh
 known-answers-hold = refl
 
 -- e stands in a table

@@ -1,10 +1,9 @@
 -- A marked case, what the definitions give for it, and what document 01 can say of that. Definitions only. Assumes nothing.
-use Prim.Native.Nat.{ℕ, _+_, _*_}
+use Prim.Native.Nat.{ℕ}
 use mathlib.Core.Bool.{Bool, true, false}
 use mathlib.Core.List.{List}
 use lib.Dec.{eqb}
 use lib.Ieee.{Float, binary64, toBits}
-use lib.ListN.{length, replicate}
 use Rattle.arithmetic.specs.Root.{rootOf}
 use Rattle.arithmetic.specs.Rounding.{roundOf}
 use Rattle.geometry.specs.declared.vec3.Vec3.{Vec3}
@@ -18,11 +17,9 @@ use Rattle.height_field.specs.Cast.{rayHeightField}
 use Rattle.height_field.specs.declared.field.Field.{Field}
 use Rattle.level_set.specs.Walk.{rayLevelSet}
 use Rattle.level_set.specs.declared.grid.Grid.{Grid}
-use Rattle.tree.specs.Mesh.{Mesh, thirds}
-use Rattle.tree_build.specs.Build.{Areas, Outcome as Written, Answer as Built, nodes, refused as unbuilt, buildOf}
-use Rattle.mesh.specs.Builder.{treeIn}
-use Rattle.mesh.specs.MeshCast.{rayMesh}
-use Rattle.geometry.specs.Numbers.{zeroᶠ}
+use Rattle.tree.specs.Mesh.{Mesh}
+use Rattle.tree_build.specs.Build.{Answer as Built, nodes, refused as unbuilt}
+use Rattle.mesh.specs.Through.{throughOwnTree, freshlyBuilt}
 
 -- what is asked
 pub data Case : Type 0 where
@@ -52,24 +49,6 @@ ofIndexed (hitAt normal distance index) = hits distance index
 ofIndexed noHit = misses
 ofIndexed (stopped number) = refuses number
 
--- areas that are exactly long enough for a mesh
-unfoldable pub areasFor : ℕ → Areas
-areasFor n = record {
-  nodeBoxes = replicate (12 * n) zeroᶠ;
-  triangleBoxes = replicate (6 * n) zeroᶠ;
-  nodeWords = replicate (6 * n) 0;
-  order = replicate n 0;
-}
-
-unfoldable pub built : Mesh → Written
-built m = buildOf m (areasFor (thirds (length (m .triangles)))) (thirds (length (m .triangles)))
-
--- the cast at a mesh through the tree that the build writes, or the build's refusal
-unfoldable pub throughTree : Ray → Mesh → Built → Areas → Outcome
-throughTree r m (nodes count) areas =
-    ofIndexed (rayMesh r m (m .vertices) (treeIn count areas) (thirds (length (m .triangles))) (2 * thirds (length (m .triangles)) + 1))
-throughTree r m (unbuilt number) areas = refuses number
-
 unfoldable pub ofBuilt : Built → Outcome
 ofBuilt (nodes count) = gives count
 ofBuilt (unbuilt number) = refuses number
@@ -77,8 +56,8 @@ ofBuilt (unbuilt number) = refuses number
 unfoldable pub outcome : Case → Outcome
 outcome (atPlane plane r) = ofAnswer (rayPlane plane r)
 outcome (atTriangle corners r) = ofAnswer (rayTriangle r corners)
-outcome (atMesh m r) = throughTree r m (built m .answer) (built m .after)
-outcome (buildOfMesh m) = ofBuilt (built m .answer)
+outcome (atMesh m r) = ofIndexed (throughOwnTree r m)
+outcome (buildOfMesh m) = ofBuilt (freshlyBuilt m .answer)
 outcome (atHeights f heights r) = ofAnswer (rayHeightField r f heights)
 outcome (atDistances g values r) = ofAnswer (rayLevelSet r g values)
 outcome (rootAt x) = gives (toBits binary64 (rootOf x))

@@ -18,7 +18,7 @@ use Rattle.arithmetic.proofs.RoundedNumbers.{round-number, sum-number}
 use Rattle.geometry.specs.Numbers.{_+ᶠ_, _*ᶠ_, zeroᶠ}
 use Rattle.geometry.specs.Vector.{finiteVec, minOf, maxOf}
 use Rattle.geometry.specs.Box.{validSide, validBox}
-use Rattle.geometry.proofs.JoinedTests.{and-first, and-second}
+use Rattle.lists.proofs.JoinedTests.{and-first, and-second}
 use Rattle.level_set.specs.Grid.{whole, lastNode, lastCorner, gridBox, sidesAdmitted, spacingAdmitted, gridAdmitted, SideStands}
 use Rattle.level_set.specs.Drawing.{AxisStands, AxesStand, Held}
 use Rattle.level_set.specs.declared.grid.Grid.{Grid}

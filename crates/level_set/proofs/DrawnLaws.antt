@@ -21,7 +21,7 @@ use Rattle.arithmetic.proofs.RoundedSigns.{round-not-negative}
 use Rattle.arithmetic.proofs.SumOrder.{nothing, sum-at-most, sum-above, difference-at-most, difference-not-negative, difference-mono}
 use Rattle.arithmetic.proofs.SumOrder.{neg-finite}
 use Rattle.arithmetic.proofs.QuotientOrder.{Positive, positive, positive-of, between-finite, quotient-finite, product-divided}
-use Rattle.geometry.proofs.JoinedTests.{and-first, and-second}
+use Rattle.lists.proofs.JoinedTests.{and-first, and-second}
 use Rattle.geometry.specs.Numbers.{_+ᶠ_, _-ᶠ_, _*ᶠ_, _/ᶠ_, zeroᶠ}
 use Rattle.level_set.specs.Grid.{whole, lastNode, spacingAdmitted}
 use Rattle.level_set.specs.Places.{topOf, drawnTo, drawn, placeOf, placeAt, locateAxis}

@@ -8,7 +8,7 @@ use lib.Dec.{leb, eqb}
 use lib.Ieee.{Float}
 use lib.ListN.{length}
 use borrow.Author.Tests.{leb-true, eqb-true}
-use Rattle.geometry.proofs.JoinedTests.{and-first, and-second}
+use Rattle.lists.proofs.JoinedTests.{and-first, and-second}
 use Rattle.level_set.specs.Grid.{nodes, sideAdmitted, sidesAdmitted, gridAdmitted, SideStands, SidesStand, Stands}
 use Rattle.level_set.specs.declared.grid.Sides.{Sides}
 use Rattle.level_set.specs.declared.grid.Grid.{Grid}

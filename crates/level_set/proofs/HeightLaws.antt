@@ -21,7 +21,7 @@ use Rattle.level_set.specs.Heights.{heightOf, across, cellValue, isFract
 use Rattle.level_set.specs.declared.faces.Face.{Face}
 use Rattle.level_set.specs.declared.heights.Height.{Height}
 use Rattle.level_set.specs.declared.heights.Height.the-variants.{At as HeightAt}
-use Rattle.geometry.proofs.JoinedTests.{and-first, and-second}
+use Rattle.lists.proofs.JoinedTests.{and-first, and-second}
 use Rattle.arithmetic.proofs.Bounds.{Within, within, Beyond, beyond, within-finite, wider, sum-within, difference-within, product-within, quotient-within}
 
 -- ---- what the tests say

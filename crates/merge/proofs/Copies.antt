@@ -10,11 +10,11 @@ use lib.Dec.{eqb}
 use borrow.Author.Tests.{eqb-true}
 use Rattle.geometry.specs.Box.{validBox, encloses}
 use Rattle.geometry.specs.declared.aabb.Aabb.{Aabb}
-use Rattle.tree.specs.Lists.{range, count, gather}
+use Rattle.lists.specs.Lists.{range, count, gather}
 use Rattle.tree.specs.Layout.{Tree, wordAt, boxAt, kindAt, firstAt, secondAt}
 use Rattle.tree.specs.Mesh.{Mesh}
-use Rattle.tree.proofs.CountLaws.{count-cons, count-nil, one-same, gathers, range-bounds, count-range-inside}
-use Rattle.tree.proofs.WithinLaws.{Within}
+use Rattle.lists.proofs.CountLaws.{count-cons, count-nil, one-same, gathers, range-bounds, count-range-inside}
+use Rattle.lists.proofs.WithinLaws.{Within}
 use Rattle.tree_check.specs.Check.{triangleCount, nodes, isLeaf, isBranch, childrenOf, placesOf}
 use Rattle.mesh.proofs.CheckedTree.{Checked, branch-children, no-children, leaf-places, no-places}
 use Rattle.mesh.proofs.TreeCounts.{placedAt, trianglesOf, triangles-within, place-bound}

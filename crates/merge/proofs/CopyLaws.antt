@@ -8,10 +8,10 @@ use native.Mathlib.Omega.{arith}
 use lib.ListN.{length, getD, set, take}
 use borrow.Author.Tests.{ne-eqb}
 use lib.Seq.{sets, take-suc, length-take-le}
-use Rattle.tree.specs.Lists.{range, gather}
+use Rattle.lists.specs.Lists.{range, gather}
 use Rattle.tree.specs.Layout.{wordAt, kindAt, firstAt, secondAt}
-use Rattle.tree.proofs.CountLaws.{gather-append}
-use Rattle.tree_build.proofs.Runs.{sets-append}
+use Rattle.lists.proofs.CountLaws.{gather-append}
+use Rattle.lists.proofs.Runs.{sets-append}
 use Rattle.merge.specs.Moved.{movedUp, movedNode, movedNodes}
 use Rattle.merge.proofs.MovedLists.{length-moved, moved-append, range-split}
 use Rattle.merge.proofs.Written.{length-nodes}

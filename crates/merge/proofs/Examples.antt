@@ -11,10 +11,9 @@ use Rattle.arithmetic.specs.Extremes.{minimumOf, maximumOf}
 use Rattle.geometry.specs.Numbers.{zeroᶠ, oneᶠ}
 use Rattle.geometry.specs.Vector.{minOf, maxOf}
 use Rattle.geometry.specs.Box.{validSide, validBox, withinSide, encloses, sameSide, sameBox, unionOf}
-use Rattle.tree.specs.Lists.{range, count, every, gather}
-use Rattle.tree.specs.Layout.{vectorAt, boxAt}
+use Rattle.lists.specs.Lists.{range, count, every, gather}
+use Rattle.tree.specs.Layout.{vectorAt, boxAt, boxNumbers}
 use Rattle.tree.specs.Mesh.{cornersInside, cornerAt, triangleBox}
-use Rattle.tree_build.specs.Ranges.{boxNumbers}
 use Rattle.tree_check.specs.Check.{childrenOf, placesOf, kindsKnown, childrenAbove, leavesInside, namedOnce, placedOnce, orderedOnce}
 use Rattle.tree_check.specs.Check.{leavesFilled, cornersKnown, boxesSame, boxesValid, nodeEncloses, enclosed, clausesHold, treePasses}
 use Rattle.tree_query.specs.Query.{treeFits}

@@ -7,11 +7,11 @@ use mathlib.Core.Bool.{Bool, true, false, _||_, true≢false}
 use mathlib.Core.List.{List, [], _∷_, _++_}
 use native.Mathlib.Omega.{arith}
 use lib.ListN.{length, length-append}
-use Rattle.tree.specs.Lists.{range, count, gather}
+use Rattle.lists.specs.Lists.{range, count, gather}
 use Rattle.tree.specs.Layout.{Tree, wordAt, firstAt, secondAt}
 use Rattle.tree.specs.Mesh.{Mesh}
-use Rattle.tree.proofs.CountLaws.{gather-cons, count-cons, one-same, length-range, range-bounds}
-use Rattle.tree.proofs.WithinLaws.{Within, within-length}
+use Rattle.lists.proofs.CountLaws.{gather-cons, count-cons, one-same, length-range, range-bounds}
+use Rattle.lists.proofs.WithinLaws.{Within, within-length}
 use Rattle.tree_check.specs.Check.{triangleCount, nodes, isLeaf, isBranch, childrenOf, placesOf, treePasses}
 use Rattle.mesh.proofs.CheckedTree.{Checked, checked-or-empty, branch-children, leaf-places}
 use Rattle.mesh.proofs.TreeCounts.{placedAt, trianglesOf, named-within, triangles-within}

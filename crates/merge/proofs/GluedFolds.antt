@@ -9,7 +9,8 @@ use Rattle.arithmetic.proofs.Order.{le-of-lt, le-left-number, le-right-number, 
 use Rattle.geometry.specs.declared.vec3.Vec3.{Vec3}
 use Rattle.casts.specs.Answer.{Answer, hit, none, refused}
 use Rattle.casts.specs.Nearest.{Indexed, hitAt, noHit, stopped, nextOf, foldFrom, nearestOf}
-use Rattle.casts.proofs.AnswerLists.{Each, HitSuch, IsNumber, each-rest, hit-not-none, hit-not-stopped}
+use Rattle.lists.proofs.Members.{Each, each-rest}
+use Rattle.casts.proofs.AnswerLists.{HitSuch, IsNumber, hit-not-none, hit-not-stopped}
 use Rattle.merge.specs.Moved.{movedUp}
 use Rattle.merge.specs.Glue.{glue}
 

@@ -9,7 +9,7 @@ use lib.Ieee.{Float, nan}
 use lib.ListN.{length, getD, length-append, List·getD-append}
 use lib.Seq.{getD-append-add}
 use borrow.Author.Tests.{ltb-true, lt-ltb}
-use Rattle.geometry.proofs.JoinedTests.{and-first, and-second, and-three}
+use Rattle.lists.proofs.JoinedTests.{and-first, and-second, and-three}
 use Rattle.geometry.specs.declared.ray.Ray.{Ray}
 use Rattle.tree.specs.Layout.{vectorAt, wordAt}
 use Rattle.tree.specs.Mesh.{thirds, cornerIndex, cornersInside, cornerAt, triangleBox, triangleAnswer}

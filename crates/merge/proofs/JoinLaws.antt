@@ -9,9 +9,9 @@ use lib.Ieee.{Float}
 use lib.ListN.{length, take, length-append}
 use lib.Seq.{sets, take-length}
 use Rattle.geometry.specs.declared.aabb.Aabb.{Aabb}
-use Rattle.tree_build.specs.Ranges.{boxNumbers}
-use Rattle.tree_build.specs.Build.{over}
-use Rattle.tree_build.proofs.Runs.{sets-front}
+use Rattle.tree.specs.Layout.{boxNumbers}
+use Rattle.lists.specs.Lists.{over}
+use Rattle.lists.proofs.Runs.{sets-front}
 use Rattle.merge.specs.Moved.{movedUp}
 use Rattle.merge.proofs.CopyLaws.{run-next}
 

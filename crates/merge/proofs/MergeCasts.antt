@@ -14,10 +14,11 @@ use Rattle.geometry.specs.declared.aabb.Aabb.{Aabb}
 use Rattle.geometry.specs.declared.ray.Ray.{Ray}
 use Rattle.casts.specs.Answer.{Answer, invalidInput, outOfBounds, overflow}
 use Rattle.casts.specs.Nearest.{Indexed, stopped, nearestOf}
-use Rattle.casts.proofs.AnswerLists.{Each, HitSuch, IsNumber}
-use Rattle.tree.specs.Lists.{range, keep, count}
+use Rattle.lists.proofs.Members.{Each}
+use Rattle.casts.proofs.AnswerLists.{HitSuch, IsNumber}
+use Rattle.lists.specs.Lists.{range, keep, count}
 use Rattle.tree.specs.Mesh.{Mesh, lengthsAdmitted, triangleBox, triangleAnswer, candidates}
-use Rattle.tree.proofs.CountLaws.{keep-alike, range-bounds}
+use Rattle.lists.proofs.CountLaws.{keep-alike, range-bounds}
 use Rattle.tree.proofs.Corners.{answers-measured}
 use Rattle.mesh.specs.MeshCast.{rayMesh}
 use Rattle.mesh.specs.Demand3.{PassesCheck}

@@ -9,11 +9,11 @@ use lib.Dec.{eqb, leb}
 use lib.ListN.{length, take, drop, length-append, length-drop}
 use lib.Seq.{take-at}
 use borrow.Author.Tests.{eqb-true, leb-true, le-leb, eq-eqb}
-use Rattle.geometry.proofs.JoinedTests.{and-first, and-second}
+use Rattle.lists.proofs.JoinedTests.{and-first, and-second}
 use Rattle.casts.specs.Answer.{badShape, noRoom, outOfBounds}
 use Rattle.tree.specs.Layout.{Tree}
 use Rattle.tree.specs.Mesh.{Mesh, thirds, lengthsAdmitted}
-use Rattle.tree_build.specs.Build.{over}
+use Rattle.lists.specs.Lists.{over}
 use Rattle.tree_query.specs.Query.{treeFits}
 use Rattle.tree_check.specs.Check.{triangleCount, treePasses}
 use Rattle.tree_check.specs.Verdict.{yes, roomFor as roomToCheck, checkOf}

@@ -9,10 +9,10 @@ use mathlib.Core.List.{List, [], _∷_, _++_, append-nil}
 use native.Mathlib.Omega.{arith}
 use lib.Dec.{eqb}
 use borrow.Author.Tests.{eqb-true, eqb-false}
-use Rattle.tree.specs.Lists.{range, count, gather}
+use Rattle.lists.specs.Lists.{range, count, gather}
 use Rattle.tree.specs.Layout.{Tree}
 use Rattle.tree.specs.Mesh.{Mesh}
-use Rattle.tree.proofs.CountLaws.{one, one-other, same-or-other, count-cons, count-nil, count-append, gather-append}
+use Rattle.lists.proofs.CountLaws.{one, one-other, same-or-other, count-cons, count-nil, count-append, gather-append}
 use Rattle.tree_check.specs.Check.{triangleCount, nodes, placesOf}
 use Rattle.mesh.proofs.CheckedTree.{Checked}
 use Rattle.mesh.proofs.TreeCounts.{below-or-not}

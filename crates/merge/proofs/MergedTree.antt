@@ -12,10 +12,10 @@ use lib.ListN.{length, take, drop, length-append}
 use lib.Seq.{length-take-le, take-at}
 use Rattle.geometry.specs.Box.{validBox, encloses, sameBox, unionOf}
 use Rattle.geometry.specs.declared.aabb.Aabb.{Aabb}
-use Rattle.tree.specs.Lists.{range, count, gather}
+use Rattle.lists.specs.Lists.{range, count, gather}
 use Rattle.tree.specs.Layout.{Tree, wordAt, boxAt, kindAt, firstAt, secondAt}
 use Rattle.tree.specs.Mesh.{Mesh, thirds, cornersInside, triangleBox}
-use Rattle.tree.proofs.CountLaws.{one, one-same, one-other, same-or-other, count-cons, count-nil, count-append, range-bounds, length-range}
+use Rattle.lists.proofs.CountLaws.{one, one-same, one-other, same-or-other, count-cons, count-nil, count-append, range-bounds, length-range}
 use Rattle.tree_check.specs.Check.{triangleCount, nodes, isLeaf, isBranch, childrenOf, placesOf}
 use Rattle.mesh.proofs.CheckedTree.{Checked, branch-children, no-places}
 use Rattle.mesh.proofs.TreeCounts.{below-or-not, count-zero, child-bounds, place-bound, placedAt, words-are-order, order-within}

@@ -8,8 +8,8 @@ use mathlib.Core.List.{List, [], _∷_, _++_, append-assoc}
 use native.Mathlib.Omega.{arith}
 use lib.ListN.{length, getD, length-append, List·getD-append}
 use lib.Seq.{getD-append-add}
-use Rattle.tree.specs.Lists.{range, count, keep, gather}
-use Rattle.tree.proofs.CountLaws.{one, one-same, one-other, same-or-other, count-cons, count-nil, gather-cons}
+use Rattle.lists.specs.Lists.{range, count, keep, gather}
+use Rattle.lists.proofs.CountLaws.{one, one-same, one-other, same-or-other, count-cons, count-nil, gather-cons}
 use Rattle.merge.specs.Moved.{movedUp}
 
 -- ---- a list

@@ -7,12 +7,12 @@ use native.Mathlib.Omega.{arith}
 use lib.Dec.{eqb, leb}
 use lib.ListN.{length}
 use borrow.Author.Tests.{eqb-true, ne-eqb, leb-true}
-use Rattle.geometry.proofs.JoinedTests.{and-first, and-second}
-use Rattle.tree.specs.Lists.{range, count}
+use Rattle.lists.proofs.JoinedTests.{and-first, and-second}
+use Rattle.lists.specs.Lists.{range, count}
 use Rattle.tree.specs.Layout.{Tree, wordAt, kindAt, firstAt, secondAt}
 use Rattle.tree.specs.Mesh.{Mesh, thirds}
-use Rattle.tree.proofs.CountLaws.{count-cons, count-nil, one-same, gathers, range-bounds, count-range-inside}
-use Rattle.tree.proofs.WithinLaws.{Within}
+use Rattle.lists.proofs.CountLaws.{count-cons, count-nil, one-same, gathers, range-bounds, count-range-inside}
+use Rattle.lists.proofs.WithinLaws.{Within}
 use Rattle.tree_check.specs.Check.{triangleCount, isLeaf, isBranch, childrenOf}
 use Rattle.mesh.proofs.CheckedTree.{Checked, branch-children}
 use Rattle.mesh.proofs.TreeCounts.{placedAt, order-within}

@@ -8,13 +8,12 @@ use lib.Ieee.{Float}
 use lib.ListN.{length, take}
 use mathlib.Core.List.{List, [], _∷_, _++_}
 use Rattle.geometry.specs.Box.{unionOf}
-use Rattle.tree.specs.Layout.{boxAt}
-use Rattle.tree_build.specs.Ranges.{boxNumbers}
+use Rattle.tree.specs.Layout.{boxAt, boxNumbers}
 use Rattle.merge.specs.Moved.{movedUp, movedNodes}
 use borrow.Author.Tests.{leb-true}
-use Rattle.geometry.proofs.JoinedTests.{and-first, and-second}
+use Rattle.lists.proofs.JoinedTests.{and-first, and-second}
 use Rattle.casts.specs.Answer.{badShape, noRoom, outOfBounds}
-use Rattle.tree_build.specs.Build.{over}
+use Rattle.lists.specs.Lists.{over}
 use Rattle.tree_check.specs.Check.{treePasses}
 use Rattle.tree_query.specs.Query.{treeFits}
 use Rattle.merge.specs.Sizes.{SmallWords, SmallNodes}

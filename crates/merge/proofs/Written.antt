@@ -12,10 +12,8 @@ use lib.ListN.{length, getD, take, drop, length-append}
 use lib.Seq.{length-take-le, getD-take}
 use Rattle.geometry.specs.Box.{unionOf}
 use Rattle.geometry.specs.declared.aabb.Aabb.{Aabb}
-use Rattle.tree.specs.Lists.{range, gather}
-use Rattle.tree.specs.Layout.{Tree, wordAt, vectorAt, boxAt, kindAt, firstAt, secondAt}
-use Rattle.tree_build.specs.Ranges.{boxNumbers}
-use Rattle.tree_build.specs.Build.{over}
+use Rattle.lists.specs.Lists.{range, gather, over}
+use Rattle.tree.specs.Layout.{Tree, wordAt, vectorAt, boxAt, kindAt, firstAt, secondAt, boxNumbers}
 use Rattle.mesh.proofs.BuildRuns.{Run, run-front, run-first, run-second, six-numbers, run-box, Words, run-words}
 use Rattle.merge.specs.Moved.{movedUp, movedNode, movedNodes}
 use Rattle.merge.specs.Merge.{Board, Areas, trianglesIn, oneEmpty, roots, rootBox, rootWords, mergedCount, mergedNodeBoxes}

@@ -7,10 +7,9 @@ use lib.Ieee.{Float}
 use lib.ListN.{length, take}
 use Rattle.geometry.specs.Box.{unionOf}
 use Rattle.casts.specs.Answer.{badShape, noRoom, outOfBounds}
-use Rattle.tree.specs.Layout.{Tree, boxAt}
+use Rattle.tree.specs.Layout.{Tree, boxAt, boxNumbers}
 use Rattle.tree.specs.Mesh.{Mesh, thirds}
-use Rattle.tree_build.specs.Ranges.{boxNumbers}
-use Rattle.tree_build.specs.Build.{over}
+use Rattle.lists.specs.Lists.{over}
 use Rattle.tree_check.specs.Check.{treePasses}
 unfoldable pub use Rattle.tree_query.specs.Query.{treeFits}
 use Rattle.merge.specs.Moved.{movedUp, movedNodes}

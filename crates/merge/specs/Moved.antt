@@ -3,7 +3,7 @@ use Prim.Native.Nat.{ℕ, _+_}
 use mathlib.Core.Bool.{cond}
 use mathlib.Core.List.{List, [], _∷_}
 use lib.Dec.{eqb}
-use Rattle.tree.specs.Lists.{range, gather}
+use Rattle.lists.specs.Lists.{range, gather}
 use Rattle.tree.specs.Layout.{kindAt, firstAt, secondAt}
 
 unfoldable pub movedUp : ℕ → List ℕ → List ℕ

@@ -15,10 +15,10 @@ use Rattle.geometry.specs.Vector.{minOf, maxOf}
 use Rattle.geometry.specs.Box.{validSide, validBox, withinSide, encloses, sameSide, sameBox, unionOf}
 use Rattle.geometry.specs.declared.vec3.Vec3.{Vec3}
 use Rattle.geometry.specs.declared.aabb.Aabb.{Aabb}
-use Rattle.geometry.proofs.JoinedTests.{and-both, and-first, and-second}
-use Rattle.tree.specs.Lists.{count}
-use Rattle.tree.proofs.CountLaws.{one-same, one-other, same-or-other, count-cons, count-nil}
-use Rattle.tree_build.specs.Ranges.{folded, hullOf}
+use Rattle.lists.proofs.JoinedTests.{and-both, and-first, and-second}
+use Rattle.lists.specs.Lists.{count, folded}
+use Rattle.lists.proofs.CountLaws.{one-same, one-other, same-or-other, count-cons, count-nil}
+use Rattle.tree_ranges.specs.Extents.{hullOf}
 use Rattle.tree.specs.Layout.{boxAt}
 
 -- ---- axes

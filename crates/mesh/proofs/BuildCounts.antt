@@ -6,10 +6,10 @@ use mathlib.Core.Bool.{true, false}
 use mathlib.Core.List.{List, [], _∷_, _++_, append-nil}
 use native.Mathlib.Omega.{arith}
 use lib.Dec.{eqb}
-use Rattle.tree.specs.Lists.{range, count, gather}
+use Rattle.lists.specs.Lists.{range, count, gather}
 use Rattle.tree.specs.Layout.{Tree, secondAt}
 use Rattle.tree.specs.Mesh.{Mesh}
-use Rattle.tree.proofs.CountLaws.{one, count-cons, count-nil, count-append, gather-cons, gather-append}
+use Rattle.lists.proofs.CountLaws.{one, count-cons, count-nil, count-append, gather-cons, gather-append}
 use Rattle.tree_build.specs.Shape.{Shape, leaf, branch, sizeOf, nodesOf}
 use Rattle.tree_check.specs.Check.{isLeaf, isBranch, childrenOf, placesOf}
 use Rattle.mesh.proofs.CheckedTree.{branch-children, no-children, leaf-places, no-places}

@@ -10,11 +10,12 @@ use lib.Ieee.{nan}
 use lib.ListN.{length, getD}
 use borrow.Author.Tests.{ltb-true, ltb-false}
 use Rattle.geometry.specs.Box.{validBox, encloses}
-use Rattle.tree.specs.Lists.{count}
-use Rattle.tree.specs.Layout.{Tree, wordAt, boxAt}
-use Rattle.tree.proofs.CountLaws.{same-or-other}
+use Rattle.lists.specs.Lists.{count}
+use Rattle.tree.specs.Layout.{Tree, wordAt, boxAt, boxNumbers}
+use Rattle.lists.proofs.CountLaws.{same-or-other}
 use Rattle.tree_build.specs.Shape.{Shape, leaf, branch, sizeOf, nodesOf, wordsOf}
-use Rattle.tree_build.specs.Ranges.{boxNumbers, hullOf, leftRange, rightRange, orderBelow, boxesBelow}
+use Rattle.tree_ranges.specs.Extents.{hullOf}
+use Rattle.tree_build.specs.Ranges.{leftRange, rightRange, orderBelow, boxesBelow}
 use Rattle.tree_build.proofs.Shapes.{three-words-a-node, six-numbers-a-node}
 use Rattle.mesh.proofs.BuildBoxes.{AllValid, hull-valid, hull-encloses-each, hull-within}
 use Rattle.mesh.proofs.BuildOrder.{listed-at, count-halves, length-left, length-right, length-order, Filled, filled-size, some-node}

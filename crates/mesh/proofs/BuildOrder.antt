@@ -9,11 +9,13 @@ use lib.Ieee.{Float}
 use lib.ListN.{length, getD, take, drop, length-drop, take-append-drop}
 use lib.Seq.{length-take-le}
 use borrow.Author.Tests.{leb-false}
-use Rattle.tree.specs.Lists.{count}
-use Rattle.tree.proofs.CountLaws.{one-same, count-cons, count-append}
-use Rattle.tree.proofs.SortLaws.{count-sortBy, same-length}
+use Rattle.lists.specs.Lists.{count}
+use Rattle.lists.proofs.CountLaws.{one-same, count-cons, count-append}
+use Rattle.lists.proofs.SortLaws.{count-sortBy, same-length}
 use Rattle.tree_build.specs.Shape.{Shape, leaf, branch, shapeWithin, shapeOf, sizeOf, nodesOf}
-use Rattle.tree_build.specs.Ranges.{longestAxis, extentOf, standsBefore, sortedRange, leftRange, rightRange, orderBelow}
+use Rattle.tree_ranges.specs.Extents.{longestAxis, extentOf}
+use Rattle.tree_ranges.specs.Keys.{standsBefore}
+use Rattle.tree_build.specs.Ranges.{sortedRange, leftRange, rightRange, orderBelow}
 
 -- what stands in a list is counted there
 pub listed-at : (l : List ℕ) (i : ℕ) → i < length l → 0 < count (getD l i 0) l

@@ -10,20 +10,21 @@ use lib.ListN.{length, drop, length-append, length-drop}
 use lib.Seq.{take-at}
 use borrow.Author.Tests.{eqb-false, leb-true, le-leb}
 use Rattle.geometry.specs.Box.{validBox}
-use Rattle.geometry.proofs.JoinedTests.{and-first, and-second}
+use Rattle.lists.proofs.JoinedTests.{and-first, and-second}
 use Rattle.casts.specs.Answer.{badShape, noRoom, outOfBounds, overflow}
-use Rattle.tree.specs.Lists.{range, count}
-use Rattle.tree.specs.Layout.{Tree}
+use Rattle.lists.specs.Lists.{range, count}
+use Rattle.tree.specs.Layout.{Tree, Areas, treeIn}
 use Rattle.tree.specs.Mesh.{Mesh, thirds, lengthsAdmitted, cornersInside, triangleBox}
-use Rattle.tree.proofs.CountLaws.{every-at, member-of-count, length-range, count-range-inside}
+use Rattle.lists.proofs.CountLaws.{every-at, member-of-count, length-range, count-range-inside}
 use Rattle.tree_build.specs.Shape.{shapeOf, nodesOf, wordsOf}
 use Rattle.tree_build.specs.Ranges.{extentsFinite, orderBelow, boxesBelow}
-use Rattle.tree_build.specs.Build.{Areas, Outcome, nodes, refused, zeroed, roomFor, eachBox, triangleCount, triangleFits, trianglesFit, boxesWritten, treeWritten, builtOf, buildOf}
+use Rattle.tree_build.specs.Build.{Outcome, nodes, refused, zeroed, roomFor, treeWritten, builtOf, buildOf}
+use Rattle.tree.specs.Mesh.{eachBox, triangleCount, triangleFits, trianglesFit, boxesWritten}
 use Rattle.tree_build.proofs.Shapes.{sizeOf-shapeOf}
 use Rattle.tree_check.specs.Check.{clausesHold, treePasses}
 use Rattle.tree_check.specs.Verdict.{roomFor as roomToCheck}
 use Rattle.tree_check.proofs.Answers.{passes-yes}
-use Rattle.mesh.specs.Builder.{treeIn, BuiltTreesPass}
+use Rattle.mesh.specs.Builder.{BuiltTreesPass}
 use Rattle.mesh.proofs.BuildOrder.{count-order, length-order}
 use Rattle.mesh.proofs.BuildRuns.{run-front, run-boxes}
 use Rattle.mesh.proofs.BuildClauses.{or-second, Built, built-passes}

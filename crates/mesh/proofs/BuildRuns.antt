@@ -9,11 +9,10 @@ use lib.Ieee.{Float, nan}
 use lib.ListN.{length, getD, length-append, List·getD-append}
 use lib.Seq.{getD-append-add}
 use Rattle.geometry.specs.declared.aabb.Aabb.{Aabb}
-use Rattle.tree.specs.Lists.{range}
-use Rattle.tree.specs.Layout.{vectorAt, boxAt, kindAt, firstAt, secondAt}
-use Rattle.tree.proofs.CountLaws.{same-or-other}
-use Rattle.tree_build.specs.Ranges.{boxNumbers}
-use Rattle.tree_build.specs.Build.{eachBox}
+use Rattle.lists.specs.Lists.{range}
+use Rattle.tree.specs.Layout.{vectorAt, boxAt, kindAt, firstAt, secondAt, boxNumbers}
+use Rattle.lists.proofs.CountLaws.{same-or-other}
+use Rattle.tree.specs.Mesh.{eachBox}
 
 -- a list stands in an area from a place on; `d` is what reading past the end gives
 pub record Run {A : Type 0} (d : A) (area : List A) (place : ℕ) (xs : List A) : Type 0 where

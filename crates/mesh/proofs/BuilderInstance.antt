@@ -3,11 +3,11 @@ use mathlib.Core.Path.{_≡_}
 use native.Mathlib.Omega.{arith}
 use lib.ListN.{replicate}
 use Rattle.geometry.specs.Numbers.{zeroᶠ}
-use Rattle.tree.specs.Mesh.{Mesh}
-use Rattle.tree_build.specs.Build.{Areas, areas, mesh, buildOf}
+use Rattle.tree.specs.Mesh.{Mesh, mesh}
+use Rattle.tree.specs.Layout.{Areas, areas, treeIn}
+use Rattle.tree_build.specs.Build.{buildOf}
 use Rattle.tree_build.proofs.Examples.{corners, times, answered, k11-five}
 use Rattle.tree_check.specs.Verdict.{yes, checkOf}
-use Rattle.mesh.specs.Builder.{treeIn}
 use Rattle.mesh.proofs.BuildPasses.{built-trees-pass}
 
 abbrev five : Mesh

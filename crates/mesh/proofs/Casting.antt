@@ -1,7 +1,7 @@
 -- The mesh cast's answers: each refusal, and the fold over the walk's list. Assumes nothing.
 use Prim.Native.Nat.{ℕ, _*_, _%_, _≤_}
 use mathlib.Core.Path.{_≡_, sym, ap, subst, _∙_}
-use mathlib.Core.Bool.{Bool, true, false, _&&_, true≢false}
+use mathlib.Core.Bool.{Bool, true, false, _&&_}
 use mathlib.Core.List.{List, []}
 use native.Mathlib.Omega.{arith}
 use borrow.Author.Tests.{leb-true, eq-eqb, ne-eqb}
@@ -17,16 +17,17 @@ use Rattle.geometry.specs.declared.ray.Ray.{Ray}
 use Rattle.geometry.proofs.BoxLaws.{segment-box-valid}
 use Rattle.casts.specs.Answer.{invalidInput, badShape, noRoom, wrongPose, outOfBounds, overflow}
 use Rattle.casts.specs.Nearest.{Indexed, stopped, nearestOf}
-use Rattle.tree.specs.Lists.{sorted}
+use Rattle.lists.specs.Lists.{sorted, allBelow}
 use Rattle.tree.specs.Layout.{Tree}
 use Rattle.tree.specs.Mesh.{Mesh, thirds, lengthsAdmitted, triangleAnswer}
-use Rattle.tree.proofs.Corners.{and-first, and-second}
+use Rattle.lists.proofs.JoinedTests.{and-first, and-second}
 use Rattle.tree_query.specs.Walk.{walking, broken, ended, walkOf}
-use Rattle.tree_query.specs.Areas.{allBelow, listed, Grown, GrownTo}
+use Rattle.tree_query.specs.Areas.{listed, Grown, GrownTo}
 use Rattle.tree_query.specs.declared.step.Filled.{Filled}
 use Rattle.tree_query.specs.declared.step.Filled.the-variants.{Count, Broken}
 use Rattle.tree_query.specs.Query.{walkFits}
-use Rattle.mesh.specs.MeshCast.{shapeAdmitted, roomFor, testsPass, overWalk, meshCast, rayMesh}
+use Rattle.lists.proofs.RefusalLaws as Refusals
+use Rattle.mesh.specs.MeshCast.{shapeAdmitted, roomFor, meshTests, testsPass, overWalk, meshCast, rayMesh}
 
 -- what admitted lengths say of the counts
 module _ (vertices triangles pose nodes : ℕ) (h : (lengthsAdmitted vertices triangles && (lengthsAdmitted pose triangles && leb nodes (2 * thirds triangles))) ≡ true) where
@@ -120,6 +121,4 @@ module _ (r : Ray) (m : Mesh) (pose : List Float) (t : Tree) (list stack : ℕ) 
         -- and the areas may change
         pub tests-passed : length pose ≡ length (m .vertices) → testsPass r m pose t list stack ≡ false → ⊥
         unfolding testsPass shapeAdmitted roomFor walkFits
-        tests-passed h failed =
-            let yes : (rayAdmitted r && (admitted && (walkFits (thirds (length (m .triangles))) t list stack && eqb (length pose) (length (m .vertices))))) ≡ true = simp (v, s, f, eq-eqb (length pose) (length (m .vertices)) h) in
-            true≢false (sym yes ∙ failed)
+        tests-passed h = Refusals.tests-passed (meshTests r m pose t list stack) (v, (s, (f, eq-eqb (length pose) (length (m .vertices)) h)))

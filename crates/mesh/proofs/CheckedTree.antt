@@ -9,11 +9,11 @@ use lib.Dec.{leb, ltb, eqb}
 use lib.ListN.{length, take, getD}
 use borrow.Author.Tests.{leb-true, ltb-true, eqb-true, eqb-false, not-true}
 use Rattle.geometry.specs.Box.{validBox, encloses, sameBox}
-use Rattle.geometry.proofs.JoinedTests.{and-first, and-second}
-use Rattle.tree.specs.Lists.{range, count, every, gather}
+use Rattle.lists.proofs.JoinedTests.{and-first, and-second}
+use Rattle.lists.specs.Lists.{range, count, every, gather}
 use Rattle.tree.specs.Layout.{Tree, wordAt, boxAt, firstAt, secondAt}
 use Rattle.tree.specs.Mesh.{Mesh, thirds, cornersInside, triangleBox}
-use Rattle.tree.proofs.CountLaws.{count-nil, every-at, member-of-count, count-range-inside}
+use Rattle.lists.proofs.CountLaws.{count-nil, every-at, member-of-count, count-range-inside}
 use Rattle.tree_check.specs.Check.{triangleCount, nodes, isLeaf, isBranch, childrenOf, placesOf, kindsKnown, childrenAbove, leavesInside, namedOnce, placedOnce, orderedOnce, leavesFilled, cornersKnown, boxesSame, boxesValid, nodeEncloses, enclosed, clausesHold, treePasses}
 
 pub every-in-range : (p : ℕ → Bool) (start size : ℕ) → every p (range start size) ≡ true → (x : ℕ) → start ≤ x → x < start + size → p x ≡ true

@@ -16,15 +16,15 @@ use Rattle.geometry.proofs.BoxLaws.{segment-box-valid}
 use Rattle.casts.specs.Answer.{Answer, hit}
 use Rattle.casts.specs.Triangle.{rayTriangle}
 use Rattle.casts.specs.Nearest.{Indexed, hitAt, noHit, stopped, nearestOf}
-use Rattle.casts.proofs.AnswerLists.{Ascending}
+use Rattle.lists.proofs.Members.{Ascending}
 use Rattle.casts.proofs.NearestRefusals.{refusal-stops, none-of-nones, nones-of-none}
 use Rattle.casts.proofs.NearestLaws.{LowestRefusal, LowestNearest, stopped-by-lowest-refusal, hit-of-lowest-nearest}
-use Rattle.tree.specs.Lists.{range, count}
+use Rattle.lists.specs.Lists.{range, count}
 use Rattle.tree.specs.Layout.{Tree}
 use Rattle.tree.specs.Mesh.{Mesh, thirds, cornersInside, triangleBox, triangleAnswer, candidates}
 use Rattle.tree.proofs.Corners.{corners-answer, answers-are-numbers}
-use Rattle.tree.proofs.CountLaws.{count-of-member, member-of-count, count-keep, range-bounds, count-range-inside}
-use Rattle.tree.proofs.SortLaws.{range-ascends, keep-ascends}
+use Rattle.lists.proofs.CountLaws.{count-of-member, member-of-count, count-keep, range-bounds, count-range-inside}
+use Rattle.lists.proofs.SortLaws.{range-ascends, keep-ascends}
 use Rattle.tree_check.specs.Check.{triangleCount, treePasses}
 use Rattle.tree_check.proofs.Answers.{yes-passes}
 use Rattle.mesh.specs.MeshCast.{shapeAdmitted, overWalk, meshCast, rayMesh}

@@ -18,14 +18,14 @@ use Rattle.casts.specs.declared.answer.Reach.{Reach}
 use Rattle.casts.specs.declared.answer.Reach.the-variants.{At}
 use Rattle.casts.specs.declared.summary.Outcome.{Outcome}
 use Rattle.casts.specs.declared.summary.Outcome.the-variants.{Nobody, Refused, Struck}
-use Rattle.casts.proofs.AnswerLists.{Each, HitsAreNumbers, each-cons}
+use Rattle.lists.proofs.Members.{Each, each-cons}
+use Rattle.casts.proofs.AnswerLists.{HitsAreNumbers}
 use Rattle.casts.proofs.SummaryOrder.{Reordered, unchanged, exchanged, behind, through}
 use Rattle.casts.proofs.SummaryLaws.{nearest-of-any-order}
 use Rattle.casts.proofs.SummaryMembers.{winner-of-list}
-use Rattle.tree.specs.Lists.{every, insertBy, sortBy, sorted}
-use Rattle.tree.proofs.Corners.{and-first, and-second}
-use Rattle.tree.proofs.SortLaws.{sorted-rises}
-use Rattle.tree_query.specs.Areas.{allBelow}
+use Rattle.lists.specs.Lists.{every, insertBy, sortBy, sorted, allBelow}
+use Rattle.lists.proofs.JoinedTests.{and-first, and-second}
+use Rattle.lists.proofs.SortLaws.{sorted-rises}
 
 -- a number of a list whose numbers are all below a bound
 every-at : (n i : ℕ) (xs : List ℕ) → allBelow n xs ≡ true → i < length xs → getD xs i 0 < n

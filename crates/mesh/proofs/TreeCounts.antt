@@ -8,11 +8,11 @@ use native.Mathlib.Omega.{arith}
 use lib.Dec.{ltb}
 use lib.ListN.{take, length-take}
 use borrow.Author.Tests.{ltb-true, ltb-false}
-use Rattle.tree.specs.Lists.{range, count, gather}
+use Rattle.lists.specs.Lists.{range, count, gather}
 use Rattle.tree.specs.Layout.{Tree, wordAt, firstAt, secondAt}
 use Rattle.tree.specs.Mesh.{Mesh}
-use Rattle.tree.proofs.CountLaws.{one-same, one-other, same-or-other, count-cons, count-nil, length-range, count-range-inside, range-bounds, From, gathered-from, gathers, gather-gather, gather-words}
-use Rattle.tree.proofs.WithinLaws.{Within, within-through, within-length, within-gather, within-of-full}
+use Rattle.lists.proofs.CountLaws.{one-same, one-other, same-or-other, count-cons, count-nil, length-range, count-range-inside, range-bounds, From, gathered-from, gathers, gather-gather, gather-words}
+use Rattle.lists.proofs.WithinLaws.{Within, within-through, within-length, within-gather, within-of-full}
 use Rattle.tree_check.specs.Check.{triangleCount, nodes, isLeaf, childrenOf, placesOf}
 use Rattle.mesh.proofs.CheckedTree.{Checked, leaf-places, no-places}
 

@@ -11,12 +11,12 @@ use borrow.Author.Tests.{eqb-true, eqb-false}
 use Rattle.geometry.specs.Box.{touches}
 use Rattle.geometry.specs.declared.aabb.Aabb.{Aabb}
 use Rattle.geometry.proofs.BoxLaws.{touches-grows, touches-of-same}
-use Rattle.tree.specs.Lists.{range, count, keep, gather, sortBy, sorted}
+use Rattle.lists.specs.Lists.{range, count, keep, gather, sortBy, sorted}
 use Rattle.tree.specs.Layout.{Tree, wordAt, boxAt}
 use Rattle.tree.specs.Mesh.{Mesh, triangleBox, candidates}
-use Rattle.tree.proofs.CountLaws.{one-same, count-cons, count-nil, count-append, count-keep, keep-alike, length-range, range-bounds, count-range-inside}
-use Rattle.tree.proofs.WithinLaws.{Within, within-length, within-gather}
-use Rattle.tree.proofs.SortLaws.{count-sorted, sorted-rises, rising-equal, ascending-rises, range-ascends, keep-ascends}
+use Rattle.lists.proofs.CountLaws.{one-same, count-cons, count-nil, count-append, count-keep, keep-alike, length-range, range-bounds, count-range-inside}
+use Rattle.lists.proofs.WithinLaws.{Within, within-length, within-gather}
+use Rattle.lists.proofs.SortLaws.{count-sorted, sorted-rises, rising-equal, ascending-rises, range-ascends, keep-ascends}
 use Rattle.tree_query.specs.Walk.{walking, times, takeNode, start, ended, walkOf}
 use Rattle.tree_check.specs.Check.{triangleCount, nodes, placesOf, treePasses}
 use Rattle.mesh.proofs.CheckedTree.{Checked, checked-or-empty}

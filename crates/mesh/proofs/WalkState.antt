@@ -7,11 +7,11 @@ use mathlib.Core.List.{List, _∷_, _++_}
 use native.Mathlib.Omega.{arith}
 use Rattle.geometry.specs.Box.{touches}
 use Rattle.geometry.specs.declared.aabb.Aabb.{Aabb}
-use Rattle.tree.specs.Lists.{count, gather}
+use Rattle.lists.specs.Lists.{count, gather}
 use Rattle.tree.specs.Layout.{Tree, boxAt}
 use Rattle.tree.specs.Mesh.{Mesh}
-use Rattle.tree.proofs.CountLaws.{one, one-other, same-or-other, count-cons, count-append, count-gather-cons}
-use Rattle.tree.proofs.WithinLaws.{Within}
+use Rattle.lists.proofs.CountLaws.{one, one-other, same-or-other, count-cons, count-append, count-gather-cons}
+use Rattle.lists.proofs.WithinLaws.{Within}
 use Rattle.tree_check.specs.Check.{nodes, childrenOf}
 use Rattle.mesh.proofs.TreeCounts.{trianglesOf}
 

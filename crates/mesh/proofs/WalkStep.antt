@@ -8,12 +8,12 @@ use lib.Dec.{ltb}
 use lib.ListN.{length, length-append}
 use borrow.Author.Tests.{lt-ltb, le-leb, eqb-true, ne-eqb}
 use Rattle.geometry.specs.declared.aabb.Aabb.{Aabb}
-use Rattle.geometry.proofs.JoinedTests.{and-both}
-use Rattle.tree.specs.Lists.{range, count, keep, gather}
+use Rattle.lists.proofs.JoinedTests.{and-both}
+use Rattle.lists.specs.Lists.{range, count, keep, gather}
 use Rattle.tree.specs.Layout.{Tree, wordAt, kindAt, firstAt, secondAt}
 use Rattle.tree.specs.Mesh.{Mesh}
-use Rattle.tree.proofs.CountLaws.{one, one-same, count-cons, count-nil, count-append, count-keep, count-gather-cons, length-range, range-bounds}
-use Rattle.tree.proofs.WithinLaws.{Within, within-through, within-length, within-gather}
+use Rattle.lists.proofs.CountLaws.{one, one-same, count-cons, count-nil, count-append, count-keep, count-gather-cons, length-range, range-bounds}
+use Rattle.lists.proofs.WithinLaws.{Within, within-through, within-length, within-gather}
 use Rattle.tree_query.specs.Walk.{Walking, walking, takePlace, takePlaces, atLeaf, childFits, atBranch, atNode}
 use Rattle.tree_check.specs.Check.{triangleCount, nodes, isLeaf, isBranch, childrenOf, placesOf}
 use Rattle.mesh.proofs.CheckedTree.{Checked, branch-children, no-children, leaf-places, no-places}

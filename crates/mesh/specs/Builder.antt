@@ -2,20 +2,10 @@
 use Prim.Native.Nat.{ℕ, _*_, _≤_}
 use mathlib.Core.Path.{_≡_}
 use lib.ListN.{length}
-use Rattle.tree.specs.Layout.{Tree}
+use Rattle.tree.specs.Layout.{Areas, treeIn}
 use Rattle.tree.specs.Mesh.{Mesh, thirds}
-use Rattle.tree_build.specs.Build.{Areas, nodes, buildOf}
+use Rattle.tree_build.specs.Build.{nodes, buildOf}
 use Rattle.tree_check.specs.Verdict.{yes, checkOf}
-
--- a tree as the result areas hold it
-abbrev pub treeIn : ℕ → Areas → Tree
-treeIn count a = record {
-  nodeCount = count;
-  nodeBoxes = a .nodeBoxes;
-  triangleBoxes = a .triangleBoxes;
-  nodeWords = a .nodeWords;
-  order = a .order;
-}
 
 -- "Every tree our builder writes without refusing, whatever the admitted mesh and whatever its areas held before, passes the check."
 -- The check says yes with every mark area that is long enough.

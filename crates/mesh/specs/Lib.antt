@@ -2,3 +2,4 @@
 pub mod MeshCast
 pub mod Demand3
 pub mod Builder
+pub mod Through

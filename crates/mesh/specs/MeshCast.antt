@@ -1,7 +1,7 @@
 -- The cast of a ray at a mesh through its tree. Definitions only. Assumes nothing.
 use Prim.Native.Nat.{ℕ, _+_, _*_}
-use mathlib.Core.Bool.{Bool, _&&_, cond}
-use mathlib.Core.List.{List}
+use mathlib.Core.Bool.{Bool, _&&_}
+use mathlib.Core.List.{List, [], _∷_}
 use lib.Dec.{leb, eqb}
 use lib.Ieee.{Float}
 use lib.ListN.{length}
@@ -11,14 +11,11 @@ use Rattle.geometry.specs.declared.ray.Ray.{Ray}
 use Rattle.casts.specs.Answer.{invalidInput, badShape, noRoom, wrongPose, outOfBounds}
 use Rattle.casts.specs.SegmentBox.{withSegmentBox}
 use Rattle.casts.specs.Nearest.{Indexed, stopped, nearestOf}
+use Rattle.lists.specs.Refusals.{Test, refusing, unlessRefused, allPass}
 use Rattle.tree.specs.Layout.{Tree}
 use Rattle.tree.specs.Mesh.{Mesh, thirds, lengthsAdmitted, triangleAnswer}
 use Rattle.tree_query.specs.Walk.{Walking, walking, broken, walkOf}
 unfoldable pub use Rattle.tree_query.specs.Query.{treeFits}
-
--- a mesh as it stands in the lent areas
-abbrev pub mesh : List Float → List ℕ → Mesh
-mesh vertices triangles = record { vertices = vertices; triangles = triangles }
 
 -- "bad shape": the mesh's lengths, those of the vertices to cast at, and "a node count above 2n is 2"
 unfoldable pub shapeAdmitted : Mesh → List Float → Tree → Bool
@@ -41,18 +38,16 @@ unfoldable pub meshCast : Ray → Mesh → List Float → Tree → Indexed
 meshCast r m pose t =
     withSegmentBox stopped r (λ (box : Aabb). overWalk r pose (m .triangles) (walkOf t (thirds (length (m .triangles))) box))
 
--- whether refusals 1 to 4 let the call pass; until then the lent areas are unchanged, and after it "work areas .. may hold anything"
-unfoldable pub testsPass : Ray → Mesh → List Float → Tree → ℕ → ℕ → Bool
-testsPass r m pose t list stack =
-    rayAdmitted r && (shapeAdmitted m pose t && (roomFor m t list stack && eqb (length pose) (length (m .vertices))))
-
 -- "1 is tested before 2, 2 before 3, 3 before 4; the Rust's order follows"
+abbrev pub meshTests : Ray → Mesh → List Float → Tree → ℕ → ℕ → List Test
+meshTests r m pose t list stack =
+    refusing invalidInput (rayAdmitted r)
+    ∷ (refusing badShape (shapeAdmitted m pose t)
+    ∷ (refusing noRoom (roomFor m t list stack) ∷ (refusing wrongPose (eqb (length pose) (length (m .vertices))) ∷ [])))
+
+-- until they let the call pass the lent areas are unchanged, and after it "work areas .. may hold anything"
+unfoldable pub testsPass : Ray → Mesh → List Float → Tree → ℕ → ℕ → Bool
+testsPass r m pose t list stack = allPass (meshTests r m pose t list stack)
+
 unfoldable pub rayMesh : Ray → Mesh → List Float → Tree → ℕ → ℕ → Indexed
-rayMesh r m pose t list stack =
-    cond (rayAdmitted r)
-    (cond (shapeAdmitted m pose t)
-    (cond (roomFor m t list stack)
-    (cond (eqb (length pose) (length (m .vertices))) (meshCast r m pose t) (stopped wrongPose))
-    (stopped noRoom))
-    (stopped badShape))
-    (stopped invalidInput)
+rayMesh r m pose t list stack = unlessRefused stopped (meshTests r m pose t list stack) (meshCast r m pose t)

@@ -16,9 +16,8 @@ ghost use lib.ListN.{length, take};
 ghost use Rattle.casts.specs.Reach.{reachOf};
 ghost use Rattle.casts.specs.Nearest.{saysIndexed, nearestOf};
 ghost use Rattle.casts.specs.Summary.{nothing, summaryFrom, saysNotes};
-ghost use Rattle.tree.specs.Lists.{sorted};
+ghost use Rattle.lists.specs.Lists.{sorted, allBelow};
 ghost use Rattle.tree.specs.Mesh.{thirds, triangleAnswer};
-ghost use Rattle.tree_query.specs.Areas.{allBelow};
 
 // The answer of one triangle without its normal, for an admitted ray: an index past the vertices is 5.
 pub fn triangle_reach(ray: Ray, pose: &[f64], triangles: &[u32], index: usize) -> Reach

@@ -13,9 +13,10 @@ ghost use lib.Dec.{leb};
 ghost use lib.ListN.{length};
 ghost use Rattle.geometry.specs.Segment.{rayAdmitted};
 ghost use Rattle.casts.specs.Nearest.{saysIndexed};
-ghost use Rattle.tree.specs.Mesh.{thirds, lengthsAdmitted};
-ghost use Rattle.tree_query.specs.Areas.{treeOf, WalkRoom};
-ghost use Rattle.mesh.specs.MeshCast.{mesh, testsPass, meshCast, rayMesh};
+ghost use Rattle.tree.specs.Mesh.{thirds, lengthsAdmitted, mesh};
+ghost use Rattle.tree.specs.Layout.{treeOf};
+ghost use Rattle.tree_query.specs.Areas.{WalkRoom};
+ghost use Rattle.mesh.specs.MeshCast.{testsPass, meshCast, rayMesh};
 ghost use Rattle.mesh.specs.Demand3.{Admitted, MeetsDemand};
 
 // Whether the lengths of the mesh and of the vertices to cast at, and the node count, are admitted.

@@ -12,7 +12,7 @@ use Rattle.casts.specs.Nearest.{Indexed, hitAt, noHit, stopped, nextOf, foldFro
 use Rattle.casts.proofs.AnswerLists.{none-not-hit, hit-not-stopped, hit-not-none}
 use Rattle.casts.proofs.NearestRefusals.{refusal-stops, none-of-nones, nones-of-none}
 use Rattle.tree.specs.Layout.{wordAt}
-use Rattle.tree.proofs.CountLaws.{member-of-count, count-of-member}
+use Rattle.lists.proofs.CountLaws.{member-of-count, count-of-member}
 use Rattle.mesh_hits.specs.Listing.{HitArea, isHit, listingOf}
 use Rattle.mesh_hits.specs.Promise.{IsListed, FitsCast}
 use Rattle.mesh_hits.proofs.PlaceLaws.{at-counted, Place, place-of}

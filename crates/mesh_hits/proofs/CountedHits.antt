@@ -13,9 +13,9 @@ use Rattle.geometry.specs.declared.vec3.Vec3.{Vec3}
 use Rattle.casts.specs.Answer.{Answer, hit, noRoom}
 use Rattle.casts.specs.Nearest.{Indexed, hitAt, noHit, stopped, nearestOf}
 use Rattle.casts.proofs.AnswerLists.{stopped-not-none, hit-not-stopped}
-use Rattle.tree.specs.Lists.{count}
+use Rattle.lists.specs.Lists.{count}
 use Rattle.tree.specs.Layout.{wordAt, vectorAt, numberAt}
-use Rattle.tree.proofs.CountLaws.{count-keep}
+use Rattle.lists.proofs.CountLaws.{count-keep}
 use Rattle.tree_query.specs.Query.{count as countOf, refused as refusedWith}
 use Rattle.mesh_hits.specs.Listing.{HitArea, Outcome, isHit, hitsOf, inOrder, numbersOf, placesOf, refusedAt}
 use Rattle.mesh_hits.specs.Listing.{written, fitted, afterRefusals, listingOf}

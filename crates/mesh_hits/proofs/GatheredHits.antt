@@ -12,7 +12,7 @@ use Rattle.casts.specs.Answer.{Answer}
 use Rattle.casts.specs.Reach.{reachOf}
 use Rattle.casts.specs.Summary.{Summary, nothing, noteOf, summaryFrom}
 use Rattle.casts.specs.declared.answer.Reach.{Reach}
-use Rattle.tree.specs.Lists.{keep}
+use Rattle.lists.specs.Lists.{keep}
 use Rattle.tree.specs.Layout.{wordAt, numberAt}
 use Rattle.mesh.proofs.Folding.{Folding, folding-begins, folding-goes, folding-ends}
 use Rattle.mesh_hits.specs.Listing.{isHit, hitsOf, depthAt}

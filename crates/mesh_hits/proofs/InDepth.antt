@@ -11,17 +11,17 @@ use lib.ListN.{length}
 use Rattle.geometry.specs.declared.vec3.Vec3.{Vec3}
 use Rattle.casts.specs.Answer.{Answer, hit}
 use Rattle.casts.specs.Nearest.{Indexed, hitAt, noHit, stopped, nearestOf}
-use Rattle.casts.proofs.AnswerLists.{Each, HitsAreNumbers, Rising as RisingList}
+use Rattle.lists.proofs.Members.{Each, Rising as RisingList}
+use Rattle.casts.proofs.AnswerLists.{HitsAreNumbers}
 use Rattle.casts.proofs.NearestHits.{FirstNearest, hit-of-first-nearest}
-use Rattle.tree.specs.Lists.{count}
+use Rattle.lists.specs.Lists.{count}
 use Rattle.tree.specs.Layout.{wordAt, numberAt}
-use Rattle.tree.proofs.CountLaws.{member-of-count}
-use Rattle.tree_build.proofs.InOrder.{Rising, rising-sorted}
+use Rattle.lists.proofs.CountLaws.{member-of-count}
+use Rattle.lists.proofs.InOrder.{Rising, rising-sorted}
 use Rattle.mesh_hits.specs.Order.{keyedAhead, ahead}
 use Rattle.mesh_hits.specs.Listing.{HitArea, depthOf, hitsOf, depthAt, listingOf}
 use Rattle.mesh_hits.specs.Promise.{Ascends, firstOf}
-use Rattle.mesh_hits.proofs.OrderLaws.{ahead-total, ahead-transitive, ahead-antisymmetric, ahead-itself, ahead-level}
-use Rattle.mesh_hits.proofs.OrderLaws.{ahead-nearer}
+use Rattle.mesh_hits.proofs.OrderLaws.{ahead-total, ahead-transitive, ahead-antisymmetric, ahead-itself, ahead-level, ahead-nearer}
 use Rattle.mesh_hits.proofs.PlaceLaws.{at-counted, Place, IsHitOf}
 use Rattle.mesh_hits.proofs.CountedHits.{places, Counted, index-at, place-at, hit-at}
 use Rattle.mesh_hits.proofs.CastAmong.{hit-is, placed, of-list, fits-cast}

@@ -17,11 +17,10 @@ use Rattle.casts.specs.declared.answer.Reach.the-variants.{At}
 use Rattle.casts.proofs.AnswerLists.{HitsAreNumbers}
 use Rattle.casts.specs.declared.summary.Outcome.{Outcome as Won}
 use Rattle.casts.specs.declared.summary.Outcome.the-variants.{Nobody, Refused, Struck as StruckBy}
-use Rattle.tree.specs.Lists.{count, sorted}
+use Rattle.lists.specs.Lists.{count, sorted, allBelow}
 use Rattle.tree.specs.Layout.{numberAt, wordAt}
-use Rattle.tree.proofs.CountLaws.{count-keep, member-of-count, every-at}
-use Rattle.tree.proofs.SortLaws.{same-length}
-use Rattle.tree_query.specs.Areas.{allBelow}
+use Rattle.lists.proofs.CountLaws.{count-keep, member-of-count, every-at}
+use Rattle.lists.proofs.SortLaws.{same-length}
 use Rattle.tree_query.specs.Query.{Listing, count as countOf}
 use Rattle.mesh.proofs.Folding.{nobody-wins, refusal-wins, hit-wins, winner-reached}
 use Rattle.mesh_hits.specs.Listing.{HitArea, hitArea, Outcome, isHit, depthOf, hitsOf, depthAt, inOrder, numbersOf, placesOf}

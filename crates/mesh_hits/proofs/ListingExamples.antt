@@ -18,7 +18,7 @@ use Rattle.geometry.specs.declared.ray.Ray.{Ray}
 use Rattle.casts.specs.Surface.{outOfRange, facing}
 use Rattle.casts.specs.Triangle.{flat, triangleNormal, triangleAbove, triangleAt, triangleOf}
 use Rattle.casts.specs.Nearest.{nextOf, foldFrom}
-use Rattle.tree.specs.Lists.{range, insertBy, sortBy, count, every, gather, keep}
+use Rattle.lists.specs.Lists.{range, insertBy, sortBy, count, every, gather, keep}
 use Rattle.tree.specs.Layout.{vectorAt, boxAt}
 use Rattle.tree.specs.Mesh.{Mesh, lengthsAdmitted, cornersInside, cornerAt, triangleBox, triangleAnswer}
 use Rattle.tree_check.specs.Check.{childrenOf, placesOf, kindsKnown, childrenAbove, leavesInside, namedOnce, placedOnce}

@@ -15,9 +15,9 @@ use Rattle.geometry.specs.declared.aabb.Aabb.{Aabb}
 use Rattle.geometry.specs.declared.ray.Ray.{Ray}
 use Rattle.geometry.proofs.BoxLaws.{segment-box-valid}
 use Rattle.casts.specs.Answer.{invalidInput, badShape, noRoom, wrongPose, outOfBounds, overflow}
-use Rattle.casts.proofs.AnswerLists.{Rising}
-use Rattle.tree.specs.Lists.{sorted}
-use Rattle.tree.proofs.SortLaws.{sorted-rises}
+use Rattle.lists.proofs.Members.{Rising}
+use Rattle.lists.specs.Lists.{sorted}
+use Rattle.lists.proofs.SortLaws.{sorted-rises}
 use Rattle.tree.specs.Layout.{Tree}
 use Rattle.tree.specs.Mesh.{Mesh, thirds, lengthsAdmitted, triangleAnswer}
 use Rattle.tree_query.specs.Walk.{Walking, walking, broken, ended, walkOf}

@@ -10,9 +10,9 @@ use lib.ListN.{length, getD}
 use lib.Seq.{getD-append-add}
 use Rattle.geometry.specs.declared.vec3.Vec3.{Vec3}
 use Rattle.casts.specs.Answer.{Answer, hit, none, refused}
-use Rattle.tree.specs.Lists.{count}
+use Rattle.lists.specs.Lists.{count}
 use Rattle.tree.specs.Layout.{numberAt, wordAt, vectorAt}
-use Rattle.tree.proofs.CountLaws.{one-same, one-other, same-or-other, count-cons, count-nil}
+use Rattle.lists.proofs.CountLaws.{one-same, one-other, same-or-other, count-cons, count-nil}
 use Rattle.mesh_hits.specs.Listing.{isHit, depthOf, placeOf, numbersOf}
 
 -- ---- a number of a list stands at a place

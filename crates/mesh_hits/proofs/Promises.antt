@@ -16,11 +16,12 @@ use Rattle.geometry.specs.declared.ray.Ray.{Ray}
 use Rattle.geometry.proofs.BoxLaws.{segment-box-valid}
 use Rattle.casts.specs.Answer.{Answer, invalidInput, badShape, noRoom, wrongPose, outOfBounds, overflow}
 use Rattle.casts.specs.Nearest.{Indexed, stopped, nearestOf}
-use Rattle.casts.proofs.AnswerLists.{Rising, same-number}
-use Rattle.tree.specs.Lists.{count}
+use Rattle.lists.proofs.Members.{Rising}
+use Rattle.casts.proofs.AnswerLists.{same-number}
+use Rattle.lists.specs.Lists.{count}
 use Rattle.tree.specs.Layout.{Tree, wordAt, numberAt, vectorAt}
 use Rattle.tree.specs.Mesh.{Mesh, thirds, triangleAnswer, candidates}
-use Rattle.tree.proofs.CountLaws.{member-of-count, count-range-inside}
+use Rattle.lists.proofs.CountLaws.{member-of-count, count-range-inside}
 use Rattle.tree.proofs.Corners.{answers-are-numbers}
 use Rattle.tree_query.specs.Walk.{Walking, walking, broken, walkOf}
 use Rattle.tree_query.specs.Query.{count as countOf, refused as refusedWith}

@@ -13,10 +13,10 @@ use Rattle.casts.specs.Answer.{Answer, hit, none, refused}
 use Rattle.casts.specs.Reach.{reachOf}
 use Rattle.casts.specs.declared.answer.Reach.{Reach}
 use Rattle.casts.specs.declared.answer.Reach.the-variants.{At, Miss, Refused}
-use Rattle.tree.specs.Lists.{keep}
+use Rattle.lists.specs.Lists.{keep}
 use Rattle.tree.specs.Layout.{numberAt, wordAt}
-use Rattle.tree.proofs.CountLaws.{same-or-other}
-use Rattle.tree_build.proofs.Runs.{stored-after}
+use Rattle.lists.proofs.CountLaws.{same-or-other}
+use Rattle.lists.proofs.Runs.{stored-after}
 use Rattle.mesh_hits.specs.Listing.{isHit, depthOf, hitsOf, depthAt}
 use Rattle.mesh_hits.specs.Rows.{Keyed, Stored, StoredNext}
 

@@ -8,7 +8,7 @@ use lib.ListN.{take}
 use Rattle.geometry.specs.declared.vec3.Vec3.{Vec3}
 use Rattle.geometry.specs.declared.ray.Ray.{Ray}
 use Rattle.casts.specs.Nearest.{Indexed, hitAt, noHit, stopped}
-use Rattle.tree.specs.Lists.{count}
+use Rattle.lists.specs.Lists.{count}
 use Rattle.tree.specs.Layout.{Tree, wordAt, numberAt, vectorAt}
 use Rattle.tree.specs.Mesh.{Mesh}
 use Rattle.tree_query.specs.Query.{count as countOf, refused}

@@ -9,7 +9,7 @@ use Rattle.casts.specs.Answer.{Answer}
 use Rattle.casts.specs.Reach.{reachOf}
 use Rattle.casts.specs.declared.answer.Reach.{Reach}
 use Rattle.casts.specs.declared.answer.Reach.the-variants.{At}
-use Rattle.tree.specs.Lists.{count}
+use Rattle.lists.specs.Lists.{count}
 use Rattle.tree.specs.Layout.{numberAt, wordAt}
 use Rattle.mesh_hits.specs.Listing.{isHit, hitsOf, depthAt}
 

@@ -11,7 +11,7 @@ use borrow.Author.Tests.{le-leb, eq-eqb}
 use Rattle.geometry.specs.Box.{validBox}
 use Rattle.geometry.specs.Segment.{segmentBox}
 use Rattle.geometry.specs.declared.ray.Ray.{Ray}
-use Rattle.geometry.proofs.JoinedTests.{and-both}
+use Rattle.lists.proofs.JoinedTests.{and-both}
 use Rattle.casts.specs.Answer.{badShape, noRoom}
 use Rattle.casts.specs.Nearest.{Indexed}
 use Rattle.tree.specs.Layout.{Tree, boxAt}

@@ -9,7 +9,7 @@ use Rattle.geometry.specs.Vector.{finiteVec}
 use Rattle.geometry.specs.Segment.{rayAdmitted, segmentEnd, segmentBox}
 use Rattle.geometry.specs.declared.aabb.Aabb.{Aabb}
 use Rattle.geometry.specs.declared.ray.Ray.{Ray}
-use Rattle.geometry.proofs.JoinedTests.{and-second}
+use Rattle.lists.proofs.JoinedTests.{and-second}
 use Rattle.casts.specs.Answer.{invalidInput, badShape, overflow}
 use Rattle.casts.specs.Nearest.{Indexed, stopped}
 use Rattle.casts.proofs.SegmentBoxLaws.{segment-finite, segment-overflow}

@@ -17,7 +17,7 @@ use Rattle.geometry.specs.declared.ray.Ray.{Ray}
 use Rattle.casts.specs.Surface.{outOfRange, facing}
 use Rattle.casts.specs.Triangle.{flat, triangleNormal, triangleAbove, triangleAt, triangleOf}
 use Rattle.casts.specs.Nearest.{Indexed, hitAt, noHit, stopped, nextOf, foldFrom}
-use Rattle.tree.specs.Lists.{range, keep, count, every, gather}
+use Rattle.lists.specs.Lists.{range, keep, count, every, gather}
 use Rattle.tree.specs.Layout.{vectorAt, boxAt}
 use Rattle.tree.specs.Mesh.{Mesh, lengthsAdmitted, cornersInside, cornerAt, triangleBox, triangleAnswer, candidates}
 use Rattle.tree_query.proofs.QueryExamples.{o, i, quarter, ten, eleven, lower, oddTree}

@@ -13,7 +13,7 @@ use Rattle.geometry.specs.declared.ray.Ray.{Ray}
 use Rattle.casts.specs.Answer.{Answer, outOfBounds}
 use Rattle.casts.specs.Triangle.{triangleCast}
 use Rattle.casts.specs.Nearest.{Indexed, noHit, stopped, nextOf, foldFrom, nearestOf}
-use Rattle.tree.specs.Lists.{range, keep, every}
+use Rattle.lists.specs.Lists.{range, keep, every}
 use Rattle.tree.specs.Mesh.{Mesh, thirds, cornersInside, cornersOf, triangleBox, triangleAnswer, candidates}
 use Rattle.tree.proofs.Corners.{corners-box, corners-answer}
 use Rattle.mesh_plain.specs.PlainCast.{triangleFits, trianglesFit, overTriangles}

@@ -12,7 +12,7 @@ use Rattle.casts.specs.Nearest.{Indexed, stopped, nearestOf}
 use Rattle.tree.specs.Layout.{Tree}
 use Rattle.tree.specs.Mesh.{Mesh, lengthsAdmitted, triangleAnswer, candidates}
 -- "A triangle without a valid box": its box is not valid, or an index of it is past the vertices
-unfoldable pub use Rattle.tree_build.specs.Build.{triangleFits, trianglesFit}
+unfoldable pub use Rattle.tree.specs.Mesh.{triangleFits, trianglesFit}
 use Rattle.mesh.specs.MeshCast.{roomFor, rayMesh}
 use Rattle.mesh.specs.Demand3.{PassesCheck}
 

@@ -13,8 +13,7 @@ ghost use Rattle.geometry.specs.Box.{cornersBox, touches};
 ghost use Rattle.geometry.specs.Segment.{rayAdmitted};
 ghost use Rattle.casts.specs.Nearest.{saysIndexed, nextOf};
 ghost use Rattle.casts.specs.Triangle.{triangleCast};
-ghost use Rattle.tree.specs.Mesh.{lengthsAdmitted};
-ghost use Rattle.mesh.specs.MeshCast.{mesh};
+ghost use Rattle.tree.specs.Mesh.{lengthsAdmitted, mesh};
 ghost use Rattle.mesh_plain.specs.PlainCast.{overTriangles, plainCast, rayMeshPlain, AgreesWithTrees};
 
 // The box of three corners. Where the first has no NaN, one comparison a number does.

@@ -12,15 +12,16 @@ use Rattle.geometry.specs.Segment.{rayAdmitted}
 use Rattle.geometry.specs.declared.ray.Ray.{Ray}
 use Rattle.casts.specs.Answer.{invalidInput}
 use Rattle.casts.specs.Nearest.{Indexed, stopped}
-use Rattle.tree.specs.Mesh.{Mesh, thirds}
-use Rattle.tree_build.specs.Build.{says, Areas, areas, mesh, Outcome, buildOf}
+use Rattle.tree.specs.Mesh.{Mesh, thirds, mesh}
+use Rattle.tree_build.specs.Build.{says, Outcome, buildOf}
+use Rattle.tree.specs.Layout.{Areas, areas, treeIn}
 use Rattle.tree_build.specs.declared.build.Built.{Built}
 use Rattle.tree_build.specs.declared.build.Built.the-variants.{Nodes, Refused}
 use Rattle.mesh.specs.MeshCast.{rayMesh}
-use Rattle.mesh.specs.Builder.{treeIn}
 use Rattle.records.specs.Bytes.{floatsAt, wordsAt}
 use Rattle.records.specs.Fields.{vertexCount, triangleCount, meshOf}
-use Rattle.records.specs.MeshAnswer.{throughBuilt, throughTree, meshAnswer}
+use Rattle.mesh.specs.Through.{throughBuilt, throughTree}
+use Rattle.records.specs.MeshAnswer.{meshAnswer}
 use Rattle.records.specs.Areas.{TreeRoom, TreeLent}
 
 -- ---- after the build

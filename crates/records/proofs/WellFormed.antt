@@ -8,7 +8,7 @@ use borrow.Author.Tests.{leb-true, eqb-true, ne-eqb}
 use lib.Dec.{leb, eqb}
 use lib.ListN.{length, take, drop, length-drop}
 use lib.Seq.{take-all}
-use Rattle.geometry.proofs.JoinedTests.{and-first, and-second}
+use Rattle.lists.proofs.JoinedTests.{and-first, and-second}
 use Rattle.records.specs.Fields.{versionOf, kindOf, isVersion, shapePlace, shapePart, vertexCount, triangleCount, heightCount, valueCount}
 use Rattle.records.specs.Parse.{longest, meshFills, heightsFill, valuesFill, filled, wellFormed}
 

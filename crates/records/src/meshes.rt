@@ -2,18 +2,20 @@ use crate::bytes;
 use casts::answer;
 use casts::nearest::IndexedCast;
 use geometry::ray::Ray;
+use lists::fill;
 use mesh::cast;
 use tree_build::build;
 use tree_build::build::Built;
-use tree_build::writing;
 ghost use mathlib.Core.Path.{_≡_};
 ghost use Prim.Native.Nat.{_+_, _*_, _≤_};
 ghost use lib.ListN.{length};
 ghost use Rattle.casts.specs.Nearest.{saysIndexed};
-ghost use Rattle.tree.specs.Mesh.{thirds};
-ghost use Rattle.tree_build.specs.Build.{areas, mesh, buildOf};
+ghost use Rattle.tree.specs.Mesh.{thirds, mesh};
+ghost use Rattle.tree.specs.Layout.{areas};
+ghost use Rattle.tree_build.specs.Build.{buildOf};
 ghost use Rattle.records.specs.Fields.{vertexCount, triangleCount, meshOf};
-ghost use Rattle.records.specs.MeshAnswer.{throughTree, meshAnswer};
+ghost use Rattle.mesh.specs.Through.{throughTree};
+ghost use Rattle.records.specs.MeshAnswer.{meshAnswer};
 ghost use Rattle.records.specs.Areas.{TreeRoom, TreeLent};
 
 // All areas but the vertices and triangles are work areas: they may hold anything afterwards.
@@ -81,10 +83,10 @@ fn cast_fresh(
     if !ray.validate() {
         return IndexedCast::Refused(answer::INVALID_INPUT);
     }
-    writing::zero_numbers(node_boxes);
-    writing::zero_numbers(triangle_boxes);
-    writing::zero_words(node_words);
-    writing::zero_words(order);
+    fill::zero_numbers(node_boxes);
+    fill::zero_numbers(triangle_boxes);
+    fill::zero_words(node_words);
+    fill::zero_words(order);
     cast_built(
         ray,
         vertices,

@@ -18,9 +18,8 @@ use Rattle.casts.specs.Nearest.{Indexed, hitAt, noHit, stopped}
 use Rattle.casts.specs.declared.plane.Plane.{Plane}
 use Rattle.height_field.specs.declared.field.Field.{Field}
 use Rattle.level_set.specs.declared.grid.Grid.{Grid}
-use Rattle.tree.specs.Layout.{Tree}
+use Rattle.tree.specs.Layout.{Tree, Areas}
 use Rattle.tree.specs.Mesh.{Mesh, lengthsAdmitted}
-use Rattle.tree_build.specs.Build.{Areas}
 use Rattle.tree_build.specs.Build as Build
 use Rattle.tree_query.specs.Query.{countsAdmitted}
 use Rattle.tree_query.specs.Query as Query

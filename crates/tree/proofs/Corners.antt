@@ -1,4 +1,5 @@
--- A triangle whose indices are below the vertex count has its three corners within the vertices; its box and its answer from the list of its corners, and the answer of one that is hit from its distance. Assumes nothing.
+-- A triangle whose indices are below the vertex count has its three corners within the vertices; its box and its answer from the list of
+-- its corners, and the answer of one that is hit from its distance. Assumes nothing.
 use Prim.Native.Nat.{ℕ, _+_, _*_, _/_, _<_, _≤_}
 use mathlib.Core.Path.{_≡_, refl, ap, _∙_}
 use mathlib.Core.Bool.{Bool, true, false, _&&_, cond}
@@ -12,7 +13,7 @@ use Rattle.geometry.specs.Box.{cornersBox, corner}
 use Rattle.geometry.specs.Vector.{subOf}
 use Rattle.geometry.specs.declared.vec3.Vec3.{Vec3}
 use Rattle.geometry.specs.declared.ray.Ray.{Ray}
-pub use Rattle.geometry.proofs.JoinedTests.{and-first, and-second}
+use Rattle.lists.proofs.JoinedTests.{and-first, and-second}
 use Rattle.casts.specs.Answer.{Answer, refused, outOfBounds}
 use Rattle.casts.specs.Reach.{reachOf}
 use Rattle.casts.specs.Triangle.{triangleNormal, triangleOf, triangleCast}
@@ -44,11 +45,13 @@ module _ (triangles : List ℕ) (index l : ℕ) (inside : cornersInside (thirds 
   third-fits = fits (cornerIndex triangles index 2) l (and-second (below 1) (below 2) later)
 
 -- the box and the answer of a triangle, from the list of its corners
-pub corners-box : (vertices : List Float) (triangles : List ℕ) (index : ℕ) → cornersBox (cornersOf vertices triangles index) ≡ triangleBox vertices triangles index
+pub corners-box : (vertices : List Float) (triangles : List ℕ) (index : ℕ) → cornersBox (cornersOf vertices triangles index) ≡ triangleBox
+    vertices triangles index
 unfolding cornersBox cornersOf triangleBox
 corners-box vertices triangles index = refl
 
-pub corners-answer : (r : Ray) (vertices : List Float) (triangles : List ℕ) (index : ℕ) → cornersInside (thirds (length vertices)) triangles index ≡ true
+pub corners-answer : (r : Ray) (vertices : List Float) (triangles : List ℕ) (index : ℕ) → cornersInside (thirds (length vertices)) triangles
+    index ≡ true
     → triangleCast r (cornersOf vertices triangles index) ≡ triangleAnswer r vertices triangles index
 unfolding cornersOf triangleAnswer
 corners-answer r vertices triangles index inside = simp inside
@@ -58,7 +61,8 @@ refusal-is-no-hit : (number : ℕ) (distance : Float) → Refused number ≡ At 
 refusal-is-no-hit number distance h = let z : _≡_ {A = ℕ} 0 1 = cc in omega arith
 
 -- an index past the vertices is refused, so its corners are within them
-pub hit-inside : (r : Ray) (vertices : List Float) (triangles : List ℕ) (index : ℕ) (distance : Float) → reachOf (triangleAnswer r vertices triangles index) ≡ At distance
+pub hit-inside : (r : Ray) (vertices : List Float) (triangles : List ℕ) (index : ℕ) (distance : Float) → reachOf
+    (triangleAnswer r vertices triangles index) ≡ At distance
     → cornersInside (thirds (length vertices)) triangles index ≡ true
 unfolding triangleAnswer reachOf
 hit-inside r vertices triangles index distance = go (cornersInside (thirds (length vertices)) triangles index) _
@@ -68,9 +72,11 @@ hit-inside r vertices triangles index distance = go (cornersInside (thirds (leng
     go false a h = absurd (refusal-is-no-hit outOfBounds distance h)
 
 -- the hit at its distance is its answer
-pub hit-answer : (r : Ray) (vertices : List Float) (triangles : List ℕ) (index : ℕ) (distance : Float) → reachOf (triangleAnswer r vertices triangles index) ≡ At distance
+pub hit-answer : (r : Ray) (vertices : List Float) (triangles : List ℕ) (index : ℕ) (distance : Float) → reachOf
+    (triangleAnswer r vertices triangles index) ≡ At distance
     → (corners : List Vec3) → corners ≡ cornersOf vertices triangles index
-    → triangleNormal r (subOf (corner corners 1) (corner corners 0)) (subOf (corner corners 2) (corner corners 0)) distance ≡ triangleAnswer r vertices triangles index
+    → triangleNormal r (subOf (corner corners 1) (corner corners 0)) (subOf (corner corners 2) (corner corners 0)) distance ≡ triangleAnswer
+    r vertices triangles index
 hit-answer r vertices triangles index distance h corners e =
     let same : triangleCast r corners ≡ triangleAnswer r vertices triangles index =
     ap (triangleCast r) e ∙ corners-answer r vertices triangles index (hit-inside r vertices triangles index distance h) in
@@ -82,7 +88,8 @@ module _ (r : Ray) (vertices : List Float) (triangles : List ℕ) where
   unfolding triangleAnswer
   answers-measured index =
       let at = cornerAt vertices triangles index in
-      of-cond (Measured r) (cornersInside (thirds (length vertices)) triangles index) (triangleOf r (at 0) (at 1) (at 2)) (refused outOfBounds)
+      of-cond (Measured r) (cornersInside (thirds (length vertices)) triangles index) (triangleOf r (at 0) (at 1) (at 2))
+      (refused outOfBounds)
       (λ _. triangle-hit-measured r (at 0) (at 1) (at 2)) (λ _. of-refused (Measured r) outOfBounds)
 
   pub answers-are-numbers : HitsAreNumbers (triangleAnswer r vertices triangles)

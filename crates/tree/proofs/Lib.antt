@@ -1,5 +1,3 @@
 -- Laws about meshes and trees in lent areas. Assumes nothing.
 pub mod Corners
-pub mod CountLaws
-pub mod WithinLaws
-pub mod SortLaws
+pub mod Boxes

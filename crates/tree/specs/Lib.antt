@@ -1,4 +1,3 @@
--- What a mesh and its tree hold: the layout, triangles' boxes and answers, and lists of indices. Definitions only. Assumes nothing.
-pub mod Lists
+-- What a mesh and its tree hold: the layout, triangles' boxes and answers. Definitions only. Assumes nothing.
 pub mod Layout
 pub mod Mesh

@@ -1,23 +1,27 @@
--- A mesh in lent areas: which are admitted, a triangle's corners, box and answer, and the candidates of a box. Definitions only. Assumes nothing.
+-- A mesh in lent areas: which are admitted, a triangle's corners, box and answer, all boxes in order, and the candidates of a box.
+-- Definitions only. Assumes nothing.
 use Prim.Native.Nat.{ℕ, _+_, _*_, _/_, _%_, _<_}
 use mathlib.Core.Bool.{Bool, _&&_, cond}
-use mathlib.Core.List.{List, [], _∷_}
+use mathlib.Core.List.{List, [], _∷_, _++_}
 use lib.Dec.{leb, ltb, eqb}
 use lib.Ieee.{Float}
 use lib.ListN.{length}
-use Rattle.geometry.specs.Box.{boxOf, touches}
+use Rattle.geometry.specs.Box.{boxOf, touches, validBox}
 use Rattle.geometry.specs.declared.vec3.Vec3.{Vec3}
 use Rattle.geometry.specs.declared.aabb.Aabb.{Aabb}
 use Rattle.geometry.specs.declared.ray.Ray.{Ray}
 use Rattle.casts.specs.Answer.{Answer, refused, outOfBounds}
 use Rattle.casts.specs.Triangle.{triangleOf}
-use Rattle.tree.specs.Lists.{range, keep}
-use Rattle.tree.specs.Layout.{wordAt, vectorAt}
+use Rattle.lists.specs.Lists.{range, keep, every, over}
+use Rattle.tree.specs.Layout.{wordAt, vectorAt, boxNumbers}
 
 -- vertices, three numbers each, and triangles, three vertex indices each
 pub record Mesh : Type 0 where
   pub vertices : List Float
   pub triangles : List ℕ
+
+abbrev pub mesh : List Float → List ℕ → Mesh
+mesh vertices triangles = record { vertices = vertices; triangles = triangles }
 
 -- how many a length holds, three to each
 abbrev pub thirds : ℕ → ℕ
@@ -60,3 +64,23 @@ triangleAnswer r vertices triangles index =
 -- "The candidates are the triangles whose box touches the segment's box", ascending
 unfoldable pub candidates : Mesh → Aabb → List ℕ
 candidates m box = keep (λ (t : ℕ). touches (triangleBox (m .vertices) (m .triangles) t) box) (range 0 (thirds (length (m .triangles))))
+
+-- one box after another
+unfoldable pub eachBox : (ℕ → Aabb) → List ℕ → List Float
+eachBox box [] = []
+eachBox box (t ∷ ts) = boxNumbers (box t) ++ eachBox box ts
+
+module _ (m : Mesh) where
+  abbrev pub triangleCount : ℕ
+  triangleCount = thirds (length (m .triangles))
+
+  -- not "5 for an index or box"
+  unfoldable pub triangleFits : ℕ → Bool
+  triangleFits t = cornersInside (thirds (length (m .vertices))) (m .triangles) t && validBox (triangleBox (m .vertices) (m .triangles) t)
+
+  unfoldable pub trianglesFit : Bool
+  trianglesFit = every triangleFits (range 0 triangleCount)
+
+  -- "boxes of all triangles in order first"
+  unfoldable pub boxesWritten : List Float → List Float
+  boxesWritten area = over (eachBox (triangleBox (m .vertices) (m .triangles)) (range 0 triangleCount)) area

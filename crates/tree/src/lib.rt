@@ -1,4 +1,4 @@
-// A mesh and its box tree in lent areas: the layout, and readers of one vertex, box or node.
+// A mesh and its box tree in lent areas: the layout, readers of one vertex, box or node, and writers of boxes and of a node's words.
 //
 // For n triangles (document 01, 'Mesh hit and its tree'):
 //
@@ -15,9 +15,12 @@
 // | stack          | u32     | node count + 1 | the walk's; holds anything afterwards                        |
 // | marks          | u32     | 3n             | the check's; holds anything afterwards                       |
 //
-// A longer area is admitted. A function of this crate with a `requires` (an index below a length) is no public call, and each caller shows the demand.
+// A longer area is admitted. A function of this crate with a `requires` (an index below a length) is no public call, and each caller shows
+// the demand.
 
 // Readers of the areas.
 pub mod layout;
 // A mesh: which lengths are admitted, a triangle's corners and its box.
 pub mod mesh;
+// Boxes and a node's words written into areas, and the boxes of all triangles.
+pub mod writing;

@@ -51,7 +51,8 @@ pub fn corners_inside(count: usize, triangles: &[u32], index: usize) -> bool
 
 // A corner, 0, 1 or 2, of a triangle whose indices are below the vertex count.
 fn corner_at(vertices: &[f64], triangles: &[u32], index: usize, corner: usize) -> Vec3
-    requires { ⌜ (3 * index + 3 ≤ length (now triangles)) × ((corner < 3) × (3 * cornerIndex (now triangles) index corner + 3 ≤ length (now vertices))) ⌝ }
+    requires { ⌜ (3 * index + 3 ≤ length (now triangles))
+        × ((corner < 3) × (3 * cornerIndex (now triangles) index corner + 3 ≤ length (now vertices))) ⌝ }
     ensures { λ r. ⌜ r ≡ cornerAt (now (vertices .entry)) (now (triangles .entry)) index corner ⌝ }
 {
     let vertex = corner_index(triangles, index, corner);
@@ -60,7 +61,8 @@ fn corner_at(vertices: &[f64], triangles: &[u32], index: usize, corner: usize) -
 
 // The three corners of such a triangle.
 pub fn corners_of(vertices: &[f64], triangles: &[u32], index: usize) -> [Vec3; 3]
-    requires { ⌜ (3 * index + 3 ≤ length (now triangles)) × (cornersInside (thirds (length (now vertices))) (now triangles) index ≡ true) ⌝ }
+    requires { ⌜ (3 * index + 3 ≤ length (now triangles))
+        × (cornersInside (thirds (length (now vertices))) (now triangles) index ≡ true) ⌝ }
     ensures { λ r. ⌜ r ≡ cornersOf (now (vertices .entry)) (now (triangles .entry)) index ⌝ }
 {
     [
@@ -72,7 +74,8 @@ pub fn corners_of(vertices: &[f64], triangles: &[u32], index: usize) -> [Vec3; 3
 
 // The box of such a triangle's corners, valid or not.
 pub fn triangle_box(vertices: &[f64], triangles: &[u32], index: usize) -> Aabb
-    requires { ⌜ (3 * index + 3 ≤ length (now triangles)) × (cornersInside (thirds (length (now vertices))) (now triangles) index ≡ true) ⌝ }
+    requires { ⌜ (3 * index + 3 ≤ length (now triangles))
+        × (cornersInside (thirds (length (now vertices))) (now triangles) index ≡ true) ⌝ }
     ensures { λ r. ⌜ r ≡ triangleBox (now (vertices .entry)) (now (triangles .entry)) index ⌝ }
 {
     Aabb::of_corners(corners_of(vertices, triangles, index))

@@ -10,13 +10,16 @@ use lib.Seq.{sets, length-take-le}
 use Rattle.geometry.specs.Vector.{finiteVec}
 use Rattle.casts.specs.Answer.{overflow}
 use Rattle.tree_build.specs.Shape.{Shape, leaf, branch, shapeOf, sizeOf, nodesOf, wordsOf}
-use Rattle.tree_build.specs.Ranges.{boxNumbers, hullOf, extentOf, sortedRange, leftRange, rightRange, extentsFinite, orderBelow, boxesBelow}
+use Rattle.tree.specs.Layout.{boxNumbers}
+use Rattle.tree_ranges.specs.Extents.{hullOf, extentOf}
+use Rattle.tree_build.specs.Ranges.{sortedRange, leftRange, rightRange, extentsFinite, orderBelow, boxesBelow}
 use Rattle.tree_build.specs.Build.{Answer, nodes, refused, says}
 use Rattle.tree_build.specs.Node.{RoomAt, Written, Grown}
 use Rattle.tree_build.specs.declared.build.Built.{Built}
 use Rattle.tree_build.specs.declared.build.Built.the-variants.{Nodes, Refused}
-use Rattle.tree_build.proofs.Runs.{sets-append, sets-before}
-use Rattle.tree_build.proofs.Shapes.{few-are-a-leaf, many-are-halved, sizeOf-shapeOf, nodes-halved, three-words-a-node, six-numbers-a-node}
+use Rattle.lists.proofs.Runs.{sets-append, sets-before}
+use Rattle.tree_build.proofs.Shapes.{few-are-a-leaf, many-are-halved, sizeOf-shapeOf, nodes-halved, three-words-a-node}
+use Rattle.tree_build.proofs.Shapes.{six-numbers-a-node}
 
 -- ---- Bools and answers
 middle-false : (a b c : Bool) → b ≡ false → (a && (b && c)) ≡ false
@@ -41,35 +44,44 @@ was-grown false k j h = let z : _≡_ {A = ℕ} 0 1 = cc in absurd (omega arith)
 
 module _ (boxes : List Float) (ts : List ℕ) (start node : ℕ) (nodeBoxes : List Float) (nodeWords : List ℕ) where
   pub leaf-grown : (n : ℕ)
-      → Grown boxes (leaf n) ts start node (Nodes (node + 1)) ts nodeBoxes (sets nodeBoxes (6 * node) (boxNumbers (hullOf boxes ts))) nodeWords (sets nodeWords (3 * node) (0 ∷ (start ∷ (n ∷ []))))
+      → Grown boxes (leaf n) ts start node (Nodes (node + 1)) ts nodeBoxes (sets nodeBoxes (6 * node) (boxNumbers (hullOf boxes ts)))
+      nodeWords (sets nodeWords (3 * node) (0 ∷ (start ∷ (n ∷ []))))
   unfolding extentsFinite nodesOf orderBelow boxesBelow wordsOf
   leaf-grown n = record { answer = refl; written = λ _. record { order = refl; boxed = refl; worded = refl } }
 
   module _ (l r : Shape) (ts′ : List ℕ) (nodeBoxes′ : List Float) (nodeWords′ : List ℕ) where
-    pub extent-refused : finiteVec (extentOf boxes ts) ≡ false → Grown boxes (branch l r) ts start node (Refused overflow) ts′ nodeBoxes nodeBoxes′ nodeWords nodeWords′
+    pub extent-refused : finiteVec (extentOf boxes ts) ≡ false → Grown boxes (branch l r) ts start node (Refused overflow) ts′ nodeBoxes
+        nodeBoxes′ nodeWords nodeWords′
     unfolding extentsFinite
     extent-refused h = record { answer = rw h; written = λ e. absurd (false≢true (rw h at e)) }
 
-    pub left-refused : (left : Built) (k j : ℕ) → says left ≡ cond (extentsFinite boxes l (leftRange boxes l ts)) (nodes k) (refused overflow) → left ≡ Refused j
+    pub left-refused : (left : Built) (k j : ℕ) → says left ≡ cond (extentsFinite boxes l (leftRange boxes l ts)) (nodes k)
+        (refused overflow) → left ≡ Refused j
         → Grown boxes (branch l r) ts start node left ts′ nodeBoxes nodeBoxes′ nodeWords nodeWords′
     unfolding extentsFinite
     left-refused left k j h e =
         let told = was-refused (extentsFinite boxes l (leftRange boxes l ts)) k j (sym (ap says e) ∙ h) in
-        let none = middle-false (finiteVec (extentOf boxes ts)) (extentsFinite boxes l (leftRange boxes l ts)) (extentsFinite boxes r (rightRange boxes l ts)) (told .0) in
+        let none = middle-false (finiteVec (extentOf boxes ts)) (extentsFinite boxes l (leftRange boxes l ts))
+        (extentsFinite boxes r (rightRange boxes l ts)) (told .0) in
         record {
-          answer = ap says e ∙ ap refused (told .1) ∙ ap (λ (b : Bool). cond b (nodes (node + nodesOf (branch l r))) (refused overflow)) (sym none);
+          answer = ap says e ∙ ap refused (told .1) ∙ ap (λ (b : Bool). cond b (nodes (node + nodesOf (branch l r))) (refused overflow))
+              (sym none);
           written = λ f. absurd (false≢true (sym none ∙ f));
         }
 
   -- both halves, the left one's nodes directly behind the branch and the right one's behind those
-  module _ (l r : Shape) (finite : finiteVec (extentOf boxes ts) ≡ true) (front back : List ℕ) (left right : Built) (next : ℕ) (went : left ≡ Nodes next) (nodeBoxes₁ nodeBoxes₂ : List Float) (nodeWords₁ nodeWords₂ : List ℕ)
-      (on-left : Grown boxes l (leftRange boxes l ts) start (node + 1) left front (sets nodeBoxes (6 * node) (boxNumbers (hullOf boxes ts))) nodeBoxes₁ nodeWords nodeWords₁)
-      (on-right : Grown boxes r (rightRange boxes l ts) (start + sizeOf l) next right back nodeBoxes₁ nodeBoxes₂ (sets nodeWords₁ (3 * node) (1 ∷ ((node + 1) ∷ (next ∷ [])))) nodeWords₂)
+  module _ (l r : Shape) (finite : finiteVec (extentOf boxes ts) ≡ true) (front back : List ℕ) (left right : Built) (next : ℕ)
+      (went : left ≡ Nodes next) (nodeBoxes₁ nodeBoxes₂ : List Float) (nodeWords₁ nodeWords₂ : List ℕ)
+      (on-left : Grown boxes l (leftRange boxes l ts) start (node + 1) left front (sets nodeBoxes (6 * node) (boxNumbers (hullOf boxes ts)))
+      nodeBoxes₁ nodeWords nodeWords₁)
+      (on-right : Grown boxes r (rightRange boxes l ts) (start + sizeOf l) next right back nodeBoxes₁ nodeBoxes₂
+      (sets nodeWords₁ (3 * node) (1 ∷ ((node + 1) ∷ (next ∷ [])))) nodeWords₂)
     where
       told : (extentsFinite boxes l (leftRange boxes l ts) ≡ true) × (next ≡ node + 1 + nodesOf l)
       told = was-grown (extentsFinite boxes l (leftRange boxes l ts)) (node + 1 + nodesOf l) next (sym (ap says went) ∙ on-left .answer)
 
-      boxes-joined : (w : Written boxes r (rightRange boxes l ts) (start + sizeOf l) next back nodeBoxes₁ nodeBoxes₂ (sets nodeWords₁ (3 * node) (1 ∷ ((node + 1) ∷ (next ∷ [])))) nodeWords₂)
+      boxes-joined : (w : Written boxes r (rightRange boxes l ts) (start + sizeOf l) next back nodeBoxes₁ nodeBoxes₂ (sets nodeWords₁ (3 *
+          node) (1 ∷ ((node + 1) ∷ (next ∷ [])))) nodeWords₂)
           → nodeBoxes₂ ≡ sets nodeBoxes (6 * node) (boxesBelow boxes (branch l r) ts)
       unfolding boxesBelow boxNumbers
       boxes-joined w =
@@ -79,12 +91,14 @@ module _ (boxes : List Float) (ts : List ℕ) (start node : ℕ) (nodeBoxes : Li
           let first : 6 * (node + 1) ≡ 6 * node + 6 = omega arith in
           let second : 6 * next ≡ 6 * node + 6 + length below = omega (arith, told .1, six-numbers-a-node boxes l (leftRange boxes l ts)) in
           w .boxed
-          ∙ ap (λ (z : List Float). sets z (6 * next) behind) (on-left .written (told .0) .boxed ∙ ap (λ (k : ℕ). sets (sets nodeBoxes (6 * node) hull) k below) first)
+          ∙ ap (λ (z : List Float). sets z (6 * next) behind)
+          (on-left .written (told .0) .boxed ∙ ap (λ (k : ℕ). sets (sets nodeBoxes (6 * node) hull) k below) first)
           ∙ ap (λ (k : ℕ). sets (sets (sets nodeBoxes (6 * node) hull) (6 * node + 6) below) k behind) second
           ∙ sym (sets-append (sets nodeBoxes (6 * node) hull) (6 * node + 6) below behind)
           ∙ sym (sets-append nodeBoxes (6 * node) hull (below ++ behind))
 
-      words-joined : (w : Written boxes r (rightRange boxes l ts) (start + sizeOf l) next back nodeBoxes₁ nodeBoxes₂ (sets nodeWords₁ (3 * node) (1 ∷ ((node + 1) ∷ (next ∷ [])))) nodeWords₂)
+      words-joined : (w : Written boxes r (rightRange boxes l ts) (start + sizeOf l) next back nodeBoxes₁ nodeBoxes₂ (sets nodeWords₁ (3 *
+          node) (1 ∷ ((node + 1) ∷ (next ∷ [])))) nodeWords₂)
           → nodeWords₂ ≡ sets nodeWords (3 * node) (wordsOf node start (branch l r))
       unfolding wordsOf
       words-joined w =
@@ -92,9 +106,11 @@ module _ (boxes : List Float) (ts : List ℕ) (start node : ℕ) (nodeBoxes : Li
           let below = wordsOf (node + 1) start l in
           let behind = wordsOf next (start + sizeOf l) r in
           let first : 3 * (node + 1) ≡ 3 * node + 3 = omega arith in
-          let second : 3 * next ≡ 3 * node + length (own ++ below) = omega (arith, told .1, three-words-a-node (node + 1) start l, length-append own below) in
+          let second : 3 * next ≡ 3 * node + length (own ++ below) = omega
+          (arith, told .1, three-words-a-node (node + 1) start l, length-append own below) in
           w .worded
-          ∙ ap (λ (z : List ℕ). sets (sets z (3 * node) own) (3 * next) behind) (on-left .written (told .0) .worded ∙ ap (λ (k : ℕ). sets nodeWords k below) first)
+          ∙ ap (λ (z : List ℕ). sets (sets z (3 * node) own) (3 * next) behind)
+          (on-left .written (told .0) .worded ∙ ap (λ (k : ℕ). sets nodeWords k below) first)
           ∙ ap (λ (z : List ℕ). sets z (3 * next) behind) (sets-before nodeWords (3 * node) own below)
           ∙ ap (λ (k : ℕ). sets (sets nodeWords (3 * node) (own ++ below)) k behind) second
           ∙ sym (sets-append nodeWords (3 * node) (own ++ below) behind)
@@ -111,7 +127,8 @@ module _ (boxes : List Float) (ts : List ℕ) (start node : ℕ) (nodeBoxes : Li
             answer =
                 on-right .answer
                 ∙ ap (λ (k : ℕ). cond d (nodes k) (refused overflow)) count
-                ∙ ap (λ (z : Bool). cond z (nodes (node + (1 + (nodesOf l + nodesOf r)))) (refused overflow)) (sym (last-decides (finiteVec (extentOf boxes ts)) b d finite (told .0)));
+                ∙ ap (λ (z : Bool). cond z (nodes (node + (1 + (nodesOf l + nodesOf r)))) (refused overflow))
+                (sym (last-decides (finiteVec (extentOf boxes ts)) b d finite (told .0)));
             written = λ e.
                 let w = on-right .written (last-true (finiteVec (extentOf boxes ts)) b d e) in
                 record {
@@ -124,7 +141,9 @@ module _ (boxes : List Float) (ts : List ℕ) (start node : ℕ) (nodeBoxes : Li
           }
 
 -- ---- the halves, as the code lends them
-module _ (n start node boxesLong wordsLong workLong : ℕ) (many : 4 < n) (room : RoomAt n start node boxesLong wordsLong workLong) (n′ boxesLong′ wordsLong′ workLong′ : ℕ) (sameBoxes : boxesLong′ ≡ boxesLong) (sameWords : wordsLong′ ≡ wordsLong) (sameWork : workLong′ ≡ workLong) where
+module _ (n start node boxesLong wordsLong workLong : ℕ) (many : 4 < n) (room : RoomAt n start node boxesLong wordsLong workLong)
+    (n′ boxesLong′ wordsLong′ workLong′ : ℕ) (sameBoxes : boxesLong′ ≡ boxesLong) (sameWords : wordsLong′ ≡ wordsLong)
+    (sameWork : workLong′ ≡ workLong) where
   pub left-room : n′ ≡ n / 2 → RoomAt n′ start (node + 1) boxesLong′ wordsLong′ workLong′
   left-room e =
       let here = ap (λ (k : ℕ). nodesOf (shapeOf k)) e in
@@ -138,7 +157,8 @@ module _ (n start node boxesLong wordsLong workLong : ℕ) (many : 4 < n) (room 
         words = omega (arith, room .words);
       }
 
-  pub right-room : n′ ≡ n - n / 2 → (next : ℕ) → next ≡ node + 1 + nodesOf (shapeOf (n / 2)) → RoomAt n′ (start + n / 2) next boxesLong′ wordsLong′ workLong′
+  pub right-room : n′ ≡ n - n / 2 → (next : ℕ) → next ≡ node + 1 + nodesOf (shapeOf (n / 2)) → RoomAt n′ (start + n / 2) next boxesLong′
+      wordsLong′ workLong′
   right-room e next f =
       let here = ap (λ (k : ℕ). nodesOf (shapeOf k)) e in
       let both = nodes-halved n many in
@@ -152,7 +172,8 @@ module _ (n start node boxesLong wordsLong workLong : ℕ) (many : 4 < n) (room 
       }
 
 -- the index behind the left half
-pub next-is : (boxes : List Float) (n n′ : ℕ) (ts : List ℕ) (start node : ℕ) (left : Built) (next : ℕ) (front : List ℕ) (nodeBoxes nodeBoxes₁ : List Float) (nodeWords nodeWords₁ : List ℕ) → n′ ≡ n / 2 → left ≡ Nodes next
+pub next-is : (boxes : List Float) (n n′ : ℕ) (ts : List ℕ) (start node : ℕ) (left : Built) (next : ℕ) (front : List ℕ)
+    (nodeBoxes nodeBoxes₁ : List Float) (nodeWords nodeWords₁ : List ℕ) → n′ ≡ n / 2 → left ≡ Nodes next
     → Grown boxes (shapeOf n′) ts start (node + 1) left front nodeBoxes nodeBoxes₁ nodeWords nodeWords₁
     → next ≡ node + 1 + nodesOf (shapeOf (n / 2))
 next-is boxes n n′ ts start node left next front nodeBoxes nodeBoxes₁ nodeWords nodeWords₁ e went g =
@@ -161,15 +182,18 @@ next-is boxes n n′ ts start node left next front nodeBoxes nodeBoxes₁ nodeWo
 
 -- ---- each return of the code
 module _ (boxes : List Float) (ts : List ℕ) (start node : ℕ) (nodeBoxes nodeBoxes′ : List Float) (nodeWords nodeWords′ : List ℕ) where
-  pub few-returned : length ts ≤ 4 → nodeBoxes′ ≡ sets nodeBoxes (6 * node) (boxNumbers (hullOf boxes ts)) → nodeWords′ ≡ sets nodeWords (3 * node) (0 ∷ (start ∷ (length ts ∷ [])))
+  pub few-returned : length ts ≤ 4 → nodeBoxes′ ≡ sets nodeBoxes (6 * node) (boxNumbers (hullOf boxes ts)) → nodeWords′ ≡ sets nodeWords
+      (3 * node) (0 ∷ (start ∷ (length ts ∷ [])))
       → Grown boxes (shapeOf (length ts)) ts start node (Nodes (node + 1)) ts nodeBoxes nodeBoxes′ nodeWords nodeWords′
   few-returned h p q = rw (few-are-a-leaf (length ts) h, p, q) (leaf-grown boxes ts start node nodeBoxes nodeWords (length ts))
 
   module _ (many : 4 < length ts) (ts′ : List ℕ) where
-    pub extent-returned : false ≡ finiteVec (extentOf boxes ts) → Grown boxes (shapeOf (length ts)) ts start node (Refused overflow) ts′ nodeBoxes nodeBoxes′ nodeWords nodeWords′
+    pub extent-returned : false ≡ finiteVec (extentOf boxes ts) → Grown boxes (shapeOf (length ts)) ts start node (Refused overflow) ts′
+        nodeBoxes nodeBoxes′ nodeWords nodeWords′
     extent-returned h =
         rw (many-are-halved (length ts) many)
-        (extent-refused boxes ts start node nodeBoxes nodeWords (shapeOf (length ts / 2)) (shapeOf (length ts - length ts / 2)) ts′ nodeBoxes′ nodeWords′ (sym h))
+        (extent-refused boxes ts start node nodeBoxes nodeWords (shapeOf (length ts / 2)) (shapeOf (length ts - length ts / 2)) ts′
+        nodeBoxes′ nodeWords′ (sym h))
 
     module _ (arranged : List ℕ) (is : arranged ≡ sortedRange boxes ts) (as-long : length arranged ≡ length ts) where
       left-range : take (length ts / 2) arranged ≡ leftRange boxes (shapeOf (length ts / 2)) ts
@@ -184,27 +208,37 @@ module _ (boxes : List Float) (ts : List ℕ) (start node : ℕ) (nodeBoxes node
       left-long = length-take-le (length ts / 2) arranged (omega arith)
 
       module _ (left : Built) (front : List ℕ) (nodeBoxes₁ nodeBoxes₂ : List Float) (nodeWords₁ : List ℕ)
-          (on-left : Grown boxes (shapeOf (length (take (length ts / 2) arranged))) (take (length ts / 2) arranged) start (node + 1) left front nodeBoxes₁ nodeBoxes₂ nodeWords nodeWords₁)
+          (on-left : Grown boxes (shapeOf (length (take (length ts / 2) arranged))) (take (length ts / 2) arranged) start (node + 1) left
+          front nodeBoxes₁ nodeBoxes₂ nodeWords nodeWords₁)
         where
-          left-half : Grown boxes (shapeOf (length ts / 2)) (leftRange boxes (shapeOf (length ts / 2)) ts) start (node + 1) left front nodeBoxes₁ nodeBoxes₂ nodeWords nodeWords₁
+          left-half : Grown boxes (shapeOf (length ts / 2)) (leftRange boxes (shapeOf (length ts / 2)) ts) start (node + 1) left front
+              nodeBoxes₁ nodeBoxes₂ nodeWords nodeWords₁
           left-half =
-              subst (λ (z : List ℕ). Grown boxes (shapeOf (length ts / 2)) z start (node + 1) left front nodeBoxes₁ nodeBoxes₂ nodeWords nodeWords₁) left-range
-              (subst (λ (k : ℕ). Grown boxes (shapeOf k) (take (length ts / 2) arranged) start (node + 1) left front nodeBoxes₁ nodeBoxes₂ nodeWords nodeWords₁) left-long on-left)
+              subst (λ (z : List ℕ). Grown boxes (shapeOf (length ts / 2)) z start (node + 1) left front nodeBoxes₁ nodeBoxes₂ nodeWords
+              nodeWords₁) left-range
+              (subst (λ (k : ℕ). Grown boxes (shapeOf k) (take (length ts / 2) arranged) start (node + 1) left front nodeBoxes₁ nodeBoxes₂
+              nodeWords nodeWords₁) left-long on-left)
 
-          pub left-returned : (j : ℕ) → left ≡ Refused j → Grown boxes (shapeOf (length ts)) ts start node left ts′ nodeBoxes nodeBoxes′ nodeWords nodeWords′
+          pub left-returned : (j : ℕ) → left ≡ Refused j → Grown boxes (shapeOf (length ts)) ts start node left ts′ nodeBoxes nodeBoxes′
+              nodeWords nodeWords′
           left-returned j e =
               rw (many-are-halved (length ts) many)
-              (left-refused boxes ts start node nodeBoxes nodeWords (shapeOf (length ts / 2)) (shapeOf (length ts - length ts / 2)) ts′ nodeBoxes′ nodeWords′ left
+              (left-refused boxes ts start node nodeBoxes nodeWords (shapeOf (length ts / 2)) (shapeOf (length ts - length ts / 2)) ts′
+              nodeBoxes′ nodeWords′ left
               (node + 1 + nodesOf (shapeOf (length ts / 2))) j (left-half .answer) e)
 
-          module _ (right : Built) (next : ℕ) (part back : List ℕ) (same-part : part ≡ drop (length ts / 2) arranged) (whole : ts′ ≡ front ++ back) (finite : true ≡ finiteVec (extentOf boxes ts)) (went : left ≡ Nodes next)
-              (hull : nodeBoxes₁ ≡ sets nodeBoxes (6 * node) (boxNumbers (hullOf boxes ts))) (nodeWords₂ : List ℕ) (own : nodeWords₂ ≡ sets nodeWords₁ (3 * node) (1 ∷ ((node + 1) ∷ (next ∷ []))))
-              (on-right : Grown boxes (shapeOf (length part)) part (start + length ts / 2) next right back nodeBoxes₂ nodeBoxes′ nodeWords₂ nodeWords′)
+          module _ (right : Built) (next : ℕ) (part back : List ℕ) (same-part : part ≡ drop (length ts / 2) arranged)
+              (whole : ts′ ≡ front ++ back) (finite : true ≡ finiteVec (extentOf boxes ts)) (went : left ≡ Nodes next)
+              (hull : nodeBoxes₁ ≡ sets nodeBoxes (6 * node) (boxNumbers (hullOf boxes ts))) (nodeWords₂ : List ℕ)
+              (own : nodeWords₂ ≡ sets nodeWords₁ (3 * node) (1 ∷ ((node + 1) ∷ (next ∷ []))))
+              (on-right : Grown boxes (shapeOf (length part)) part (start + length ts / 2) next right back nodeBoxes₂ nodeBoxes′ nodeWords₂
+              nodeWords′)
             where
               part-long : length part ≡ length ts - length ts / 2
               part-long = ap length same-part ∙ length-drop (length ts / 2) arranged ∙ ap (λ (k : ℕ). k - length ts / 2) as-long
 
-              right-half : Grown boxes (shapeOf (length ts - length ts / 2)) (rightRange boxes (shapeOf (length ts / 2)) ts) (start + sizeOf (shapeOf (length ts / 2))) next right back nodeBoxes₂ nodeBoxes′
+              right-half : Grown boxes (shapeOf (length ts - length ts / 2)) (rightRange boxes (shapeOf (length ts / 2)) ts)
+                  (start + sizeOf (shapeOf (length ts / 2))) next right back nodeBoxes₂ nodeBoxes′
                   (sets nodeWords₁ (3 * node) (1 ∷ ((node + 1) ∷ (next ∷ [])))) nodeWords′
               right-half =
                   rw (← part-long, ← right-range, ← same-part, sizeOf-shapeOf (length ts / 2), ← own) on-right
@@ -212,6 +246,8 @@ module _ (boxes : List Float) (ts : List ℕ) (start node : ℕ) (nodeBoxes node
               pub branch-returned : Grown boxes (shapeOf (length ts)) ts start node right ts′ nodeBoxes nodeBoxes′ nodeWords nodeWords′
               branch-returned =
                   rw (many-are-halved (length ts) many, whole)
-                  (branch-grown boxes ts start node nodeBoxes nodeWords (shapeOf (length ts / 2)) (shapeOf (length ts - length ts / 2)) (sym finite) front back left right next went nodeBoxes₂ nodeBoxes′ nodeWords₁ nodeWords′
-                  (subst (λ (z : List Float). Grown boxes (shapeOf (length ts / 2)) (leftRange boxes (shapeOf (length ts / 2)) ts) start (node + 1) left front z nodeBoxes₂ nodeWords nodeWords₁) hull left-half)
+                  (branch-grown boxes ts start node nodeBoxes nodeWords (shapeOf (length ts / 2)) (shapeOf (length ts - length ts / 2))
+                  (sym finite) front back left right next went nodeBoxes₂ nodeBoxes′ nodeWords₁ nodeWords′
+                  (subst (λ (z : List Float). Grown boxes (shapeOf (length ts / 2)) (leftRange boxes (shapeOf (length ts / 2)) ts) start
+                  (node + 1) left front z nodeBoxes₂ nodeWords nodeWords₁) hull left-half)
                   right-half)

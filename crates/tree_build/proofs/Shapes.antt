@@ -9,9 +9,11 @@ use lib.Ieee.{Float}
 use lib.ListN.{length, length-append}
 use borrow.Author.Tests.{leb-false, le-leb, lt-leb}
 use Rattle.tree_build.specs.Shape.{Shape, leaf, branch, shapeWithin, shapeOf, sizeOf, nodesOf, wordsOf}
-use Rattle.tree_build.specs.Ranges.{boxNumbers, boxesBelow, leftRange, rightRange}
+use Rattle.tree.specs.Layout.{boxNumbers}
+use Rattle.tree_build.specs.Ranges.{boxesBelow, leftRange, rightRange}
 
-branch-same : (b : Bool) (x l l′ r r′ : Shape) → (b ≡ false → l ≡ l′) → (b ≡ false → r ≡ r′) → cond b x (branch l r) ≡ cond b x (branch l′ r′)
+branch-same : (b : Bool) (x l l′ r r′ : Shape) → (b ≡ false → l ≡ l′) → (b ≡ false → r ≡ r′) → cond b x (branch l r) ≡ cond b x
+    (branch l′ r′)
 branch-same true x l l′ r r′ p q = refl
 branch-same false x l l′ r r′ p q = rw (p refl, q refl)
 
@@ -37,7 +39,12 @@ pub many-are-halved : (n : ℕ) → 4 < n → shapeOf n ≡ branch (shapeOf (n /
 unfolding shapeOf shapeWithin
 many-are-halved zero h = absurd (omega arith)
 many-are-halved (suc n) h =
-    rw (lt-leb (suc n) 4 h, enough-levels n (suc n / 2) (suc n / 2) (omega arith) (omega arith), enough-levels n (suc n - suc n / 2) (suc n - suc n / 2) (omega arith) (omega arith))
+    rw (
+      lt-leb (suc n) 4 h,
+      enough-levels n (suc n / 2) (suc n / 2) (omega arith) (omega arith),
+      enough-levels n (suc n - suc n / 2)
+          (suc n - suc n / 2) (omega arith) (omega arith),
+    )
 
 size-either : (b : Bool) (n : ℕ) (l r : Shape) → sizeOf l + sizeOf r ≡ n → sizeOf (cond b (leaf n) (branch l r)) ≡ n
 unfolding sizeOf
@@ -48,13 +55,15 @@ sizeOf-shapeWithin : (k n : ℕ) → sizeOf (shapeWithin k n) ≡ n
 unfolding shapeWithin
 sizeOf-shapeWithin zero n = unfold sizeOf in refl
 sizeOf-shapeWithin (suc k) n =
-    size-either (leb n 4) n (shapeWithin k (n / 2)) (shapeWithin k (n - n / 2)) (omega (arith, sizeOf-shapeWithin k (n / 2), sizeOf-shapeWithin k (n - n / 2)))
+    size-either (leb n 4) n (shapeWithin k (n / 2)) (shapeWithin k (n - n / 2))
+    (omega (arith, sizeOf-shapeWithin k (n / 2), sizeOf-shapeWithin k (n - n / 2)))
 
 pub sizeOf-shapeOf : (n : ℕ) → sizeOf (shapeOf n) ≡ n
 unfolding shapeOf
 sizeOf-shapeOf n = sizeOf-shapeWithin n n
 
-nodes-either : (b : Bool) (n : ℕ) (l r : Shape) → 0 < n → (b ≡ false → nodesOf l + nodesOf r + 2 ≤ 2 * n) → nodesOf (cond b (leaf n) (branch l r)) + 1 ≤ 2 * n
+nodes-either : (b : Bool) (n : ℕ) (l r : Shape) → 0 < n → (b ≡ false → nodesOf l + nodesOf r + 2 ≤ 2 * n) → nodesOf
+    (cond b (leaf n) (branch l r)) + 1 ≤ 2 * n
 unfolding nodesOf
 nodes-either true n l r p h = omega arith
 nodes-either false n l r p h = omega (arith, h refl)
@@ -64,7 +73,12 @@ unfolding shapeWithin
 nodesOf-shapeWithin zero n h = unfold nodesOf in omega arith
 nodesOf-shapeWithin (suc k) n h =
     nodes-either (leb n 4) n (shapeWithin k (n / 2)) (shapeWithin k (n - n / 2)) h
-    (λ e. let u = leb-false n 4 e in omega (arith, nodesOf-shapeWithin k (n / 2) (omega arith), nodesOf-shapeWithin k (n - n / 2) (omega arith)))
+    (λ e. let u = leb-false n 4 e in omega (
+      arith,
+      nodesOf-shapeWithin k (n / 2) (omega arith),
+      nodesOf-shapeWithin k (n - n / 2) (omega
+          arith),
+    ))
 
 pub nodesOf-shapeOf : (n : ℕ) → 0 < n → nodesOf (shapeOf n) + 1 ≤ 2 * n
 unfolding shapeOf

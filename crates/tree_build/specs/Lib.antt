@@ -3,4 +3,3 @@ pub mod Shape
 pub mod Ranges
 pub mod Build
 pub mod Node
-pub mod Merge

@@ -11,7 +11,8 @@ use Rattle.tree_build.specs.Ranges.{extentsFinite, orderBelow, boxesBelo
 use Rattle.tree_build.specs.Build.{nodes, refused, says}
 use Rattle.tree_build.specs.declared.build.Built.{Built}
 
--- n triangles from a place of the order on, as nodes from an index on: the lengths of node boxes, node words and work are enough, and each word is a u32
+-- n triangles from a place of the order on, as nodes from an index on: the lengths of node boxes, node words and work are enough, and each
+-- word is a u32
 pub record RoomAt (n start node boxesLong wordsLong workLong : ℕ) : Type 0 where
   pub some : 0 < n
   pub work : n ≤ workLong

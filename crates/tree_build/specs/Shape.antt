@@ -1,4 +1,5 @@
--- The shape of a tree depends on the number of its triangles alone, and so do the node count and the node words. Definitions only. Assumes nothing.
+-- The shape of a tree depends on the number of its triangles alone, and so do the node count and the node words. Definitions only. Assumes
+-- nothing.
 use Prim.Native.Nat.{ℕ, zero, suc, _+_, _-_, _/_}
 use mathlib.Core.Bool.{cond}
 use mathlib.Core.List.{List, [], _∷_, _++_}
@@ -9,7 +10,8 @@ pub data Shape : Type 0 where
   leaf : ℕ → Shape
   branch : Shape → Shape → Shape
 
--- "At most four make a leaf." Else "cut at half rounded down". The first argument counts levels, of which there are never more than triangles
+-- "At most four make a leaf." Else "cut at half rounded down". The first argument counts levels, of which there are never more than
+-- triangles
 unfoldable pub shapeWithin : ℕ → ℕ → Shape
 shapeWithin zero n = leaf n
 shapeWithin (suc levels) n =

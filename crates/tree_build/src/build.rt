@@ -1,13 +1,15 @@
 use crate::nodes;
-use crate::writing;
 use casts::answer;
+use lists::fill;
 use tree::mesh;
+use tree::writing;
 ghost use mathlib.Core.Path.{_≡_};
 ghost use mathlib.Core.Bool.{true, false};
 ghost use Prim.Native.Nat.{ℕ, _≤_};
 ghost use lib.ListN.{length};
-ghost use Rattle.tree.specs.Mesh.{thirds, lengthsAdmitted};
-ghost use Rattle.tree_build.specs.Build.{areas, mesh, says, zeroed, roomFor, treeWritten, builtOf, testsPass, buildOf};
+ghost use Rattle.tree.specs.Mesh.{thirds, lengthsAdmitted, mesh};
+ghost use Rattle.tree.specs.Layout.{areas};
+ghost use Rattle.tree_build.specs.Build.{says, zeroed, roomFor, treeWritten, builtOf, testsPass, buildOf};
 ghost use Rattle.tree_build.specs.declared.build.Built.the-variants.{Nodes};
 
 // The node count, or a refusal with its number in document 01's table.
@@ -26,7 +28,9 @@ fn has_room(
     work: &[u32],
 ) -> bool
     requires { ⌜ count ≤ 65536 ⌝ }
-    ensures { λ r. ⌜ r ≡ roomFor count (areas (now («node_boxes» .entry)) (now («triangle_boxes» .entry)) (now («node_words» .entry)) (now (order .entry))) (length (now (work .entry))) ⌝ }
+    ensures { λ r. ⌜ r ≡ roomFor count
+        (areas (now («node_boxes» .entry)) (now («triangle_boxes» .entry)) (now («node_words» .entry)) (now (order .entry)))
+        (length (now (work .entry))) ⌝ }
 {
     if node_boxes.len() < 12 * count {
         return false;
@@ -50,12 +54,13 @@ fn zero_areas(
     node_words: &mut [u32],
     order: &mut [u32],
 )
-    ensures { λ _. ⌜ areas (now («node_boxes» .exit)) (now («triangle_boxes» .exit)) (now («node_words» .exit)) (now (order .exit)) ≡ zeroed (areas (now («node_boxes» .entry)) (now («triangle_boxes» .entry)) (now («node_words» .entry)) (now (order .entry))) ⌝ }
+    ensures { λ _. ⌜ areas (now («node_boxes» .exit)) (now («triangle_boxes» .exit)) (now («node_words» .exit)) (now (order .exit)) ≡ zeroed
+        (areas (now («node_boxes» .entry)) (now («triangle_boxes» .entry)) (now («node_words» .entry)) (now (order .entry))) ⌝ }
 {
-    writing::zero_numbers(node_boxes);
-    writing::zero_numbers(triangle_boxes);
-    writing::zero_words(node_words);
-    writing::zero_words(order);
+    fill::zero_numbers(node_boxes);
+    fill::zero_numbers(triangle_boxes);
+    fill::zero_words(node_words);
+    fill::zero_words(order);
 }
 
 // The build of an admitted mesh with room. The areas hold anything after a refusal.
@@ -68,8 +73,14 @@ fn grow(
     order: &mut [u32],
     work: &mut [u32],
 ) -> Built
-    requires { ⌜ (lengthsAdmitted (length (now vertices)) (length (now triangles)) ≡ true) × (roomFor (thirds (length (now triangles))) (areas (now «node_boxes») (now «triangle_boxes») (now «node_words») (now order)) (length (now work)) ≡ true) ⌝ }
-    ensures { λ r. ⌜ (says r ≡ builtOf (mesh (now (vertices .entry)) (now (triangles .entry))) (areas (now («node_boxes» .entry)) (now («triangle_boxes» .entry)) (now («node_words» .entry)) (now (order .entry))) .answer) × ((k : ℕ) → r ≡ Nodes k → areas (now («node_boxes» .exit)) (now («triangle_boxes» .exit)) (now («node_words» .exit)) (now (order .exit)) ≡ treeWritten (mesh (now (vertices .entry)) (now (triangles .entry))) (areas (now («node_boxes» .entry)) (now («triangle_boxes» .entry)) (now («node_words» .entry)) (now (order .entry)))) ⌝ }
+    requires { ⌜ (lengthsAdmitted (length (now vertices)) (length (now triangles)) ≡ true)
+        × (roomFor (thirds (length (now triangles))) (areas (now «node_boxes») (now «triangle_boxes») (now «node_words») (now order))
+        (length (now work)) ≡ true) ⌝ }
+    ensures { λ r. ⌜ (says r ≡ builtOf (mesh (now (vertices .entry)) (now (triangles .entry)))
+        (areas (now («node_boxes» .entry)) (now («triangle_boxes» .entry)) (now («node_words» .entry)) (now (order .entry))) .answer)
+        × ((k : ℕ) → r ≡ Nodes k → areas (now («node_boxes» .exit)) (now («triangle_boxes» .exit)) (now («node_words» .exit))
+        (now (order .exit)) ≡ treeWritten (mesh (now (vertices .entry)) (now (triangles .entry)))
+        (areas (now («node_boxes» .entry)) (now («triangle_boxes» .entry)) (now («node_words» .entry)) (now (order .entry)))) ⌝ }
 {
     let count = triangles.len() / 3;
     if count == 0 {
@@ -78,7 +89,7 @@ fn grow(
     if !writing::put_triangle_boxes(vertices, triangles, triangle_boxes) {
         return Built::Refused(answer::OUT_OF_BOUNDS);
     }
-    writing::number(&mut order[..count]);
+    fill::number(&mut order[..count]);
     nodes::build_node(
         triangle_boxes,
         &mut order[..count],
@@ -101,8 +112,16 @@ pub fn build(
     order: &mut [u32],
     work: &mut [u32],
 ) -> Built
-    ensures { λ r. ⌜ record { answer = says r; after = areas (now («node_boxes» .exit)) (now («triangle_boxes» .exit)) (now («node_words» .exit)) (now (order .exit)) } ≡ buildOf (mesh (now (vertices .entry)) (now (triangles .entry))) (areas (now («node_boxes» .entry)) (now («triangle_boxes» .entry)) (now («node_words» .entry)) (now (order .entry))) (length (now (work .entry))) ⌝ }
-    ensures { λ r. ⌜ (testsPass (mesh (now (vertices .entry)) (now (triangles .entry))) (areas (now («node_boxes» .entry)) (now («triangle_boxes» .entry)) (now («node_words» .entry)) (now (order .entry))) (length (now (work .entry))) ≡ false → now (work .exit) ≡ now (work .entry)) ⌝ }
+    ensures { λ r. ⌜ record {
+      answer = says r;
+      after = areas (now («node_boxes» .exit)) (now («triangle_boxes» .exit))
+          (now («node_words» .exit)) (now (order .exit));
+    } ≡ buildOf (mesh (now (vertices .entry)) (now (triangles .entry)))
+        (areas (now («node_boxes» .entry)) (now («triangle_boxes» .entry)) (now («node_words» .entry)) (now (order .entry)))
+        (length (now (work .entry))) ⌝ }
+    ensures { λ r. ⌜ (testsPass (mesh (now (vertices .entry)) (now (triangles .entry)))
+        (areas (now («node_boxes» .entry)) (now («triangle_boxes» .entry)) (now («node_words» .entry)) (now (order .entry)))
+        (length (now (work .entry))) ≡ false → now (work .exit) ≡ now (work .entry)) ⌝ }
 {
     if !mesh::lengths_admitted(vertices.len(), triangles.len()) {
         return Built::Refused(answer::BAD_SHAPE);

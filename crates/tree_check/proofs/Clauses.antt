@@ -7,13 +7,14 @@ use native.Mathlib.Omega.{arith}
 use borrow.Author.Tests.{ne-eqb, eqb-true}
 use lib.Dec.{eqb, leb, ltb}
 use Rattle.geometry.specs.Box.{validBox, encloses}
-use Rattle.tree.specs.Lists.{range, every, count}
+use Rattle.lists.specs.Lists.{range, every, count}
 use Rattle.tree.specs.Layout.{Tree, boxAt, wordAt, kindAt, firstAt, secondAt}
 use Rattle.tree.specs.Mesh.{Mesh}
 use Rattle.tree_check.specs.Check.{triangleCount, nodes, isLeaf, isBranch, childrenOf, placesOf, kindsKnown, childrenAbove, leavesInside, leavesFilled, cornersKnown, boxesSame, nodeEncloses, enclosed}
-use Rattle.tree_check.specs.Steps.{leafSound, branchSound, nodeSound, triangleSound, placeEnclosed, childrenEnclosed, nodeHolds, nodeFits}
-use Rattle.tree_check.proofs.Every.{every-agree, every-and}
-use Rattle.tree_check.proofs.Sound.{sound-at}
+use Rattle.tree_check.specs.Steps.{triangleSound, placeEnclosed, childrenEnclosed, nodeHolds, nodeFits}
+use Rattle.tree_words.specs.Sound.{leafSound, branchSound, nodeSound}
+use Rattle.lists.proofs.EveryLaws.{every-agree, every-and}
+use Rattle.tree_words.proofs.Sound.{sound-at}
 
 and-comm : (a b : Bool) → (a && b) ≡ (b && a)
 and-comm false false = refl

@@ -10,7 +10,7 @@ use Rattle.arithmetic.specs.Extremes.{minimumOf, maximumOf}
 use Rattle.geometry.specs.Numbers.{zeroᶠ, oneᶠ}
 use Rattle.geometry.specs.Vector.{minOf, maxOf}
 use Rattle.geometry.specs.Box.{validSide, validBox, withinSide, encloses, sameSide, sameBox}
-use Rattle.tree.specs.Lists.{range, count, every, gather}
+use Rattle.lists.specs.Lists.{range, count, every, gather}
 use Rattle.tree.specs.Layout.{Tree, vectorAt, boxAt}
 use Rattle.tree.specs.Mesh.{Mesh, cornersInside, cornerAt, triangleBox}
 use Rattle.tree_check.specs.Check.{triangleCount, childrenOf, placesOf, kindsKnown, childrenAbove, leavesInside, namedOnce, placedOnce, orderedOnce, leavesFilled, cornersKnown, boxesSame, boxesValid, nodeEncloses, enclosed, clausesHold, treePasses}

@@ -9,17 +9,18 @@ use lib.Dec.{eqb, leb}
 use lib.Ieee.{Float}
 use lib.ListN.{length, take}
 use Rattle.geometry.specs.Box.{validBox}
-use Rattle.tree.specs.Lists.{range, every, gather}
+use Rattle.lists.specs.Lists.{range, every, gather}
 use Rattle.tree.specs.Layout.{Tree, boxAt}
 use Rattle.tree.specs.Mesh.{Mesh, lengthsAdmitted}
-use Rattle.tree.proofs.Corners.{and-first, and-second}
+use Rattle.lists.proofs.JoinedTests.{and-first, and-second}
 use Rattle.tree_check.specs.Check.{triangleCount, nodes, childrenOf, placesOf, kindsKnown, childrenAbove, leavesInside, namedOnce, placedOnce, orderedOnce, leavesFilled, cornersKnown, boxesSame, boxesValid, enclosed, clausesHold, treePasses}
-use Rattle.tree_check.specs.Marks.{once, places, secondMark, marked}
-use Rattle.tree_check.specs.Steps.{nodeSound, wordsPass, boxesPass, Readable, Long}
+use Rattle.tree_words.specs.Marks.{once, places, secondMark, marked}
+use Rattle.tree_check.specs.Steps.{wordsPass, boxesPass, Readable, Long}
+use Rattle.tree_words.specs.Sound.{nodeSound}
 use Rattle.tree_check.specs.Verdict.{roomFor}
-use Rattle.tree_check.proofs.Counting.{by-equality}
+use Rattle.tree_words.proofs.Counting.{by-equality}
 use Rattle.tree_check.proofs.Clauses.{and-false, nodes-sound-is, triangles-sound-is, nodes-fit-is}
-use Rattle.tree_check.proofs.Pigeonhole.{order-below}
+use Rattle.tree_words.proofs.Pigeonhole.{order-below}
 
 -- the clauses in document 01's order, and as the code groups them
 regrouped : (few k c l nm p o f co s vn vt e : Bool)

@@ -1,5 +1,4 @@
 -- The tree check: its clauses, its answer, and what one step of the code decides. Definitions only. Assumes nothing.
 pub mod Check
 pub mod Verdict
-pub mod Marks
 pub mod Steps

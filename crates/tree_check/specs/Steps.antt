@@ -1,32 +1,18 @@
--- What the check asks of one node or one triangle, in the order in which the code tests it. Definitions only. Assumes nothing.
+-- What the check asks of one triangle or of a node's box, in the order in which the code tests it. Definitions only. Assumes nothing.
 use Prim.Native.Nat.{ℕ, _+_, _-_, _*_, _<_, _≤_}
 use mathlib.Core.Path.{_≡_}
-use mathlib.Core.Bool.{Bool, true, false, not, _&&_, cond}
+use mathlib.Core.Bool.{Bool, true, _&&_, cond}
 use mathlib.Core.List.{List}
-use lib.Dec.{leb, ltb, eqb}
+use lib.Dec.{eqb}
 use lib.Ieee.{Float}
 use lib.ListN.{length, getD, take}
 use Rattle.geometry.specs.Box.{validBox, encloses, sameBox}
 use Rattle.geometry.specs.declared.aabb.Aabb.{Aabb}
-use Rattle.tree.specs.Lists.{range, every, gather}
+use Rattle.lists.specs.Lists.{range, every, gather}
 use Rattle.tree.specs.Layout.{wordAt, boxAt, kindAt, firstAt, secondAt}
 use Rattle.tree.specs.Mesh.{thirds, cornersInside, triangleBox}
-use Rattle.tree_check.specs.Marks.{once, places, marked}
-
--- a leaf is not empty and does not end past n
-unfoldable pub leafSound : ℕ → ℕ → ℕ → Bool
-leafSound n start count = ltb 0 count && leb (start + count) n
-
--- a branch's children differ, lie above it and below the node count
-unfoldable pub branchSound : ℕ → ℕ → ℕ → ℕ → Bool
-branchSound nodes node left right = not (eqb left right) && (ltb node left && (ltb left nodes && (ltb node right && ltb right nodes)))
-
--- a node is a sound leaf or a sound branch
-unfoldable pub nodeSound : ℕ → ℕ → List ℕ → ℕ → Bool
-nodeSound n nodes words node =
-    cond (eqb (kindAt words node) 0)
-    (leafSound n (firstAt words node) (secondAt words node))
-    (cond (eqb (kindAt words node) 1) (branchSound nodes node (firstAt words node) (secondAt words node)) false)
+use Rattle.tree_words.specs.Marks.{once, places, marked}
+use Rattle.tree_words.specs.Sound.{nodeSound}
 
 -- a triangle's indices lie below the vertex count, and its box in the tree is that of its vertices and valid
 unfoldable pub triangleSound : List Float → List ℕ → List Float → ℕ → Bool

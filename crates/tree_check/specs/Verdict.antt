@@ -1,11 +1,11 @@
 -- The answer of the tree check: "A tree passes the check if the check, with a mark area long enough, says yes". Definitions only. Assumes nothing.
 use Prim.Native.Nat.{ℕ, _*_}
-use mathlib.Core.Bool.{Bool, _&&_, cond}
-use mathlib.Core.List.{List}
-use lib.Dec.{leb}
+use mathlib.Core.Bool.{Bool, cond}
+use mathlib.Core.List.{List, [], _∷_, _++_}
 use lib.ListN.{length}
 use Rattle.casts.specs.Answer.{badShape, noRoom}
-use Rattle.tree.specs.Layout.{Tree}
+use Rattle.lists.specs.Refusals.{Test, refusing, unlessRefused}
+use Rattle.tree.specs.Layout.{Tree, lent, allLong, treeLengths}
 use Rattle.tree.specs.Mesh.{Mesh, thirds, lengthsAdmitted}
 use Rattle.tree_check.specs.Check.{treePasses}
 use Rattle.tree_check.specs.declared.check.Verdict.{Verdict}
@@ -23,19 +23,22 @@ says Yes = yes
 says No = no
 says (Refused number) = refused number
 
--- "f64 node boxes 12n and triangle boxes 6n, u32 node words 6n .., order n"; "Its mark area is u32, 3n"
+-- the tree's areas; "Its mark area is u32, 3n"
 unfoldable pub roomFor : ℕ → ℕ → ℕ → ℕ → ℕ → ℕ → Bool
 roomFor n nodeBoxes triangleBoxes nodeWords order marks =
-    leb (12 * n) nodeBoxes && (leb (6 * n) triangleBoxes && (leb (6 * n) nodeWords && (leb n order && leb (3 * n) marks)))
+    allLong (treeLengths n nodeBoxes triangleBoxes nodeWords order ++ (lent (3 * n) marks ∷ []))
 
--- a bad shape is 2, a slice or a mark area shorter than stated 3; else yes exactly when the tree passes
+-- a bad shape is 2, a slice or a mark area shorter than stated 3
+abbrev pub checkTests : Mesh → Tree → ℕ → List Test
+checkTests m t marks =
+    refusing badShape (lengthsAdmitted (length (m .vertices)) (length (m .triangles)))
+    ∷ (refusing noRoom
+    (roomFor (thirds (length (m .triangles))) (length (t .nodeBoxes)) (length (t .triangleBoxes)) (length (t .nodeWords)) (length (t .order)) marks)
+    ∷ [])
+
+-- else yes exactly when the tree passes
 unfoldable pub checkOf : Mesh → Tree → ℕ → Ruling
-checkOf m t marks =
-    cond (lengthsAdmitted (length (m .vertices)) (length (m .triangles)))
-    (cond (roomFor (thirds (length (m .triangles))) (length (t .nodeBoxes)) (length (t .triangleBoxes)) (length (t .nodeWords)) (length (t .order)) marks)
-    (cond (treePasses m t) yes no)
-    (refused noRoom))
-    (refused badShape)
+checkOf m t marks = unlessRefused refused (checkTests m t marks) (cond (treePasses m t) yes no)
 
 -- the marks after it: after 2 and 3 "unchanged"; "after a call that did not refuse" they "may hold anything"
 abbrev pub marksAfter : Ruling → List ℕ → List ℕ → List ℕ

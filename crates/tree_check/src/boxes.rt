@@ -4,7 +4,7 @@ use tree::mesh;
 ghost use mathlib.Core.Path.{_≡_};
 ghost use Prim.Native.Nat.{ℕ, _+_, _-_, _*_, _<_, _≤_};
 ghost use lib.ListN.{length, getD};
-ghost use Rattle.tree.specs.Lists.{range, every};
+ghost use Rattle.lists.specs.Lists.{range, every};
 ghost use Rattle.tree_check.specs.Steps.{triangleSound, placeEnclosed, childrenEnclosed, nodeHolds, nodeFits, Readable};
 
 // Whether a triangle's indices lie below the vertex count, and its box in the tree is that of its vertices and valid.
@@ -83,7 +83,8 @@ fn node_holds(
     node: usize,
 ) -> bool
     requires { ⌜ (node < nodes) × Readable n nodes (now «node_boxes») (now «triangle_boxes») (now words) (now order) ⌝ }
-    ensures { λ r. ⌜ r ≡ nodeHolds (now («node_boxes» .entry)) (now («triangle_boxes» .entry)) (now (words .entry)) (now (order .entry)) node ⌝ }
+    ensures { λ r. ⌜ r ≡ nodeHolds (now («node_boxes» .entry)) (now («triangle_boxes» .entry)) (now (words .entry)) (now (order .entry))
+        node ⌝ }
 {
     let outer = layout::box_at(node_boxes, node);
     let first = layout::word_at(words, 3 * node + 1);
@@ -105,7 +106,8 @@ fn node_fits(
     node: usize,
 ) -> bool
     requires { ⌜ (node < nodes) × Readable n nodes (now «node_boxes») (now «triangle_boxes») (now words) (now order) ⌝ }
-    ensures { λ r. ⌜ r ≡ nodeFits (now («node_boxes» .entry)) (now («triangle_boxes» .entry)) (now (words .entry)) (now (order .entry)) node ⌝ }
+    ensures { λ r. ⌜ r ≡ nodeFits (now («node_boxes» .entry)) (now («triangle_boxes» .entry)) (now (words .entry)) (now (order .entry))
+        node ⌝ }
 {
     if !layout::box_at(node_boxes, node).is_valid() {
         return false;
@@ -123,7 +125,8 @@ pub fn nodes_fit(
     order: &[u32],
 ) -> bool
     requires { ⌜ Readable n nodes (now «node_boxes») (now «triangle_boxes») (now words) (now order) ⌝ }
-    ensures { λ r. ⌜ r ≡ every (nodeFits (now («node_boxes» .entry)) (now («triangle_boxes» .entry)) (now (words .entry)) (now (order .entry))) (range 0 nodes) ⌝ }
+    ensures { λ r. ⌜ r ≡ every (nodeFits (now («node_boxes» .entry)) (now («triangle_boxes» .entry)) (now (words .entry))
+        (now (order .entry))) (range 0 nodes) ⌝ }
 {
     let mut node = 0;
     while node < nodes {

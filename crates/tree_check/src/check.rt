@@ -1,7 +1,7 @@
 use crate::boxes;
-use crate::words;
 use casts::answer;
 use tree::mesh;
+use tree_words::words;
 ghost use mathlib.Core.Path.{_≡_};
 ghost use Prim.Native.Nat.{_*_, _/_, _<_, _≤_};
 ghost use lib.ListN.{length};
@@ -18,7 +18,8 @@ pub enum Verdict {
 
 // Whether the nodes' words and the order pass.
 fn words_pass(n: usize, nodes: usize, words: &[u32], order: &[u32], marks: &mut [u32]) -> bool
-    requires { ⌜ (n ≤ 65536) × ((nodes ≤ 2 * n) × ((3 * nodes ≤ length (now words)) × ((n ≤ length (now order)) × (3 * n ≤ length (now marks))))) ⌝ }
+    requires { ⌜ (n ≤ 65536) × ((nodes ≤ 2 * n)
+        × ((3 * nodes ≤ length (now words)) × ((n ≤ length (now order)) × (3 * n ≤ length (now marks))))) ⌝ }
     ensures { λ r. ⌜ r ≡ wordsPass n nodes (now (words .entry)) (now (order .entry)) ⌝ }
 {
     if !words::nodes_sound(n, nodes, words) {
@@ -46,7 +47,8 @@ fn boxes_pass(
 ) -> bool
     requires { ⌜ (3 * n ≤ length (now triangles)) × (6 * n ≤ length (now «triangle_boxes»)) ⌝ }
     requires { ⌜ Readable n nodes (now «node_boxes») (now «triangle_boxes») (now words) (now order) ⌝ }
-    ensures { λ r. ⌜ r ≡ boxesPass n nodes (now (vertices .entry)) (now (triangles .entry)) (now («node_boxes» .entry)) (now («triangle_boxes» .entry)) (now (words .entry)) (now (order .entry)) ⌝ }
+    ensures { λ r. ⌜ r ≡ boxesPass n nodes (now (vertices .entry)) (now (triangles .entry)) (now («node_boxes» .entry))
+        (now («triangle_boxes» .entry)) (now (words .entry)) (now (order .entry)) ⌝ }
 {
     if !boxes::triangles_sound(n, vertices, triangles, triangle_boxes) {
         return false;
@@ -68,7 +70,14 @@ fn tree_passes(
     requires { ⌜ Long (length (now triangles) / 3) (now «node_boxes») (now «triangle_boxes») (now words) (now order) (now marks) ⌝ }
     ensures { λ r. ⌜ r ≡ treePasses
         (record { vertices = now (vertices .entry); triangles = now (triangles .entry) })
-        (record { nodeCount = nodes; nodeBoxes = now («node_boxes» .entry); triangleBoxes = now («triangle_boxes» .entry); nodeWords = now (words .entry); order = now (order .entry) }) ⌝ }
+        (record {
+          nodeCount = nodes;
+          nodeBoxes = now («node_boxes» .entry);
+          triangleBoxes = now («triangle_boxes» .entry);
+          nodeWords = now
+              (words .entry);
+          order = now (order .entry);
+        }) ⌝ }
 {
     let n = triangles.len() / 3;
     if n == 0 {
@@ -133,7 +142,14 @@ pub fn check(
 ) -> Verdict
     ensures { λ r. ⌜ says r ≡ checkOf
         (record { vertices = now (vertices .entry); triangles = now (triangles .entry) })
-        (record { nodeCount = nodes; nodeBoxes = now («node_boxes» .entry); triangleBoxes = now («triangle_boxes» .entry); nodeWords = now («node_words» .entry); order = now (order .entry) })
+        (record {
+          nodeCount = nodes;
+          nodeBoxes = now («node_boxes» .entry);
+          triangleBoxes = now («triangle_boxes» .entry);
+          nodeWords = now
+              («node_words» .entry);
+          order = now (order .entry);
+        })
         (length (now (marks .entry))) ⌝ }
     ensures { λ r. ⌜ now (marks .exit) ≡ marksAfter (says r) (now (marks .entry)) (now (marks .exit)) ⌝ }
 {

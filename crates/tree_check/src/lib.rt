@@ -1,9 +1,6 @@
-// The tree check (document 01, 'Mesh hit and its tree'): yes, no or a refusal for any tree, whoever built it, in time linear in the triangles.
+// The tree check (document 01, 'Mesh hit and its tree'): yes, no or a refusal for any tree, whoever built it, in time linear in the
+// triangles.
 
-// The mark area: counts.
-mod marks;
-// The nodes' words and the order: kinds, children, leaves, each named once.
-mod words;
 // The boxes: equal to the vertices', valid, enclosing.
 mod boxes;
 // The public call.

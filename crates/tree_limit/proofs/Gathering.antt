@@ -9,7 +9,7 @@ use borrow.Author.Tests.{ltb-true, ltb-false, le-leb, lt-leb, ne-eqb}
 use lib.Dec.{ltb, leb}
 use lib.ListN.{length, take}
 use Rattle.geometry.specs.declared.aabb.Aabb.{Aabb}
-use Rattle.tree.specs.Lists.{every}
+use Rattle.lists.specs.Lists.{every}
 use Rattle.tree.specs.Layout.{Tree}
 use Rattle.tree_query.specs.Walk.{Walking, walking, broken, takeNode, start, ended, walkOf}
 use Rattle.tree_query.specs.Areas.{onStack, held, Grown, NodeRoom, NodeTaken, WalkRoom}

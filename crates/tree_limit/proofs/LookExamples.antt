@@ -5,7 +5,7 @@ use mathlib.Core.List.{List, [], _∷_}
 use lib.Ieee.{Float, binary64, le, lt, isNan, ofFields, ofBits}
 use Rattle.geometry.specs.Box.{validSide, validBox, touchSide, touches}
 use Rattle.geometry.specs.declared.aabb.Aabb.{Aabb}
-use Rattle.tree.specs.Lists.{range, insertBy, sortBy}
+use Rattle.lists.specs.Lists.{range, insertBy, sortBy}
 use Rattle.tree.specs.Layout.{Tree, vectorAt, boxAt}
 use Rattle.tree_query.specs.Walk.{Walking, walking, broken, times, takePlace, takePlaces, atLeaf, childFits, atBranch, atNode, takeNode}
 use Rattle.tree_query.specs.Walk.{start, ended, walkOf}

@@ -10,9 +10,10 @@ use lib.ListN.{length, set, take}
 use lib.Seq.{getD-set-same, getD-set-other}
 use Rattle.geometry.specs.declared.aabb.Aabb.{Aabb}
 use Rattle.tree.specs.Layout.{Tree, wordAt}
-use Rattle.tree.proofs.Corners.{and-second}
+use Rattle.lists.proofs.JoinedTests.{and-second}
 use Rattle.tree_query.specs.Walk.{walking, childFits, atBranch}
-use Rattle.tree_query.specs.Areas.{allBelow, onStack, popped, held, Grown, KeptBy, Pushed}
+use Rattle.lists.specs.Lists.{allBelow}
+use Rattle.tree_query.specs.Areas.{onStack, popped, held, Grown, KeptBy, Pushed}
 use Rattle.tree_query.specs.declared.step.Stepped.the-variants.{Next, Ended, Stopped}
 use Rattle.tree_query.proofs.Splitting.{every-cons}
 

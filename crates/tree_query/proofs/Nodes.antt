@@ -9,11 +9,11 @@ use lib.Dec.{ltb}
 use lib.ListN.{length, take}
 use Rattle.geometry.specs.Box.{touches}
 use Rattle.geometry.specs.declared.aabb.Aabb.{Aabb}
-use Rattle.tree.specs.Lists.{every}
+use Rattle.lists.specs.Lists.{every, allBelow}
 use Rattle.tree.specs.Layout.{Tree, boxAt, kindAt, firstAt, secondAt}
-use Rattle.tree.proofs.Corners.{and-first, and-second}
+use Rattle.lists.proofs.JoinedTests.{and-first, and-second}
 use Rattle.tree_query.specs.Walk.{Walking, walking, atBranch, atNode, takeNode}
-use Rattle.tree_query.specs.Areas.{allBelow, onStack, popped, Grown, Placed, Pushed, NodeRoom, NodeTaken}
+use Rattle.tree_query.specs.Areas.{onStack, popped, Grown, Placed, Pushed, NodeRoom, NodeTaken}
 use Rattle.tree_query.specs.declared.step.Filled.{Filled}
 use Rattle.tree_query.specs.declared.step.Filled.the-variants.{Count, Broken}
 use Rattle.tree_query.specs.declared.step.Stepped.{Stepped}

@@ -12,10 +12,10 @@ use lib.ListN.{length, take, drop, set, length-set}
 use lib.Seq.{length-take-le, take-suc-set, drop-set-lt, drop-drop}
 use Rattle.geometry.specs.Box.{touches}
 use Rattle.geometry.specs.declared.aabb.Aabb.{Aabb}
-use Rattle.tree.specs.Lists.{range, every}
+use Rattle.lists.specs.Lists.{range, every, allBelow}
 use Rattle.tree.specs.Layout.{Tree, wordAt, boxAt}
 use Rattle.tree_query.specs.Walk.{Walking, walking, broken, takePlace, takePlaces, atLeaf}
-use Rattle.tree_query.specs.Areas.{allBelow, listed, Grown, GrownTo, Room, Placed}
+use Rattle.tree_query.specs.Areas.{listed, Grown, GrownTo, Room, Placed}
 use Rattle.tree_query.specs.declared.step.Filled.{Filled}
 use Rattle.tree_query.specs.declared.step.Filled.the-variants.{Count, Broken}
 use Rattle.tree_query.proofs.Splitting.{every-snoc}

@@ -1,7 +1,7 @@
 -- The query's answers: each refusal, and the list of a walk that ends. Assumes nothing.
 use Prim.Native.Nat.{ℕ, _+_, _*_, _<_, _≤_}
 use mathlib.Core.Path.{_≡_, refl, sym, ap, subst, _∙_}
-use mathlib.Core.Bool.{Bool, true, false, _&&_, cond, true≢false}
+use mathlib.Core.Bool.{Bool, true, false, _&&_, cond}
 use mathlib.Core.List.{List, [], _++_}
 use native.Mathlib.Omega.{arith}
 use borrow.Author.Tests.{leb-true}
@@ -12,10 +12,11 @@ use Rattle.geometry.specs.Box.{validBox}
 use Rattle.geometry.specs.declared.aabb.Aabb.{Aabb}
 use Rattle.casts.specs.Answer.{invalidInput, badShape, noRoom, outOfBounds}
 use Rattle.tree.specs.Layout.{Tree}
-use Rattle.tree.proofs.Corners.{and-first, and-second}
+use Rattle.lists.proofs.JoinedTests.{and-first, and-second}
 use Rattle.tree_query.specs.Walk.{Walking, walking, broken, walkOf}
 use Rattle.tree_query.specs.Areas.{listed, Grown, GrownTo, WalkRoom}
-use Rattle.tree_query.specs.Query.{Queried, count, refused, countsAdmitted, treeFits, walkFits, testsPass, afterWalk, queryOf}
+use Rattle.lists.proofs.RefusalLaws as Refusals
+use Rattle.tree_query.specs.Query.{Queried, count, refused, countsAdmitted, treeFits, walkFits, queryTests, testsPass, afterWalk, queryOf}
 use Rattle.tree_query.specs.declared.step.Filled.{Filled}
 use Rattle.tree_query.specs.declared.step.Filled.the-variants.{Count, Broken}
 
@@ -53,12 +54,10 @@ walked-list n k area exit g =
     rw (length-take-le k exit (g .inside), sym (g .rest), take-append-drop k exit)
 
 -- past the tests the stack may change
-pub tests-passed : (box : Aabb) (n : ℕ) (t : Tree) (list stack : ℕ) → validBox box ≡ true → countsAdmitted n (t .nodeCount) ≡ true → walkFits n t list stack ≡ true
-    → testsPass box n t list stack ≡ false → ⊥
+pub tests-passed : (box : Aabb) (n : ℕ) (t : Tree) (list stack : ℕ) → validBox box ≡ true → countsAdmitted n (t .nodeCount) ≡ true
+    → walkFits n t list stack ≡ true → testsPass box n t list stack ≡ false → ⊥
 unfolding testsPass
-tests-passed box n t list stack v a f failed =
-    let yes : (validBox box && (countsAdmitted n (t .nodeCount) && walkFits n t list stack)) ≡ true = simp (v, a, f) in
-    true≢false (sym yes ∙ failed)
+tests-passed box n t list stack v a f = Refusals.tests-passed (queryTests box n t list stack) (v, (a, f))
 
 module _ (box : Aabb) (n : ℕ) (t : Tree) (area : List ℕ) (stack : ℕ) where
   pub query-invalid : validBox box ≡ false → record { answer = refused invalidInput; list = area } ≡ queryOf box n t area stack

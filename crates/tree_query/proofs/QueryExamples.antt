@@ -7,7 +7,7 @@ use lib.ListN.{drop}
 use Rattle.arithmetic.specs.Basic.{isFinite}
 use Rattle.geometry.specs.Box.{validSide, validBox, touchSide, touches}
 use Rattle.geometry.specs.declared.aabb.Aabb.{Aabb}
-use Rattle.tree.specs.Lists.{range, insertBy, sortBy}
+use Rattle.lists.specs.Lists.{range, insertBy, sortBy}
 use Rattle.tree.specs.Layout.{Tree, vectorAt, boxAt}
 use Rattle.tree_query.specs.Walk.{times, takePlace, takePlaces, atLeaf, childFits, atBranch, atNode, takeNode, start, ended, walkOf}
 use Rattle.tree_query.specs.Query.{count, refused, countsAdmitted, treeFits, walkFits, afterWalk, queryOf}

@@ -9,11 +9,11 @@ use lib.Dec.{ltb, leb, leb·zero}
 use lib.ListN.{length, take, drop}
 use lib.Seq.{take-at, drop-at, length-take-le, length-front}
 use Rattle.geometry.specs.declared.aabb.Aabb.{Aabb}
-use Rattle.tree.specs.Lists.{every, sorted}
+use Rattle.lists.specs.Lists.{every, sorted, allBelow}
 use Rattle.tree.specs.Layout.{Tree}
 use Rattle.tree_query.specs.Walk.{Walking, walking, broken, times, takeNode, start, ended, walkOf}
 use Rattle.tree_query.specs.Sorting.{allWithin}
-use Rattle.tree_query.specs.Areas.{allBelow, listed, onStack, Grown, GrownTo, Stands, NodeRoom, NodeTaken, WalkRoom}
+use Rattle.tree_query.specs.Areas.{listed, onStack, Grown, GrownTo, Stands, NodeRoom, NodeTaken, WalkRoom}
 use Rattle.tree_query.specs.declared.step.Filled.{Filled}
 use Rattle.tree_query.specs.declared.step.Filled.the-variants.{Count, Broken}
 use Rattle.tree_query.specs.declared.step.Stepped.{Stepped}

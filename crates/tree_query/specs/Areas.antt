@@ -1,12 +1,11 @@
 -- What the list and the stack hold while the walk goes on, as the walk's functions promise it. Definitions only. Assumes nothing.
 use Prim.Native.Nat.{ℕ, zero, suc, _+_, _*_, _<_, _≤_}
 use mathlib.Core.Path.{_≡_}
-use mathlib.Core.Bool.{Bool, true}
+use mathlib.Core.Bool.{true}
 use mathlib.Core.List.{List, [], _∷_}
-use lib.Dec.{ltb}
 use lib.Ieee.{Float}
 use lib.ListN.{length, take, drop}
-use Rattle.tree.specs.Lists.{every}
+use Rattle.lists.specs.Lists.{allBelow}
 use Rattle.tree.specs.Layout.{Tree, wordAt}
 use Rattle.geometry.specs.declared.aabb.Aabb.{Aabb}
 use Rattle.tree_query.specs.Walk.{Walking, walking, broken, atBranch, takeNode}
@@ -14,10 +13,6 @@ use Rattle.tree_query.specs.declared.step.Filled.{Filled}
 use Rattle.tree_query.specs.declared.step.Filled.the-variants.{Count, Broken}
 use Rattle.tree_query.specs.declared.step.Stepped.{Stepped}
 use Rattle.tree_query.specs.declared.step.Stepped.the-variants.{Next, Ended, Stopped}
-
--- whether all numbers of a list are below a bound
-abbrev pub allBelow : ℕ → List ℕ → Bool
-allBelow bound = every (λ (x : ℕ). ltb x bound)
 
 -- the triangles listed so far stand in the first places of the list's area
 abbrev pub listed : List ℕ → Filled → List ℕ → Walking
@@ -82,11 +77,6 @@ KeptBy n nodes entry from limit Stopped list stack = Unit
 pub record Pushed (nodes node left right : ℕ) (entry : List ℕ) (top found : ℕ) (r : Stepped) (exit : List ℕ) : Type 0 where
   pub holds : (t : Tree) (n : ℕ) (box : Aabb) (list : List ℕ) → t .nodeCount ≡ nodes → held r list exit ≡ atBranch t n box node left right (onStack entry top) (take found list)
   pub kept : (n : ℕ) (list₀ list : List ℕ) (from : ℕ) → Grown n list₀ list from found → KeptBy n nodes list₀ from (top + 1) r list exit
-
--- the tree in its areas
-abbrev pub treeOf : ℕ → List Float → List Float → List ℕ → List ℕ → Tree
-treeOf nodes nodeBoxes triangleBoxes nodeWords order =
-    record { nodeCount = nodes; nodeBoxes = nodeBoxes; triangleBoxes = triangleBoxes; nodeWords = nodeWords; order = order }
 
 -- what taking a node asks of the areas
 pub record NodeRoom (n : ℕ) (t : Tree) (list : List ℕ) (found : ℕ) (stack : List ℕ) (node top : ℕ) : Type 0 where

@@ -1,13 +1,14 @@
 -- The query of a box: its refusals, its list and its answer. Definitions only. Assumes nothing.
 use Prim.Native.Nat.{ℕ, _+_, _*_}
-use mathlib.Core.Bool.{Bool, _&&_, cond}
-use mathlib.Core.List.{List, _++_}
+use mathlib.Core.Bool.{Bool, _&&_}
+use mathlib.Core.List.{List, [], _∷_, _++_}
 use lib.Dec.{leb}
 use lib.ListN.{length, drop, replicate}
 use Rattle.geometry.specs.Box.{validBox}
 use Rattle.geometry.specs.declared.aabb.Aabb.{Aabb}
 use Rattle.casts.specs.Answer.{invalidInput, badShape, noRoom, outOfBounds}
-use Rattle.tree.specs.Layout.{Tree}
+use Rattle.lists.specs.Refusals.{Test, refusing, unlessRefused, allPass}
+use Rattle.tree.specs.Layout.{Tree, allLong, treeLengths}
 use Rattle.tree_query.specs.Walk.{Walking, walking, broken, walkOf}
 use Rattle.tree_query.specs.declared.query.Listed.{Listed}
 use Rattle.tree_query.specs.declared.query.Listed.the-variants.{Count, Refused}
@@ -31,11 +32,10 @@ pub record Queried : Type 0 where
 unfoldable pub countsAdmitted : ℕ → ℕ → Bool
 countsAdmitted n nodes = leb n 65536 && leb nodes (2 * n)
 
--- the areas of a tree for n triangles: "f64 node boxes 12n and triangle boxes 6n, u32 node words 6n .., order n"
+-- the tree's areas
 unfoldable pub treeFits : ℕ → Tree → Bool
 treeFits n t =
-    leb (12 * n) (length (t .nodeBoxes))
-    && (leb (6 * n) (length (t .triangleBoxes)) && (leb (6 * n) (length (t .nodeWords)) && leb n (length (t .order))))
+    allLong (treeLengths n (length (t .nodeBoxes)) (length (t .triangleBoxes)) (length (t .nodeWords)) (length (t .order)))
 
 -- with the walk's: "list area n, stack area node count + 1"
 unfoldable pub walkFits : ℕ → Tree → ℕ → ℕ → Bool
@@ -46,15 +46,17 @@ unfoldable pub afterWalk : List ℕ → Walking → Queried
 afterWalk area (walking stack list) = record { answer = count (length list); list = list ++ drop (length list) area }
 afterWalk area broken = record { answer = refused outOfBounds; list = replicate (length area) 0 }
 
--- whether refusals 1 to 3 let the call pass; until then the lent areas are unchanged, and after it the stack "may hold anything"
-unfoldable pub testsPass : Aabb → ℕ → Tree → ℕ → ℕ → Bool
-testsPass box n t list stack = validBox box && (countsAdmitted n (t .nodeCount) && walkFits n t list stack)
+-- 1 before 2, 2 before 3
+abbrev pub queryTests : Aabb → ℕ → Tree → ℕ → ℕ → List Test
+queryTests box n t list stack =
+    refusing invalidInput (validBox box)
+    ∷ (refusing badShape (countsAdmitted n (t .nodeCount)) ∷ (refusing noRoom (walkFits n t list stack) ∷ []))
 
--- the areas are unchanged after 1, 2 and 3, tested in this order
+-- until they let the call pass the lent areas are unchanged, and after it the stack "may hold anything"
+unfoldable pub testsPass : Aabb → ℕ → Tree → ℕ → ℕ → Bool
+testsPass box n t list stack = allPass (queryTests box n t list stack)
+
 unfoldable pub queryOf : Aabb → ℕ → Tree → List ℕ → ℕ → Queried
 queryOf box n t area stack =
-    cond (validBox box)
-    (cond (countsAdmitted n (t .nodeCount))
-    (cond (walkFits n t (length area) stack) (afterWalk area (walkOf t n box)) (record { answer = refused noRoom; list = area }))
-    (record { answer = refused badShape; list = area }))
-    (record { answer = refused invalidInput; list = area })
+    unlessRefused (λ (number : ℕ). record { answer = refused number; list = area }) (queryTests box n t (length area) stack)
+    (afterWalk area (walkOf t n box))

@@ -6,7 +6,7 @@ use lib.Dec.{leb, ltb, eqb}
 use lib.ListN.{length}
 use Rattle.geometry.specs.Box.{touches}
 use Rattle.geometry.specs.declared.aabb.Aabb.{Aabb}
-use Rattle.tree.specs.Lists.{range, sorted}
+use Rattle.lists.specs.Lists.{range, sorted}
 use Rattle.tree.specs.Layout.{Tree, wordAt, boxAt, kindAt, firstAt, secondAt}
 
 -- the nodes on the stack, the next one first, and the triangles listed so far; or that the walk met a 5

@@ -7,7 +7,7 @@ ghost use mathlib.Core.Path.{_≡_};
 ghost use mathlib.Core.Bool.{false};
 ghost use Prim.Native.Nat.{_≤_};
 ghost use lib.ListN.{length};
-ghost use Rattle.tree_query.specs.Areas.{treeOf};
+ghost use Rattle.tree.specs.Layout.{treeOf};
 ghost use Rattle.tree_query.specs.Query.{saysListed, countsAdmitted, treeFits, walkFits, queryOf, testsPass};
 
 // How many triangles are listed, or a refusal with its number in document 01's table.

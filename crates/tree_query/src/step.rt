@@ -3,12 +3,12 @@ use tree::layout;
 ghost use mathlib.Core.Path.{_≡_};
 ghost use Prim.Native.Nat.{_+_, _-_, _*_, _<_, _≤_};
 ghost use lib.ListN.{length, take};
-ghost use Rattle.tree.specs.Lists.{range};
-ghost use Rattle.tree.specs.Layout.{firstAt, secondAt};
+ghost use Rattle.lists.specs.Lists.{range, allBelow};
+ghost use Rattle.tree.specs.Layout.{firstAt, secondAt, treeOf};
 ghost use Rattle.tree_query.specs.Walk.{walking, takePlace, takePlaces, atLeaf};
 ghost use mathlib.Core.Bool.{true, _&&_};
 ghost use lib.Dec.{ltb};
-ghost use Rattle.tree_query.specs.Areas.{allBelow, onStack, popped, Room, Placed, Pushed, treeOf, NodeRoom, NodeTaken};
+ghost use Rattle.tree_query.specs.Areas.{onStack, popped, Room, Placed, Pushed, NodeRoom, NodeTaken};
 
 // How many places of an area are filled, or that the walk met a 5.
 pub enum Filled {

@@ -7,7 +7,8 @@ ghost use mathlib.Core.Path.{_≡_};
 ghost use mathlib.Core.List.{[]};
 ghost use Prim.Native.Nat.{_<_};
 ghost use Rattle.tree_query.specs.Walk.{ended, walkOf};
-ghost use Rattle.tree_query.specs.Areas.{listed, GrownTo, treeOf, WalkRoom};
+ghost use Rattle.tree_query.specs.Areas.{listed, GrownTo, WalkRoom};
+ghost use Rattle.tree.specs.Layout.{treeOf};
 
 // The touching triangles in the walk's own order, in the first places of the list, whose rest is as it was; the stack may hold anything afterwards.
 // The node that is taken next is kept apart from the stack, since a place stored and read back at every node would be waited for. A walk past the node count is 5.

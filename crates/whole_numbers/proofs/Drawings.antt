@@ -14,13 +14,12 @@ use lib.Ieee.Exact.{HasValue}
 use lib.Ieee.Back.{round-whole}
 use Rattle.geometry.specs.declared.vec3.Vec3.{Vec3}
 use Rattle.arithmetic.proofs.SignedOrder.{plus, less}
-use Rattle.arithmetic.proofs.WholeValues.{Is}
+use Rattle.arithmetic.proofs.WholeValues.{Is, signed}
 use Rattle.whole_numbers.proofs.Whole.{Stands, Whole, WholeVec}
 use Rattle.whole_numbers.specs.Points.{Point}
-use Rattle.geometry.proofs.JoinedTests.{and-first, and-second}
+use Rattle.lists.proofs.JoinedTests.{and-first, and-second}
 use Rattle.whole_numbers.proofs.Integers.{no-factor}
 use Rattle.whole_numbers.specs.Board.{Drawn, DrawnAt}
-use Rattle.arithmetic.proofs.WholeValues.{signed}
 
 either : (p q : Bool) → (p || q) ≡ true → (p ≡ true) ⊎ (q ≡ true)
 either true q h = inl refl

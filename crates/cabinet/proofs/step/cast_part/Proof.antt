@@ -3,9 +3,8 @@ use mathlib.Core.Path.{_≡_, refl, sym, _∙_}
 use mathlib.Core.Bool.{true, false}
 use native.Mathlib.Omega.{arith}
 use borrow.Author.Tests.{not-false}
-use Rattle.geometry.proofs.JoinedTests.{test-passed, test-failed}
-use Rattle.cabinet.proofs.PartSteps.{inside-is, idle-looks, part-over, part-leaves, own-areas}
-use Rattle.cabinet.proofs.PartSteps.{part-steps}
+use Rattle.lists.proofs.JoinedTests.{test-passed, test-failed}
+use Rattle.cabinet.proofs.PartSteps.{inside-is, idle-looks, part-over, part-leaves, own-areas, part-steps}
 use borrow.Author.Needs.{needs}
 use Rattle.cabinet.proofs.step.cast_part.Statement.{statement}
 use Rattle.cabinet.proofs.step.cast_part.Tie as tie

@@ -3,10 +3,9 @@ use mathlib.Core.Path.{_≡_, refl, sym, _∙_}
 use mathlib.Core.Bool.{true, true≢false}
 use native.Mathlib.Omega.{arith}
 use borrow.Author.Tests.{not-true, not-false}
-use Rattle.geometry.proofs.JoinedTests.{test-passed, test-failed}
+use Rattle.lists.proofs.JoinedTests.{test-passed, test-failed}
 use Rattle.tree_query.proofs.Queries.{fits-room}
-use Rattle.cabinet.proofs.PartSteps.{triangles-few, nodes-few, step-bad, step-short, step-looks}
-use Rattle.cabinet.proofs.PartSteps.{step-casts, spent-fits}
+use Rattle.cabinet.proofs.PartSteps.{triangles-few, nodes-few, step-bad, step-short, step-looks, step-casts, spent-fits}
 use borrow.Author.Needs.{needs}
 use Rattle.cabinet.proofs.step.own_step.Statement.{statement}
 use Rattle.cabinet.proofs.step.own_step.Tie as tie

@@ -1,7 +1,7 @@
 -- `exports::boards::probe_merge` meets its contract. Assumes nothing.
 use mathlib.Core.Bool.{true}
 use mathlib.Core.Path.{_≡_, refl}
-use Rattle.geometry.proofs.JoinedTests.{test-passed, test-failed}
+use Rattle.lists.proofs.JoinedTests.{test-passed, test-failed}
 use Rattle.merge.specs.Merge.{Board, Areas, boardOf, areasOf, shapesAdmitted}
 use Rattle.exports.proofs.BoardCalls.{told-bad, told-short, told-merged, marks-kept}
 use borrow.Author.Needs.{needs}

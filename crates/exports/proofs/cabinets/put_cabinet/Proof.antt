@@ -1,5 +1,5 @@
 -- `exports::cabinets::put_cabinet` meets its contract. Assumes nothing.
-use Rattle.geometry.proofs.JoinedTests.{test-passed, test-failed}
+use Rattle.lists.proofs.JoinedTests.{test-passed, test-failed}
 use borrow.Author.Tests.{eq-eqb, ne-eqb}
 use native.Mathlib.Omega.{arith}
 use Rattle.exports.proofs.CabinetAnswers.{Places, places-there}

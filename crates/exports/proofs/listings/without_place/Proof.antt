@@ -1,5 +1,5 @@
 -- `exports::listings::without_place` meets its contract. Assumes nothing.
-use Rattle.geometry.proofs.JoinedTests.{test-passed, test-failed}
+use Rattle.lists.proofs.JoinedTests.{test-passed, test-failed}
 use Rattle.exports.specs.AllHits.{withoutPlace}
 use borrow.Author.Needs.{needs}
 use Rattle.exports.proofs.listings.without_place.Statement.{statement}

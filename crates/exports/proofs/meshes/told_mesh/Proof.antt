@@ -1,9 +1,7 @@
 -- `exports::meshes::told_mesh` meets its contract. Assumes nothing.
 use mathlib.Core.Path.{refl}
-use Rattle.tree.specs.Layout.{Tree}
-use Rattle.tree.specs.Mesh.{Mesh}
-use Rattle.tree_query.specs.Areas.{treeOf}
-use Rattle.mesh.specs.MeshCast.{mesh}
+use Rattle.tree.specs.Layout.{Tree, treeOf}
+use Rattle.tree.specs.Mesh.{Mesh, mesh}
 use Rattle.exports.proofs.Kept.{results-fit, hit-short, index-short, second-failed}
 use Rattle.exports.proofs.MeshTold.{mesh-short, mesh-told}
 use borrow.Author.Needs.{needs}

@@ -5,7 +5,7 @@ use lib.ListN.{length}
 use Rattle.geometry.specs.Segment.{rayAdmitted}
 use Rattle.tree.specs.Mesh.{lengthsAdmitted}
 use Rattle.exports.proofs.PlainCalls.{told-for, told-invalid, told-bad, told-short-hit, told-short-index, told-passed}
-use Rattle.geometry.proofs.JoinedTests.{test-passed, test-failed}
+use Rattle.lists.proofs.JoinedTests.{test-passed, test-failed}
 use borrow.Author.Needs.{needs}
 use Rattle.exports.proofs.plain.probe_ray_mesh_plain.Statement.{statement}
 use Rattle.exports.proofs.plain.probe_ray_mesh_plain.Tie as tie

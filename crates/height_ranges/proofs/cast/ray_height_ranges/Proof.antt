@@ -2,7 +2,7 @@
 use mathlib.Core.Path.{sym}
 use Rattle.height_ranges.specs.RangesCast.{rayHeightRanges}
 use Rattle.height_ranges.proofs.Promise.{with-promise}
-use Rattle.geometry.proofs.JoinedTests.{test-passed, test-failed}
+use Rattle.lists.proofs.JoinedTests.{test-passed, test-failed}
 use borrow.Author.Needs.{needs}
 use Rattle.height_ranges.proofs.cast.ray_height_ranges.Statement.{statement}
 use Rattle.height_ranges.proofs.cast.ray_height_ranges.Tie as tie

@@ -3,7 +3,7 @@ use mathlib.Core.Path.{sym, _∙_}
 use native.Mathlib.Omega.{arith}
 use Rattle.height_field.proofs.Ranges.{Standing, visited-stands}
 use Rattle.height_field.specs.Grid.{Sized}
-use Rattle.geometry.proofs.JoinedTests.{test-passed, test-failed}
+use Rattle.lists.proofs.JoinedTests.{test-passed, test-failed}
 use Rattle.height_ranges.proofs.VisitedAnswer.{lows-sized, highs-sized, outside, out-of-order, ordered-first}
 use borrow.Author.Needs.{needs}
 use Rattle.height_ranges.proofs.cast.visited_answer.Statement.{statement}

@@ -4,7 +4,8 @@ use mathlib.Core.Path.{_≡_, refl, sym, _∙_}
 use mathlib.Core.List.{map}
 use native.Mathlib.Omega.{arith}
 use Rattle.height_field.specs.Cells.{run}
-use Rattle.height_ranges.specs.Ranges.{nodeAt, nodeInOrder, every}
+use Rattle.height_ranges.specs.Ranges.{nodeAt, nodeInOrder}
+use Rattle.lists.specs.Lists.{every}
 use Rattle.height_ranges.proofs.Places.{place-of}
 use Rattle.height_ranges.proofs.Turns.{node-passes, node-fails, nodes-done}
 use borrow.Author.Tests.{not-true, not-false}

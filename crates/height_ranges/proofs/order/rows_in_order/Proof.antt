@@ -3,7 +3,8 @@ use Prim.Native.Nat.{_+_, _-_}
 use mathlib.Core.Path.{_≡_, refl, sym, _∙_}
 use native.Mathlib.Omega.{arith}
 use Rattle.height_field.specs.Cells.{run}
-use Rattle.height_ranges.specs.Ranges.{nodeInOrder, every}
+use Rattle.height_ranges.specs.Ranges.{nodeInOrder}
+use Rattle.lists.specs.Lists.{every}
 use Rattle.height_ranges.specs.Pass.{gridNodes}
 use Rattle.height_ranges.proofs.Turns.{node-row-passes, node-row-fails, node-rows-done}
 use borrow.Author.Tests.{not-true, not-false}

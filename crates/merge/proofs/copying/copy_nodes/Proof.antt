@@ -4,7 +4,7 @@ use mathlib.Core.List.{List}
 use Prim.Native.Nat.{ℕ, _+_, _-_, _*_, _≤_}
 use native.Mathlib.Omega.{arith}
 use lib.ListN.{length}
-use Rattle.tree.specs.Lists.{range, gather}
+use Rattle.lists.specs.Lists.{range, gather}
 use lib.Seq.{sets}
 use Rattle.merge.specs.Moved.{movedNode, movedNodes}
 use Rattle.merge.proofs.CopyLaws.{nodes-next}

@@ -8,8 +8,7 @@ use lib.Ieee.{Float}
 use lib.ListN.{take}
 use lib.Seq.{sets, length-take-le}
 use Rattle.geometry.specs.Box.{unionOf}
-use Rattle.tree.specs.Layout.{boxAt}
-use Rattle.tree_build.specs.Ranges.{boxNumbers}
+use Rattle.tree.specs.Layout.{boxAt, boxNumbers}
 use Rattle.merge.proofs.JoinLaws.{three-runs, root-box-length}
 use borrow.Author.Needs.{needs}
 use Rattle.merge.proofs.joining.join_boxes.Statement.{statement}

@@ -6,8 +6,7 @@ use Prim.Native.Nat.{_-_}
 use lib.Seq.{sets}
 use Rattle.geometry.specs.Box.{unionOf}
 use Rattle.geometry.specs.declared.aabb.Aabb.{Aabb}
-use Rattle.tree.specs.Layout.{boxAt}
-use Rattle.tree_build.specs.Ranges.{boxNumbers}
+use Rattle.tree.specs.Layout.{boxAt, boxNumbers}
 use borrow.Author.Needs.{needs}
 use Rattle.merge.proofs.joining.put_root_box.Statement.{statement}
 use Rattle.merge.proofs.joining.put_root_box.Tie as tie

@@ -4,7 +4,7 @@ use lib.ListN.{length}
 use Rattle.merge.specs.Merge.{Board, Areas, boardOf, areasOf}
 use Rattle.merge.proofs.MergePasses.{divided}
 use Rattle.merge.proofs.TestsPassed.{first-short, second-short, results-told}
-use Rattle.geometry.proofs.JoinedTests.{test-passed, test-failed}
+use Rattle.lists.proofs.JoinedTests.{test-passed, test-failed}
 use Rattle.merge.proofs.merging.areas_fit.Statement.{statement}
 use Rattle.merge.proofs.merging.areas_fit.Tie as tie
 

@@ -3,7 +3,7 @@ use mathlib.Core.Path.{sym, subst}
 use Rattle.merge.specs.Ready.{Checkable}
 use Rattle.merge.specs.Merge.{Board, boardOf}
 use Rattle.merge.proofs.TestsPassed.{first-tree-fails, second-tree-told}
-use Rattle.geometry.proofs.JoinedTests.{test-passed, test-failed}
+use Rattle.lists.proofs.JoinedTests.{test-passed, test-failed}
 use borrow.Author.Needs.{needs}
 use Rattle.merge.proofs.merging.both_pass.Statement.{statement}
 use Rattle.merge.proofs.merging.both_pass.Tie as tie

@@ -6,9 +6,8 @@ use lib.Dec.{leb}
 use lib.ListN.{length}
 use borrow.Author.Tests.{not-true, not-false}
 use Rattle.geometry.specs.Segment.{rayAdmitted}
-use Rattle.tree.specs.Layout.{Tree}
+use Rattle.tree.specs.Layout.{Tree, treeOf}
 use Rattle.tree.specs.Mesh.{thirds, lengthsAdmitted}
-use Rattle.tree_query.specs.Areas.{treeOf}
 use Rattle.tree_query.specs.Query.{walkFits}
 use Rattle.tree_query.proofs.Queries.{fits-room}
 use Rattle.mesh.proofs.Casting.{triangles-few, nodes-few, tests-passed}

@@ -5,11 +5,10 @@ use mathlib.Core.Path.{refl}
 use native.Mathlib.Omega.{arith}
 use lib.ListN.{length}
 use Rattle.casts.specs.Nearest.{saysIndexed}
-use Rattle.tree.specs.Mesh.{Mesh, thirds}
-use Rattle.mesh.specs.MeshCast.{mesh}
+use Rattle.tree.specs.Mesh.{Mesh, thirds, mesh}
 use Rattle.mesh_plain.proofs.Passing.{Passing, passing-begins, passing-goes, passing-unfit, passing-ends}
 use Rattle.mesh_plain.proofs.Passing.{index-unfit, box-tells, next-is}
-use Rattle.geometry.proofs.JoinedTests.{test-passed, test-failed}
+use Rattle.lists.proofs.JoinedTests.{test-passed, test-failed}
 use borrow.Author.Needs.{needs}
 use Rattle.mesh_plain.proofs.cast.over_triangles.Statement.{statement}
 use Rattle.mesh_plain.proofs.cast.over_triangles.Tie as tie

@@ -1,7 +1,7 @@
 -- `mesh_plain::cast::ray_mesh_plain` meets its contract. Assumes nothing.
 use Rattle.mesh_plain.proofs.Agreement.{answer-agrees}
 use Rattle.mesh_plain.proofs.Casting.{plain-invalid, plain-bad, plain-passed}
-use Rattle.geometry.proofs.JoinedTests.{test-passed, test-failed}
+use Rattle.lists.proofs.JoinedTests.{test-passed, test-failed}
 use borrow.Author.Needs.{needs}
 use Rattle.mesh_plain.proofs.cast.ray_mesh_plain.Statement.{statement}
 use Rattle.mesh_plain.proofs.cast.ray_mesh_plain.Tie as tie

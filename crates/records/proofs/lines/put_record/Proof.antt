@@ -3,7 +3,7 @@ use Rattle.records.specs.Fields.{versionOf, shapePlace}
 use Rattle.records.specs.Parse.{wellFormed}
 use Rattle.records.proofs.WellFormed.{well-formed-long, shape-within, part-filled, part-short}
 use Rattle.records.proofs.Answers.{put-as, bad-text, part-text}
-use Rattle.geometry.proofs.JoinedTests.{test-passed, test-failed}
+use Rattle.lists.proofs.JoinedTests.{test-passed, test-failed}
 use native.Mathlib.Omega.{arith}
 use mathlib.Core.Path.{_≡_, ap, _∙_}
 use mathlib.Core.Bool.{true}

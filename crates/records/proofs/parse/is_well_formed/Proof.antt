@@ -1,7 +1,7 @@
 -- `records::parse::is_well_formed` meets its contract: one test after another, then the shape that is left. Assumes nothing.
 use Rattle.records.specs.Parse.{wellFormed, filled}
 use Rattle.records.proofs.WellFormed.{rest-is}
-use Rattle.geometry.proofs.JoinedTests.{test-passed, test-failed}
+use Rattle.lists.proofs.JoinedTests.{test-passed, test-failed}
 use mathlib.Core.Path.{sym, ap, _∙_}
 use borrow.Author.Tests.{le-leb, lt-leb}
 use borrow.Author.Needs.{needs}

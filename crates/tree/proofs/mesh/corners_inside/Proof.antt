@@ -18,14 +18,27 @@ corner-index-requires-2 c κs = search needs
 
 returns-2 : tie.Need-returns-2
 unfolding cornersInside
-returns-2 c = simp (sym (c .before .before .before .corner-index .ensures), lt-ltb _ _ (c .before .before .if1 .left), sym (c .before .corner-index2 .ensures), le-ltb _ _ (c .if2 .taken))
+returns-2 c = simp (
+  sym (c .before .before .before .corner-index .ensures),
+  lt-ltb _ _ (c .before .before .if1 .left),
+  sym (c .before
+      .corner-index2 .ensures),
+  le-ltb _ _ (c .if2 .taken),
+)
 
 corner-index-requires-3 : tie.Need-corner-index-requires-3
 corner-index-requires-3 c κs = search needs
 
 returns-3 : tie.Need-returns-3
 unfolding cornersInside
-returns-3 c = simp (sym (c .before .before .before .before .corner-index .ensures), lt-ltb _ _ (c .before .before .before .if1 .left), sym (c .before .before .corner-index2 .ensures), lt-ltb _ _ (c .before .if2 .left), sym (c .corner-index3 .ensures))
+returns-3 c = simp (
+  sym (c .before .before .before .before .corner-index .ensures),
+  lt-ltb _ _ (c .before .before .before .if1 .left),
+  sym
+      (c .before .before .corner-index2 .ensures),
+  lt-ltb _ _ (c .before .if2 .left),
+  sym (c .corner-index3 .ensures),
+)
 
 pub corners-inside-spec : {M : Type 1} → statement M
 corners-inside-spec =

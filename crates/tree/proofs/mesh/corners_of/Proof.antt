@@ -13,7 +13,14 @@ corner-at-requires-2 : tie.Need-corner-at-requires-2
 corner-at-requires-2 c κs = (c .before .before .before .pre .0, (omega arith, second-fits _ _ _ (c .before .before .before .pre .1)))
 
 corner-at-requires-3 : tie.Need-corner-at-requires-3
-corner-at-requires-3 c κs = (c .before .before .before .before .pre .0, (omega arith, third-fits _ _ _ (c .before .before .before .before .pre .1)))
+corner-at-requires-3 c κs = (
+  c .before .before .before .before .pre .0,
+  (
+    omega arith,
+    third-fits _ _ _ (c .before .before .before .before
+        .pre .1),
+  ),
+)
 
 returns : tie.Need-returns
 unfolding cornersOf

@@ -3,11 +3,13 @@
 use mathlib.Core.Path.{_≡_, refl, _∙_}
 use mathlib.Core.Bool.{Bool, true}
 use lib.ListN.{length}
-use Rattle.tree.specs.Mesh.{Mesh, lengthsAdmitted}
-use Rattle.tree_build.specs.Build.{Areas, areas, mesh, roomFor, triangleCount}
-use Rattle.geometry.proofs.JoinedTests.{test-passed, test-failed}
+use Rattle.tree.specs.Mesh.{Mesh, lengthsAdmitted, mesh, triangleCount}
+use Rattle.tree.specs.Layout.{Areas, areas}
+use Rattle.tree_build.specs.Build.{roomFor, buildTests, testsPass}
+use Rattle.lists.proofs.JoinedTests.{test-passed, test-failed}
 use Rattle.tree_build.proofs.Outcomes.{count-admitted, lengths-refused, room-refused}
-use Rattle.tree_build.proofs.Outcomes.{nodes-returned, refusal-returned, tests-passed, zeroed-same}
+use Rattle.lists.proofs.RefusalLaws.{tests-passed}
+use Rattle.tree_build.proofs.Outcomes.{nodes-returned, refusal-returned, zeroed-same}
 use borrow.Author.Needs.{needs}
 use Rattle.tree_build.proofs.build.build.Statement.{statement}
 use Rattle.tree_build.proofs.build.build.Tie as tie
@@ -84,7 +86,7 @@ same-length-10 : tie.Need-same-length-10
 same-length-10 c = let g : tie.After-grow = search in g .grow .kept .1 .1 .1 .1 .1 .1 .0
 
 returns-3 : tie.Need-returns-3
-unfolding start
+unfolding start testsPass
 returns-3 c =
     let (e, g) : tie.Else2 × tie.After-grow = search in
     let s = start e in
@@ -92,7 +94,7 @@ returns-3 c =
     let is-nodes = c .enum-told .given .1 in (
       nodes-returned (given s) (lent s) _ (admitted e) (roomy e) _ (g .grow .ensures .0)
           k (worked g) is-nodes (g .grow .ensures .1 k is-nodes),
-      λ failed. absurd (tests-passed (given s) (lent s) _ (admitted e) (roomy e) failed),
+      λ failed. absurd (tests-passed (buildTests (given s) (lent s) (length (s .args .work .now))) (admitted e, roomy e) failed),
     )
 
 -- `grow` refused, and `zero_areas` cleared what it left
@@ -120,7 +122,7 @@ same-length-15 : tie.Need-same-length-15
 same-length-15 c = let g : tie.After-grow = search in g .grow .kept .1 .1 .1 .1 .1 .1 .0
 
 returns-4 : tie.Need-returns-4
-unfolding start
+unfolding start testsPass
 returns-4 c =
     let (e, g, b, z) : tie.Else2 × tie.After-grow × tie.After-built × tie.After-zero-areas = search in
     let s = start e in
@@ -128,7 +130,7 @@ returns-4 c =
     let as-long = zeroed-same (worked g) (lent s) (same .0) (same .1 .0) (same .1 .1 .0) (same .1 .1 .1 .0) in (
       refusal-returned (given s) (lent s) _ (admitted e) (roomy e) _ (g .grow .ensures .0)
           _ (cleared z) (b .built .given .1) (z .zero-areas .ensures ∙ as-long),
-      λ failed. absurd (tests-passed (given s) (lent s) _ (admitted e) (roomy e) failed),
+      λ failed. absurd (tests-passed (buildTests (given s) (lent s) (length (s .args .work .now))) (admitted e, roomy e) failed),
     )
 
 pub build-spec : {M : Type 1} → statement M

@@ -8,8 +8,10 @@ use native.Mathlib.Omega.{arith}
 use lib.ListN.{length, take, drop}
 use lib.Seq.{length-take-le, length-front}
 use borrow.Author.Tests.{not-true, not-false}
-use Rattle.tree_build.specs.Build.{areas, mesh, boxesWritten, treeWritten}
-use Rattle.tree_build.proofs.Runs.{length-range}
+use Rattle.tree.specs.Layout.{areas}
+use Rattle.tree.specs.Mesh.{mesh, boxesWritten}
+use Rattle.tree_build.specs.Build.{treeWritten}
+use Rattle.lists.proofs.CountLaws.{length-range}
 use Rattle.tree_build.proofs.Outcomes.{count-admitted, room-left, first-room, numbered-long, numbered, numbered-rest, none-refused, unfit-refused, grown-said, grown-written}
 use borrow.Author.Needs.{needs}
 use Rattle.tree_build.proofs.build.grow.Statement.{statement}

@@ -9,7 +9,13 @@ unfolding zeroed
 returns c =
     let (at-zero-numbers, at-zero-numbers2, at-zero-words, at-zero-words2) :
     tie.After-zero-numbers × tie.After-zero-numbers2 × tie.After-zero-words × tie.After-zero-words2 = search in
-    rw (at-zero-numbers .zero-numbers .ensures, at-zero-numbers2 .zero-numbers2 .ensures, at-zero-words .zero-words .ensures, at-zero-words2 .zero-words2 .ensures)
+    rw (
+      at-zero-numbers .zero-numbers .ensures,
+      at-zero-numbers2 .zero-numbers2 .ensures,
+      at-zero-words .zero-words .ensures,
+      at-zero-words2
+          .zero-words2 .ensures,
+    )
 
 pub zero-areas-spec : {M : Type 1} → statement M
 zero-areas-spec =

@@ -1,7 +1,7 @@
 -- `tree_check::boxes::nodes_fit` meets its contract. Assumes nothing.
 use Rattle.tree_check.specs.Steps.{nodeFits}
-use Rattle.tree_check.proofs.Every.{every-whole, every-fails, every-passes, every-done}
-use Rattle.tree.specs.Lists.{range, every}
+use Rattle.lists.proofs.EveryLaws.{every-whole, every-fails, every-passes, every-done}
+use Rattle.lists.specs.Lists.{range, every}
 use borrow.Author.Tests.{not-true, not-false}
 use mathlib.Core.Path.{_≡_, sym, _∙_}
 use Prim.Native.Nat.{_-_}

@@ -2,7 +2,7 @@
 -- that may still be opened. Assumes nothing.
 use Rattle.tree_limit.proofs.Gathering.{Gathers, allowed-is, gathers-none, gathers-begin, gathers-room, gathers-next}
 use Rattle.tree_limit.proofs.Gathering.{gathers-stopped, gathers-ended, gathers-past, gathers-used}
-use Rattle.tree_query.specs.Areas.{treeOf}
+use Rattle.tree.specs.Layout.{treeOf}
 use mathlib.Core.Path.{_∙_}
 use Prim.Native.Nat.{_-_}
 use borrow.Author.Needs.{needs}

@@ -1,10 +1,9 @@
 -- `tree_query::query::query` meets its contract: a refusal for each of the three tests, and past them what the walk lists, or its refusal.
 -- Assumes nothing.
 use Rattle.geometry.specs.Box.{validBox}
-use Rattle.tree.specs.Layout.{Tree}
-use Rattle.tree_query.specs.Areas.{treeOf}
+use Rattle.tree.specs.Layout.{Tree, treeOf}
 use Rattle.tree_query.specs.Query.{countsAdmitted, walkFits}
-use Rattle.geometry.proofs.JoinedTests.{test-passed, test-failed}
+use Rattle.lists.proofs.JoinedTests.{test-passed, test-failed}
 use Rattle.tree_query.proofs.Queries.{counts-few, counts-nodes, fits-room, tests-passed}
 use Rattle.tree_query.proofs.Queries.{query-invalid, query-bad, query-short, query-broken, query-listed}
 use native.Mathlib.Omega.{arith}

@@ -1,6 +1,6 @@
 -- `tree_query::walk::gather` meets its contract: what is left of the walk gives the whole. The measure is the number of nodes that may still be taken. Assumes nothing.
 use Rattle.tree_query.proofs.Walks.{Walks, walks-none, walks-begin, walks-room, walks-next, walks-stopped, walks-ended, walks-past}
-use Rattle.tree_query.specs.Areas.{treeOf}
+use Rattle.tree.specs.Layout.{treeOf}
 use mathlib.Core.Path.{_∙_}
 use Prim.Native.Nat.{_-_}
 use borrow.Author.Needs.{needs}

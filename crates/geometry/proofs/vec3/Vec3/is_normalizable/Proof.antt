@@ -1,6 +1,6 @@
 -- `geometry::vec3::Vec3::is_normalizable` meets its contract. Assumes nothing.
 use borrow.Author.Needs.{needs}
-use Rattle.geometry.proofs.JoinedTests.{test-passed, test-failed}
+use Rattle.lists.proofs.JoinedTests.{test-passed, test-failed}
 use Rattle.geometry.proofs.NormalLaws.{not-finite-told, first-told, second-told, third-told}
 use Rattle.geometry.proofs.vec3.Vec3.is_normalizable.Statement.{statement}
 use Rattle.geometry.proofs.vec3.Vec3.is_normalizable.Tie as tie

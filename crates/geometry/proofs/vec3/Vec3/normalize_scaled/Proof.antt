@@ -1,6 +1,6 @@
 -- `geometry::vec3::Vec3::normalize_scaled` meets its contract. Assumes nothing.
 use borrow.Author.Needs.{needs}
-use Rattle.geometry.proofs.JoinedTests.{test-passed, test-failed}
+use Rattle.lists.proofs.JoinedTests.{test-passed, test-failed}
 use Rattle.geometry.proofs.NormalLaws.{degenerate-told, scaling-told}
 use Rattle.geometry.proofs.vec3.Vec3.normalize_scaled.Statement.{statement}
 use Rattle.geometry.proofs.vec3.Vec3.normalize_scaled.Tie as tie

@@ -1,6 +1,6 @@
 -- `geometry::vec3::Vec3::try_normalize` meets its contract: a dot that tells the length tells that there is one. Assumes nothing.
 use borrow.Author.Needs.{needs}
-use Rattle.geometry.proofs.JoinedTests.{test-passed, test-failed}
+use Rattle.lists.proofs.JoinedTests.{test-passed, test-failed}
 use Rattle.geometry.proofs.NormalLaws.{not-finite-scaled, small-scaled, told-unit}
 use mathlib.Core.Path.{_∙_}
 use Rattle.geometry.proofs.vec3.Vec3.try_normalize.Statement.{statement}

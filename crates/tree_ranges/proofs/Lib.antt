@@ -1,0 +1,2 @@
+-- Laws of keys and of a range's fold, beside the functions' own proofs. Assumes nothing.
+pub mod KeyLaws

@@ -1,0 +1,2 @@
+-- Laws of the order of triangles on an axis. Assumes nothing.
+pub mod BeforeLaws

@@ -1,0 +1,56 @@
+-- `tree_words::words::mark_places` meets its contract. Assumes nothing.
+use Rattle.tree_words.proofs.Tally.{order-more, order-done, order-few}
+use Rattle.lists.specs.Lists.{count}
+use lib.Seq.{slice}
+use lib.ListN.{length, getD, take}
+use native.Mathlib.Omega.{arith}
+use mathlib.Core.Path.{_≡_, refl, _∙_}
+use Prim.Native.Nat.{ℕ, _+_, _-_, _<_, _≤_}
+use borrow.Author.Needs.{needs}
+use Rattle.tree_words.proofs.words.mark_places.Statement.{statement}
+use Rattle.tree_words.proofs.words.mark_places.Tie as tie
+
+abbrev Inv-loop : tie.InvT-loop
+Inv-loop n order marks₀ p₀ marks p = (p ≤ n) × ((length marks ≡ length marks₀) × ((x : ℕ) → x < n → getD marks x 0 + count x (slice p n order) ≡ count x (take n order)))
+
+abbrev μ-loop : tie.MeasureT-loop
+μ-loop n order marks₀ p₀ marks p = n - p
+
+clear-requires : tie.Need-clear-requires Inv-loop μ-loop
+clear-requires c κs = omega arith
+
+loop-holds : tie.Need-loop-holds Inv-loop μ-loop
+loop-holds c = (omega arith, (refl, λ x h. omega (arith, c .before .before .clear .ensures x h)))
+
+mark-place-requires : tie.Need-mark-place-requires Inv-loop μ-loop
+mark-place-requires c κs = ((omega (arith, c .before .before .before .before .before .before .before .before .before .pre), omega (arith, c .before .before .before .before .before .before .before .before .before .pre, c .before .before .before .before .before .clear .kept .0)), λ x h. omega (arith, c .before .before .before .before .before .before .before .before .before .pre, c .before .before .loop .inv .1 .1 x h, order-few (c .before .before .before .before .before .before .before .before .before .args .order .now) (c .before .before .before .before .before .before .before .before .before .args .n) x (c .before .before .before .before .before .before .before .before .before .pre .0)))
+
+add-p : tie.Need-add-p Inv-loop μ-loop
+add-p c = search needs
+
+loop-less : tie.Need-loop-less Inv-loop μ-loop
+loop-less c = search needs
+
+loop-again : tie.Need-loop-again Inv-loop μ-loop
+loop-again c = (omega arith, (c .before .before .mark-place .kept .1 .1 .1 .0 ∙ c .before .before .before .before .before .loop .inv .1 .0, λ x h. order-more _ _ x _ _ _ _ (c .before .before .before .before .loop-test .taken) (c .before .before .before .before .before .before .before .before .before .before .before .before .pre .0) (c .before .before .mark-place .ensures x h) (c .before .before .before .before .before .loop .inv .1 .1 x h)))
+
+same-length : tie.Need-same-length Inv-loop μ-loop
+same-length c = c .before .loop .inv .1 .0 ∙ c .before .before .before .before .clear .kept .0
+
+returns : tie.Need-returns Inv-loop μ-loop
+returns c = λ x h. order-done _ _ x _ _ _ (c .loop-test .left) (c .before .loop .inv .0) (c .before .loop .inv .1 .1 x h)
+
+pub mark-places-spec : {M : Type 1} → statement M
+mark-places-spec =
+    tie.close
+    (tie.spec
+    Inv-loop
+    μ-loop
+    clear-requires
+    loop-holds
+    mark-place-requires
+    add-p
+    loop-less
+    loop-again
+    same-length
+    returns)

@@ -1,0 +1,52 @@
+-- `tree_words::words::nodes_sound` meets its contract. Assumes nothing.
+use Rattle.lists.proofs.EveryLaws.{every-whole, every-fails, every-passes, every-done}
+use Rattle.tree_words.specs.Sound.{nodeSound}
+use Rattle.lists.specs.Lists.{range, every}
+use borrow.Author.Tests.{not-true, not-false}
+use native.Mathlib.Omega.{arith}
+use mathlib.Core.Path.{_≡_, sym, _∙_}
+use Prim.Native.Nat.{_-_}
+use borrow.Author.Needs.{needs}
+use Rattle.tree_words.proofs.words.nodes_sound.Statement.{statement}
+use Rattle.tree_words.proofs.words.nodes_sound.Tie as tie
+
+abbrev Inv-loop : tie.InvT-loop
+Inv-loop n nodes words node₀ node = every (nodeSound n nodes words) (range node (nodes - node)) ≡ every (nodeSound n nodes words) (range 0 nodes)
+
+abbrev μ-loop : tie.MeasureT-loop
+μ-loop n nodes words node₀ node = nodes - node
+
+loop-holds : tie.Need-loop-holds Inv-loop μ-loop
+loop-holds c = every-whole _ _
+
+node-sound-requires : tie.Need-node-sound-requires Inv-loop μ-loop
+node-sound-requires c κs = omega arith
+
+returns : tie.Need-returns Inv-loop μ-loop
+returns c = sym (every-fails _ _ _ _ (c .before .before .loop-test .taken) (sym (c .before .node-sound .ensures) ∙ not-true (c .before .node-sound .result) (c .if1 .taken)) (c .before .before .before .loop .inv))
+
+add-node : tie.Need-add-node Inv-loop μ-loop
+add-node c = search needs
+
+loop-less : tie.Need-loop-less Inv-loop μ-loop
+loop-less c = search needs
+
+loop-again : tie.Need-loop-again Inv-loop μ-loop
+loop-again c = every-passes _ _ _ _ (c .before .before .loop-test .taken) (sym (c .before .node-sound .ensures) ∙ not-false (c .before .node-sound .result) (c .if1 .left)) (c .before .before .before .loop .inv)
+
+returns-2 : tie.Need-returns-2 Inv-loop μ-loop
+returns-2 c = sym (every-done _ _ _ (c .loop-test .left)) ∙ c .before .loop .inv
+
+pub nodes-sound-spec : {M : Type 1} → statement M
+nodes-sound-spec =
+    tie.close
+    (tie.spec
+    Inv-loop
+    μ-loop
+    loop-holds
+    node-sound-requires
+    returns
+    add-node
+    loop-less
+    loop-again
+    returns-2)
