@@ -18,12 +18,14 @@ chosen-yes false room tree h = let z : _≡_ {A = ℕ} 0 1 = cc in absurd (omega
 
 module _ (m : Mesh) (t : Tree) (marks : ℕ) where
   abbrev room : Bool
-  room = roomFor (thirds (length (m .triangles))) (length (t .nodeBoxes)) (length (t .triangleBoxes)) (length (t .nodeWords)) (length (t .order)) marks
+  room = roomFor (thirds (length (m .triangles))) (length (t .nodeBoxes)) (length (t .triangleBoxes)) (length (t .nodeWords))
+      (length (t .order)) marks
 
   pub yes-passes : checkOf m t marks ≡ yes → treePasses m t ≡ true
   unfolding checkOf
   yes-passes h = chosen-yes (lengthsAdmitted (length (m .vertices)) (length (m .triangles))) room (treePasses m t) h
 
-  pub passes-yes : lengthsAdmitted (length (m .vertices)) (length (m .triangles)) ≡ true → room ≡ true → treePasses m t ≡ true → checkOf m t marks ≡ yes
+  pub passes-yes : lengthsAdmitted (length (m .vertices)) (length (m .triangles)) ≡ true → room ≡ true → treePasses m t ≡ true → checkOf m t
+      marks ≡ yes
   unfolding checkOf
   passes-yes admitted long passes = rw (admitted, long, passes)

@@ -10,7 +10,8 @@ use Rattle.geometry.specs.Box.{validBox, encloses}
 use Rattle.lists.specs.Lists.{range, every, count}
 use Rattle.tree.specs.Layout.{Tree, boxAt, wordAt, kindAt, firstAt, secondAt}
 use Rattle.tree.specs.Mesh.{Mesh}
-use Rattle.tree_check.specs.Check.{triangleCount, nodes, isLeaf, isBranch, childrenOf, placesOf, kindsKnown, childrenAbove, leavesInside, leavesFilled, cornersKnown, boxesSame, nodeEncloses, enclosed}
+use Rattle.tree_check.specs.Check.{triangleCount, nodes, isLeaf, isBranch, childrenOf, placesOf, kindsKnown, childrenAbove}
+use Rattle.tree_check.specs.Check.{leavesInside, leavesFilled, cornersKnown, boxesSame, nodeEncloses, enclosed}
 use Rattle.tree_check.specs.Steps.{triangleSound, placeEnclosed, childrenEnclosed, nodeHolds, nodeFits}
 use Rattle.tree_words.specs.Sound.{leafSound, branchSound, nodeSound}
 use Rattle.lists.proofs.EveryLaws.{every-agree, every-and}
@@ -59,10 +60,12 @@ two false b = refl
 two true false = refl
 two true true = refl
 
-leaf-or-branch : (n count : ℕ) (words : List ℕ) (i : ℕ) → nodeSound n count words i ≡ true → eqb (kindAt words i) 0 ≡ false → eqb (kindAt words i) 1 ≡ true
+leaf-or-branch : (n count : ℕ) (words : List ℕ) (i : ℕ) → nodeSound n count words i ≡ true → eqb (kindAt words i) 0 ≡ false → eqb
+    (kindAt words i) 1 ≡ true
 unfolding nodeSound
 leaf-or-branch n count words i sound h =
-    branch (eqb (kindAt words i) 0) (eqb (kindAt words i) 1) (leafSound n (firstAt words i) (secondAt words i)) (branchSound count i (firstAt words i) (secondAt words i)) h sound
+    branch (eqb (kindAt words i) 0) (eqb (kindAt words i) 1) (leafSound n (firstAt words i) (secondAt words i))
+    (branchSound count i (firstAt words i) (secondAt words i)) h sound
   where
     branch : (z o a b : Bool) → z ≡ false → cond z a (cond o b false) ≡ true → o ≡ true
     branch true o a b e h' = absurd (true≢false e)
@@ -81,7 +84,8 @@ module _ (m : Mesh) (t : Tree) where
   unfolding kindsKnown childrenAbove leavesInside leavesFilled nodeSound childrenOf
   nodes-sound-is =
       every-agree _ _ 0 (t .nodeCount)
-      (λ i low high. node-clauses (isLeaf m t i) (isBranch m t i) n (t .nodeCount) i (firstAt words i) (secondAt words i) (not-both (kindAt words i)))
+      (λ i low high. node-clauses (isLeaf m t i) (isBranch m t i) n (t .nodeCount) i (firstAt words i) (secondAt words i)
+      (not-both (kindAt words i)))
       ∙ every-and _ _ (nodes m t)
       ∙ ap (λ (b : Bool). kindsKnown m t && b)
       (every-and _ _ (nodes m t) ∙ ap (λ (b : Bool). childrenAbove m t && b) (every-and _ _ (nodes m t)))
@@ -95,19 +99,24 @@ module _ (m : Mesh) (t : Tree) where
   node-holds-by : (i : ℕ) (z o : Bool) → (z ≡ true → o ≡ false) → (z ≡ false → o ≡ true)
       → cond z (every (placeEnclosed (boxAt (t .nodeBoxes) i) (t .triangleBoxes) (t .order)) (range (firstAt words i) (secondAt words i)))
       (childrenEnclosed (boxAt (t .nodeBoxes) i) (t .nodeBoxes) (firstAt words i) (secondAt words i))
-      ≡ (every (λ (k : ℕ). encloses (boxAt (t .nodeBoxes) i) (boxAt (t .nodeBoxes) k)) (cond o (firstAt words i ∷ (secondAt words i ∷ [])) [])
-      && every (λ (p : ℕ). encloses (boxAt (t .nodeBoxes) i) (boxAt (t .triangleBoxes) (wordAt (t .order) p))) (cond z (range (firstAt words i) (secondAt words i)) []))
+      ≡ (every (λ (k : ℕ). encloses (boxAt (t .nodeBoxes) i) (boxAt (t .nodeBoxes) k))
+      (cond o (firstAt words i ∷ (secondAt words i ∷ [])) [])
+      && every (λ (p : ℕ). encloses (boxAt (t .nodeBoxes) i) (boxAt (t .triangleBoxes) (wordAt (t .order) p)))
+      (cond z (range (firstAt words i) (secondAt words i)) []))
   unfolding every placeEnclosed childrenEnclosed
   node-holds-by i true true both neither = absurd (true≢false (both refl))
   node-holds-by i true false both neither = refl
   node-holds-by i false true both neither =
-      two (encloses (boxAt (t .nodeBoxes) i) (boxAt (t .nodeBoxes) (firstAt words i))) (encloses (boxAt (t .nodeBoxes) i) (boxAt (t .nodeBoxes) (secondAt words i)))
+      two (encloses (boxAt (t .nodeBoxes) i) (boxAt (t .nodeBoxes) (firstAt words i)))
+      (encloses (boxAt (t .nodeBoxes) i) (boxAt (t .nodeBoxes) (secondAt words i)))
   node-holds-by i false false both neither = absurd (true≢false (sym (neither refl)))
 
-  node-holds-is : (i : ℕ) → nodeSound n (t .nodeCount) words i ≡ true → nodeHolds (t .nodeBoxes) (t .triangleBoxes) words (t .order) i ≡ nodeEncloses m t i
+  node-holds-is : (i : ℕ) → nodeSound n (t .nodeCount) words i ≡ true → nodeHolds (t .nodeBoxes) (t .triangleBoxes) words (t .order) i ≡
+      nodeEncloses m t i
   unfolding nodeHolds nodeEncloses childrenOf placesOf
   node-holds-is i sound =
-      node-holds-by i (eqb (kindAt words i) 0) (eqb (kindAt words i) 1) (not-both (kindAt words i)) (leaf-or-branch n (t .nodeCount) words i sound)
+      node-holds-by i (eqb (kindAt words i) 0) (eqb (kindAt words i) 1) (not-both (kindAt words i))
+      (leaf-or-branch n (t .nodeCount) words i sound)
 
   pub nodes-fit-is : every (nodeSound n (t .nodeCount) words) (range 0 (t .nodeCount)) ≡ true
       → every (nodeFits (t .nodeBoxes) (t .triangleBoxes) words (t .order)) (range 0 (t .nodeCount))

@@ -1,4 +1,5 @@
--- Trees computed from the definition alone: one that our builder would not write passes, and for each clause one fails that clause and no other. Assumes nothing.
+-- Trees computed from the definition alone: one that our builder would not write passes, and for each clause one fails that clause and no
+-- other. Assumes nothing.
 use Prim.Native.Nat.{ℕ, suc, _*_}
 use mathlib.Core.Path.{_≡_, refl}
 use mathlib.Core.Bool.{Bool, true, false, cond}
@@ -13,7 +14,9 @@ use Rattle.geometry.specs.Box.{validSide, validBox, withinSide, encloses, sameS
 use Rattle.lists.specs.Lists.{range, count, every, gather}
 use Rattle.tree.specs.Layout.{Tree, vectorAt, boxAt}
 use Rattle.tree.specs.Mesh.{Mesh, cornersInside, cornerAt, triangleBox}
-use Rattle.tree_check.specs.Check.{triangleCount, childrenOf, placesOf, kindsKnown, childrenAbove, leavesInside, namedOnce, placedOnce, orderedOnce, leavesFilled, cornersKnown, boxesSame, boxesValid, nodeEncloses, enclosed, clausesHold, treePasses}
+use Rattle.tree_check.specs.Check.{triangleCount, childrenOf, placesOf, kindsKnown, childrenAbove, leavesInside, namedOnce}
+use Rattle.tree_check.specs.Check.{placedOnce, orderedOnce, leavesFilled, cornersKnown, boxesSame, boxesValid, nodeEncloses, enclosed}
+use Rattle.tree_check.specs.Check.{clausesHold, treePasses}
 
 abbrev twoᶠ : Float
 twoᶠ = ofBits binary64 0x4000_0000_0000_0000
@@ -98,7 +101,8 @@ outcome m t =
 abbrev foreign : Tree
 foreign = treeOf 5 wide (branch 2 1 ++ (leaf 2 1 ++ (branch 4 3 ++ (leaf 0 1 ++ leaf 1 1)))) (2 ∷ (0 ∷ (1 ∷ [])))
 
--- one fault each: an unknown kind, a child that is not above, a leaf past n, a node not named, a place in two leaves, a triangle twice in the order,
+-- one fault each: an unknown kind, a child that is not above, a leaf past n, a node not named, a place in two leaves, a triangle twice in
+-- the order,
 -- an empty leaf, a triangle's box too wide, a box that is not finite, a child and a triangle that are not enclosed
 abbrev faulty : List Tree
 faulty =
@@ -119,5 +123,7 @@ noBy clause = record { passes = false; fails = clause ∷ [] }
 -- the foreign tree passes; a triangle index past the vertices, and each fault, is a no by one clause alone
 pub outcomes : (outcome thrice foreign ∷ (outcome past (leafOver (tight ++ (tight ++ edge))) ∷ map (outcome thrice) faulty))
     ≡ (record { passes = true; fails = [] } ∷ (noBy 8 ∷ map noBy (1 ∷ (2 ∷ (3 ∷ (4 ∷ (5 ∷ (6 ∷ (7 ∷ (9 ∷ (10 ∷ (11 ∷ (11 ∷ [])))))))))))))
-unfolding treePasses clausesHold kindsKnown childrenAbove leavesInside namedOnce placedOnce orderedOnce leavesFilled cornersKnown boxesSame boxesValid nodeEncloses enclosed childrenOf placesOf range count every gather vectorAt boxAt cornersInside cornerAt triangleBox validSide validBox withinSide encloses sameSide sameBox minOf maxOf minimumOf maximumOf isFinite ofBits ofFields lt le eq isNan
+unfolding treePasses clausesHold kindsKnown childrenAbove leavesInside namedOnce placedOnce orderedOnce leavesFilled cornersKnown boxesSame
+    boxesValid nodeEncloses enclosed childrenOf placesOf range count every gather vectorAt boxAt cornersInside cornerAt triangleBox
+    validSide validBox withinSide encloses sameSide sameBox minOf maxOf minimumOf maximumOf isFinite ofBits ofFields lt le eq isNan
 outcomes = refl

@@ -12,15 +12,18 @@ use Rattle.tree_check.specs.Steps.{placeEnclosed, childrenEnclosed, node
 use Rattle.tree_words.proofs.Sound.{SoundLeaf, SoundBranch, sound-at, sound-leaf, sound-branch}
 
 module _ (nodeBoxes triangleBoxes : List Float) (words order : List ℕ) (node : ℕ) where
-  module _ (outer : Aabb) (first second : ℕ) (o : outer ≡ boxAt nodeBoxes node) (f : first ≡ firstAt words node) (s : second ≡ secondAt words node) where
+  module _ (outer : Aabb) (first second : ℕ) (o : outer ≡ boxAt nodeBoxes node) (f : first ≡ firstAt words node)
+      (s : second ≡ secondAt words node) where
     pub leaf-holds : kindAt words node ≡ 0
-        → every (placeEnclosed outer triangleBoxes order) (range first (first + second - first)) ≡ nodeHolds nodeBoxes triangleBoxes words order node
+        → every (placeEnclosed outer triangleBoxes order) (range first (first + second - first)) ≡ nodeHolds nodeBoxes triangleBoxes words
+        order node
     unfolding nodeHolds
     leaf-holds k =
         let e : first + second - first ≡ second = omega arith in
         ap (λ (c : ℕ). every (placeEnclosed outer triangleBoxes order) (range first c)) e ∙ simp (eq-eqb (kindAt words node) 0 k, o, f, s)
 
-    pub branch-holds : (kindAt words node ≡ 0 → ⊥) → childrenEnclosed outer nodeBoxes first second ≡ nodeHolds nodeBoxes triangleBoxes words order node
+    pub branch-holds : (kindAt words node ≡ 0 → ⊥) → childrenEnclosed outer nodeBoxes first second ≡ nodeHolds nodeBoxes triangleBoxes words
+        order node
     unfolding nodeHolds
     branch-holds k = simp (ne-eqb (kindAt words node) 0 k, o, f, s)
 

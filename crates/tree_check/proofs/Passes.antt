@@ -1,4 +1,5 @@
--- The tree passes exactly when the code's four answers say so: no triangle and no node, or few enough nodes whose words, order and boxes pass. Assumes nothing.
+-- The tree passes exactly when the code's four answers say so: no triangle and no node, or few enough nodes whose words, order and boxes
+-- pass. Assumes nothing.
 use Prim.Native.Nat.{ℕ, _-_, _*_, _/_, _%_, _<_, _≤_}
 use mathlib.Core.Path.{_≡_, refl, sym, ap, _∙_}
 use mathlib.Core.Bool.{Bool, true, false, _&&_, _||_}
@@ -13,7 +14,9 @@ use Rattle.lists.specs.Lists.{range, every, gather}
 use Rattle.tree.specs.Layout.{Tree, boxAt}
 use Rattle.tree.specs.Mesh.{Mesh, lengthsAdmitted}
 use Rattle.lists.proofs.JoinedTests.{and-first, and-second}
-use Rattle.tree_check.specs.Check.{triangleCount, nodes, childrenOf, placesOf, kindsKnown, childrenAbove, leavesInside, namedOnce, placedOnce, orderedOnce, leavesFilled, cornersKnown, boxesSame, boxesValid, enclosed, clausesHold, treePasses}
+use Rattle.tree_check.specs.Check.{triangleCount, nodes, childrenOf, placesOf, kindsKnown, childrenAbove, leavesInside, namedOnce}
+use Rattle.tree_check.specs.Check.{placedOnce, orderedOnce, leavesFilled, cornersKnown, boxesSame, boxesValid, enclosed, clausesHold}
+use Rattle.tree_check.specs.Check.{treePasses}
 use Rattle.tree_words.specs.Marks.{once, places, secondMark, marked}
 use Rattle.tree_check.specs.Steps.{wordsPass, boxesPass, Readable, Long}
 use Rattle.tree_words.specs.Sound.{nodeSound}
@@ -57,7 +60,8 @@ module _ (n count : ℕ) (words order : List ℕ) (h : wordsPass n count words o
 
   words-ordered : ordered ≡ true
   unfolding wordsPass
-  words-ordered = and-second placed ordered (and-second named (placed && ordered) (and-second (every (nodeSound n count words) (range 0 count)) (named && (placed && ordered)) h))
+  words-ordered = and-second placed ordered (and-second named (placed && ordered) (and-second (every (nodeSound n count words) (range 0
+      count)) (named && (placed && ordered)) h))
 
   pub words-sound : every (nodeSound n count words) (range 0 count) ≡ true
   unfolding wordsPass
@@ -79,7 +83,8 @@ module _ (m : Mesh) (t : Tree) where
   n = triangleCount m t
 
   abbrev wordsClauses : Bool
-  wordsClauses = (kindsKnown m t && (childrenAbove m t && (leavesInside m t && leavesFilled m t))) && (namedOnce m t && (placedOnce m t && orderedOnce m t))
+  wordsClauses = (kindsKnown m t && (childrenAbove m t && (leavesInside m t && leavesFilled m t))) &&
+      (namedOnce m t && (placedOnce m t && orderedOnce m t))
 
   abbrev boxesClauses : Bool
   boxesClauses =
@@ -98,8 +103,10 @@ module _ (m : Mesh) (t : Tree) where
   clauses-are : clausesHold m t ≡ (leb (t .nodeCount) (2 * n) && (wordsClauses && boxesClauses))
   unfolding clausesHold boxesValid
   clauses-are =
-      regrouped (leb (t .nodeCount) (2 * n)) (kindsKnown m t) (childrenAbove m t) (leavesInside m t) (namedOnce m t) (placedOnce m t) (orderedOnce m t) (leavesFilled m t) (cornersKnown m t) (boxesSame m t)
-      (every (λ (i : ℕ). validBox (boxAt (t .nodeBoxes) i)) (nodes m t)) (every (λ (x : ℕ). validBox (boxAt (t .triangleBoxes) x)) (range 0 n)) (enclosed m t)
+      regrouped (leb (t .nodeCount) (2 * n)) (kindsKnown m t) (childrenAbove m t) (leavesInside m t) (namedOnce m t) (placedOnce m t)
+      (orderedOnce m t) (leavesFilled m t) (cornersKnown m t) (boxesSame m t)
+      (every (λ (i : ℕ). validBox (boxAt (t .nodeBoxes) i)) (nodes m t))
+      (every (λ (x : ℕ). validBox (boxAt (t .triangleBoxes) x)) (range 0 n)) (enclosed m t)
 
   -- no triangle: the tree passes where it has no node
   pub passes-empty : n ≡ 0 → eqb (t .nodeCount) 0 ≡ treePasses m t
@@ -111,7 +118,8 @@ module _ (m : Mesh) (t : Tree) where
   module _ (full : n ≡ 0 → ⊥) where
     passes-full : treePasses m t ≡ (leb (t .nodeCount) (2 * n) && (wordsClauses && boxesClauses))
     unfolding treePasses
-    passes-full = ap (λ (b : Bool). b || clausesHold m t) (ap (λ (b : Bool). eqb (t .nodeCount) 0 && b) (ne-eqb n 0 full) ∙ and-false (eqb (t .nodeCount) 0)) ∙ clauses-are
+    passes-full = ap (λ (b : Bool). b || clausesHold m t)
+        (ap (λ (b : Bool). eqb (t .nodeCount) 0 && b) (ne-eqb n 0 full) ∙ and-false (eqb (t .nodeCount) 0)) ∙ clauses-are
 
     pub passes-not-many : 2 * n < t .nodeCount → false ≡ treePasses m t
     passes-not-many h = sym (passes-full ∙ ap (λ (b : Bool). b && (wordsClauses && boxesClauses)) (lt-leb (t .nodeCount) (2 * n) h))
@@ -126,7 +134,8 @@ module _ (m : Mesh) (t : Tree) where
       passes-not-words h = sym (passes-few ∙ ap (λ (b : Bool). b && boxesClauses) h)
 
       pub passes-boxes : wordsPass n (t .nodeCount) (t .nodeWords) (t .order) ≡ true
-          → boxesPass n (t .nodeCount) (m .vertices) (m .triangles) (t .nodeBoxes) (t .triangleBoxes) (t .nodeWords) (t .order) ≡ treePasses m t
+          → boxesPass n (t .nodeCount) (m .vertices) (m .triangles) (t .nodeBoxes) (t .triangleBoxes) (t .nodeWords) (t .order) ≡ treePasses
+          m t
       passes-boxes h = boxes-pass-is h ∙ sym (passes-few ∙ ap (λ (b : Bool). b && boxesClauses) h)
 
 -- lengths that are admitted and room enough
@@ -135,11 +144,13 @@ unfolding lengthsAdmitted
 few-triangles v t h =
     let e : t ≤ 196608 = leb-true t 196608
     (and-second (eqb (t % 3) 0) (leb t 196608)
-    (and-second (leb v 196608) (eqb (t % 3) 0 && leb t 196608) (and-second (eqb (v % 3) 0) (leb v 196608 && (eqb (t % 3) 0 && leb t 196608)) h))) in
+    (and-second (leb v 196608) (eqb (t % 3) 0 && leb t 196608)
+    (and-second (eqb (v % 3) 0) (leb v 196608 && (eqb (t % 3) 0 && leb t 196608)) h))) in
     omega arith
 
 pub room-is-long : (n : ℕ) (nodeBoxes triangleBoxes : List Float) (words order marks : List ℕ) → n ≤ 65536
-    → roomFor n (length nodeBoxes) (length triangleBoxes) (length words) (length order) (length marks) ≡ true → Long n nodeBoxes triangleBoxes words order marks
+    → roomFor n (length nodeBoxes) (length triangleBoxes) (length words) (length order) (length marks) ≡ true → Long n nodeBoxes
+    triangleBoxes words order marks
 unfolding roomFor
 room-is-long n nodeBoxes triangleBoxes words order marks few h =
     let a = leb (12 * n) (length nodeBoxes) in

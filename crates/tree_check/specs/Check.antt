@@ -38,7 +38,8 @@ module _ (m : Mesh) (t : Tree) where
   unfoldable pub childrenAbove : Bool
   childrenAbove =
       every (λ (i : ℕ). not (isBranch i)
-      || (not (eqb (firstAt (t .nodeWords) i) (secondAt (t .nodeWords) i)) && every (λ (k : ℕ). ltb i k && ltb k (t .nodeCount)) (childrenOf i))) nodes
+      || (not (eqb (firstAt (t .nodeWords) i) (secondAt (t .nodeWords) i)) && every (λ (k : ℕ). ltb i k && ltb k (t .nodeCount))
+      (childrenOf i))) nodes
 
   -- "no leaf ends past n"
   unfoldable pub leavesInside : Bool
@@ -70,7 +71,8 @@ module _ (m : Mesh) (t : Tree) where
 
   -- "all boxes are valid"
   unfoldable pub boxesValid : Bool
-  boxesValid = every (λ (i : ℕ). validBox (boxAt (t .nodeBoxes) i)) nodes && every (λ (x : ℕ). validBox (boxAt (t .triangleBoxes) x)) (range 0 triangleCount)
+  boxesValid = every (λ (i : ℕ). validBox (boxAt (t .nodeBoxes) i)) nodes && every (λ (x : ℕ). validBox (boxAt (t .triangleBoxes) x))
+      (range 0 triangleCount)
 
   -- "each node's box encloses its children or triangles"
   unfoldable pub nodeEncloses : ℕ → Bool
@@ -85,7 +87,8 @@ module _ (m : Mesh) (t : Tree) where
   unfoldable pub clausesHold : Bool
   clausesHold =
       leb (t .nodeCount) (2 * triangleCount)
-      && (kindsKnown && (childrenAbove && (leavesInside && (namedOnce && (placedOnce && (orderedOnce && (leavesFilled && (cornersKnown && (boxesSame && (boxesValid && enclosed))))))))))
+      && (kindsKnown && (childrenAbove && (leavesInside && (namedOnce && (placedOnce && (orderedOnce && (leavesFilled && (cornersKnown &&
+      (boxesSame && (boxesValid && enclosed))))))))))
 
   -- "yes exactly when the node count is 0 with n = 0, or" all of these hold
   unfoldable pub treePasses : Bool

@@ -1,4 +1,5 @@
--- The answer of the tree check: "A tree passes the check if the check, with a mark area long enough, says yes". Definitions only. Assumes nothing.
+-- The answer of the tree check: "A tree passes the check if the check, with a mark area long enough, says yes". Definitions only. Assumes
+-- nothing.
 use Prim.Native.Nat.{ℕ, _*_}
 use mathlib.Core.Bool.{Bool, cond}
 use mathlib.Core.List.{List, [], _∷_, _++_}
@@ -33,7 +34,8 @@ abbrev pub checkTests : Mesh → Tree → ℕ → List Test
 checkTests m t marks =
     refusing badShape (lengthsAdmitted (length (m .vertices)) (length (m .triangles)))
     ∷ (refusing noRoom
-    (roomFor (thirds (length (m .triangles))) (length (t .nodeBoxes)) (length (t .triangleBoxes)) (length (t .nodeWords)) (length (t .order)) marks)
+    (roomFor (thirds (length (m .triangles))) (length (t .nodeBoxes)) (length (t .triangleBoxes)) (length (t .nodeWords))
+    (length (t .order)) marks)
     ∷ [])
 
 -- else yes exactly when the tree passes

@@ -1,4 +1,5 @@
--- A place and the one before it: leaves hold one more where one begins, and one less where one has ended. So the marks of sound leaves tell how many leaves hold a place. Assumes nothing.
+-- A place and the one before it: leaves hold one more where one begins, and one less where one has ended. So the marks of sound leaves tell
+-- how many leaves hold a place. Assumes nothing.
 use Prim.Native.Nat.{ℕ, zero, suc, _+_, _-_, _*_, _<_, _≤_}
 use mathlib.Core.Path.{_≡_, refl, ap}
 use mathlib.Core.Bool.{true}
@@ -41,7 +42,14 @@ range-balance (suc p) start (suc size) =
     let e : start + suc size ≡ suc start + size = omega arith in
     let same : count (suc p) (suc start ∷ []) ≡ count p (start ∷ []) =
     count-agree (suc p) (suc start) p start (λ (q : suc p ≡ suc start). omega arith) (λ (q : p ≡ start). omega arith) in
-    omega (arith, range-balance (suc p) (suc start) size, ap (λ (k : ℕ). count (suc p) (k ∷ [])) e, count-cons (suc p) start (range (suc start) size), count-cons p start (range (suc start) size))
+    omega (
+      arith,
+      range-balance (suc p) (suc start) size,
+      ap (λ (k : ℕ). count (suc p) (k ∷ [])) e,
+      count-cons (suc p) start
+          (range (suc start) size),
+      count-cons p start (range (suc start) size),
+    )
 
 -- the same of places that are held and the marks of begins and, n further on, of ends
 abbrev Balanced : ℕ → ℕ → List ℕ → List ℕ → Type 0
@@ -49,11 +57,19 @@ Balanced n p held marks = count p held + count (n + p) marks ≡ before p held +
 
 leaf-balance : (n p start size : ℕ) → p < n → SoundLeaf n start size → Balanced n p (range start size) (start ∷ ((n + (start + size)) ∷ []))
 leaf-balance n p start size below leaf =
-    let begins : count p ((n + (start + size)) ∷ []) ≡ 0 = count-other p (n + (start + size)) (λ (q : p ≡ n + (start + size)). omega arith) in
+    let begins : count p ((n + (start + size)) ∷ []) ≡ 0 = count-other p (n + (start + size))
+    (λ (q : p ≡ n + (start + size)). omega arith) in
     let not-yet : count (n + p) (start ∷ []) ≡ 0 = count-other (n + p) start (λ (q : n + p ≡ start). omega arith) in
     let ends : count (n + p) ((n + (start + size)) ∷ []) ≡ count p ((start + size) ∷ []) =
-    count-agree (n + p) (n + (start + size)) p (start + size) (λ (q : n + p ≡ n + (start + size)). omega arith) (λ (q : p ≡ start + size). omega arith) in
-    omega (arith, range-balance p start size, count-cons p start ((n + (start + size)) ∷ []), count-cons (n + p) start ((n + (start + size)) ∷ []))
+    count-agree (n + p) (n + (start + size)) p (start + size) (λ (q : n + p ≡ n + (start + size)). omega arith)
+    (λ (q : p ≡ start + size). omega arith) in
+    omega (
+      arith,
+      range-balance p start size,
+      count-cons p start ((n + (start + size)) ∷ []),
+      count-cons (n + p) start
+          ((n + (start + size)) ∷ []),
+    )
 
 none-balance : (n p : ℕ) → Balanced n p [] []
 unfolding count before
@@ -90,14 +106,30 @@ gather-balance f g n p start (suc size) h =
     let F : List ℕ = gather f (range (suc start) size) in
     let G : List ℕ = gather g (range (suc start) size) in
     let ih : Balanced n p F G = gather-balance f g n p (suc start) size (λ i low high. h i (omega arith) (omega arith)) in
-    omega (arith, ih, h start (omega arith) (omega arith), count-append p (f start) F, count-append (n + p) (g start) G, count-append p (g start) G, before-append p (f start) F)
+    omega (
+      arith,
+      ih,
+      h start (omega arith) (omega arith),
+      count-append p (f start) F,
+      count-append (n + p) (g start) G,
+      count-append p
+          (g start) G,
+      before-append p (f start) F,
+    )
 
 module _ (n : ℕ) (marks held gathered : List ℕ) (counted : (x : ℕ) → x < 3 * n → getD marks x 0 ≡ count x gathered)
     (balanced : (p : ℕ) → p < n → Balanced n p held gathered) where
   held-before-is : (p : ℕ) → p ≤ n → heldBefore n marks p ≡ before p held
   unfolding heldBefore before
   held-before-is zero h = refl
-  held-before-is (suc p) h = omega (arith, held-before-is p (omega arith), balanced p (omega arith), counted p (omega arith), counted (n + p) (omega arith))
+  held-before-is (suc p) h = omega (
+    arith,
+    held-before-is p (omega arith),
+    balanced p (omega arith),
+    counted p (omega arith),
+    counted (n +
+        p) (omega arith),
+  )
 
   held-once-is : (p : ℕ) → p < n → heldOnce n marks p ≡ once held p
   unfolding heldOnce once before

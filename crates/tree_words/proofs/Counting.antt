@@ -29,7 +29,8 @@ by-equality {P} x y same other = go (eqb x y) (eqb-true x y) (eqb-false x y)
 
 pub count-agree : (x y x' y' : ℕ) → (x ≡ y → x' ≡ y') → (x' ≡ y' → x ≡ y) → count x (y ∷ []) ≡ count x' (y' ∷ [])
 count-agree x y x' y' to from =
-    by-equality x y (λ e. count-same x y e ∙ sym (count-same x' y' (to e))) (λ n. count-other x y n ∙ sym (count-other x' y' (λ e. n (from e))))
+    by-equality x y (λ e. count-same x y e ∙ sym (count-same x' y' (to e)))
+    (λ n. count-other x y n ∙ sym (count-other x' y' (λ e. n (from e))))
 
 pub count-cons : (x y : ℕ) (ys : List ℕ) → count x (y ∷ ys) ≡ count x (y ∷ []) + count x ys
 unfolding count

@@ -1,4 +1,5 @@
--- Where each triangle stands in the order once, every order place holds a triangle: n places have no room for anything else. Assumes nothing.
+-- Where each triangle stands in the order once, every order place holds a triangle: n places have no room for anything else. Assumes
+-- nothing.
 use Prim.Native.Nat.{ℕ, zero, suc, _+_, _-_, _<_, _≤_}
 use mathlib.Core.Path.{_≡_, refl}
 use mathlib.Core.Bool.{Bool, true, false}
@@ -55,7 +56,8 @@ once-counts : (l : List ℕ) (n x : ℕ) → every (once l) (range 0 n) ≡ true
 unfolding once
 once-counts l n x h b = eqb-true (count x l) 1 (every-at (once l) 0 n x h (omega arith) (omega arith))
 
-pub order-below : (n : ℕ) (order : List ℕ) → n ≤ length order → every (once (take n order)) (range 0 n) ≡ true → (p : ℕ) → p < n → getD order p 0 < n
+pub order-below : (n : ℕ) (order : List ℕ) → n ≤ length order → every (once (take n order)) (range 0 n) ≡ true → (p : ℕ) → p < n → getD
+    order p 0 < n
 order-below n order h ordered p b = go (ltb (getD order p 0) n) (ltb-true (getD order p 0) n) (ltb-false (getD order p 0) n)
   where
     go : (t : Bool) → (t ≡ true → getD order p 0 < n) → (t ≡ false → n ≤ getD order p 0) → getD order p 0 < n

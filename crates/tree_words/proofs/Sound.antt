@@ -61,7 +61,10 @@ module _ (n nodes : ℕ) (words : List ℕ) (node : ℕ) (sound : nodeSound n no
 
   pub branch-inside : nodes ≤ 2 * n → Inside 1 n words node
   unfolding secondMark
-  branch-inside h = record { inside = λ (k : kindAt words node ≡ 1). let b = sound-branch (λ (z : kindAt words node ≡ 0). omega arith) in (omega arith, omega arith) }
+  branch-inside h = record {
+    inside = λ (k : kindAt words node ≡ 1). let b = sound-branch (λ (z : kindAt words node ≡ 0). omega arith) in
+        (omega arith, omega arith);
+  }
 
 -- all nodes' marks
 module _ (n nodes : ℕ) (words : List ℕ) (sound : every (nodeSound n nodes words) (range 0 nodes) ≡ true) where

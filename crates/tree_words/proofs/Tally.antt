@@ -40,7 +40,13 @@ unfolding gather range count
 marks-few kind n words x start zero = omega arith
 marks-few kind n words x start (suc size) =
     rw (count-append x (marked kind n words start) (gather (marked kind n words) (range (suc start) size)))
-    (omega (arith, marked-length kind n words start, count-le-length x (marked kind n words start), marks-few kind n words x (suc start) size))
+    (omega (
+      arith,
+      marked-length kind n words start,
+      count-le-length x (marked kind n words start),
+      marks-few kind n words x (suc start)
+          size,
+    ))
 
 module _ (f : ℕ → List ℕ) (x : ℕ) where
   -- zeros and all that is to come
@@ -52,7 +58,12 @@ module _ (f : ℕ → List ℕ) (x : ℕ) where
       → m' + count x (gather f (range (i + 1) (nodes - (i + 1)))) ≡ v
   unfolding gather
   tally-more m m' i nodes v h e inv =
-      omega (arith, count-append x (f i) (gather f (range (i + 1) (nodes - (i + 1)))), ap (λ (r : List ℕ). count x (gather f r)) (range-next i nodes h))
+      omega (
+        arith,
+        count-append x (f i) (gather f (range (i + 1) (nodes - (i + 1)))),
+        ap (λ (r : List ℕ). count x (gather f r))
+            (range-next i nodes h),
+      )
 
   pub tally-done : (m i nodes v : ℕ) → nodes ≤ i → m + count x (gather f (range i (nodes - i))) ≡ v → m ≡ v
   unfolding gather count

@@ -30,7 +30,8 @@ marked kind n words node =
 
 -- both marks lie in the mark area
 pub record Inside (kind n : ℕ) (words : List ℕ) (node : ℕ) : Type 0 where
-  pub inside : kindAt words node ≡ kind → (firstAt words node < 3 * n) × (secondMark kind n (firstAt words node) (secondAt words node) < 3 * n)
+  pub inside : kindAt words node ≡ kind → (firstAt words node < 3 * n) ×
+      (secondMark kind n (firstAt words node) (secondAt words node) < 3 * n)
 
 -- how many leaves hold the place before p, from the marks: those begun less those ended
 unfoldable pub heldBefore : ℕ → List ℕ → ℕ → ℕ

@@ -11,7 +11,8 @@ use Rattle.tree_check.proofs.boxes.places_enclosed.Statement.{statement
 use Rattle.tree_check.proofs.boxes.places_enclosed.Tie as tie
 
 abbrev Inv-loop : tie.InvT-loop
-Inv-loop outer boxes order start end p₀ p = (start ≤ p) × (every (placeEnclosed outer boxes order) (range p (end - p)) ≡ every (placeEnclosed outer boxes order) (range start (end - start)))
+Inv-loop outer boxes order start end p₀ p = (start ≤ p) ×
+    (every (placeEnclosed outer boxes order) (range p (end - p)) ≡ every (placeEnclosed outer boxes order) (range start (end - start)))
 
 abbrev μ-loop : tie.MeasureT-loop
 μ-loop outer boxes order start end p₀ p = end - p
@@ -20,19 +21,23 @@ loop-holds : tie.Need-loop-holds Inv-loop μ-loop
 loop-holds c = (omega arith, refl)
 
 place-enclosed-requires : tie.Need-place-enclosed-requires Inv-loop μ-loop
-place-enclosed-requires c κs = (omega (arith, c .before .before .before .before .pre .0), c .before .before .before .before .pre .1 _ (c .loop-test .taken))
+place-enclosed-requires c κs =
+    let start : tie.Start Inv-loop μ-loop = search in
+    (omega (arith, start .pre .0), start .pre .1 _ (c .loop-test .taken))
 
 returns : tie.Need-returns Inv-loop μ-loop
-returns c = sym (every-fails _ _ _ _ (c .before .before .loop-test .taken) (sym (c .before .place-enclosed .ensures) ∙ not-true (c .before .place-enclosed .result) (c .if1 .taken)) (c .before .before .before .loop .inv .1))
-
-add-p : tie.Need-add-p Inv-loop μ-loop
-add-p c = search needs
-
-loop-less : tie.Need-loop-less Inv-loop μ-loop
-loop-less c = search needs
+returns c =
+    let (at-loop, in-loop) : (tie.At-loop Inv-loop μ-loop) × (tie.In-loop Inv-loop μ-loop) = search in
+    sym (every-fails _ _ _ _ (in-loop .loop-test .taken)
+    (sym (c .before .place-enclosed .ensures) ∙ not-true (c .before .place-enclosed .result) (c .if1 .taken)) (at-loop .loop .inv .1))
 
 loop-again : tie.Need-loop-again Inv-loop μ-loop
-loop-again c = (omega arith, every-passes _ _ _ _ (c .before .before .loop-test .taken) (sym (c .before .place-enclosed .ensures) ∙ not-false (c .before .place-enclosed .result) (c .if1 .left)) (c .before .before .before .loop .inv .1))
+loop-again c =
+    let (at-loop, in-loop) : (tie.At-loop Inv-loop μ-loop) × (tie.In-loop Inv-loop μ-loop) = search in (
+      omega arith,
+      every-passes _ _ _ _ (in-loop .loop-test .taken)
+          (sym (c .before .place-enclosed .ensures) ∙ not-false (c .before .place-enclosed .result) (c .if1 .left)) (at-loop .loop .inv .1),
+    )
 
 returns-2 : tie.Need-returns-2 Inv-loop μ-loop
 returns-2 c = sym (every-done _ _ _ (c .loop-test .left)) ∙ c .before .loop .inv .1
@@ -46,7 +51,7 @@ places-enclosed-spec =
     loop-holds
     place-enclosed-requires
     returns
-    add-p
-    loop-less
+    (search needs)  -- add-p
+    (search needs)  -- loop-less
     loop-again
     returns-2)

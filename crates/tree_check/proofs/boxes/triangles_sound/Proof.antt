@@ -11,7 +11,8 @@ use Rattle.tree_check.proofs.boxes.triangles_sound.Statement.{statement
 use Rattle.tree_check.proofs.boxes.triangles_sound.Tie as tie
 
 abbrev Inv-loop : tie.InvT-loop
-Inv-loop n vertices triangles boxes x₀ x = every (triangleSound vertices triangles boxes) (range x (n - x)) ≡ every (triangleSound vertices triangles boxes) (range 0 n)
+Inv-loop n vertices triangles boxes x₀ x = every (triangleSound vertices triangles boxes) (range x (n - x)) ≡ every
+    (triangleSound vertices triangles boxes) (range 0 n)
 
 abbrev μ-loop : tie.MeasureT-loop
 μ-loop n vertices triangles boxes x₀ x = n - x
@@ -20,19 +21,21 @@ loop-holds : tie.Need-loop-holds Inv-loop μ-loop
 loop-holds c = every-whole _ _
 
 triangle-sound-requires : tie.Need-triangle-sound-requires Inv-loop μ-loop
-triangle-sound-requires c κs = (omega (arith, c .before .before .before .before .before .pre), omega (arith, c .before .before .before .before .before .pre))
+triangle-sound-requires c κs =
+    let start : tie.Start Inv-loop μ-loop = search in
+    (omega (arith, start .pre), omega (arith, start .pre))
 
 returns : tie.Need-returns Inv-loop μ-loop
-returns c = sym (every-fails _ _ _ _ (c .before .before .loop-test .taken) (sym (c .before .triangle-sound .ensures) ∙ not-true (c .before .triangle-sound .result) (c .if1 .taken)) (c .before .before .before .loop .inv))
-
-add-x : tie.Need-add-x Inv-loop μ-loop
-add-x c = search needs
-
-loop-less : tie.Need-loop-less Inv-loop μ-loop
-loop-less c = search needs
+returns c =
+    let (at-loop, in-loop) : (tie.At-loop Inv-loop μ-loop) × (tie.In-loop Inv-loop μ-loop) = search in
+    sym (every-fails _ _ _ _ (in-loop .loop-test .taken)
+    (sym (c .before .triangle-sound .ensures) ∙ not-true (c .before .triangle-sound .result) (c .if1 .taken)) (at-loop .loop .inv))
 
 loop-again : tie.Need-loop-again Inv-loop μ-loop
-loop-again c = every-passes _ _ _ _ (c .before .before .loop-test .taken) (sym (c .before .triangle-sound .ensures) ∙ not-false (c .before .triangle-sound .result) (c .if1 .left)) (c .before .before .before .loop .inv)
+loop-again c =
+    let (at-loop, in-loop) : (tie.At-loop Inv-loop μ-loop) × (tie.In-loop Inv-loop μ-loop) = search in
+    every-passes _ _ _ _ (in-loop .loop-test .taken)
+    (sym (c .before .triangle-sound .ensures) ∙ not-false (c .before .triangle-sound .result) (c .if1 .left)) (at-loop .loop .inv)
 
 returns-2 : tie.Need-returns-2 Inv-loop μ-loop
 returns-2 c = sym (every-done _ _ _ (c .loop-test .left)) ∙ c .before .loop .inv
@@ -46,7 +49,7 @@ triangles-sound-spec =
     loop-holds
     triangle-sound-requires
     returns
-    add-x
-    loop-less
+    (search needs)  -- add-x
+    (search needs)  -- loop-less
     loop-again
     returns-2)

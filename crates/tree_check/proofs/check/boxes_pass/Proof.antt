@@ -6,20 +6,21 @@ use borrow.Author.Needs.{needs}
 use Rattle.tree_check.proofs.check.boxes_pass.Statement.{statement}
 use Rattle.tree_check.proofs.check.boxes_pass.Tie as tie
 
-triangles-sound-requires : tie.Need-triangles-sound-requires
-triangles-sound-requires c κs = search needs
-
 returns : tie.Need-returns
 unfolding boxesPass
 returns c = simp (sym (c .before .triangles-sound .ensures), not-true (c .before .triangles-sound .result) (c .if1 .taken))
 
-nodes-fit-requires : tie.Need-nodes-fit-requires
-nodes-fit-requires c κs = search needs
-
 returns-2 : tie.Need-returns-2
 unfolding boxesPass
-returns-2 c = simp (sym (c .before .before .triangles-sound .ensures), not-false (c .before .before .triangles-sound .result) (c .before .if1 .left), sym (c .nodes-fit .ensures))
+returns-2 c =
+    let at-triangles-sound : tie.After-triangles-sound = search in
+    simp (
+      sym (at-triangles-sound .triangles-sound .ensures),
+      not-false (at-triangles-sound .triangles-sound .result)
+          (c .before .if1 .left),
+      sym (c .nodes-fit .ensures),
+    )
 
 pub boxes-pass-spec : {M : Type 1} → statement M
 boxes-pass-spec =
-    tie.close (tie.spec triangles-sound-requires returns nodes-fit-requires returns-2)
+    tie.close (tie.spec (λ c κs. search needs) returns (λ c κs. search needs) returns-2)

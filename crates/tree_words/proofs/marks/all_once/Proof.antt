@@ -11,7 +11,8 @@ use Rattle.tree_words.proofs.marks.all_once.Statement.{statement}
 use Rattle.tree_words.proofs.marks.all_once.Tie as tie
 
 abbrev Inv-loop : tie.InvT-loop
-Inv-loop marks start end x₀ x = (start ≤ x) × (every (markedOnce marks) (range x (end - x)) ≡ every (markedOnce marks) (range start (end - start)))
+Inv-loop marks start end x₀ x = (start ≤ x) × (every (markedOnce marks) (range x (end - x)) ≡ every (markedOnce marks) (range start (end -
+    start)))
 
 abbrev μ-loop : tie.MeasureT-loop
 μ-loop marks start end x₀ x = end - x
@@ -19,25 +20,17 @@ abbrev μ-loop : tie.MeasureT-loop
 loop-holds : tie.Need-loop-holds Inv-loop μ-loop
 loop-holds c = (omega arith, refl)
 
-mul-if1 : tie.Need-mul-if1 Inv-loop μ-loop
-mul-if1 c = search needs
-
-shared-slice-read-if1 : tie.Need-shared-slice-read-if1 Inv-loop μ-loop
-shared-slice-read-if1 c = search needs
-
 returns : tie.Need-returns Inv-loop μ-loop
 unfolding markedOnce
-returns c = sym (every-fails _ _ _ _ (c .before .before .loop-test .taken) (ne-eqb _ _ (c .if1 .taken)) (c .before .before .before .loop .inv .1))
-
-add-x : tie.Need-add-x Inv-loop μ-loop
-add-x c = search needs
-
-loop-less : tie.Need-loop-less Inv-loop μ-loop
-loop-less c = search needs
+returns c =
+    let (at-loop, in-loop) : (tie.At-loop Inv-loop μ-loop) × (tie.In-loop Inv-loop μ-loop) = search in
+    sym (every-fails _ _ _ _ (in-loop .loop-test .taken) (ne-eqb _ _ (c .if1 .taken)) (at-loop .loop .inv .1))
 
 loop-again : tie.Need-loop-again Inv-loop μ-loop
 unfolding markedOnce
-loop-again c = (omega arith, every-passes _ _ _ _ (c .before .before .loop-test .taken) (eq-eqb _ _ (c .if1 .left)) (c .before .before .before .loop .inv .1))
+loop-again c =
+    let (at-loop, in-loop) : (tie.At-loop Inv-loop μ-loop) × (tie.In-loop Inv-loop μ-loop) = search in
+    (omega arith, every-passes _ _ _ _ (in-loop .loop-test .taken) (eq-eqb _ _ (c .if1 .left)) (at-loop .loop .inv .1))
 
 returns-2 : tie.Need-returns-2 Inv-loop μ-loop
 returns-2 c = sym (every-done _ _ _ (c .loop-test .left)) ∙ c .before .loop .inv .1
@@ -49,10 +42,10 @@ all-once-spec =
     Inv-loop
     μ-loop
     loop-holds
-    mul-if1
-    shared-slice-read-if1
+    (search needs)  -- mul-if1
+    (search needs)  -- shared-slice-read-if1
     returns
-    add-x
-    loop-less
+    (search needs)  -- add-x
+    (search needs)  -- loop-less
     loop-again
     returns-2)

@@ -10,12 +10,9 @@ returns : tie.Need-returns
 unfolding leafSound
 returns c = simp (le-ltb 0 (c .before .args .count) (omega arith))
 
-add-result : tie.Need-add-result
-add-result c = search needs
-
 returns-2 : tie.Need-returns-2
 unfolding leafSound
 returns-2 c = simp (lt-ltb 0 (c .before .args .count) (omega arith))
 
 pub leaf-sound-spec : {M : Type 1} → statement M
-leaf-sound-spec = tie.close (tie.spec returns add-result returns-2)
+leaf-sound-spec = tie.close (tie.spec returns (search needs) returns-2)

@@ -11,34 +11,54 @@ use Rattle.tree_words.proofs.words.mark_nodes.Statement.{statement}
 use Rattle.tree_words.proofs.words.mark_nodes.Tie as tie
 
 abbrev Inv-loop : tie.InvT-loop
-Inv-loop kind n nodes words marks₀ node₀ marks node = (node ≤ nodes) × ((length marks ≡ length marks₀) × ((x : ℕ) → x < 3 * n → getD marks x 0 + count x (gather (marked kind n words) (range node (nodes - node))) ≡ count x (gather (marked kind n words) (range 0 nodes))))
+Inv-loop kind n nodes words marks₀ node₀ marks node = (node ≤ nodes) ×
+    ((length marks ≡ length marks₀) × ((x : ℕ) → x < 3 * n → getD marks x 0 + count x (gather (marked kind n words) (range node (nodes -
+    node))) ≡ count x (gather (marked kind n words) (range 0 nodes))))
 
 abbrev μ-loop : tie.MeasureT-loop
 μ-loop kind n nodes words marks₀ node₀ marks node = nodes - node
-
-mul-clear : tie.Need-mul-clear Inv-loop μ-loop
-mul-clear c = search needs
 
 clear-requires : tie.Need-clear-requires Inv-loop μ-loop
 clear-requires c κs = omega arith
 
 loop-holds : tie.Need-loop-holds Inv-loop μ-loop
-loop-holds c = (omega arith, (refl, λ x h. tally-none _ x _ _ (c .before .before .clear .ensures x h)))
+loop-holds c =
+    let at-clear : tie.After-clear Inv-loop μ-loop = search in
+    (omega arith, (refl, λ x h. tally-none _ x _ _ (at-clear .clear .ensures x h)))
 
 mark-node-requires : tie.Need-mark-node-requires Inv-loop μ-loop
-mark-node-requires c κs = ((omega (arith, c .before .before .before .before .before .before .before .before .before .pre), (omega (arith, c .before .before .before .before .before .before .before .before .before .pre), omega (arith, c .before .before .before .before .before .before .before .before .before .pre, c .before .before .before .before .before .clear .kept .0))), (c .before .before .before .before .before .before .before .before .before .pre .1 _ (c .before .loop-test .taken), λ x h. omega (arith, c .before .before .before .before .before .before .before .before .before .pre, c .before .before .loop .inv .1 .1 x h, marks-few (c .before .before .before .before .before .before .before .before .before .args .kind) (c .before .before .before .before .before .before .before .before .before .args .n) (c .before .before .before .before .before .before .before .before .before .args .words .now) x 0 (c .before .before .before .before .before .before .before .before .before .args .nodes))))
-
-add-node : tie.Need-add-node Inv-loop μ-loop
-add-node c = search needs
-
-loop-less : tie.Need-loop-less Inv-loop μ-loop
-loop-less c = search needs
+mark-node-requires c κs =
+    let (start, at-clear, at-loop) :
+    (tie.Start Inv-loop μ-loop) × (tie.After-clear Inv-loop μ-loop) × (tie.At-loop Inv-loop μ-loop) = search in (
+      (omega (arith, start .pre), (omega (arith, start .pre), omega (arith, start .pre, at-clear .clear .kept .0))),
+      (
+        start .pre .1 _ (c .before .loop-test .taken),
+        λ x h. omega (
+          arith,
+          start .pre,
+          at-loop .loop .inv .1 .1 x h,
+          marks-few (start .args .kind) (start .args .n) (start .args .words .now) x 0
+              (start .args .nodes),
+        ),
+      ),
+    )
 
 loop-again : tie.Need-loop-again Inv-loop μ-loop
-loop-again c = (omega arith, (c .before .before .mark-node .kept .1 .1 .1 .1 .0 ∙ c .before .before .before .before .before .loop .inv .1 .0, λ x h. tally-more _ x _ _ _ _ _ (c .before .before .before .before .loop-test .taken) (c .before .before .mark-node .ensures x) (c .before .before .before .before .before .loop .inv .1 .1 x h)))
+loop-again c =
+    let (at-loop, in-loop, at-mark-node) :
+    (tie.At-loop Inv-loop μ-loop) × (tie.In-loop Inv-loop μ-loop) × (tie.After-mark-node Inv-loop μ-loop) = search in (
+      omega arith,
+      (
+        at-mark-node .mark-node .kept .1 .1 .1 .1 .0 ∙ at-loop .loop .inv .1 .0,
+        λ x h. tally-more _ x _ _ _ _ _ (in-loop
+            .loop-test .taken) (at-mark-node .mark-node .ensures x) (at-loop .loop .inv .1 .1 x h),
+      ),
+    )
 
 same-length : tie.Need-same-length Inv-loop μ-loop
-same-length c = c .before .loop .inv .1 .0 ∙ c .before .before .before .before .clear .kept .0
+same-length c =
+    let at-clear : tie.After-clear Inv-loop μ-loop = search in
+    c .before .loop .inv .1 .0 ∙ at-clear .clear .kept .0
 
 returns : tie.Need-returns Inv-loop μ-loop
 returns c = λ x h. tally-done _ x _ _ _ _ (c .loop-test .left) (c .before .loop .inv .1 .1 x h)
@@ -49,12 +69,12 @@ mark-nodes-spec =
     (tie.spec
     Inv-loop
     μ-loop
-    mul-clear
+    (search needs)  -- mul-clear
     clear-requires
     loop-holds
     mark-node-requires
-    add-node
-    loop-less
+    (search needs)  -- add-node
+    (search needs)  -- loop-less
     loop-again
     same-length
     returns)

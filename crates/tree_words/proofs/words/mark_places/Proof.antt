@@ -11,7 +11,8 @@ use Rattle.tree_words.proofs.words.mark_places.Statement.{statement}
 use Rattle.tree_words.proofs.words.mark_places.Tie as tie
 
 abbrev Inv-loop : tie.InvT-loop
-Inv-loop n order marks₀ p₀ marks p = (p ≤ n) × ((length marks ≡ length marks₀) × ((x : ℕ) → x < n → getD marks x 0 + count x (slice p n order) ≡ count x (take n order)))
+Inv-loop n order marks₀ p₀ marks p = (p ≤ n) × ((length marks ≡ length marks₀) × ((x : ℕ) → x < n → getD marks x 0 + count x (slice p n
+    order) ≡ count x (take n order)))
 
 abbrev μ-loop : tie.MeasureT-loop
 μ-loop n order marks₀ p₀ marks p = n - p
@@ -20,22 +21,36 @@ clear-requires : tie.Need-clear-requires Inv-loop μ-loop
 clear-requires c κs = omega arith
 
 loop-holds : tie.Need-loop-holds Inv-loop μ-loop
-loop-holds c = (omega arith, (refl, λ x h. omega (arith, c .before .before .clear .ensures x h)))
+loop-holds c =
+    let at-clear : tie.After-clear Inv-loop μ-loop = search in
+    (omega arith, (refl, λ x h. omega (arith, at-clear .clear .ensures x h)))
 
 mark-place-requires : tie.Need-mark-place-requires Inv-loop μ-loop
-mark-place-requires c κs = ((omega (arith, c .before .before .before .before .before .before .before .before .before .pre), omega (arith, c .before .before .before .before .before .before .before .before .before .pre, c .before .before .before .before .before .clear .kept .0)), λ x h. omega (arith, c .before .before .before .before .before .before .before .before .before .pre, c .before .before .loop .inv .1 .1 x h, order-few (c .before .before .before .before .before .before .before .before .before .args .order .now) (c .before .before .before .before .before .before .before .before .before .args .n) x (c .before .before .before .before .before .before .before .before .before .pre .0)))
-
-add-p : tie.Need-add-p Inv-loop μ-loop
-add-p c = search needs
-
-loop-less : tie.Need-loop-less Inv-loop μ-loop
-loop-less c = search needs
+mark-place-requires c κs =
+    let (start, at-clear, at-loop) :
+    (tie.Start Inv-loop μ-loop) × (tie.After-clear Inv-loop μ-loop) × (tie.At-loop Inv-loop μ-loop) = search in (
+      (omega (arith, start .pre), omega (arith, start .pre, at-clear .clear .kept .0)),
+      λ x h. omega
+          (arith, start .pre, at-loop .loop .inv .1 .1 x h, order-few (start .args .order .now) (start .args .n) x (start .pre .0)),
+    )
 
 loop-again : tie.Need-loop-again Inv-loop μ-loop
-loop-again c = (omega arith, (c .before .before .mark-place .kept .1 .1 .1 .0 ∙ c .before .before .before .before .before .loop .inv .1 .0, λ x h. order-more _ _ x _ _ _ _ (c .before .before .before .before .loop-test .taken) (c .before .before .before .before .before .before .before .before .before .before .before .before .pre .0) (c .before .before .mark-place .ensures x h) (c .before .before .before .before .before .loop .inv .1 .1 x h)))
+loop-again c =
+    let (start, at-loop, in-loop, at-mark-place) :
+    (tie.Start Inv-loop μ-loop) × (tie.At-loop Inv-loop μ-loop) × (tie.In-loop Inv-loop μ-loop) ×
+    (tie.After-mark-place Inv-loop μ-loop) = search in (
+      omega arith,
+      (
+        at-mark-place .mark-place .kept .1 .1 .1 .0 ∙ at-loop .loop .inv .1 .0,
+        λ x h. order-more _ _ x _ _ _ _ (in-loop
+            .loop-test .taken) (start .pre .0) (at-mark-place .mark-place .ensures x h) (at-loop .loop .inv .1 .1 x h),
+      ),
+    )
 
 same-length : tie.Need-same-length Inv-loop μ-loop
-same-length c = c .before .loop .inv .1 .0 ∙ c .before .before .before .before .clear .kept .0
+same-length c =
+    let at-clear : tie.After-clear Inv-loop μ-loop = search in
+    c .before .loop .inv .1 .0 ∙ at-clear .clear .kept .0
 
 returns : tie.Need-returns Inv-loop μ-loop
 returns c = λ x h. order-done _ _ x _ _ _ (c .loop-test .left) (c .before .loop .inv .0) (c .before .loop .inv .1 .1 x h)
@@ -49,8 +64,8 @@ mark-places-spec =
     clear-requires
     loop-holds
     mark-place-requires
-    add-p
-    loop-less
+    (search needs)  -- add-p
+    (search needs)  -- loop-less
     loop-again
     same-length
     returns)

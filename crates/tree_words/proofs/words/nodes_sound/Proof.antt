@@ -11,7 +11,8 @@ use Rattle.tree_words.proofs.words.nodes_sound.Statement.{statement}
 use Rattle.tree_words.proofs.words.nodes_sound.Tie as tie
 
 abbrev Inv-loop : tie.InvT-loop
-Inv-loop n nodes words node₀ node = every (nodeSound n nodes words) (range node (nodes - node)) ≡ every (nodeSound n nodes words) (range 0 nodes)
+Inv-loop n nodes words node₀ node = every (nodeSound n nodes words) (range node (nodes - node)) ≡ every (nodeSound n nodes words)
+    (range 0 nodes)
 
 abbrev μ-loop : tie.MeasureT-loop
 μ-loop n nodes words node₀ node = nodes - node
@@ -23,16 +24,16 @@ node-sound-requires : tie.Need-node-sound-requires Inv-loop μ-loop
 node-sound-requires c κs = omega arith
 
 returns : tie.Need-returns Inv-loop μ-loop
-returns c = sym (every-fails _ _ _ _ (c .before .before .loop-test .taken) (sym (c .before .node-sound .ensures) ∙ not-true (c .before .node-sound .result) (c .if1 .taken)) (c .before .before .before .loop .inv))
-
-add-node : tie.Need-add-node Inv-loop μ-loop
-add-node c = search needs
-
-loop-less : tie.Need-loop-less Inv-loop μ-loop
-loop-less c = search needs
+returns c =
+    let (at-loop, in-loop) : (tie.At-loop Inv-loop μ-loop) × (tie.In-loop Inv-loop μ-loop) = search in
+    sym (every-fails _ _ _ _ (in-loop .loop-test .taken)
+    (sym (c .before .node-sound .ensures) ∙ not-true (c .before .node-sound .result) (c .if1 .taken)) (at-loop .loop .inv))
 
 loop-again : tie.Need-loop-again Inv-loop μ-loop
-loop-again c = every-passes _ _ _ _ (c .before .before .loop-test .taken) (sym (c .before .node-sound .ensures) ∙ not-false (c .before .node-sound .result) (c .if1 .left)) (c .before .before .before .loop .inv)
+loop-again c =
+    let (at-loop, in-loop) : (tie.At-loop Inv-loop μ-loop) × (tie.In-loop Inv-loop μ-loop) = search in
+    every-passes _ _ _ _ (in-loop .loop-test .taken)
+    (sym (c .before .node-sound .ensures) ∙ not-false (c .before .node-sound .result) (c .if1 .left)) (at-loop .loop .inv)
 
 returns-2 : tie.Need-returns-2 Inv-loop μ-loop
 returns-2 c = sym (every-done _ _ _ (c .loop-test .left)) ∙ c .before .loop .inv
@@ -46,7 +47,7 @@ nodes-sound-spec =
     loop-holds
     node-sound-requires
     returns
-    add-node
-    loop-less
+    (search needs)  -- add-node
+    (search needs)  -- loop-less
     loop-again
     returns-2)

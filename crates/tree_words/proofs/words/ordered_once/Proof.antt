@@ -7,17 +7,11 @@ use borrow.Author.Needs.{needs}
 use Rattle.tree_words.proofs.words.ordered_once.Statement.{statement}
 use Rattle.tree_words.proofs.words.ordered_once.Tie as tie
 
-mark-places-requires : tie.Need-mark-places-requires
-mark-places-requires c κs = search needs
-
-all-once-requires : tie.Need-all-once-requires
-all-once-requires c κs = search needs
-
-same-length : tie.Need-same-length
-same-length c = search needs
-
 returns : tie.Need-returns
-returns c = c .all-once .ensures ∙ every-whole _ _ ∙ marked-once-is _ _ 0 (c .before .before .before .before .before .before .before .before .args .n) (λ x low high. c .before .before .before .before .mark-places .ensures x (omega (arith, high)))
+returns c =
+    let (start, at-mark-places) : tie.Start × tie.After-mark-places = search in
+    c .all-once .ensures ∙ every-whole _ _ ∙ marked-once-is _ _ 0 (start .args .n)
+    (λ x low high. at-mark-places .mark-places .ensures x (omega (arith, high)))
 
 pub ordered-once-spec : {M : Type 1} → statement M
-ordered-once-spec = tie.close (tie.spec mark-places-requires all-once-requires same-length returns)
+ordered-once-spec = tie.close (tie.spec (search needs) (search needs) (search needs) returns)

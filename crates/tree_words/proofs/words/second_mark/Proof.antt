@@ -9,15 +9,9 @@ returns : tie.Need-returns
 unfolding secondMark
 returns c = simp (eq-eqb _ _ (c .if1 .taken))
 
-add-result : tie.Need-add-result
-add-result c = search needs
-
-add-result-2 : tie.Need-add-result-2
-add-result-2 c = search needs
-
 returns-2 : tie.Need-returns-2
 unfolding secondMark
 returns-2 c = simp (ne-eqb _ _ (c .if1 .left))
 
 pub second-mark-spec : {M : Type 1} → statement M
-second-mark-spec = tie.close (tie.spec returns add-result add-result-2 returns-2)
+second-mark-spec = tie.close (tie.spec returns (search needs) (search needs) returns-2)
