@@ -15,6 +15,10 @@ use Rattle.casts.specs.Nearest.{Indexed, hitAt, noHit, stopped, nextOf, 
 use Rattle.casts.specs.Surface.{facing, outOfRange}
 use Rattle.casts.specs.Reach.{reachOf}
 use Rattle.casts.specs.Triangle.{flat, triangleNormal, hasNormal, triangleAbove, triangleAt, triangleOf}
+use Rattle.casts.specs.Crossing.{crossingAnswer, distanceWithin, settledAnswer}
+use Rattle.casts.specs.declared.answer.Crossing.the-variants.{Within}
+use Rattle.casts.specs.declared.answer.Distance.{Distance}
+use Rattle.casts.specs.declared.answer.Distance.the-variants.{At as AtDistance, Miss as NoDistance}
 use Rattle.casts.specs.declared.answer.Reach.{Reach}
 use Rattle.casts.specs.declared.answer.Reach.the-variants.{At, Miss, Refused}
 
@@ -31,6 +35,51 @@ reach-by-normal r a b distance = go (normalizable (crossOf a b)) _
 pub none-either-way : (flat : Bool) → cond flat none none ≡ none
 none-either-way true = refl
 none-either-way false = refl
+
+-- ---- what is left once the distance is known
+isDistance : Distance → Bool
+isDistance (AtDistance d) = true
+isDistance NoDistance = false
+
+distanceIn : Distance → Float
+distanceIn (AtDistance d) = d
+distanceIn NoDistance = nan
+
+module _ (r : Ray) (offset a b : Vec3) (determinant inverse u : Float) where
+  abbrev v-part : Float
+  v-part = dotOf (r .direction) (crossOf offset a) *ᶠ inverse
+
+  abbrev along : Float
+  along = dotOf b (crossOf offset a) *ᶠ inverse
+
+  -- what is left at a distance, flat or not
+  abbrev at : Float → Answer
+  at d = cond (isNan d) (refused overflow) (triangleNormal r a b d)
+
+  pub from-distance : (d : Float) → distanceWithin r offset a b inverse u ≡ AtDistance d
+      → settledAnswer r determinant a b d ≡ crossingAnswer r (Within offset a b determinant inverse u)
+  unfolding distanceWithin triangleAbove isDistance distanceIn
+  from-distance d h = ap (cond (flat determinant a b) none) (go (lt v-part zeroᶠ) (lt oneᶠ (u +ᶠ v-part)) (outOfRange r along) along h)
+    where
+      go : (p q s : Bool) (e : Float)
+          → cond p NoDistance (cond q NoDistance (cond s NoDistance (AtDistance e))) ≡ AtDistance d
+          → at d ≡ cond p none (cond q none (cond s none (at e)))
+      go true q s e h = absurd (true≢false (sym (ap isDistance h)))
+      go false true s e h = absurd (true≢false (sym (ap isDistance h)))
+      go false false true e h = absurd (true≢false (sym (ap isDistance h)))
+      go false false false e h = ap at (sym (ap distanceIn h))
+
+  pub no-distance : distanceWithin r offset a b inverse u ≡ NoDistance → none ≡ crossingAnswer r (Within offset a b determinant inverse u)
+  unfolding distanceWithin triangleAbove isDistance
+  no-distance h = sym (ap (cond (flat determinant a b) none) (sym (go (lt v-part zeroᶠ) (lt oneᶠ (u +ᶠ v-part)) (outOfRange r along) along h)) ∙ none-either-way (flat determinant a b))
+    where
+      go : (p q s : Bool) (e : Float)
+          → cond p NoDistance (cond q NoDistance (cond s NoDistance (AtDistance e))) ≡ NoDistance
+          → none ≡ cond p none (cond q none (cond s none (at e)))
+      go true q s e h = refl
+      go false true s e h = refl
+      go false false true e h = refl
+      go false false false e h = absurd (true≢false (ap isDistance h))
 
 -- ---- an answer from what it reaches
 
@@ -130,6 +179,15 @@ told-by-distance r v w u =
     let offset = subOf (r .origin) v in
     told-value r a b (checkedDot a p) (λ (determinant : Float). cond (flat determinant a b) none (triangleAt r offset a b p determinant))
     (λ (determinant : Float). told-unless-flat r offset a b p determinant)
+
+pub settled-by-distance : (r : Ray) (a b : Vec3) (determinant distance d : Float) → reachOf (settledAnswer r determinant a b distance) ≡ At d
+    → triangleNormal r a b d ≡ settledAnswer r determinant a b distance
+unfolding Told
+settled-by-distance r a b determinant distance =
+    let number = cond (isNan distance) (refused overflow) (triangleNormal r a b distance) in
+    told-cond r a b (flat determinant a b) none number (told-none r a b)
+    (told-cond r a b (isNan distance) (refused overflow) (triangleNormal r a b distance) (told-refused r a b overflow)
+    (told-normal r a b distance))
 
 -- ---- one more triangle that changes nothing
 

@@ -2,6 +2,7 @@
 pub mod Answer
 pub mod SegmentBox
 pub mod Reach
+pub mod Size
 pub mod Surface
 pub mod Plane
 pub mod Triangle

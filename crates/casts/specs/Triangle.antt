@@ -11,8 +11,6 @@ use Rattle.geometry.specs.Segment.{rayAdmitted}
 use Rattle.geometry.specs.declared.vec3.Vec3.{Vec3}
 use Rattle.geometry.specs.declared.ray.Ray.{Ray}
 use Rattle.casts.specs.Answer.{Answer, hit, none, refused, withValue, withNormal, invalidInput, overflow, noNormal}
-use Rattle.casts.specs.declared.answer.Reach.{Reach}
-use Rattle.casts.specs.declared.answer.Reach.the-variants.{At, Miss, Refused}
 use Rattle.casts.specs.Surface.{outOfRange, facing}
 
 abbrev thirtyTwo : Float
@@ -28,12 +26,6 @@ unfoldable pub triangleNormal : Ray → Vec3 → Vec3 → Float → Answer
 triangleNormal r a b distance =
     withNormal (tryNormalize (crossOf a b)) noNormal
     (λ (normal : Vec3). hit (facing normal (dotOf (r .direction) normal)) distance)
-
--- what is left of the cast once its distance is known
-abbrev pub triangleFrom : Ray → Vec3 → Vec3 → Reach → Answer
-triangleFrom r a b (At distance) = triangleNormal r a b distance
-triangleFrom r a b Miss = none
-triangleFrom r a b (Refused number) = refused number
 
 -- whether the edges' normal can be told: "It fails only for a zero vector or a component that is not finite."
 unfoldable pub hasNormal : Vec3 → Vec3 → Bool

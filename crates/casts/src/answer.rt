@@ -14,6 +14,12 @@ pub enum Reach {
     Refused(u32),
 }
 
+// What the tests of v, of the sum and of the range leave of a triangle: a distance, which may be NaN, or a miss.
+pub enum Distance {
+    At(f64),
+    Miss,
+}
+
 // What is known of a triangle after the first of its tests: u is in range, with what the others need, or a miss, or a refusal with its number.
 pub enum Crossing {
     Within {

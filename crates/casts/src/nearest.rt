@@ -1,5 +1,6 @@
 use crate::answer::Cast;
 use crate::answer::Crossing;
+use crate::answer::Distance;
 use crate::answer::Reach;
 use crate::triangle;
 use geometry::ray::Ray;
@@ -7,7 +8,8 @@ use geometry::vec3::Vec3;
 ghost use mathlib.Core.Path.{_≡_};
 ghost use Rattle.casts.specs.Answer.{says};
 ghost use Rattle.casts.specs.Nearest.{noHit, hitAt, saysIndexed, nextOf, givesWay, withoutIndex};
-ghost use Rattle.casts.specs.Reach.{reachOf};
+ghost use Rattle.casts.specs.Crossing.{crossingAnswer, settledAnswer};
+ghost use Rattle.casts.specs.declared.answer.Crossing.the-variants.{Within};
 ghost use Rattle.casts.specs.Triangle.{triangleCast};
 
 // The answer of a cast at many triangles: the hit adds the triangle's index.
@@ -119,21 +121,23 @@ fn gives_way(best: IndexedCast, distance: f64) -> bool
     }
 }
 
-// What was found so far and one more triangle that is reached, whose normal is computed only where its hit takes the place.
-fn next_reach(
+// What was found so far and one more triangle that is reached at a distance, whose normal is computed only where its hit takes the place.
+fn next_settled(
     best: IndexedCast,
     index: u32,
     ray: Ray,
-    corners: [Vec3; 3],
-    reach: Reach,
+    a: Vec3,
+    b: Vec3,
+    determinant: f64,
+    distance: f64,
 ) -> IndexedCast
-    requires { ⌜ reach ≡ reachOf (triangleCast ray corners) ⌝ }
-    ensures { λ r. ⌜ saysIndexed r ≡ nextOf (saysIndexed best) index (triangleCast ray corners) ⌝ }
+    ensures { λ r. ⌜ saysIndexed r ≡ nextOf (saysIndexed best) index (settledAnswer ray determinant a b distance) ⌝ }
 {
+    let reach = triangle::settled(determinant, a.x, a.y, a.z, b.x, b.y, b.z, distance);
     match reach {
-        Reach::At(distance) => {
-            if gives_way(best, distance) {
-                return next(best, index, triangle::hit_at(ray, corners, distance));
+        Reach::At(reached) => {
+            if gives_way(best, reached) {
+                return next(best, index, triangle::triangle_normal(ray, a, b, reached));
             }
             return best;
         }
@@ -146,7 +150,28 @@ fn next_reach(
     }
 }
 
-// What was found so far and one more triangle; most miss at the first of their tests.
+// What was found so far and one more triangle, from what the first of its tests left.
+fn next_within(
+    best: IndexedCast,
+    index: u32,
+    ray: Ray,
+    offset: Vec3,
+    a: Vec3,
+    b: Vec3,
+    determinant: f64,
+    inverse: f64,
+    u: f64,
+) -> IndexedCast
+    ensures { λ r. ⌜ saysIndexed r ≡ nextOf (saysIndexed best) index (crossingAnswer ray (Within offset a b determinant inverse u)) ⌝ }
+{
+    let found = triangle::distance_within(ray, offset, a, b, inverse, u);
+    let Distance::At(distance) = found else {
+        return best;
+    };
+    next_settled(best, index, ray, a, b, determinant, distance)
+}
+
+// What was found so far and one more triangle; most miss at the first of their tests. It is compiled into its one user, the height grid's loop.
 pub fn next_triangle(best: IndexedCast, index: u32, ray: Ray, corners: [Vec3; 3]) -> IndexedCast
     ensures { λ r. ⌜ saysIndexed r ≡ nextOf (saysIndexed best) index (triangleCast ray corners) ⌝ }
 {
@@ -160,8 +185,7 @@ pub fn next_triangle(best: IndexedCast, index: u32, ray: Ray, corners: [Vec3; 3]
             inverse,
             u,
         } => {
-            let reach = triangle::reach_within(ray, offset, a, b, determinant, inverse, u);
-            return next_reach(best, index, ray, corners, reach);
+            return next_within(best, index, ray, offset, a, b, determinant, inverse, u);
         }
         Crossing::Miss => {
             return best;

@@ -1,6 +1,9 @@
 use geometry::ray::Ray;
 use geometry::vec3::Vec3;
 ghost use mathlib.Core.Path.{_≡_};
+ghost use mathlib.Core.Bool.{cond};
+ghost use lib.Ieee.{lt, neg};
+ghost use Rattle.geometry.specs.Numbers.{zeroᶠ, oneᶠ};
 ghost use Rattle.casts.specs.Surface.{outOfRange, facing};
 
 // Whether a distance is below near or above the maximum; NaN is neither.
@@ -13,12 +16,30 @@ pub fn out_of_range(ray: Ray, distance: f64) -> bool
     distance > ray.max_distance
 }
 
+// -1 where a normal is to be turned, and else 1.
+fn side(along: f64) -> f64
+    ensures { λ r. ⌜ r ≡ cond (lt zeroᶠ along) (neg oneᶠ) oneᶠ ⌝ }
+{
+    if along > 0.0 {
+        return -1.0;
+    }
+    1.0
+}
+
+// A component, turned where `along` is positive: a product with 1 or -1 is exact, and takes no choice between vectors.
+fn turned(x: f64, along: f64) -> f64
+    ensures { λ r. ⌜ r ≡ cond (lt zeroᶠ along) (neg x) x ⌝ }
+{
+    x * side(along)
+}
+
 // The normal, turned where `along`, its dot with the direction, is positive: it faces the ray.
 pub fn facing(normal: Vec3, along: f64) -> Vec3
     ensures { λ r. ⌜ r ≡ facing normal along ⌝ }
 {
-    if along > 0.0 {
-        return normal.neg();
+    Vec3 {
+        x: turned(normal.x, along),
+        y: turned(normal.y, along),
+        z: turned(normal.z, along),
     }
-    normal
 }

@@ -1,6 +1,7 @@
 use crate::answer;
 use crate::answer::Cast;
 use crate::answer::Crossing;
+use crate::answer::Distance;
 use crate::answer::Reach;
 use crate::surface;
 use arithmetic::basic;
@@ -10,32 +11,46 @@ use geometry::vec3::Checked;
 use geometry::vec3::Normalized;
 use geometry::vec3::Vec3;
 ghost use mathlib.Core.Path.{_≡_};
-ghost use mathlib.Core.Bool.{cond};
+ghost use mathlib.Core.Bool.{false, cond};
+ghost use lib.Ieee.{isNan};
 ghost use Rattle.casts.specs.Answer.{none, says};
 ghost use Rattle.geometry.specs.Vector.{vector, subOf};
 ghost use Rattle.geometry.specs.Box.{corner};
 ghost use Rattle.geometry.specs.declared.ray.Ray.{Ray as RayOf};
 ghost use Rattle.casts.specs.Reach.{reachOf};
-ghost use Rattle.casts.specs.Crossing.{crossingAnswer};
+ghost use Rattle.casts.specs.Crossing.{crossingAnswer, distanceWithin, settledAnswer};
 ghost use Rattle.casts.specs.declared.answer.Crossing.the-variants.{Within};
-ghost use Rattle.casts.specs.Triangle.{flat, triangleNormal, triangleFrom, hasNormal, triangleAbove, triangleAt, triangleCast, rayTriangle};
+ghost use Rattle.casts.specs.Size.{orSize, sizeFromOne};
+ghost use Rattle.casts.specs.Triangle.{flat, triangleNormal, hasNormal, triangleAt, triangleCast, rayTriangle};
+
+// The larger of a number and another's size, by two comparisons: neither asks for NaN, which leaves the number.
+fn at_least_size(number: f64, x: f64) -> f64
+    requires { ⌜ isNan number ≡ false ⌝ }
+    ensures { λ r. ⌜ (r ≡ orSize number x) × (isNan r ≡ false) ⌝ }
+{
+    extremes::greater(extremes::greater(number, x), -x)
+}
+
+// The largest of 1 and a vector's components in size.
+fn size_from_one(v: Vec3) -> f64
+    ensures { λ r. ⌜ (r ≡ sizeFromOne v) × (isNan r ≡ false) ⌝ }
+{
+    at_least_size(at_least_size(at_least_size(1.0, v.x), v.y), v.z)
+}
 
 // Whether the determinant is too small for the edges' scale.
 fn is_flat(determinant: f64, a: Vec3, b: Vec3) -> bool
     ensures { λ r. ⌜ r ≡ flat determinant a b ⌝ }
 {
-    let scale = extremes::maximum(
-        extremes::maximum(a.abs().max_element(), b.abs().max_element()),
-        1.0,
-    );
+    let scale = extremes::greater(size_from_one(a), size_from_one(b));
     basic::abs(determinant) <= scale * 2.220446049250313e-16 * 32.0
 }
 
 // The hit at a distance: the edges' normal, turned to face the ray.
-fn triangle_normal(ray: Ray, a: Vec3, b: Vec3, distance: f64) -> Cast
+pub fn triangle_normal(ray: Ray, a: Vec3, b: Vec3, distance: f64) -> Cast
     ensures { λ r. ⌜ says r ≡ triangleNormal ray a b distance ⌝ }
 {
-    let unit = a.cross(b).try_normalize();
+    let unit = a.cross(b).normalize();
     let Normalized::Unit(normal) = unit else {
         return Cast::Refused(answer::NO_NORMAL);
     };
@@ -49,67 +64,44 @@ fn triangle_normal(ray: Ray, a: Vec3, b: Vec3, distance: f64) -> Cast
 fn has_normal(a: Vec3, b: Vec3) -> bool
     ensures { λ r. ⌜ r ≡ hasNormal a b ⌝ }
 {
-    a.cross(b).is_normalizable()
+    a.cross(b).has_direction()
 }
 
-// The distance where u is in range: v, the sum of both, and the distance are tested; the normal is left.
-// A flat determinant is a miss like what is tested before it, so the test for it, which takes longest, comes after them.
-// A NaN distance of a flat triangle is a miss too, and else 6, so NaN is tested last.
-fn triangle_above(
-    ray: Ray,
-    offset: Vec3,
-    a: Vec3,
-    b: Vec3,
-    determinant: f64,
-    inverse: f64,
-    u: f64,
-) -> Reach
-    ensures { λ r. ⌜ triangleFrom ray a b r ≡ cond (flat determinant a b) none (triangleAbove ray offset a b inverse u) ⌝ }
+// The distance where u is in range: v, the sum of both and the range are tested. Small, so that it is compiled into each user.
+pub fn distance_within(ray: Ray, offset: Vec3, a: Vec3, b: Vec3, inverse: f64, u: f64) -> Distance
+    ensures { λ r. ⌜ r ≡ distanceWithin ray offset a b inverse u ⌝ }
 {
     let q = offset.cross(a);
     let v = ray.direction.dot(q) * inverse;
     if v < 0.0 {
-        return Reach::Miss;
+        return Distance::Miss;
     }
     if u + v > 1.0 {
-        return Reach::Miss;
+        return Distance::Miss;
     }
     let distance = b.dot(q) * inverse;
     if surface::out_of_range(ray, distance) {
-        return Reach::Miss;
+        return Distance::Miss;
     }
-    if is_flat(determinant, a, b) {
-        return Reach::Miss;
-    }
-    if distance != distance {
-        return Reach::Refused(answer::OVERFLOW);
-    }
-    Reach::At(distance)
+    Distance::At(distance)
 }
 
-// The same, the vectors by their numbers. A call that is not inlined takes numbers in registers; a vector would go through memory, and its reader would wait for the writer.
-fn above_by_numbers(
-    ray: Ray,
-    offset_x: f64,
-    offset_y: f64,
-    offset_z: f64,
+// What is left at a distance, without the normal, and so without its root. The edges come by their numbers: a call that is not inlined
+// takes numbers in registers, where a vector would go through memory, and its reader would wait for the writer.
+// A flat determinant is a miss like what is tested before it, so the test for it, which takes longest, comes after them.
+// A NaN distance of a flat triangle is a miss too, and else 6, so NaN is tested last.
+pub fn settled(
+    determinant: f64,
     a_x: f64,
     a_y: f64,
     a_z: f64,
     b_x: f64,
     b_y: f64,
     b_z: f64,
-    determinant: f64,
-    inverse: f64,
-    u: f64,
+    distance: f64,
 ) -> Reach
-    ensures { λ r. ⌜ triangleFrom ray (vector «a_x» «a_y» «a_z») (vector «b_x» «b_y» «b_z») r ≡ crossingAnswer ray (Within (vector «offset_x» «offset_y» «offset_z») (vector «a_x» «a_y» «a_z») (vector «b_x» «b_y» «b_z») determinant inverse u) ⌝ }
+    ensures { λ r. ⌜ ((s : RayOf) → r ≡ reachOf (settledAnswer s determinant (vector «a_x» «a_y» «a_z») (vector «b_x» «b_y» «b_z») distance)) ⌝ }
 {
-    let offset = Vec3 {
-        x: offset_x,
-        y: offset_y,
-        z: offset_z,
-    };
     let a = Vec3 {
         x: a_x,
         y: a_y,
@@ -120,7 +112,29 @@ fn above_by_numbers(
         y: b_y,
         z: b_z,
     };
-    triangle_above(ray, offset, a, b, determinant, inverse, u)
+    if is_flat(determinant, a, b) {
+        return Reach::Miss;
+    }
+    if distance != distance {
+        return Reach::Refused(answer::OVERFLOW);
+    }
+    if has_normal(a, b) {
+        return Reach::At(distance);
+    }
+    Reach::Refused(answer::NO_NORMAL)
+}
+
+// The same with the normal.
+fn settled_cast(ray: Ray, determinant: f64, a: Vec3, b: Vec3, distance: f64) -> Cast
+    ensures { λ r. ⌜ says r ≡ settledAnswer ray determinant a b distance ⌝ }
+{
+    if is_flat(determinant, a, b) {
+        return Cast::None;
+    }
+    if distance != distance {
+        return Cast::Refused(answer::OVERFLOW);
+    }
+    triangle_normal(ray, a, b, distance)
 }
 
 // What the first test tells where the determinant is finite; a NaN u is a miss.
@@ -173,35 +187,11 @@ pub fn reach_within(
 ) -> Reach
     ensures { λ r. ⌜ r ≡ reachOf (crossingAnswer ray (Within offset a b determinant inverse u)) ⌝ }
 {
-    let reach = above_by_numbers(
-        ray,
-        offset.x,
-        offset.y,
-        offset.z,
-        a.x,
-        a.y,
-        a.z,
-        b.x,
-        b.y,
-        b.z,
-        determinant,
-        inverse,
-        u,
-    );
-    match reach {
-        Reach::At(distance) => {
-            if has_normal(a, b) {
-                return Reach::At(distance);
-            }
-            return Reach::Refused(answer::NO_NORMAL);
-        }
-        Reach::Miss => {
-            return Reach::Miss;
-        }
-        Reach::Refused(number) => {
-            return Reach::Refused(number);
-        }
-    }
+    let found = distance_within(ray, offset, a, b, inverse, u);
+    let Distance::At(distance) = found else {
+        return Reach::Miss;
+    };
+    settled(determinant, a.x, a.y, a.z, b.x, b.y, b.z, distance)
 }
 
 // What is left after the first test, with the normal.
@@ -216,32 +206,11 @@ fn cast_within(
 ) -> Cast
     ensures { λ r. ⌜ says r ≡ crossingAnswer ray (Within offset a b determinant inverse u) ⌝ }
 {
-    let reach = above_by_numbers(
-        ray,
-        offset.x,
-        offset.y,
-        offset.z,
-        a.x,
-        a.y,
-        a.z,
-        b.x,
-        b.y,
-        b.z,
-        determinant,
-        inverse,
-        u,
-    );
-    match reach {
-        Reach::At(distance) => {
-            return triangle_normal(ray, a, b, distance);
-        }
-        Reach::Miss => {
-            return Cast::None;
-        }
-        Reach::Refused(number) => {
-            return Cast::Refused(number);
-        }
-    }
+    let found = distance_within(ray, offset, a, b, inverse, u);
+    let Distance::At(distance) = found else {
+        return Cast::None;
+    };
+    settled_cast(ray, determinant, a, b, distance)
 }
 
 // The hit at the distance that the corners are reached at.

@@ -15,6 +15,7 @@ ghost use Rattle.level_set.specs.Walk.{rayLevelSet};
 ghost use Rattle.results.specs.Results.{rayFrom, planeOf, cornersOf, fieldOf, gridOf, answered};
 
 // The cast by its numbers, the near distance among them: one function for both calls, so that the cast is compiled into it.
+// No two numbers stand side by side here that do so in the calls: they would be handed on by pairs, and a read of a pair waits for its two writes.
 pub fn told_plane(
     origin_x: f64,
     origin_y: f64,
@@ -25,9 +26,9 @@ pub fn told_plane(
     max_distance: f64,
     near_distance: f64,
     normal_x: f64,
-    normal_y: f64,
-    normal_z: f64,
     distance: f64,
+    normal_z: f64,
+    normal_y: f64,
     hit: &mut [f64],
 ) -> u32
     ensures { λ r. ⌜ record { number = r; hit = now (hit .exit) } ≡ answered (rayPlane (planeOf «normal_x» «normal_y» «normal_z» distance) (rayFrom «origin_x» «origin_y» «origin_z» «direction_x» «direction_y» «direction_z» «max_distance» «near_distance»)) (now (hit .entry)) ⌝ }
@@ -82,14 +83,15 @@ pub extern "C" fn probe_ray_plane_near(
         max_distance,
         near_distance,
         normal_x,
-        normal_y,
-        normal_z,
         distance,
+        normal_z,
+        normal_y,
         hit,
     )
 }
 
 // The cast by its numbers, the near distance among them: one function for both calls, so that the cast is compiled into it.
+// As in `told_plane` no two numbers stand side by side that do so in the calls.
 pub fn told_triangle(
     origin_x: f64,
     origin_y: f64,
@@ -100,13 +102,13 @@ pub fn told_triangle(
     max_distance: f64,
     near_distance: f64,
     a_x: f64,
-    a_y: f64,
-    a_z: f64,
     b_x: f64,
-    b_y: f64,
-    b_z: f64,
     c_x: f64,
+    a_y: f64,
+    b_y: f64,
     c_y: f64,
+    a_z: f64,
+    b_z: f64,
     c_z: f64,
     hit: &mut [f64],
 ) -> u32
@@ -174,13 +176,13 @@ pub extern "C" fn probe_ray_triangle_near(
         max_distance,
         near_distance,
         a_x,
-        a_y,
-        a_z,
         b_x,
-        b_y,
-        b_z,
         c_x,
+        a_y,
+        b_y,
         c_y,
+        a_z,
+        b_z,
         c_z,
         hit,
     )

@@ -2,4 +2,5 @@
 pub mod FiniteVectors
 pub mod BoxLaws
 pub mod UnitLength
+pub mod RangeLaws
 pub mod NormalLaws

@@ -416,11 +416,36 @@ module _ (v : Vec3) where
       (ap (λ (b : Bool). isFinite (dotOf v v) && not b) (sym (ap (λ (z : Float). lt z minPositive) e) ∙ h)
       ∙ and-false (isFinite (dotOf v v)))
 
+  dot-tells : (d : Float) → d ≡ dotOf v v → isFinite d ≡ true → lt d minPositive ≡ false → dotTells v ≡ true
+  unfolding dotTells
+  dot-tells d e p q =
+      and-both (isFinite (dotOf v v)) (not (lt (dotOf v v) minPositive)) (sym (ap isFinite e) ∙ p)
+      (ap not (sym (ap (λ (z : Float). lt z minPositive) e) ∙ q))
+
+  pub told-direction : (d : Float) → d ≡ dotOf v v → isFinite d ≡ true → lt d minPositive ≡ false → true ≡ normalizable v
+  told-direction d e p q = sym (told-normalizable v (dot-tells d e p q))
+
   pub told-unit : (d : Float) (u : Vec3) → d ≡ dotOf v v → isFinite d ≡ true → lt d minPositive ≡ false → u ≡ overLength v
       → UnitOf u ≡ tryNormalize v
-  unfolding dotTells
-  told-unit d u e p q o =
-      ap UnitOf o
-      ∙ sym (unchanged-where-told v
-      (and-both (isFinite (dotOf v v)) (not (lt (dotOf v v) minPositive)) (sym (ap isFinite e) ∙ p)
-      (ap not (sym (ap (λ (z : Float). lt z minPositive) e) ∙ q))))
+  told-unit d u e p q o = ap UnitOf o ∙ sym (unchanged-where-told v (dot-tells d e p q))
+
+-- ---- as `tells_length` asks: 1e-300 is at least 2^-1022, and 1e300 finite
+abbrev leastSquare : Float
+leastSquare = ofBits binary64 0x01a5_6e1f_c2f8_f359
+
+abbrev greatestSquare : Float
+greatestSquare = ofBits binary64 0x7e37_e43c_8800_759c
+
+between-finite : (x : Float) → le leastSquare x ≡ true → le x greatestSquare ≡ true → isFinite x ≡ true
+unfolding isFinite le ofBits
+between-finite nan p q = absurd (false≢true q)
+between-finite (inf false) p q = absurd (false≢true q)
+between-finite (inf true) p q = absurd (false≢true p)
+between-finite (fin s m e) p q = refl
+
+least-normal : le minPositive leastSquare ≡ true
+unfolding ofBits le
+least-normal = refl
+
+pub between-tells : (x : Float) → le leastSquare x ≡ true → le x greatestSquare ≡ true → (isFinite x ≡ true) × (lt x minPositive ≡ false)
+between-tells x p q = (between-finite x p q, not-lt-of-le minPositive x (le-transitive minPositive leastSquare x least-normal p))

@@ -45,22 +45,17 @@ impl Ray {
     }
 
     // Whether the maximum and the near distance are admitted: each finite and at least 0, near not above the maximum.
+    // A near distance from 0 to a finite maximum is finite itself, and the maximum at least 0.
     pub fn range_admitted(self) -> bool
         ensures { λ r. ⌜ r ≡ rangeAdmitted self ⌝ }
     {
-        if !basic::is_finite(self.max_distance) {
+        if !(0.0 <= self.near) {
             return false;
         }
-        if self.max_distance < 0.0 {
+        if !(self.near <= self.max_distance) {
             return false;
         }
-        if !basic::is_finite(self.near) {
-            return false;
-        }
-        if self.near < 0.0 {
-            return false;
-        }
-        !(self.near > self.max_distance)
+        basic::is_finite(self.max_distance)
     }
 
     // origin + direction·maximum.

@@ -3,7 +3,10 @@ use arithmetic::extremes;
 use arithmetic::scaling;
 use arithmetic::square_root;
 ghost use mathlib.Core.Path.{_≡_};
-ghost use mathlib.Core.Bool.{true, cond};
+ghost use mathlib.Core.Bool.{true, false, cond};
+ghost use lib.Ieee.{lt};
+ghost use Rattle.arithmetic.specs.Basic.{isFinite};
+ghost use Rattle.geometry.specs.Numbers.{minPositive};
 ghost use Rattle.geometry.specs.Vector.{component, finiteVec, Numbers, addOf, subOf, negOf, scaleOf, minOf, maxOf, absOf, maxElement, dotOf, checkedDot, crossOf, lengthOf, normalizable, scaledToOne, overLength, tryNormalize};
 ghost use Rattle.geometry.specs.declared.vec3.Normalized.the-variants.{Unit as UnitOf, Degenerate};
 
@@ -25,6 +28,21 @@ pub enum Checked {
 pub enum Normalized {
     Unit(Vec3),
     Degenerate,
+}
+
+// Between these squares, each of which is far from what cannot be told, a square tells its vector's length.
+const LEAST_SQUARE: f64 = 1.0e-300;
+
+const GREATEST_SQUARE: f64 = 1.0e300;
+
+// Whether a vector's dot with itself tells its length. Only a yes is promised to be right: after a no the callers take the way for any vector.
+pub fn tells_length(square: f64) -> bool
+    ensures { λ r. ⌜ (r ≡ true → (isFinite square ≡ true) × (lt square minPositive ≡ false)) ⌝ }
+{
+    if square >= LEAST_SQUARE {
+        return square <= GREATEST_SQUARE;
+    }
+    false
 }
 
 impl Vec3 {
@@ -204,6 +222,16 @@ impl Vec3 {
         self.z != 0.0
     }
 
+    // The same where the dot tells most: one comparison or two.
+    pub fn has_direction(self) -> bool
+        ensures { λ r. ⌜ r ≡ normalizable self ⌝ }
+    {
+        if tells_length(self.dot(self)) {
+            return true;
+        }
+        self.is_normalizable()
+    }
+
     // The vector times the power of two that brings its largest component to at least 1 and below 2. Callers show that it is finite and not zero.
     fn scaled_to_one(self) -> Vec3
         requires { ⌜ normalizable self ≡ true ⌝ }
@@ -254,5 +282,16 @@ impl Vec3 {
             return self.normalize_scaled();
         }
         Normalized::Unit(self.over_length(dot))
+    }
+
+    // The same, small enough to be compiled into a cast: what the dot does not tell is left to a call.
+    pub fn normalize(self) -> Normalized
+        ensures { λ r. ⌜ r ≡ tryNormalize self ⌝ }
+    {
+        let square = self.dot(self);
+        if tells_length(square) {
+            return Normalized::Unit(self.over_length(square));
+        }
+        self.try_normalize()
     }
 }

@@ -1,18 +1,15 @@
 use crate::field;
 use crate::field::Field;
 use casts::answer;
-use casts::answer::Crossing;
 use casts::nearest;
 use casts::nearest::IndexedCast;
-use casts::triangle;
 use geometry::aabb::Aabb;
 use geometry::ray::Ray;
 use geometry::vec3::Vec3;
 ghost use mathlib.Core.Path.{_≡_};
 ghost use mathlib.Core.List.{map};
 ghost use Prim.Native.Nat.{_+_, _-_, _^_, _<_};
-ghost use Rattle.casts.specs.Triangle.{triangleCast};
-ghost use Rattle.casts.specs.Nearest.{noHit, saysIndexed, nextOf};
+ghost use Rattle.casts.specs.Nearest.{noHit, saysIndexed};
 ghost use Rattle.height_field.specs.Grid.{Sized, cellAt};
 ghost use Rattle.height_field.specs.Cells.{run, gridCells};
 ghost use Rattle.height_field.specs.Listing.{allFinite, listCell, listAll};
@@ -52,31 +49,6 @@ fn half(lower: [Vec3; 3], upper: [Vec3; 3], triangle: u32) -> [Vec3; 3]
     upper
 }
 
-// What was found so far and one more triangle. Most miss at the first of their tests, which is small and so compiled into the loop.
-fn next_unless_missed(ray: Ray, corners: [Vec3; 3], feature: u32, best: IndexedCast) -> IndexedCast
-    ensures { λ r. ⌜ saysIndexed r ≡ nextOf (saysIndexed best) feature (triangleCast ray corners) ⌝ }
-{
-    let start = triangle::crossing(ray, corners);
-    match start {
-        Crossing::Within {
-            offset: _,
-            a: _,
-            b: _,
-            determinant: _,
-            inverse: _,
-            u: _,
-        } => {
-            return nearest::next_triangle(best, feature, ray, corners);
-        }
-        Crossing::Miss => {
-            return best;
-        }
-        Crossing::Refused(_) => {
-            return nearest::next_triangle(best, feature, ray, corners);
-        }
-    }
-}
-
 // One triangle, which counts where its box touches the segment's box. Callers show that its corners are finite.
 fn pass_triangle(
     ray: Ray,
@@ -89,7 +61,7 @@ fn pass_triangle(
     ensures { λ r. ⌜ saysIndexed r ≡ passTriangle ray bounds corners feature (saysIndexed best) ⌝ }
 {
     if Aabb::around(corners).touches(bounds) {
-        return next_unless_missed(ray, corners, feature, best);
+        return nearest::next_triangle(best, feature, ray, corners);
     }
     best
 }

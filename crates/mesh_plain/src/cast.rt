@@ -1,6 +1,13 @@
+use crate::boxes;
 use casts::answer;
+use casts::answer::Cast;
+use casts::answer::Crossing;
+use casts::answer::Reach;
 use casts::nearest;
 use casts::nearest::IndexedCast;
+use casts::summary;
+use casts::summary::Outcome;
+use casts::triangle;
 use geometry::aabb::Aabb;
 use geometry::ray::Ray;
 use geometry::vec3::Vec3;
@@ -9,68 +16,98 @@ ghost use mathlib.Core.Path.{_≡_};
 ghost use mathlib.Core.Bool.{true, cond};
 ghost use Prim.Native.Nat.{_≤_};
 ghost use lib.ListN.{length};
-ghost use Rattle.geometry.specs.Box.{cornersBox, touches};
+ghost use Rattle.geometry.specs.Box.{corner, cornersBox, touches};
+ghost use Rattle.geometry.specs.Vector.{subOf};
 ghost use Rattle.geometry.specs.Segment.{rayAdmitted};
-ghost use Rattle.casts.specs.Nearest.{saysIndexed, nextOf};
-ghost use Rattle.casts.specs.Triangle.{triangleCast};
+ghost use Rattle.casts.specs.Answer.{says};
+ghost use Rattle.casts.specs.Reach.{reachOf};
+ghost use Rattle.casts.specs.Nearest.{saysIndexed};
+ghost use Rattle.casts.specs.Triangle.{triangleNormal, triangleCast};
+ghost use Rattle.casts.specs.declared.answer.Reach.the-variants.{Miss};
 ghost use Rattle.tree.specs.Mesh.{lengthsAdmitted, mesh};
-ghost use Rattle.mesh_plain.specs.PlainCast.{overTriangles, plainCast, rayMeshPlain, AgreesWithTrees};
+ghost use Rattle.mesh_plain.specs.Boxes.{BoxesHold};
+ghost use Rattle.mesh_plain.specs.PlainCast.{outcomeOver, overTriangles, plainCast, rayMeshPlain, AgreesWithTrees};
 
-// The box of three corners. Where the first has no NaN, one comparison a number does.
-fn box_around(corners: [Vec3; 3]) -> Aabb
-    ensures { λ r. ⌜ r ≡ cornersBox corners ⌝ }
+// What a triangle is reached at, without its normal, where its box touches the segment's box; else a miss.
+fn reach_near(ray: Ray, bounds: Aabb, corners: [Vec3; 3]) -> Reach
+    ensures { λ r. ⌜ r ≡ cond (touches (cornersBox corners) bounds) (reachOf (triangleCast ray corners)) Miss ⌝ }
+{
+    if !boxes::corners_touch(corners, bounds) {
+        return Reach::Miss;
+    }
+    let start = triangle::crossing(ray, corners);
+    match start {
+        Crossing::Within {
+            offset,
+            a,
+            b,
+            determinant,
+            inverse,
+            u,
+        } => {
+            return triangle::reach_within(ray, offset, a, b, determinant, inverse, u);
+        }
+        Crossing::Miss => {
+            return Reach::Miss;
+        }
+        Crossing::Refused(number) => {
+            return Reach::Refused(number);
+        }
+    }
+}
+
+// All triangles in one pass: whose answer it is. An index past the vertices ends it with 5, whatever was found before it.
+fn outcome_over(ray: Ray, bounds: Aabb, vertices: &[f64], triangles: &[u32]) -> Outcome
+    requires { ⌜ length (now triangles) ≤ 196608 ⌝ ∗ ⌜ BoxesHold (mesh (now vertices) (now triangles)) ⌝ }
+    ensures { λ r. ⌜ r ≡ outcomeOver ray bounds (mesh (now (vertices .entry)) (now (triangles .entry))) ⌝ }
+{
+    let limit = vertices.len() / 3;
+    let count = triangles.len() / 3;
+    let mut notes = summary::empty();
+    let mut i: usize = 0;
+    while i < count {
+        if !triangle_mesh::corners_inside(limit, triangles, i) {
+            return Outcome::Refused(answer::OUT_OF_BOUNDS);
+        }
+        let corners = triangle_mesh::corners_of(vertices, triangles, i);
+        let reach = reach_near(ray, bounds, corners);
+        notes = summary::note(notes, i as u32, reach);
+        i += 1;
+    }
+    summary::winner(notes)
+}
+
+// The hit at a distance that its three corners are reached at.
+fn hit_on(ray: Ray, corners: [Vec3; 3], distance: f64) -> Cast
+    ensures { λ r. ⌜ says r ≡ triangleNormal ray (subOf (corner corners 1) (corner corners 0)) (subOf (corner corners 2) (corner corners 0)) distance ⌝ }
 {
     let first = corners[0];
-    if !first.has_numbers() {
-        return Aabb::of_corners(corners);
-    }
     let second = corners[1];
     let third = corners[2];
-    Aabb {
-        min: first.least(second).least(third),
-        max: first.greatest(second).greatest(third),
-    }
+    triangle::triangle_normal(ray, second.sub(first), third.sub(first), distance)
 }
 
-// One more triangle, which counts where its box touches the segment's box.
-fn next_near(
-    best: IndexedCast,
-    index: u32,
-    ray: Ray,
-    bounds: Aabb,
-    around: Aabb,
-    corners: [Vec3; 3],
-) -> IndexedCast
-    ensures { λ r. ⌜ saysIndexed r ≡ cond (touches around bounds) (nextOf (saysIndexed best) index (triangleCast ray corners)) (saysIndexed best) ⌝ }
-{
-    if !around.touches(bounds) {
-        return best;
-    }
-    nearest::next_triangle(best, index, ray, corners)
-}
-
-// All triangles in one pass. The first without a valid box ends it with 5, whatever was found before it.
+// The answer over all triangles: the normal is the winner's alone.
 fn over_triangles(ray: Ray, bounds: Aabb, vertices: &[f64], triangles: &[u32]) -> IndexedCast
     requires { ⌜ length (now triangles) ≤ 196608 ⌝ }
     ensures { λ r. ⌜ saysIndexed r ≡ overTriangles ray bounds (mesh (now (vertices .entry)) (now (triangles .entry))) ⌝ }
 {
-    let limit = vertices.len() / 3;
-    let count = triangles.len() / 3;
-    let mut best = IndexedCast::None;
-    let mut i: usize = 0;
-    while i < count {
-        if !triangle_mesh::corners_inside(limit, triangles, i) {
-            return IndexedCast::Refused(answer::OUT_OF_BOUNDS);
-        }
-        let corners = triangle_mesh::corners_of(vertices, triangles, i);
-        let around = box_around(corners);
-        if !around.is_valid() {
-            return IndexedCast::Refused(answer::OUT_OF_BOUNDS);
-        }
-        best = next_near(best, i as u32, ray, bounds, around, corners);
-        i += 1;
+    if !boxes::boxes_hold(vertices, triangles) {
+        return IndexedCast::Refused(answer::OUT_OF_BOUNDS);
     }
-    best
+    let outcome = outcome_over(ray, bounds, vertices, triangles);
+    match outcome {
+        Outcome::Nobody => {
+            return IndexedCast::None;
+        }
+        Outcome::Refused(number) => {
+            return IndexedCast::Refused(number);
+        }
+        Outcome::Struck { index, distance } => {
+            let corners = triangle_mesh::corners_of(vertices, triangles, index as usize);
+            return nearest::next(IndexedCast::None, index, hit_on(ray, corners, distance));
+        }
+    }
 }
 
 // The cast once refusals 1 and 2 have let it pass. Callers show that they have.

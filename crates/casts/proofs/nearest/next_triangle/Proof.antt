@@ -5,47 +5,32 @@ use borrow.Author.Needs.{needs}
 use Rattle.casts.proofs.nearest.next_triangle.Statement.{statement}
 use Rattle.casts.proofs.nearest.next_triangle.Tie as tie
 
-crossing-requires : tie.Need-crossing-requires
-crossing-requires c κs = search needs
-
-enum-known-start : tie.Need-enum-known-start
-enum-known-start c = search needs
-
-reach-within-requires : tie.Need-reach-within-requires
-reach-within-requires c κs = search needs
-
-next-reach-requires : tie.Need-next-reach-requires
-next-reach-requires c κs = simp (sym (c .before .before .before .before .crossing .ensures), c .before .before .start .given .1, sym (c .reach-within .ensures))
-
+-- the first test leaves the others
 returns : tie.Need-returns
-returns c = search needs
+returns c =
+    let (k, e) : tie.After-crossing × tie.After-start = search in
+    simp (sym (k .crossing .ensures), e .start .given .1, sym (c .next-within .ensures))
 
-enum-told : tie.Need-enum-told
-enum-told c = search needs
-
+-- it misses
 returns-2 : tie.Need-returns-2
 returns-2 c = simp (sym (c .before .before .crossing .ensures), c .enum-told .given .1, ← next-none)
 
-enum-known-start-2 : tie.Need-enum-known-start-2
-enum-known-start-2 c = search needs
-
-next-requires : tie.Need-next-requires
-next-requires c κs = search needs
-
+-- it refuses
 returns-3 : tie.Need-returns-3
-returns-3 c = simp (sym (c .before .before .before .before .crossing .ensures), c .before .before .start2 .given .1, sym (c .next .ensures))
+returns-3 c =
+    let (k, e) : tie.After-crossing × tie.After-start2 = search in
+    simp (sym (k .crossing .ensures), e .start2 .given .1, sym (c .next .ensures))
 
 pub next-triangle-spec : {M : Type 1} → statement M
 next-triangle-spec =
     tie.close
     (tie.spec
-    crossing-requires
-    enum-known-start
-    reach-within-requires
-    next-reach-requires
+    (λ c κs. search needs)  -- crossing-requires
+    (search needs)  -- enum-known-start
+    (λ c κs. search needs)  -- next-within-requires
     returns
-    enum-told
+    (search needs)  -- enum-told
     returns-2
-    enum-known-start-2
-    next-requires
+    (search needs)  -- enum-known-start-2
+    (λ c κs. search needs)  -- next-requires
     returns-3)

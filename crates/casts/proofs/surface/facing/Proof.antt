@@ -1,20 +1,23 @@
 -- `casts::surface::facing` meets its contract. Assumes nothing.
 use Rattle.casts.specs.Surface.{facing}
-use mathlib.Core.Path.{sym}
+use Rattle.casts.proofs.SideLaws.{turned-each}
+use Rattle.geometry.specs.Numbers.{zeroᶠ}
+use lib.Ieee.{lt}
 use borrow.Author.Needs.{needs}
 use Rattle.casts.proofs.surface.facing.Statement.{statement}
 use Rattle.casts.proofs.surface.facing.Tie as tie
 
-neg-requires : tie.Need-neg-requires
-neg-requires c κs = search needs
-
 returns : tie.Need-returns
 unfolding facing
-returns c = simp (c .before .if1 .taken, sym (c .neg .ensures))
-
-returns-2 : tie.Need-returns-2
-unfolding facing
-returns-2 c = simp (c .if1 .left)
+returns c =
+    let (s, x, y) : tie.Start × tie.After-turned × tie.After-turned2 = search in
+    rw (x .turned .ensures, y .turned2 .ensures, c .turned3 .ensures) (turned-each (s .args .normal) (lt zeroᶠ (s .args .along)))
 
 pub facing-spec : {M : Type 1} → statement M
-facing-spec = tie.close (tie.spec neg-requires returns returns-2)
+facing-spec =
+    tie.close
+    (tie.spec
+    (λ c κs. search needs)  -- turned-requires
+    (λ c κs. search needs)  -- turned-requires-2
+    (λ c κs. search needs)  -- turned-requires-3
+    returns)

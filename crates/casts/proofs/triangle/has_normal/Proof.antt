@@ -8,12 +8,12 @@ use Rattle.casts.proofs.triangle.has_normal.Tie as tie
 
 returns : tie.Need-returns
 unfolding hasNormal
-returns c = c .is-normalizable .ensures ∙ ap normalizable (c .before .cross .ensures)
+returns c = c .has-direction .ensures ∙ ap normalizable (c .before .cross .ensures)
 
 pub has-normal-spec : {M : Type 1} → statement M
 has-normal-spec =
     tie.close
     (tie.spec
     (search needs)  -- cross-requires
-    (search needs)  -- is-normalizable-requires
+    (search needs)  -- has-direction-requires
     returns)

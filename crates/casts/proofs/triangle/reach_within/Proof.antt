@@ -1,57 +1,33 @@
 -- `casts::triangle::reach_within` meets its contract. Assumes nothing.
 use Rattle.casts.specs.Reach.{reachOf}
-use Rattle.casts.proofs.ReachLaws.{reach-by-normal}
-use mathlib.Core.Path.{_≡_, sym}
-use Rattle.casts.specs.Triangle.{triangleFrom}
-use Rattle.casts.specs.Crossing.{crossingAnswer}
-use Rattle.casts.specs.declared.answer.Crossing.the-variants.{Within}
+use Rattle.casts.proofs.ReachLaws.{from-distance, no-distance}
+use mathlib.Core.Path.{sym, ap, _∙_}
 use borrow.Author.Needs.{needs}
 use Rattle.casts.proofs.triangle.reach_within.Statement.{statement}
 use Rattle.casts.proofs.triangle.reach_within.Tie as tie
 
-above-by-numbers-requires : tie.Need-above-by-numbers-requires
-above-by-numbers-requires c κs = search needs
-
-enum-known-reach : tie.Need-enum-known-reach
-enum-known-reach c = search needs
-
-has-normal-requires : tie.Need-has-normal-requires
-has-normal-requires c κs = search needs
-
+-- a miss
 returns : tie.Need-returns
+unfolding reachOf
 returns c =
-    let told : triangleFrom (c .before .before .before .before .before .before .args .ray) (c .before .before .before .before .before .before .args .a) (c .before .before .before .before .before .before .args .b) (c .before .before .before .before .before .above-by-numbers .result) ≡ crossingAnswer (c .before .before .before .before .before .before .args .ray) (Within (c .before .before .before .before .before .before .args .offset) (c .before .before .before .before .before .before .args .a) (c .before .before .before .before .before .before .args .b) (c .before .before .before .before .before .before .args .determinant) (c .before .before .before .before .before .before .args .inverse) (c .before .before .before .before .before .before .args .u)) = c .before .before .before .before .before .above-by-numbers .ensures in
-    simp (sym told, c .before .before .before .reach .given .1, reach-by-normal, sym (c .before .has-normal .ensures), c .if1 .taken)
+    let (s, w) : tie.Start × tie.After-distance-within = search in
+    let told = sym (w .distance-within .ensures) ∙ c .enum-told .given .1 in
+    ap reachOf (no-distance _ _ _ _ (s .args .determinant) _ _ told)
 
+-- the rest at a distance
 returns-2 : tie.Need-returns-2
 returns-2 c =
-    let told : triangleFrom (c .before .before .before .before .before .before .args .ray) (c .before .before .before .before .before .before .args .a) (c .before .before .before .before .before .before .args .b) (c .before .before .before .before .before .above-by-numbers .result) ≡ crossingAnswer (c .before .before .before .before .before .before .args .ray) (Within (c .before .before .before .before .before .before .args .offset) (c .before .before .before .before .before .before .args .a) (c .before .before .before .before .before .before .args .b) (c .before .before .before .before .before .before .args .determinant) (c .before .before .before .before .before .before .args .inverse) (c .before .before .before .before .before .before .args .u)) = c .before .before .before .before .before .above-by-numbers .ensures in
-    simp (sym told, c .before .before .before .reach .given .1, reach-by-normal, sym (c .before .has-normal .ensures), c .if1 .left)
-
-enum-told : tie.Need-enum-told
-enum-told c = search needs
-
-returns-3 : tie.Need-returns-3
-unfolding reachOf
-returns-3 c = simp (sym (c .before .before .above-by-numbers .ensures), c .enum-told .given .1)
-
-enum-known-reach-2 : tie.Need-enum-known-reach-2
-enum-known-reach-2 c = search needs
-
-returns-4 : tie.Need-returns-4
-unfolding reachOf
-returns-4 c = simp (sym (c .before .before .before .above-by-numbers .ensures), c .before .reach2 .given .1)
+    let (s, w, f) : tie.Start × tie.After-distance-within × tie.After-found = search in
+    let told = sym (w .distance-within .ensures) ∙ f .found .given .1 in
+    c .settled .ensures (s .args .ray) ∙ ap reachOf (from-distance _ _ _ _ (s .args .determinant) _ _ _ told)
 
 pub reach-within-spec : {M : Type 1} → statement M
 reach-within-spec =
     tie.close
     (tie.spec
-    above-by-numbers-requires
-    enum-known-reach
-    has-normal-requires
+    (λ c κs. search needs)  -- distance-within-requires
+    (search needs)  -- enum-known-found
+    (search needs)  -- enum-told
     returns
-    returns-2
-    enum-told
-    returns-3
-    enum-known-reach-2
-    returns-4)
+    (λ c κs. search needs)  -- settled-requires
+    returns-2)

@@ -8,8 +8,8 @@ use Rattle.casts.proofs.triangle.triangle_normal.Tie as tie
 cross-requires : tie.Need-cross-requires
 cross-requires c κs = search needs
 
-try-normalize-requires : tie.Need-try-normalize-requires
-try-normalize-requires c κs = search needs
+normalize-requires : tie.Need-normalize-requires
+normalize-requires c κs = search needs
 
 enum-known-unit : tie.Need-enum-known-unit
 enum-known-unit c = search needs
@@ -19,7 +19,7 @@ enum-told c = search needs
 
 returns : tie.Need-returns
 unfolding triangleNormal
-returns c = simp (sym (c .before .before .before .cross .ensures), sym (c .before .before .try-normalize .ensures), c .enum-told .given .1)
+returns c = simp (sym (c .before .before .before .cross .ensures), sym (c .before .before .normalize .ensures), c .enum-told .given .1)
 
 dot-requires : tie.Need-dot-requires
 dot-requires c κs = search needs
@@ -29,14 +29,14 @@ facing-requires c κs = search needs
 
 returns-2 : tie.Need-returns-2
 unfolding triangleNormal
-returns-2 c = simp (sym (c .before .before .before .before .before .before .cross .ensures), sym (c .before .before .before .before .before .try-normalize .ensures), c .before .before .before .unit .given .1, sym (c .before .dot .ensures), sym (c .facing .ensures))
+returns-2 c = simp (sym (c .before .before .before .before .before .before .cross .ensures), sym (c .before .before .before .before .before .normalize .ensures), c .before .before .before .unit .given .1, sym (c .before .dot .ensures), sym (c .facing .ensures))
 
 pub triangle-normal-spec : {M : Type 1} → statement M
 triangle-normal-spec =
     tie.close
     (tie.spec
     cross-requires
-    try-normalize-requires
+    normalize-requires
     enum-known-unit
     enum-told
     returns

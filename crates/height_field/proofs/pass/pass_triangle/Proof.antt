@@ -13,7 +13,7 @@ returns : tie.Need-returns
 unfolding passTriangle
 returns c =
     let (a, t) : tie.After-around × tie.After-touches = search in
-    simp (sym (a .around .ensures), sym (t .touches .ensures), c .before .if1 .taken, sym (c .next-unless-missed .ensures))
+    simp (sym (a .around .ensures), sym (t .touches .ensures), c .before .if1 .taken, sym (c .next-triangle .ensures))
 
 -- it does not
 returns-2 : tie.Need-returns-2
@@ -28,6 +28,6 @@ pass-triangle-spec =
     (tie.spec
     around-requires
     (search needs)  -- touches-requires
-    (search needs)  -- next-unless-missed-requires
+    (search needs)  -- next-triangle-requires
     returns
     returns-2)

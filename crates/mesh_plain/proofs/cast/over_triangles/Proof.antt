@@ -1,117 +1,84 @@
 -- `mesh_plain::cast::over_triangles` meets its contract. Assumes nothing.
-use Prim.Native.Nat.{_-_}
-use mathlib.Core.Bool.{true, false}
-use mathlib.Core.Path.{refl}
 use native.Mathlib.Omega.{arith}
-use lib.ListN.{length}
-use Rattle.casts.specs.Nearest.{saysIndexed}
-use Rattle.tree.specs.Mesh.{Mesh, thirds, mesh}
-use Rattle.mesh_plain.proofs.Passing.{Passing, passing-begins, passing-goes, passing-unfit, passing-ends}
-use Rattle.mesh_plain.proofs.Passing.{index-unfit, box-tells, next-is}
+use mathlib.Core.Path.{sym, ap, _∙_}
+use Rattle.casts.specs.Nearest.{noHit, nextOf}
+use Rattle.casts.specs.Summary.{answerAt}
+use Rattle.tree.specs.Mesh.{Mesh, triangleAnswer, mesh}
+use Rattle.tree.proofs.Corners.{hit-inside, hit-answer}
 use Rattle.lists.proofs.JoinedTests.{test-passed, test-failed}
+use borrow.Author.Tests.{not-true, not-false}
+use Rattle.mesh_plain.proofs.Winning.{unfit-over, by-outcome, struck-reached}
 use borrow.Author.Needs.{needs}
 use Rattle.mesh_plain.proofs.cast.over_triangles.Statement.{statement}
 use Rattle.mesh_plain.proofs.cast.over_triangles.Tie as tie
 
-abbrev Inv-loop : tie.InvT-loop
-Inv-loop ray bounds vertices triangles limit count best₀ i₀ best i = Passing ray bounds (mesh vertices triangles) (saysIndexed best) i
-
-abbrev μ-loop : tie.MeasureT-loop
-μ-loop ray bounds vertices triangles limit count best₀ i₀ best i = thirds (length triangles) - i
-
--- the places that the answers speak of: the entry, the begin of a turn, its test, and what follows in it
-abbrev Start : Type 0
-Start = tie.Start Inv-loop μ-loop
-
-abbrev Turn : Type 0
-Turn = tie.At-loop Inv-loop μ-loop
-
-abbrev Tested : Type 0
-Tested = tie.In-loop Inv-loop μ-loop
-
-abbrev Looked : Type 0
-Looked = tie.After-corners-inside Inv-loop μ-loop
-
-abbrev Inside : Type 0
-Inside = tie.Else1 Inv-loop μ-loop
-
-abbrev Cornered : Type 0
-Cornered = tie.After-corners-of Inv-loop μ-loop
-
-abbrev Boxed : Type 0
-Boxed = tie.After-box-around Inv-loop μ-loop
-
-abbrev own : Start → Mesh
+abbrev own : tie.Start → Mesh
 own s = mesh (s .args .vertices .now) (s .args .triangles .now)
 
-loop-holds : tie.Need-loop-holds Inv-loop μ-loop
-loop-holds c = passing-begins _ _ _ _ refl
+boxes-hold-requires : tie.Need-boxes-hold-requires
+boxes-hold-requires c κs =
+    let s : tie.Start = search in
+    s .pre
 
-corners-inside-requires : tie.Need-corners-inside-requires Inv-loop μ-loop
-corners-inside-requires c κs = omega (arith, c .loop-test .taken)
-
--- an index past the vertices
-returns : tie.Need-returns Inv-loop μ-loop
+-- a triangle without a valid box
+returns : tie.Need-returns
 returns c =
-    let (s, l, t) : Start × Turn × Tested = search in
-    let k = c .before in
-    let outside = test-failed (k .corners-inside .ensures) (c .if1 .taken) in
-    passing-unfit _ _ (own s) _ _ (l .loop .inv) (t .loop-test .taken) (index-unfit (own s) (l .loop .i) outside)
+    let s : tie.Start = search in
+    unfit-over _ _ (own s) (c .before .boxes-hold .ensures .1 (not-true _ (c .if1 .taken)))
 
-corners-of-requires : tie.Need-corners-of-requires Inv-loop μ-loop
-corners-of-requires c κs =
-    let t : Tested = search in
-    let k = c .before in (
-      omega (arith, t .loop-test .taken),
-      test-passed (k .corners-inside .ensures) (c .if1 .left),
-    )
+outcome-over-requires : tie.Need-outcome-over-requires
+outcome-over-requires c κs =
+    let s : tie.Start = search in
+    (s .pre, c .before .boxes-hold .ensures .0 (not-false _ (c .if1 .left)))
 
--- a box that is not valid
-returns-2 : tie.Need-returns-2 Inv-loop μ-loop
+-- nobody is struck
+returns-2 : tie.Need-returns-2
+unfolding answerAt
 returns-2 c =
-    let (s, l, t) : Start × Turn × Tested = search in
-    let (k, e, d, b) : Looked × Inside × Cornered × Boxed = search in
-    let inside = test-passed (k .corners-inside .ensures) (e .if1 .left) in
-    let invalid = test-failed (c .before .is-valid .ensures) (c .if2 .taken) in
-    passing-unfit _ _ (own s) _ _ (l .loop .inv) (t .loop-test .taken)
-    (box-tells (own s) (l .loop .i) inside _ (d .corners-of .ensures) _ (b .box-around .ensures) false invalid)
+    let (s, o) : tie.Start × tie.After-outcome-over = search in
+    ap (answerAt (triangleAnswer (s .args .ray) (own s .vertices) (own s .triangles))) (sym (c .enum-told .given .1))
+    ∙ by-outcome _ _ (own s) _ (o .outcome-over .ensures)
 
-cast-next-near : tie.Need-cast-next-near Inv-loop μ-loop
-cast-next-near c =
-    let (s, t) : Start × Tested = search in
-    omega (arith, t .loop-test .taken, s .pre)
+-- a refusal
+returns-3 : tie.Need-returns-3
+unfolding answerAt
+returns-3 c =
+    let (s, o, k) : tie.Start × tie.After-outcome-over × tie.After-outcome = search in
+    ap (answerAt (triangleAnswer (s .args .ray) (own s .vertices) (own s .triangles))) (sym (k .outcome .given .1))
+    ∙ by-outcome _ _ (own s) _ (o .outcome-over .ensures)
 
--- one more triangle, with a valid box
-loop-again : tie.Need-loop-again Inv-loop μ-loop
-loop-again c =
-    let (s, l, t) : Start × Turn × Tested = search in
-    let (k, e, d, b) : Looked × Inside × Cornered × Boxed = search in
-    let (v, f) : tie.After-is-valid Inv-loop μ-loop × tie.Else2 Inv-loop μ-loop = search in
-    let inside = test-passed (k .corners-inside .ensures) (e .if1 .left) in
-    let valid = test-passed (v .is-valid .ensures) (f .if2 .left) in
-    passing-goes _ _ (own s) _ _ (l .loop .inv) (t .loop-test .taken)
-    (box-tells (own s) (l .loop .i) inside _ (d .corners-of .ensures) _ (b .box-around .ensures) true valid) _
-    (next-is (own s) (l .loop .i) inside _ (d .corners-of .ensures) _ (b .box-around .ensures) _ _ _ _ (c .next-near .ensures))
+corners-of-requires : tie.Need-corners-of-requires
+corners-of-requires c κs =
+    let (s, o, k) : tie.Start × tie.After-outcome-over × tie.After-outcome2 = search in
+    let reached = struck-reached _ _ (own s) _ _ _ (o .outcome-over .ensures) (k .outcome2 .given .1) in
+    (omega (arith, reached .0), hit-inside _ _ _ _ _ (reached .1))
 
-returns-3 : tie.Need-returns-3 Inv-loop μ-loop
-returns-3 c = passing-ends _ _ _ _ _ (c .before .loop .inv) (c .loop-test .left)
+-- a hit, whose normal is left
+returns-4 : tie.Need-returns-4
+unfolding answerAt
+returns-4 c =
+    let (s, o, k) : tie.Start × tie.After-outcome-over × tie.After-outcome2 = search in
+    let (d, h) : tie.After-corners-of × tie.After-hit-on = search in
+    let reached = struck-reached _ _ (own s) _ _ _ (o .outcome-over .ensures) (k .outcome2 .given .1) in
+    let told = h .hit-on .ensures ∙ hit-answer _ _ _ _ _ (reached .1) _ (d .corners-of .ensures) in
+    c .next .ensures ∙ ap (nextOf noHit _) told
+    ∙ ap (answerAt (triangleAnswer (s .args .ray) (own s .vertices) (own s .triangles))) (sym (k .outcome2 .given .1))
+    ∙ by-outcome _ _ (own s) _ (o .outcome-over .ensures)
 
 pub over-triangles-spec : {M : Type 1} → statement M
 over-triangles-spec =
     tie.close
     (tie.spec
-    Inv-loop
-    μ-loop
-    loop-holds
-    corners-inside-requires
+    boxes-hold-requires
     returns
-    corners-of-requires
-    (search needs)  -- box-around-requires
-    (search needs)  -- is-valid-requires
+    outcome-over-requires
+    (search needs)  -- enum-told
     returns-2
-    cast-next-near
-    (search needs)  -- next-near-requires
-    (search needs)  -- add-i
-    (search needs)  -- loop-less
-    loop-again
-    returns-3)
+    (search needs)  -- enum-known-outcome
+    returns-3
+    (search needs)  -- enum-known-outcome-2
+    (search needs)  -- cast-corners-of
+    corners-of-requires
+    (λ c κs. search needs)  -- hit-on-requires
+    (λ c κs. search needs)  -- next-requires
+    returns-4)

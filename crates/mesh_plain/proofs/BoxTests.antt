@@ -1,0 +1,157 @@
+-- Finite numbers make boxes that hold, and a box of three corners touches where comparisons with the corners say so. Assumes nothing.
+use Prim.Native.Nat.{ℕ, _+_, _*_, _<_, _≤_}
+use mathlib.Core.Path.{_≡_, refl, sym, ap, _∙_}
+use mathlib.Core.Bool.{Bool, true, false, _&&_, _||_, cond, true≢false}
+use mathlib.Core.List.{List}
+use mathlib.Core.Logic.{_⊎_, inl, inr}
+use native.Mathlib.Omega.{arith}
+use borrow.Author.Tests.{ltb-true, ltb-false}
+use lib.Dec.{ltb}
+use lib.Ieee.{Float, lt, le, isNan}
+use lib.ListN.{length}
+use Rattle.arithmetic.specs.Basic.{isFinite}
+use Rattle.arithmetic.specs.Extremes.{minimumOf, maximumOf}
+use Rattle.arithmetic.proofs.Order.{le-of-lt, le-of-not-lt, le-transitive, le-left-number, le-right-number}
+use Rattle.geometry.specs.Box.{cornersBox, corner, touches, touchSide, validBox}
+use Rattle.geometry.specs.Vector.{finiteVec, minOf, maxOf}
+use Rattle.geometry.specs.declared.vec3.Vec3.{Vec3}
+use Rattle.geometry.specs.declared.aabb.Aabb.{Aabb}
+use Rattle.geometry.proofs.BoxLaws.{corners-box-valid}
+use Rattle.lists.proofs.JoinedTests.{and-three}
+use Rattle.tree.specs.Layout.{numberAt, vectorAt}
+use Rattle.tree.specs.Mesh.{Mesh, thirds, cornerIndex, cornersInside, cornerAt, cornersOf, triangleBox}
+use Rattle.tree.proofs.Corners.{first-fits, second-fits, third-fits, corners-box}
+use Rattle.mesh_plain.specs.Boxes.{AllFinite, BoxesHold, oneAtMost, oneAtLeast, sideTouches}
+
+-- ---- finite numbers
+module _ (m : Mesh) (all : AllFinite (m .vertices)) where
+  finite-at : (place : ℕ) → place + 3 ≤ length (m .vertices) → finiteVec (vectorAt (m .vertices) place) ≡ true
+  unfolding finiteVec vectorAt
+  finite-at place h =
+      and-three (isFinite (numberAt (m .vertices) place)) (isFinite (numberAt (m .vertices) (place + 1))) (isFinite (numberAt (m .vertices) (place + 2)))
+      (all .each place (omega arith)) (all .each (place + 1) (omega arith)) (all .each (place + 2) (omega arith))
+
+  corner-finite : (i k : ℕ) → 3 * cornerIndex (m .triangles) i k + 3 ≤ length (m .vertices) → finiteVec (cornerAt (m .vertices) (m .triangles) i k) ≡ true
+  unfolding cornerAt
+  corner-finite i k h = finite-at (3 * cornerIndex (m .triangles) i k) h
+
+  finite-valid : (i : ℕ) → cornersInside (thirds (length (m .vertices))) (m .triangles) i ≡ true
+      → validBox (triangleBox (m .vertices) (m .triangles) i) ≡ true
+  unfolding cornersOf
+  finite-valid i inside =
+      sym (ap validBox (corners-box (m .vertices) (m .triangles) i))
+      ∙ corners-box-valid (cornersOf (m .vertices) (m .triangles) i)
+      (corner-finite i 0 (first-fits (m .triangles) i (length (m .vertices)) inside))
+      (corner-finite i 1 (second-fits (m .triangles) i (length (m .vertices)) inside))
+      (corner-finite i 2 (third-fits (m .triangles) i (length (m .vertices)) inside))
+
+  pub finite-hold : BoxesHold m
+  finite-hold = record { each = λ (i : ℕ) below inside. finite-valid i inside }
+
+-- ---- the numbers before a place
+pub record Front (xs : List Float) (finite : Bool) (i : ℕ) : Type 0 where
+  pub within : i ≤ length xs
+  pub each : finite ≡ true → (j : ℕ) → j < i → isFinite (numberAt xs j) ≡ true
+
+pub front-begins : (xs : List Float) (finite : Bool) → Front xs finite 0
+front-begins xs finite = record { within = omega arith; each = λ h j k. absurd (omega (arith, k)) }
+
+module _ (xs : List Float) (finite : Bool) (i : ℕ) (f : Front xs finite i) where
+  pub front-goes : i < length xs → (next : Bool) → (next ≡ true → (finite ≡ true) × (isFinite (numberAt xs i) ≡ true)) → Front xs next (i + 1)
+  front-goes h next e = record { within = omega arith; each = λ y j k. go j (le-or-equal j i k) y }
+    where
+      le-or-equal : (j k : ℕ) → j < k + 1 → (j < k) ⊎ (j ≡ k)
+      le-or-equal j k l = choose (ltb j k) (ltb-true j k) (ltb-false j k)
+        where
+          choose : (b : Bool) → (b ≡ true → j < k) → (b ≡ false → k ≤ j) → (j < k) ⊎ (j ≡ k)
+          choose true p q = inl (p refl)
+          choose false p q = let o = q refl in inr (omega (arith, o, l))
+
+      go : (j : ℕ) → (j < i) ⊎ (j ≡ i) → next ≡ true → isFinite (numberAt xs j) ≡ true
+      go j (inl l) y = f .each (e y .0) j l
+      go j (inr q) y = ap (λ (k : ℕ). isFinite (numberAt xs k)) q ∙ e y .1
+
+  pub front-ends : length xs ≤ i → finite ≡ true → AllFinite xs
+  front-ends h y = record { each = λ j l. f .each y j (omega (arith, l, h)) }
+
+-- ---- a minimum is at most a limit where one of the two is, and a maximum at least, whatever is NaN
+or-first : (a b : Bool) → (b ≡ true → a ≡ true) → a ≡ (a || b)
+or-first true b h = refl
+or-first false true h = h refl
+or-first false false h = refl
+
+or-second : (a b : Bool) → (a ≡ true → b ≡ true) → b ≡ (a || b)
+or-second true b h = h refl
+or-second false b h = refl
+
+module _ (x y t : Float) where
+  minimum-or : (less missing : Bool) → lt y x ≡ less → isNan x ≡ missing → le (cond less y (cond missing y x)) t ≡ (le x t || le y t)
+  minimum-or true missing h p = or-second (le x t) (le y t) (λ k. le-transitive y x t (le-of-lt y x h) k)
+  minimum-or false true h p = or-second (le x t) (le y t) (λ k. absurd (true≢false (sym p ∙ le-left-number x t k)))
+  minimum-or false false h p =
+      or-first (le x t) (le y t) (λ k. le-transitive x y t (le-of-not-lt x y p (le-left-number y t k) h) k)
+
+  pub least-or : le (minimumOf x y) t ≡ (le x t || le y t)
+  unfolding minimumOf
+  least-or = minimum-or (lt y x) (isNan x) refl refl
+
+  maximum-or : (more missing : Bool) → lt x y ≡ more → isNan x ≡ missing → le t (cond more y (cond missing y x)) ≡ (le t x || le t y)
+  maximum-or true missing h p = or-second (le t x) (le t y) (λ k. le-transitive t x y k (le-of-lt x y h))
+  maximum-or false true h p = or-second (le t x) (le t y) (λ k. absurd (true≢false (sym p ∙ le-right-number t x k)))
+  maximum-or false false h p =
+      or-first (le t x) (le t y) (λ k. le-transitive t y x k (le-of-not-lt y x (le-right-number t y k) p h))
+
+  pub most-or : le t (maximumOf x y) ≡ (le t x || le t y)
+  unfolding maximumOf
+  most-or = maximum-or (lt x y) (isNan x) refl refl
+
+-- ---- one axis, and all three
+side : (a b c from to : Float)
+    → sideTouches a b c from to ≡ touchSide (minimumOf (minimumOf a b) c) (maximumOf (maximumOf a b) c) from to
+unfolding touchSide
+side a b c from to =
+    sym (
+    ap (λ (z : Bool). z && le from (maximumOf (maximumOf a b) c))
+    (least-or (minimumOf a b) c to ∙ ap (λ (z : Bool). z || le c to) (least-or a b to))
+    ∙ ap (λ (z : Bool). oneAtMost a b c to && z)
+    (most-or (maximumOf a b) c from ∙ ap (λ (z : Bool). z || le from c) (most-or a b from))
+    )
+
+module _ (vs : List Vec3) (box : Aabb) where
+  abbrev a : Vec3
+  a = corner vs 0
+
+  abbrev b : Vec3
+  b = corner vs 1
+
+  abbrev c : Vec3
+  c = corner vs 2
+
+  -- by the axes
+  abbrev on-x : Bool
+  on-x = sideTouches (a .x) (b .x) (c .x) (box .min .x) (box .max .x)
+
+  abbrev on-y : Bool
+  on-y = sideTouches (a .y) (b .y) (c .y) (box .min .y) (box .max .y)
+
+  abbrev on-z : Bool
+  on-z = sideTouches (a .z) (b .z) (c .z) (box .min .z) (box .max .z)
+
+  by-axes : (on-x && (on-y && on-z)) ≡ touches (cornersBox vs) box
+  unfolding touches cornersBox minOf maxOf
+  by-axes =
+      ap (λ (z : Bool). z && (on-y && on-z)) (side (a .x) (b .x) (c .x) (box .min .x) (box .max .x))
+      ∙ ap (λ (z : Bool). touchSide (cornersBox vs .min .x) (cornersBox vs .max .x) (box .min .x) (box .max .x) && (z && on-z))
+      (side (a .y) (b .y) (c .y) (box .min .y) (box .max .y))
+      ∙ ap (λ (z : Bool). touchSide (cornersBox vs .min .x) (cornersBox vs .max .x) (box .min .x) (box .max .x)
+      && (touchSide (cornersBox vs .min .y) (cornersBox vs .max .y) (box .min .y) (box .max .y) && z))
+      (side (a .z) (b .z) (c .z) (box .min .z) (box .max .z))
+
+  pub apart-on-x : on-x ≡ false → false ≡ touches (cornersBox vs) box
+  apart-on-x h = sym (ap (λ (z : Bool). z && (on-y && on-z)) h) ∙ by-axes
+
+  pub apart-on-y : on-x ≡ true → on-y ≡ false → false ≡ touches (cornersBox vs) box
+  apart-on-y h k = sym (ap (λ (z : Bool). z && (on-y && on-z)) h ∙ ap (λ (z : Bool). z && on-z) k) ∙ by-axes
+
+  pub by-z : on-x ≡ true → on-y ≡ true → on-z ≡ touches (cornersBox vs) box
+  by-z h k = sym (ap (λ (z : Bool). z && (on-y && on-z)) h ∙ ap (λ (z : Bool). z && on-z) k) ∙ by-axes
