@@ -25,6 +25,7 @@ mod collision;
 mod inputs;
 mod listing;
 mod merge;
+mod near;
 mod plain;
 mod plot;
 mod ranges;

@@ -10,7 +10,7 @@ use crate::{
         mesh::{MeshQueryWorkspace, TriangleBvh},
         query::{QueryScratch, Ray as RustRay, timed},
     },
-    inputs, listing, merge, plain, ranges, records,
+    inputs, listing, merge, near, plain, ranges, records,
     shape::{self, TriangleMesh},
     timing::Row,
 };
@@ -489,6 +489,11 @@ fn meshes() -> Vec<Planned> {
         mixed.build("build, 65,536 triangles (sheet, shuffled)"),
         front.mesh("mesh, drawer front, hit", HIT, inputs::front_rays(256)),
         panel.mesh("mesh, panel, short axis probes", 0, short.clone()),
+        panel.mesh(
+            "mesh, panel, short probes from near",
+            0,
+            near::above_panel(&short),
+        ),
         panel.mesh("mesh, panel, long oblique rays", 0, long.clone()),
         panel.mesh("mesh, panel, miss through a hole", NONE, holes),
         panel.mesh("mesh, panel, miss far off", NONE, far),
@@ -519,6 +524,7 @@ fn grids() -> Vec<Planned> {
         }),
         plan("distance grid, hit", |name| distance(name, HIT, through)),
         plan("distance grid, miss", |name| distance(name, NONE, beside)),
+        plan("distance grid, hit from near", near::in_ball),
     ]
 }
 

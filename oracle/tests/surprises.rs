@@ -82,6 +82,26 @@ fn a_hit_at_a_distance_grid_lies_off_its_surface_behind_an_edge_of_cells() {
 }
 
 #[test]
+fn a_hit_at_a_distance_grid_lies_past_the_maximum() {
+    // The walk enters at 1.5 steps of 2^-52 and ends at the maximum, 1 and 3 steps. The way between is a tie, rounded up
+    // to 1 and 2 steps; at its end the sum is a tie again, rounded up to 1 and 4.
+    let step = f64::EPSILON;
+    let ray = Ray {
+        origin: [-1.5 * step, 0.5, 0.5],
+        direction: [1.0, 0.0, 0.0],
+        maximum: 1.0 + 3.0 * step,
+        near: 0.0,
+    };
+    let values: Vec<f64> = (0..8).map(|k| 1.0 - f64::from(2 * (k % 2))).collect();
+    let cast = answer::level_set(&ray, [2; 3], [0.0; 3], [2.0; 3], &values);
+    let Answer::Hit { distance, .. } = cast else {
+        panic!("{cast:?}");
+    };
+    assert_eq!(distance, 1.0 + 4.0 * step);
+    assert!(distance > ray.maximum);
+}
+
+#[test]
 fn the_normal_of_a_distance_grid_does_not_face_the_ray() {
     let values: Vec<f64> = (0..8).map(|k| f64::from(k / 4) - 0.5).collect();
     let ray = Ray {

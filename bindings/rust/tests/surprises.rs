@@ -153,3 +153,22 @@ fn s10_a_hit_at_a_distance_grid_lies_off_its_surface_behind_an_edge_of_cells() {
     let y = -2.0 + along * hit.distance;
     assert!(2.488 < y && y < 2.49);
 }
+
+#[test]
+fn s11_a_hit_at_a_distance_grid_lies_past_the_maximum() {
+    let step = f64::EPSILON;
+    let values: Vec<f64> = (0..8).map(|k| 1.0 - f64::from(2 * (k % 2))).collect();
+    let grid = LevelSet {
+        sides: [2; 3],
+        origin: [0.0; 3],
+        spacing: [2.0; 3],
+        values: &values,
+    };
+    let maximum = 1.0 + 3.0 * step;
+    let ray = Ray::new([-1.5 * step, 0.5, 0.5], [1.0, 0.0, 0.0], maximum);
+    let Cast::Hit(hit) = ray_level_set(&ray, &grid) else {
+        panic!("no hit");
+    };
+    assert_eq!(hit.distance, 1.0 + 4.0 * step);
+    assert!(hit.distance > maximum);
+}

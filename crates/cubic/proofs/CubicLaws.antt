@@ -12,7 +12,8 @@ use Rattle.arithmetic.proofs.Order.{lt-asymmetric}
 use Rattle.arithmetic.proofs.TotalOrder.{lesser-before}
 use Rattle.geometry.specs.Numbers.{_-ᶠ_, _*ᶠ_, _/ᶠ_, zeroᶠ, oneᶠ, epsilon}
 use Rattle.cubic.specs.Polynomial.{twoᶠ, threeᶠ, fourᶠ}
-use Rattle.cubic.specs.Turns.{listed, betweenEnds, keptPoint, keptPoints, vertex, turningBy, turningPoints, extrema, AllBetween, none-left, one-more}
+use Rattle.cubic.specs.Turns.{listed, betweenEnds, keptPoint, keptPoints, vertex, turningBy, turningPoints, extrema, AllBetween}
+use Rattle.cubic.specs.Turns.{none-left, one-more}
 use Rattle.cubic.specs.Halving.{halve, halvings, settled}
 use Rattle.cubic.specs.Roots.{insert, sorted, points, searchOn, searchFrom, searchList}
 use Rattle.cubic.specs.declared.polynomial.Cubic.{Cubic}
@@ -36,10 +37,12 @@ module _ (p : Cubic) (tolerance : Float) where
   one-turn zero h l = absurd (omega arith)
   one-turn (suc n) h l = let e : n ≡ suc n - 1 = omega arith in ap (λ (k : ℕ). halvings p tolerance k (halve p tolerance h)) e
 
-  pub turn-open : (n : ℕ) (h next whole : Halving) → halvings p tolerance n h ≡ whole → 0 < n → next ≡ halve p tolerance h → halvings p tolerance (n - 1) next ≡ whole
+  pub turn-open : (n : ℕ) (h next whole : Halving) → halvings p tolerance n h ≡ whole → 0 < n → next ≡ halve p tolerance h → halvings p
+      tolerance (n - 1) next ≡ whole
   turn-open n h next whole i l e = ap (λ (k : Halving). halvings p tolerance (n - 1) k) e ∙ sym (one-turn n h l) ∙ i
 
-  pub turn-found : (n : ℕ) (h whole : Halving) (u : Float) → halvings p tolerance n h ≡ whole → 0 < n → Found u ≡ halve p tolerance h → u ≡ settled whole
+  pub turn-found : (n : ℕ) (h whole : Halving) (u : Float) → halvings p tolerance n h ≡ whole → 0 < n → Found u ≡ halve p tolerance h → u ≡
+      settled whole
   turn-found n h whole u i l e =
       unfold settled in
       ap settled (sym (found-stays (n - 1) u) ∙ turn-open n h (Found u) whole i l e)
@@ -111,18 +114,22 @@ points-one : (u : Float) → betweenEnds u ≡ true → points (u ∷ []) ≡ ze
 unfolding points sorted insert
 points-one u h = simp (one-not-before u h, zero-before u h)
 
-points-two : (u v : Float) → betweenEnds u ≡ true → betweenEnds v ≡ true → totalOrder u v ≡ true → points (u ∷ v ∷ []) ≡ zeroᶠ ∷ u ∷ v ∷ oneᶠ ∷ []
+points-two : (u v : Float) → betweenEnds u ≡ true → betweenEnds v ≡ true → totalOrder u v ≡ true → points (u ∷ v ∷ []) ≡ zeroᶠ ∷ u ∷ v ∷
+    oneᶠ ∷ []
 unfolding points sorted insert
 points-two u v h k e = simp (e, one-not-before u h, one-not-before v k, zero-before u h)
 
-points-two-turned : (u v : Float) → betweenEnds u ≡ true → betweenEnds v ≡ true → totalOrder u v ≡ false → points (u ∷ v ∷ []) ≡ zeroᶠ ∷ v ∷ u ∷ oneᶠ ∷ []
+points-two-turned : (u v : Float) → betweenEnds u ≡ true → betweenEnds v ≡ true → totalOrder u v ≡ false → points (u ∷ v ∷ []) ≡ zeroᶠ ∷ v ∷
+    u ∷ oneᶠ ∷ []
 unfolding points sorted insert
 points-two-turned u v h k e = simp (e, one-not-before u h, one-not-before v k, zero-before v k)
 
 -- ---- the same for what the code holds
-pub search-none : (p : Cubic) (tolerance : Float) (t : Turns) → t ≡ NoPoint → searchOn None p tolerance zeroᶠ oneᶠ ≡ searchList p tolerance (points (listed t))
+pub search-none : (p : Cubic) (tolerance : Float) (t : Turns) → t ≡ NoPoint → searchOn None p tolerance zeroᶠ oneᶠ ≡ searchList p tolerance
+    (points (listed t))
 unfolding searchList searchFrom
-search-none p tolerance t e = sym (ap (λ (k : Turns). searchList p tolerance (points (listed k))) e ∙ ap (searchList p tolerance) points-none)
+search-none p tolerance t e = sym (ap (λ (k : Turns). searchList p tolerance (points (listed k))) e ∙ ap (searchList p tolerance)
+    points-none)
 
 pub search-one : (p : Cubic) (tolerance : Float) (t : Turns) (u : Float) (start : Root) → t ≡ One u → AllBetween (listed t)
     → start ≡ searchOn None p tolerance zeroᶠ u → searchOn start p tolerance u oneᶠ ≡ searchList p tolerance (points (listed t))

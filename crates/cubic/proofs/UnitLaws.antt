@@ -55,15 +55,19 @@ one-round = refl
 
 rounded-half : (num den : ℕ) → 0 < den → num * 2 ≤ 1 * den → Below 2 (round binary64 false num den)
 rounded-half num den d h =
-    let l : le (round binary64 false num den) (round binary64 false 1 2) ≡ true = is-true (le (round binary64 false num den) (round binary64 false 1 2)) (round-mono binary64 num den 1 2 d (omega arith) h) in
+    let l : le (round binary64 false num den) (round binary64 false 1 2) ≡ true = is-true
+    (le (round binary64 false num den) (round binary64 false 1 2)) (round-mono binary64 num den 1 2 d (omega arith) h) in
     below-half (round binary64 false num den) (round-plain num den)
-    (not-lt-of-le (round binary64 false num den) (fin false 1 (negsuc 0)) (subst (λ (y : Float). le (round binary64 false num den) y ≡ true) half-round l))
+    (not-lt-of-le (round binary64 false num den) (fin false 1 (negsuc 0))
+    (subst (λ (y : Float). le (round binary64 false num den) y ≡ true) half-round l))
 
 rounded-one : (num den : ℕ) → 0 < den → num * 1 ≤ 1 * den → Below 1 (round binary64 false num den)
 rounded-one num den d h =
-    let l : le (round binary64 false num den) (round binary64 false 1 1) ≡ true = is-true (le (round binary64 false num den) (round binary64 false 1 1)) (round-mono binary64 num den 1 1 d (omega arith) h) in
+    let l : le (round binary64 false num den) (round binary64 false 1 1) ≡ true = is-true
+    (le (round binary64 false num den) (round binary64 false 1 1)) (round-mono binary64 num den 1 1 d (omega arith) h) in
     below-one (round binary64 false num den) (round-plain num den)
-    (not-lt-of-le (round binary64 false num den) (fin false 1 (pos 0)) (subst (λ (y : Float). le (round binary64 false num den) y ≡ true) one-round l))
+    (not-lt-of-le (round binary64 false num den) (fin false 1 (pos 0))
+    (subst (λ (y : Float). le (round binary64 false num den) y ≡ true) one-round l))
 
 -- ---- the middle
 half-is : halfᶠ ≡ fin false 1 (negsuc 0)
@@ -79,7 +83,8 @@ half-below (below m e h) =
     subst (Below 2) (sym (product-is m e) ∙ ap (λ (y : Float). fin false m e *ᶠ y) (sym half-is))
     (rounded-half (m * up e * (1 * 1)) (down e * 2) (mul-pos (down-pos e) (omega arith)) (omega arith))
 
-sum-is : (m n : ℕ) (e d : ℤ) → fin false m e +ᶠ fin false n d ≡ round binary64 false (m * up e * down d + n * up d * down e) (down e * down d)
+sum-is : (m n : ℕ) (e d : ℤ) → fin false m e +ᶠ fin false n d ≡ round binary64 false (m * up e * down d + n * up d * down e)
+    (down e * down d)
 unfolding add sum
 sum-is m n e d = refl
 
@@ -93,7 +98,7 @@ sum-below (below m e h) (below n d k) =
     subst (Below 1) (sym (sum-is m n e d))
     (rounded-one (m * up e * down d + n * up d * down e) (down e * down d) (mul-pos (down-pos e) (down-pos d)) (omega arith))
 
-middle-below : {x y : Float} → Below 1 x → Below 1 y → Below 1 (middleOf x y)
+pub middle-below : {x y : Float} → Below 1 x → Below 1 y → Below 1 (middleOf x y)
 unfolding middleOf
 middle-below p q = sum-below (half-below p) (half-below q)
 
@@ -137,7 +142,8 @@ pub record Searched (p : Cubic) : Type 0 where
   pub fits-d : T (fits binary64 (p .d))
 
 -- the cubic through four samples is one where its coefficients are finite: each is the result of an operation, but for the first sample
-pub searched-cubic : (y0 y1 y2 y3 : Float) → T (fits binary64 y0) → finiteCubic (cubicOf y0 y1 y2 y3) ≡ true → Searched (cubicOf y0 y1 y2 y3)
+pub searched-cubic : (y0 y1 y2 y3 : Float) → T (fits binary64 y0) → finiteCubic (cubicOf y0 y1 y2 y3) ≡ true → Searched
+    (cubicOf y0 y1 y2 y3)
 unfolding cubicOf cubicBy
 searched-cubic y0 y1 y2 y3 f h = record { finite = h; fits-b = mul-fits binary64 _ _; fits-c = add-fits binary64 _ _; fits-d = f }
 
@@ -164,4 +170,5 @@ halve-halved p tolerance (Found u) s all-found = all-found
 halve-halved p tolerance (Open low high value) s (still-open a b n) =
     let middle = middle-below a b in
     chosen-halved (le (absolute (evaluate p (middleOf low high))) tolerance) all-found
-    (chosen-halved (Bool·beq (signPositive (evaluate p (middleOf low high))) (signPositive value)) (still-open middle b (value-number p (middleOf low high) s middle)) (still-open a middle n))
+    (chosen-halved (Bool·beq (signPositive (evaluate p (middleOf low high))) (signPositive value))
+    (still-open middle b (value-number p (middleOf low high) s middle)) (still-open a middle n))

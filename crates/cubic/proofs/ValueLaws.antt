@@ -23,7 +23,8 @@ use Rattle.lists.proofs.JoinedTests.{and-first, and-second}
 product-number : (v : Float) (s : Bool) (m : ℕ) (e : ℤ) → isNan v ≡ false → isNan (v *ᶠ fin s (suc m) e) ≡ false
 unfolding mul isNan
 product-number nan s m e h = absurd (true≢false h)
-product-number (inf t) s m e h = ap (λ (b : Bool). isNan (cond b nan (inf (unlike t s)))) (ne-eqb (suc m) 0 (λ (z : suc m ≡ 0). omega arith))
+product-number (inf t) s m e h = ap (λ (b : Bool). isNan (cond b nan (inf (unlike t s))))
+    (ne-eqb (suc m) 0 (λ (z : suc m ≡ 0). omega arith))
 product-number (fin t n d) s m e h = round-number binary64 (unlike t s) (n * up d * (suc m * up e)) (down d * down e)
 
 pub sum-finite-number : (v b : Float) → isNan v ≡ false → isFinite b ≡ true → isNan (v +ᶠ b) ≡ false
@@ -78,7 +79,8 @@ no-product n d e = ap (λ (k : ℕ). n * up d * k) (zero-mul (up e)) ∙ mul-zer
 
 zero-product : (t s : Bool) (n : ℕ) (d e : ℤ) → HasValue (fin t n d *ᶠ fin s zero e) (unlike t s) (n * up d * (0 * up e)) (down d * down e)
 unfolding mul
-zero-product t s n d e = round-nothing (unlike t s) (n * up d * (0 * up e)) (down d * down e) (no-product n d e) (mul-pos (down-pos d) (down-pos e))
+zero-product t s n d e = round-nothing (unlike t s) (n * up d * (0 * up e)) (down d * down e) (no-product n d e)
+    (mul-pos (down-pos d) (down-pos e))
 
 times-zero : (v : Float) (s : Bool) (e : ℤ) → isFinite v ≡ true → Nought (v *ᶠ fin s zero e)
 unfolding isFinite
@@ -94,21 +96,27 @@ unfolding fits
 either-sign s t zero d f = f
 either-sign s t (suc n) d f = f
 
-round-kept : (s t : Bool) (n : ℕ) (d : ℤ) (num den : ℕ) → T (fits binary64 (fin t n d)) → num ≡ n * up d → den ≡ down d → isFinite (round binary64 s num den) ≡ true
+round-kept : (s t : Bool) (n : ℕ) (d : ℤ) (num den : ℕ) → T (fits binary64 (fin t n d)) → num ≡ n * up d → den ≡ down d → isFinite
+    (round binary64 s num den) ≡ true
 round-kept s t n d num den f p q =
     let g = either-sign s t n d f in
-    let small : n * up d * 1 < 2 ^ 1024 * down d = subst (λ (k : ℕ). k < 2 ^ 1024 * down d) (sym (mul-one (n * up d))) (fits-parts binary64 s n d g .1 .1) in
-    let kept : isFinite (round binary64 s (n * up d * 1) (down d)) ≡ true = value-finite (round binary64 s (n * up d * 1) (down d)) s (n * up d * 1) (down d) (scaled-exact binary64 s n d 0 g small) in
-    ap (λ (k : ℕ). isFinite (round binary64 s k den)) (p ∙ sym (mul-one (n * up d))) ∙ ap (λ (k : ℕ). isFinite (round binary64 s (n * up d * 1) k)) q ∙ kept
+    let small : n * up d * 1 < 2 ^ 1024 * down d = subst (λ (k : ℕ). k < 2 ^ 1024 * down d) (sym (mul-one (n * up d)))
+    (fits-parts binary64 s n d g .1 .1) in
+    let kept : isFinite (round binary64 s (n * up d * 1) (down d)) ≡ true = value-finite (round binary64 s (n * up d * 1) (down d)) s
+    (n * up d * 1) (down d) (scaled-exact binary64 s n d 0 g small) in
+    ap (λ (k : ℕ). isFinite (round binary64 s k den)) (p ∙ sym (mul-one (n * up d))) ∙ ap
+    (λ (k : ℕ). isFinite (round binary64 s (n * up d * 1) k)) q ∙ kept
 
-sum-kept : (s t : Bool) (n : ℕ) (d : ℤ) (a b c : ℕ) → T (fits binary64 (fin t n d)) → a ≡ 0 → b ≡ n * up d → c ≡ down d → isFinite (sum binary64 s a t b c) ≡ true
+sum-kept : (s t : Bool) (n : ℕ) (d : ℤ) (a b c : ℕ) → T (fits binary64 (fin t n d)) → a ≡ 0 → b ≡ n * up d → c ≡ down d → isFinite
+    (sum binary64 s a t b c) ≡ true
 unfolding sum
 sum-kept s t n d a b c f p q r =
     let whole : a + b ≡ n * up d = omega arith in
     let same : b - a ≡ n * up d = omega arith in
     let none : a - b ≡ 0 = omega arith in
     let above : 0 < c = subst (λ (k : ℕ). 0 < k) (sym r) (down-pos d) in
-    chosen-finite (Bool·beq s t) (round binary64 s (a + b) c) (cond (ltb a b) (round binary64 t (b - a) c) (round binary64 (s && ltb b a) (a - b) c))
+    chosen-finite (Bool·beq s t) (round binary64 s (a + b) c)
+    (cond (ltb a b) (round binary64 t (b - a) c) (round binary64 (s && ltb b a) (a - b) c))
     (round-kept s t n d (a + b) c f whole r)
     (chosen-finite (ltb a b) (round binary64 t (b - a) c) (round binary64 (s && ltb b a) (a - b) c)
     (round-kept t t n d (b - a) c f same r)
@@ -124,7 +132,8 @@ plus-finite (fin t n d) (nought s e one) h f =
     (ap (λ (k : ℕ). n * up d * k) one ∙ mul-one (n * up d))
     (ap (λ (k : ℕ). k * down d) one ∙ one-mul (down d))
 
-step-finite : (v b : Float) (s : Bool) (e : ℤ) → isFinite v ≡ true → isFinite b ≡ true → T (fits binary64 b) → isFinite (v *ᶠ fin s zero e +ᶠ b) ≡ true
+step-finite : (v b : Float) (s : Bool) (e : ℤ) → isFinite v ≡ true → isFinite b ≡ true → T (fits binary64 b) → isFinite
+    (v *ᶠ fin s zero e +ᶠ b) ≡ true
 step-finite v b s e h k f = plus-finite b (times-zero v s e h) k f
 
 -- ---- the value
@@ -143,7 +152,8 @@ evaluate-by a b c d (fin s (suc m) e) p q r t f g h i =
     step-number ((a *ᶠ fin s (suc m) e +ᶠ b) *ᶠ fin s (suc m) e +ᶠ c) d s m e second t
 
 -- a value whose sign is asked is no NaN: the coefficients are finite by then, and the points lie between 0 and 1
-pub evaluate-number : (p : Cubic) (u : Float) → finiteCubic p ≡ true → T (fits binary64 (p .b)) → T (fits binary64 (p .c)) → T (fits binary64 (p .d)) → isFinite u ≡ true → isNan (evaluate p u) ≡ false
+pub evaluate-number : (p : Cubic) (u : Float) → finiteCubic p ≡ true → T (fits binary64 (p .b)) → T (fits binary64 (p .c)) → T
+    (fits binary64 (p .d)) → isFinite u ≡ true → isNan (evaluate p u) ≡ false
 unfolding finiteCubic evaluate
 evaluate-number p u e f g h i =
     let bcd = and-second (isFinite (p .a)) (isFinite (p .b) && (isFinite (p .c) && isFinite (p .d))) e in

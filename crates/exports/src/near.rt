@@ -1,11 +1,11 @@
 use casts::plane;
 use casts::plane::Plane;
 use casts::triangle;
+use distance_grid::grid::Grid;
+use distance_grid::grid::Sides;
 use geometry::vec3::Vec3;
 use height_field::cast;
 use height_field::field::Field;
-use level_set::grid::Grid;
-use level_set::grid::Sides;
 use level_set::walk;
 ghost use mathlib.Core.Path.{_≡_};
 ghost use Rattle.casts.specs.Plane.{rayPlane};

@@ -1,4 +1,5 @@
--- The pass over one cell: what its listing gives, folded, is the code's two triangles in turn, the boxes of finite vertices being valid. Assumes nothing.
+-- The pass over one cell: what its listing gives, folded, is the code's two triangles in turn, the boxes of finite vertices being valid.
+-- Assumes nothing.
 use Prim.Native.Nat.{ℕ, _+_, _*_, _/_, _%_, _<_}
 use mathlib.Core.Path.{_≡_, refl, sym, ap, _∙_}
 use mathlib.Core.Bool.{Bool, true, false, _&&_, cond, false≢true}
@@ -75,11 +76,13 @@ module _ (ray : Ray) (box : Aabb) (lower upper : List Vec3) (feature : ℕ) (bes
 
 -- ---- finite corners
 
-either-finite : (which : Bool) (lower upper : List Vec3) → FiniteCorners lower → FiniteCorners upper → FiniteCorners (cond which lower upper)
+either-finite : (which : Bool) (lower upper : List Vec3) → FiniteCorners lower → FiniteCorners upper → FiniteCorners
+    (cond which lower upper)
 either-finite true lower upper p q = p
 either-finite false lower upper p q = q
 
-pub half-finite : (lower upper : List Vec3) (triangle : ℕ) → FiniteCorners lower → FiniteCorners upper → FiniteCorners (halfOf lower upper triangle)
+pub half-finite : (lower upper : List Vec3) (triangle : ℕ) → FiniteCorners lower → FiniteCorners upper → FiniteCorners
+    (halfOf lower upper triangle)
 unfolding halfOf
 half-finite lower upper triangle = either-finite (eqb triangle 0) lower upper
 
@@ -104,7 +107,8 @@ module _ (v00 v10 v01 v11 : Vec3) (finite : allFinite v00 v10 v01 v11 ≡ true) 
 
 -- a triangle of a cell with finite vertices has a valid box
 module _ (f : Field) (heights : List Float) where
-  corners-finite : (row column triangle : ℕ) → cellFinite f heights row column ≡ true → FiniteCorners (cornersAt f heights row column triangle)
+  corners-finite : (row column triangle : ℕ) → cellFinite f heights row column ≡ true → FiniteCorners
+      (cornersAt f heights row column triangle)
   unfolding cellFinite cornersAt
   corners-finite row column triangle finite =
       either-finite (eqb triangle 0) _ _ (lower-finite _ _ _ _ finite) (upper-finite _ _ _ _ finite)
@@ -113,7 +117,8 @@ module _ (f : Field) (heights : List Float) where
       → validBox (featureBox f heights feature) ≡ true
   unfolding featureBox featureCorners
   feature-valid cell feature e finite =
-      let corners = corners-finite (cellRow f (feature / 2)) (cellColumn f (feature / 2)) (feature % 2) (ap (λ (n : ℕ). cellFinite f heights (cellRow f n) (cellColumn f n)) e ∙ finite) in
+      let corners = corners-finite (cellRow f (feature / 2)) (cellColumn f (feature / 2)) (feature % 2)
+      (ap (λ (n : ℕ). cellFinite f heights (cellRow f n) (cellColumn f n)) e ∙ finite) in
       corners-box-valid (featureCorners f heights feature) (corners .first) (corners .second) (corners .third)
 
 -- ---- the cell of a row and a column
@@ -128,7 +133,8 @@ module _ (f : Field) (heights : List Float) (row column : ℕ) (within : column 
       ∙ ap (λ (n : ℕ). cornersAt f heights row n (feature % 2)) (column-of-cell f row column within)
       ∙ ap (λ (n : ℕ). cornersAt f heights row column n) which
 
-  finite-cell : cellFinite f heights (cellRow f (cellAt f row column)) (cellColumn f (cellAt f row column)) ≡ cellFinite f heights row column
+  finite-cell : cellFinite f heights (cellRow f (cellAt f row column)) (cellColumn f (cellAt f row column)) ≡ cellFinite f heights row
+      column
   finite-cell =
       ap (λ (n : ℕ). cellFinite f heights n (cellColumn f (cellAt f row column))) (row-of-cell f row column within)
       ∙ ap (λ (n : ℕ). cellFinite f heights row n) (column-of-cell f row column within)
@@ -141,13 +147,16 @@ module _ (f : Field) (heights : List Float) (row column : ℕ) (within : column 
   unfolding listCell featureBox answerOf passTriangle step
   pass-of-cell ray box best =
       let cell = cellAt f row column in
-      let whole : (finite : Bool) (lower upper : List Vec3) → Passed = λ finite lower upper. cond finite (going (passTriangle ray box upper (cell * 2 + 1) (passTriangle ray box lower (cell * 2) best))) (ended overflow) in
+      let whole : (finite : Bool) (lower upper : List Vec3) → Passed = λ finite lower upper. cond finite
+      (going (passTriangle ray box upper (cell * 2 + 1) (passTriangle ray box lower (cell * 2) best))) (ended overflow) in
       let lower = corners-of-feature (cell * 2) 0 (omega arith) (omega arith) in
       let upper = corners-of-feature (cell * 2 + 1) 1 (omega arith) (omega arith) in
       pass-of-two (answerOf ray f heights) (λ (feature : ℕ). touches (featureBox f heights feature) box) best (cell * 2) (cell * 2 + 1)
-      (cellFinite f heights (cellRow f cell) (cellColumn f cell)) (validBox (featureBox f heights (cell * 2))) (validBox (featureBox f heights (cell * 2 + 1)))
+      (cellFinite f heights (cellRow f cell) (cellColumn f cell)) (validBox (featureBox f heights (cell * 2)))
+      (validBox (featureBox f heights (cell * 2 + 1)))
       (feature-valid f heights cell (cell * 2) (omega arith)) (feature-valid f heights cell (cell * 2 + 1) (omega arith))
       ∙ ap (λ (finite : Bool). whole finite (featureCorners f heights (cell * 2)) (featureCorners f heights (cell * 2 + 1))) finite-cell
       ∙ ap (λ (l : List Vec3). whole (cellFinite f heights row column) l (featureCorners f heights (cell * 2 + 1))) lower
       ∙ ap (λ (l : List Vec3). whole (cellFinite f heights row column) (cornersAt f heights row column 0) l) upper
-      ∙ ap (λ (found : Indexed). cond (cellFinite f heights row column) (going found) (ended overflow)) (sym (both-triangles ray box (cornersAt f heights row column 0) (cornersAt f heights row column 1) (cell * 2) best))
+      ∙ ap (λ (found : Indexed). cond (cellFinite f heights row column) (going found) (ended overflow))
+      (sym (both-triangles ray box (cornersAt f heights row column 0) (cornersAt f heights row column 1) (cell * 2) best))

@@ -3,5 +3,3 @@ pub mod Sizes
 pub mod CellPass
 pub mod ListingPass
 pub mod Ranges
-pub mod HitDistances
-pub mod Examples

@@ -24,12 +24,14 @@ pub andThen : (ℕ → Answer) → Passed → Listing → Passed
 andThen answer (going best) rest = passFrom answer best rest
 andThen answer (ended number) rest = ended number
 
-fold-append : (answer : ℕ → Answer) (best : Indexed) (xs ys : List ℕ) → foldFrom answer best (xs ++ ys) ≡ foldFrom answer (foldFrom answer best xs) ys
+fold-append : (answer : ℕ → Answer) (best : Indexed) (xs ys : List ℕ) → foldFrom answer best (xs ++ ys) ≡ foldFrom answer
+    (foldFrom answer best xs) ys
 unfolding foldFrom
 fold-append answer best [] ys = refl
 fold-append answer best (x ∷ xs) ys = fold-append answer (nextOf best x (answer x)) xs ys
 
-pub pass-both : (answer : ℕ → Answer) (best : Indexed) (a b : Listing) → passFrom answer best (both a b) ≡ andThen answer (passFrom answer best a) b
+pub pass-both : (answer : ℕ → Answer) (best : Indexed) (a b : Listing) → passFrom answer best (both a b) ≡ andThen answer
+    (passFrom answer best a) b
 unfolding both passFrom andThen
 pass-both answer best (unlisted n) b = refl
 pass-both answer best (listed xs) (unlisted n) = refl
@@ -91,12 +93,14 @@ module _ (list : ℕ → Listing) (f : Field) where
       ap (λ (l : List ℕ). listAll list (gridCells f l columns)) (run-cons first last h)
       ∙ list-append list (map (cellAt f first) columns) (gridCells f (run (first + 1) (last + 1 - (first + 1))) columns)
 
-  pub rows-none : (first last : ℕ) (columns : List ℕ) → last < first → listAll list (gridCells f (run first (last + 1 - first)) columns) ≡ listed []
+  pub rows-none : (first last : ℕ) (columns : List ℕ) → last < first → listAll list (gridCells f (run first (last + 1 - first)) columns) ≡
+      listed []
   unfolding listAll gridCells
   rows-none first last columns h = ap (λ (l : List ℕ). listAll list (gridCells f l columns)) (run-none first last h)
 
 -- ---- a turn of a loop over a listing, by what the pass over its first part came to
-module _ (answer : ℕ → Answer) (best : Indexed) (all first rest : Listing) (passed : Passed) (split : all ≡ both first rest) (is : passed ≡ passFrom answer best first) where
+module _ (answer : ℕ → Answer) (best : Indexed) (all first rest : Listing) (passed : Passed) (split : all ≡ both first rest)
+    (is : passed ≡ passFrom answer best first) where
   onward : passFrom answer best all ≡ andThen answer passed rest
   onward =
       ap (passFrom answer best) split ∙ pass-both answer best first rest ∙ ap (λ (p : Passed). andThen answer p rest) (sym is)
@@ -121,7 +125,8 @@ answer-of-pass answer (listed features) = refl
 answer-of-pass answer (unlisted number) = refl
 
 -- the box of an admitted ray with a finite end is valid, so that no box refuses
-pub cast-of-finite-end : (ray : Ray) (f : Field) (heights : List Float) (end : Vec3) → rayAdmitted ray ≡ true → end ≡ segmentEnd ray → finiteVec end ≡ true
+pub cast-of-finite-end : (ray : Ray) (f : Field) (heights : List Float) (end : Vec3) → rayAdmitted ray ≡ true → end ≡ segmentEnd ray →
+    finiteVec end ≡ true
     → heightCast ray f heights
     ≡ cond (spanFinite f) (castListed (answerOf ray f heights) (gridListing f heights (segmentBox ray))) (refused overflow)
 unfolding heightCast

@@ -47,7 +47,8 @@ unfolding cellRange EndsBy
 range-ends low high spacing count =
     either-ends (count - 1) (lt high zeroᶠ) Outside _ tt
     (either-ends (count - 1) (lt (spanOf spacing count) low) Outside _ tt
-    (scaled-ends (clampTo (low /ᶠ spacing) zeroᶠ (floatOf (count - 1))) (clampTo (high /ᶠ spacing) zeroᶠ (floatOf (count - 1))) (count - 1)))
+    (scaled-ends (clampTo (low /ᶠ spacing) zeroᶠ (floatOf (count - 1))) (clampTo (high /ᶠ spacing) zeroᶠ (floatOf (count - 1)))
+    (count - 1)))
 
 pub last-within : (low high spacing : Float) (count first last : ℕ) → cellRange low high spacing count ≡ Cells first last → last ≤ count - 1
 unfolding EndsBy

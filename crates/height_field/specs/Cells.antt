@@ -33,7 +33,8 @@ unfoldable pub cellRange : Float → Float → Float → ℕ → CellRange
 cellRange low high spacing count =
     cond (lt high zeroᶠ) Outside
     (cond (lt (spanOf spacing count) low) Outside
-    (scaledRange (clampTo (low /ᶠ spacing) zeroᶠ (floatOf (count - 1))) (clampTo (high /ᶠ spacing) zeroᶠ (floatOf (count - 1))) (count - 1)))
+    (scaledRange (clampTo (low /ᶠ spacing) zeroᶠ (floatOf (count - 1))) (clampTo (high /ᶠ spacing) zeroᶠ (floatOf (count - 1)))
+    (count - 1)))
 
 -- ---- the grid
 

@@ -6,10 +6,10 @@ use mathlib.Core.List.{List, [], _∷_}
 use lib.Dec.{leb, eqb}
 use lib.IntN.{pos}
 use lib.ListN.{length, getD}
-use lib.Ieee.{Float, nan, binary64, lt, ofInt}
-use Rattle.arithmetic.specs.Basic.{isFinite}
-use Rattle.geometry.specs.Numbers.{_*ᶠ_, zeroᶠ}
+use lib.Ieee.{Float, nan, binary64, ofInt}
+use Rattle.geometry.specs.Numbers.{_*ᶠ_}
 use Rattle.geometry.specs.declared.vec3.Vec3.{Vec3}
+use Rattle.grids.specs.Spacing.{spacingAdmitted}
 use Rattle.height_field.specs.declared.field.Field.{Field}
 
 -- ---- admitted
@@ -17,10 +17,6 @@ use Rattle.height_field.specs.declared.field.Field.{Field}
 -- "height rows and columns 2 to 1,024"
 unfoldable pub sideAdmitted : ℕ → Bool
 sideAdmitted count = leb 2 count && leb count 1024
-
--- "Spacings are finite and above 0."
-unfoldable pub spacingAdmitted : Float → Bool
-spacingAdmitted spacing = isFinite spacing && lt zeroᶠ spacing
 
 -- and "Grid length equals the product of its sides."
 unfoldable pub fieldAdmitted : Field → List Float → Bool

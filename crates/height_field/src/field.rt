@@ -1,8 +1,8 @@
-use arithmetic::basic;
 use geometry::vec3::Vec3;
+use grids::spacing;
 ghost use mathlib.Core.Path.{_≡_};
 ghost use Prim.Native.Nat.{_<_, _≤_};
-ghost use Rattle.height_field.specs.Grid.{sideAdmitted, spacingAdmitted, fieldAdmitted, Sized, floatOf, vertexAt};
+ghost use Rattle.height_field.specs.Grid.{sideAdmitted, fieldAdmitted, Sized, floatOf, vertexAt};
 
 // A grid of heights in row order, which stand in a slice beside it: x runs along the columns, y along the rows.
 pub struct Field {
@@ -22,16 +22,6 @@ fn side_admitted(count: usize) -> bool
     false
 }
 
-// Whether a spacing is finite and above 0.
-fn spacing_admitted(spacing: f64) -> bool
-    ensures { λ r. ⌜ r ≡ spacingAdmitted spacing ⌝ }
-{
-    if basic::is_finite(spacing) {
-        return 0.0 < spacing;
-    }
-    false
-}
-
 // Whether refusal 2 lets the grid pass.
 pub fn is_admitted(field: Field, heights: &[f64]) -> bool
     ensures { λ r. ⌜ r ≡ fieldAdmitted field (now (heights .entry)) ⌝ }
@@ -42,10 +32,10 @@ pub fn is_admitted(field: Field, heights: &[f64]) -> bool
     if !side_admitted(field.columns) {
         return false;
     }
-    if !spacing_admitted(field.spacing_x) {
+    if !spacing::spacing_admitted(field.spacing_x) {
         return false;
     }
-    if !spacing_admitted(field.spacing_y) {
+    if !spacing::spacing_admitted(field.spacing_y) {
         return false;
     }
     heights.len() == field.rows * field.columns

@@ -1,8 +1,10 @@
--- The definitions give what document 01 says of every entry of the table: computed once, and the rule at each entry from it. Assumes nothing.
+-- The definitions give what document 01 says of every entry of the table: computed once, and the rule at each entry from it. Assumes
+-- nothing.
 use mathlib.Core.Path.{_≡_, refl}
 use mathlib.Core.Bool.{Bool, true, false, _&&_}
 use mathlib.Core.List.{List, [], _∷_}
-use lib.Ieee.{span, climb, size, odd, units, round, neg, sum, add, sub, mul, div, lt, eq, le, ne, ofInt, toUnsigned, isNan, ofFields, ofBits, toBits}
+use lib.Ieee.{span, climb, size, odd, units, round, neg, sum, add, sub, mul, div, lt, eq, le, ne, ofInt, toUnsigned, isNan, ofFields}
+use lib.Ieee.{ofBits, toBits}
 use Rattle.lists.proofs.JoinedTests.{and-first, and-second}
 use Rattle.arithmetic.specs.Basic.{isFinite, absolute, negative, signPositive, clampTo}
 use Rattle.arithmetic.specs.Extremes.{minimumOf, maximumOf}
@@ -10,14 +12,17 @@ use Rattle.arithmetic.specs.Root.{rootDigits, wholeRoot, rootRound, rootOf}
 use Rattle.arithmetic.specs.Rounding.{wholeBy, floorOf, roundOf}
 use Rattle.arithmetic.specs.Ordering.{totalOrder}
 use Rattle.arithmetic.specs.Scaling.{unit, digitsOf, scaledBy}
-use Rattle.geometry.specs.Vector.{component, finiteVec, addOf, subOf, negOf, scaleOf, minOf, maxOf, absOf, maxElement, dotOf, checkedDot, crossOf, lengthOf, normalizable, zeroVec, dotTells, scaledToOne, overLength, tryNormalize}
-use Rattle.geometry.specs.Box.{validSide, validBox, touchSide, touches, withinSide, encloses, sameSide, sameBox, unionOf, centre, cornersBox}
+use Rattle.geometry.specs.Vector.{component, finiteVec, addOf, subOf, negOf, scaleOf, minOf, maxOf, absOf, maxElement, dotOf, checkedDot}
+use Rattle.geometry.specs.Vector.{crossOf, lengthOf, normalizable, zeroVec, dotTells, scaledToOne, overLength, tryNormalize}
+use Rattle.geometry.specs.Box.{validSide, validBox, touchSide, touches, withinSide, encloses, sameSide, sameBox, unionOf, centre}
+use Rattle.geometry.specs.Box.{cornersBox}
 use Rattle.geometry.specs.Segment.{unitLength, rayAdmitted, segmentEnd, segmentBox}
 use Rattle.casts.specs.Surface.{outOfRange, facing}
 use Rattle.casts.specs.Plane.{planeAdmitted, planeAt, planeCast, rayPlane}
 use Rattle.casts.specs.Triangle.{flat, triangleNormal, hasNormal, triangleAbove, triangleAt, triangleOf, rayTriangle}
 use Rattle.casts.specs.Nearest.{nextOf, foldFrom, withoutIndex}
-use Rattle.height_field.specs.Grid.{sideAdmitted, spacingAdmitted, fieldAdmitted, floatOf, vertexAt, cellAt, cellRow, cellColumn, cornersAt, featureCorners}
+use Rattle.grids.specs.Spacing.{spacingAdmitted}
+use Rattle.height_field.specs.Grid.{sideAdmitted, fieldAdmitted, floatOf, vertexAt, cellAt, cellRow, cellColumn, cornersAt, featureCorners}
 use Rattle.height_field.specs.Cells.{scaledRange, spanOf, cellRange, run, rangeCells, gridCells, columnRange, rowRange, visitedCells}
 use Rattle.height_field.specs.Listing.{both, listAll, allFinite, cellFinite, featureBox, listCell, gridListing}
 use Rattle.lists.specs.Lists.{keep, range, count, every, gather, insertBy, sortBy, folded}
@@ -26,14 +31,16 @@ use Rattle.cubic.specs.Polynomial.{cubicBy, cubicOf, finiteCubic, evaluate, roo
 use Rattle.cubic.specs.Turns.{betweenEnds, keptPoint, keptPoints, vertex, turningBy, turningPoints, extrema}
 use Rattle.cubic.specs.Halving.{middleOf, halveAt, halve, halvings, settled}
 use Rattle.cubic.specs.Roots.{insert, sorted, points, rootBetween, searchOn, searchFrom, searchList, rootOfCubic, firstCubicRoot}
-use Rattle.level_set.specs.Grid.{sideAdmitted as levelset-sideAdmitted, spacingAdmitted as levelset-spacingAdmitted, sidesAdmitted, gridAdmitted, lastNode, lastCorner, gridBox}
-use Rattle.level_set.specs.Slab.{kept, cut, slabFrom, slab, started, rayAabbInterval}
-use Rattle.level_set.specs.Cells.{upTo, slack, floorCell, leavesNode, wholeCell, cellAt as levelset-cellAt, cellOnAxis, rayCellIndices, nodeAhead, boundaryDistance, boundaryBy, axisBoundary, nextCellBoundary}
-use Rattle.level_set.specs.Places.{topOf, drawnTo, drawn, drawnPoint, cellBelow, placeOf, placeAt, locateAxis, locateInside, locate}
-use Rattle.level_set.specs.Faces.{valueAt, faceAt}
-use Rattle.level_set.specs.Steps.{checked, blend, lerp, checkedDifference, over, lerpFace, valueOn, slopeOn}
-use Rattle.level_set.specs.Sampling.{gathered, sampleFaces, sampleCell, sample}
-use Rattle.level_set.specs.Heights.{across, cellValue, isFraction, smallValue, smallFace, fairSide, fairSpacing}
+use Rattle.distance_grid.specs.Grid.{sideAdmitted as levelset-sideAdmitted, sidesAdmitted, gridAdmitted, lastNode, lastCorner, gridBox}
+use Rattle.grid_steps.specs.Slab.{kept, cut, slabFrom, slab, started, rayAabbInterval}
+use Rattle.grid_steps.specs.Cells.{slack, leavesNode, wholeCell, cellAt as levelset-cellAt, cellOnAxis, rayCellIndices, nodeAhead}
+use Rattle.grid_steps.specs.Cells.{boundaryDistance, boundaryBy, axisBoundary, nextCellBoundary}
+use Rattle.distance_grid.specs.Places.{upTo, floorCell, topOf, drawnTo, drawn, drawnPoint, cellBelow, placeOf, placeAt, locateAxis}
+use Rattle.distance_grid.specs.Places.{locateInside, locate}
+use Rattle.distance_grid.specs.Faces.{valueAt, faceAt}
+use Rattle.distance_grid.specs.Steps.{checked, blend, lerp, checkedDifference, over, lerpFace, valueOn, slopeOn}
+use Rattle.distance_grid.specs.Sampling.{gathered, sampleFaces, sampleCell, sample}
+use Rattle.distance_grid.specs.Valued.{across, cellValue, isFraction, smallValue, smallFace, fairSide, fairSpacing}
 use Rattle.level_set.specs.Hits.{pointAt, along, hitWith, hitAlong, touchAt, valueAlong, samplesOf, samplesAlong}
 use Rattle.level_set.specs.Walk.{goesOn, cellBy, cellCast, goesTo, walkStep, cellLimit, walkFrom, levelSetCast, rayLevelSet}
 use Rattle.tree.specs.Layout.{vectorAt, boxAt, boxNumbers}
@@ -52,7 +59,27 @@ use Rattle.known_answers.specs.Cases.{outcome, ofBuilt}
 use Rattle.known_answers.specs.Table.{Entry, table, right, allRight, repeated}
 
 pub known-answers-hold : allRight table ≡ true
-unfolding table right allRight repeated outcome throughBuilt ofBuilt span climb size odd units round neg sum add sub mul div lt eq le ne ofInt toUnsigned isNan ofFields ofBits toBits isFinite absolute negative signPositive clampTo minimumOf maximumOf rootDigits wholeRoot rootRound rootOf wholeBy floorOf roundOf totalOrder component finiteVec addOf subOf negOf scaleOf minOf maxOf absOf maxElement dotOf checkedDot crossOf lengthOf normalizable zeroVec dotTells scaledToOne overLength tryNormalize digitsOf scaledBy unit validSide validBox touchSide touches withinSide encloses sameSide sameBox unionOf centre cornersBox unitLength rayAdmitted segmentEnd segmentBox outOfRange facing planeAdmitted planeAt planeCast rayPlane flat triangleNormal hasNormal triangleAbove triangleAt triangleOf rayTriangle nextOf foldFrom withoutIndex sideAdmitted spacingAdmitted fieldAdmitted floatOf vertexAt cellAt cellRow cellColumn cornersAt featureCorners scaledRange spanOf cellRange run rangeCells gridCells columnRange rowRange visitedCells both listAll keep allFinite cellFinite featureBox listCell gridListing answerOf castListed spanFinite heightCast rayHeightField cubicBy cubicOf finiteCubic evaluate rootTolerance betweenEnds keptPoint keptPoints vertex turningBy turningPoints extrema middleOf halveAt halve halvings settled insert sorted points rootBetween searchOn searchFrom searchList rootOfCubic firstCubicRoot levelset-sideAdmitted levelset-spacingAdmitted sidesAdmitted gridAdmitted lastNode lastCorner gridBox kept cut slabFrom slab started rayAabbInterval upTo slack floorCell leavesNode wholeCell levelset-cellAt cellOnAxis rayCellIndices nodeAhead boundaryDistance boundaryBy axisBoundary nextCellBoundary topOf drawnTo drawn drawnPoint cellBelow placeOf placeAt locateAxis locateInside locate valueAt faceAt checked blend lerp checkedDifference over lerpFace valueOn slopeOn gathered sampleFaces sampleCell sample across cellValue isFraction smallValue smallFace fairSide fairSpacing pointAt along hitWith hitAlong touchAt valueAlong samplesOf samplesAlong goesOn cellBy cellCast goesTo walkStep cellLimit walkFrom levelSetCast rayLevelSet range count every gather insertBy sortBy vectorAt boxAt lengthsAdmitted cornersInside cornerAt cornersOf triangleBox triangleAnswer candidates shapeWithin shapeOf sizeOf nodesOf wordsOf boxNumbers folded longestAxis laneOf hullOf centreOf extentOf keyOf standsBefore sortedRange leftRange rightRange extentsFinite orderBelow boxesBelow zeroed roomFor eachBox triangleFits trianglesFit boxesWritten treeWritten builtOf buildOf times takePlace takePlaces atLeaf childFits atBranch atNode takeNode start ended walkOf treeFits walkFits shapeAdmitted mesh-roomFor overWalk meshCast rayMesh
+unfolding table right allRight repeated outcome throughBuilt ofBuilt span climb size odd units round neg sum add sub mul div
+    lt eq le ne ofInt toUnsigned isNan ofFields ofBits toBits isFinite absolute negative signPositive clampTo minimumOf maximumOf rootDigits
+    wholeRoot rootRound rootOf wholeBy floorOf roundOf totalOrder component finiteVec addOf subOf negOf scaleOf minOf maxOf absOf maxElement
+    dotOf checkedDot crossOf lengthOf normalizable zeroVec dotTells scaledToOne overLength tryNormalize digitsOf scaledBy unit validSide
+    validBox touchSide touches withinSide encloses sameSide sameBox unionOf centre cornersBox unitLength rayAdmitted segmentEnd segmentBox
+    outOfRange facing planeAdmitted planeAt planeCast rayPlane flat triangleNormal hasNormal triangleAbove triangleAt triangleOf rayTriangle
+    nextOf foldFrom withoutIndex sideAdmitted spacingAdmitted fieldAdmitted floatOf vertexAt cellAt cellRow cellColumn cornersAt
+    featureCorners scaledRange spanOf cellRange run rangeCells gridCells columnRange rowRange visitedCells both listAll keep allFinite
+    cellFinite featureBox listCell gridListing answerOf castListed spanFinite heightCast rayHeightField cubicBy cubicOf finiteCubic evaluate
+    rootTolerance betweenEnds keptPoint keptPoints vertex turningBy turningPoints extrema middleOf halveAt halve halvings settled insert
+    sorted points rootBetween searchOn searchFrom searchList rootOfCubic firstCubicRoot levelset-sideAdmitted sidesAdmitted gridAdmitted
+    lastNode lastCorner gridBox kept cut slabFrom slab started rayAabbInterval upTo slack floorCell leavesNode wholeCell levelset-cellAt
+    cellOnAxis rayCellIndices nodeAhead boundaryDistance boundaryBy axisBoundary nextCellBoundary topOf drawnTo drawn drawnPoint cellBelow
+    placeOf placeAt locateAxis locateInside locate valueAt faceAt checked blend lerp checkedDifference over lerpFace valueOn slopeOn
+    gathered sampleFaces sampleCell sample across cellValue isFraction smallValue smallFace fairSide fairSpacing pointAt along hitWith
+    hitAlong touchAt valueAlong samplesOf samplesAlong goesOn cellBy cellCast goesTo walkStep cellLimit walkFrom levelSetCast rayLevelSet
+    range count every gather insertBy sortBy vectorAt boxAt lengthsAdmitted cornersInside cornerAt cornersOf triangleBox
+    triangleAnswer candidates shapeWithin shapeOf sizeOf nodesOf wordsOf boxNumbers folded longestAxis laneOf hullOf centreOf extentOf keyOf
+    standsBefore sortedRange leftRange rightRange extentsFinite orderBelow boxesBelow zeroed roomFor eachBox triangleFits trianglesFit
+    boxesWritten treeWritten builtOf buildOf times takePlace takePlaces atLeaf childFits atBranch atNode takeNode start ended walkOf
+    treeFits walkFits shapeAdmitted mesh-roomFor overWalk meshCast rayMesh
 known-answers-hold = refl
 
 -- e stands in a table

@@ -16,10 +16,10 @@ use Rattle.casts.specs.Nearest.{Indexed, hitAt, noHit, stopped}
 use Rattle.height_field.specs.Cast.{rayHeightField}
 use Rattle.height_field.specs.declared.field.Field.{Field}
 use Rattle.level_set.specs.Walk.{rayLevelSet}
-use Rattle.level_set.specs.declared.grid.Grid.{Grid}
 use Rattle.tree.specs.Mesh.{Mesh}
 use Rattle.tree_build.specs.Build.{Answer as Built, nodes, refused as unbuilt}
 use Rattle.mesh.specs.Through.{throughOwnTree, freshlyBuilt}
+use Rattle.distance_grid.specs.declared.grid.Grid.{Grid}
 
 -- what is asked
 pub data Case : Type 0 where

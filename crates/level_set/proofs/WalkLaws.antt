@@ -8,14 +8,15 @@ use Rattle.geometry.specs.declared.ray.Ray.{Ray}
 use Rattle.casts.specs.Answer.{Answer, refused, says, notConvergent}
 use Rattle.casts.specs.declared.answer.Cast.{Cast}
 use Rattle.level_set.specs.Walk.{Turn, tells, follow, walkStep, walkFrom}
-use Rattle.level_set.specs.declared.grid.Grid.{Grid}
+use Rattle.distance_grid.specs.declared.grid.Grid.{Grid}
 use Rattle.level_set.specs.declared.hits.Known.{Known}
 use Rattle.level_set.specs.declared.walk.Step.{Step}
 use Rattle.level_set.specs.declared.walk.Step.the-variants.{Done, On}
 
 module _ (r : Ray) (g : Grid) (values : List Float) (exit : Float) where
   one-cell : (n : ℕ) (current : Float) → 0 < n
-      → walkFrom r g values exit n current ≡ follow (walkStep r g values current exit) (λ (next : Float). walkFrom r g values exit (n - 1) next)
+      → walkFrom r g values exit n current ≡ follow (walkStep r g values current exit)
+      (λ (next : Float). walkFrom r g values exit (n - 1) next)
   unfolding walkFrom
   one-cell zero current l = absurd (omega arith)
   one-cell (suc n) current l =
@@ -30,15 +31,18 @@ module _ (r : Ray) (g : Grid) (values : List Float) (exit : Float) where
       ∙ sym (one-cell n current l)
       ∙ i
 
-  pub walk-done : (n : ℕ) (current : Float) (step : Step) (cast : Cast) (whole : Answer) → walkFrom r g values exit n current ≡ whole → 0 < n
+  pub walk-done : (n : ℕ) (current : Float) (step : Step) (cast : Cast) (whole : Answer) → walkFrom r g values exit n current ≡ whole → 0 <
+      n
       → tells step ≡ walkStep r g values current exit → step ≡ Done cast → says cast ≡ whole
   walk-done n current step cast whole i l e f = followed n current step (Done cast) whole i l e f
 
-  pub walk-on : (n : ℕ) (current : Float) (step : Step) (next : Float) (known : Known) (whole : Answer) → walkFrom r g values exit n current ≡ whole → 0 < n
+  pub walk-on : (n : ℕ) (current : Float) (step : Step) (next : Float) (known : Known) (whole : Answer) → walkFrom r g values exit n current
+      ≡ whole → 0 < n
       → tells step ≡ walkStep r g values current exit → step ≡ On next known → walkFrom r g values exit (n - 1) next ≡ whole
   walk-on n current step next known whole i l e f = followed n current step (On next known) whole i l e f
 
-  pub walk-out : (n : ℕ) (current : Float) (whole : Answer) → walkFrom r g values exit n current ≡ whole → n ≤ 0 → refused notConvergent ≡ whole
+  pub walk-out : (n : ℕ) (current : Float) (whole : Answer) → walkFrom r g values exit n current ≡ whole → n ≤ 0 → refused notConvergent ≡
+      whole
   unfolding walkFrom
   walk-out zero current whole i l = i
   walk-out (suc n) current whole i l = absurd (omega arith)

@@ -9,13 +9,13 @@ use Rattle.geometry.specs.Vector.{addOf, scaleOf, tryNormalize}
 use Rattle.geometry.specs.declared.vec3.Vec3.{Vec3}
 use Rattle.geometry.specs.declared.ray.Ray.{Ray}
 use Rattle.casts.specs.Answer.{Answer, hit, none, refused, withNormal, notConvergent}
-use Rattle.level_set.specs.Sampling.{sample}
-use Rattle.level_set.specs.Heights.{heightOf}
-use Rattle.level_set.specs.declared.grid.Grid.{Grid}
-use Rattle.level_set.specs.declared.sampling.Sampled.{Sampled}
-use Rattle.level_set.specs.declared.sampling.Sampled.the-variants.{At as SampledAt, Refused as SampleRefused}
-use Rattle.level_set.specs.declared.heights.Height.{Height}
-use Rattle.level_set.specs.declared.heights.Height.the-variants.{At as HeightAt, Refused as HeightRefused}
+use Rattle.distance_grid.specs.Sampling.{sample}
+use Rattle.distance_grid.specs.Valued.{valueOf}
+use Rattle.distance_grid.specs.declared.grid.Grid.{Grid}
+use Rattle.distance_grid.specs.declared.sampling.Sampled.{Sampled}
+use Rattle.distance_grid.specs.declared.sampling.Sampled.the-variants.{At as SampledAt, Refused as SampleRefused}
+use Rattle.distance_grid.specs.declared.valued.Valued.{Valued}
+use Rattle.distance_grid.specs.declared.valued.Valued.the-variants.{At as ValuedAt, Refused as NoValue}
 use Rattle.level_set.specs.declared.hits.Known.{Known}
 use Rattle.level_set.specs.declared.hits.Samples.{Samples}
 use Rattle.level_set.specs.declared.hits.Samples.the-variants.{All, Refused}
@@ -45,8 +45,8 @@ touchAt r g values distance =
     withSample (sample g values (pointAt r distance))
     (λ (value : Float) (gradient : Vec3). cond (eq value zeroᶠ) (hitWith gradient distance) none)
 
-unfoldable pub valueAlong : Ray → Grid → List Float → Float → Height
-valueAlong r g values distance = heightOf (sample g values (pointAt r distance))
+unfoldable pub valueAlong : Ray → Grid → List Float → Float → Valued
+valueAlong r g values distance = valueOf (sample g values (pointAt r distance))
 
 -- ---- four samples of a cell
 
@@ -58,12 +58,12 @@ abbrev pub twoThirds : Float
 twoThirds = ofBits binary64 0x3fe5_5555_5555_5555
 
 -- the first that refuses counts
-unfoldable pub samplesOf : Height → Height → Height → Height → Samples
-samplesOf (HeightAt y0) (HeightAt y1) (HeightAt y2) (HeightAt y3) = All y0 y1 y2 y3
-samplesOf (HeightAt y0) (HeightAt y1) (HeightAt y2) (HeightRefused number) = Refused number
-samplesOf (HeightAt y0) (HeightAt y1) (HeightRefused number) h3 = Refused number
-samplesOf (HeightAt y0) (HeightRefused number) h2 h3 = Refused number
-samplesOf (HeightRefused number) h1 h2 h3 = Refused number
+unfoldable pub samplesOf : Valued → Valued → Valued → Valued → Samples
+samplesOf (ValuedAt y0) (ValuedAt y1) (ValuedAt y2) (ValuedAt y3) = All y0 y1 y2 y3
+samplesOf (ValuedAt y0) (ValuedAt y1) (ValuedAt y2) (NoValue number) = Refused number
+samplesOf (ValuedAt y0) (ValuedAt y1) (NoValue number) h3 = Refused number
+samplesOf (ValuedAt y0) (NoValue number) h2 h3 = Refused number
+samplesOf (NoValue number) h1 h2 h3 = Refused number
 
 -- "Four samples per cell at 0, 1/3, 2/3, 1"
 unfoldable pub samplesAlong : Ray → Grid → List Float → Float → Float → Samples
@@ -83,4 +83,4 @@ fractionOf (suc (suc (suc n))) = oneᶠ
 
 -- what is remembered of the cell before is true
 pub record Remembered (r : Ray) (g : Grid) (values : List Float) (known : Known) : Type 0 where
-  pub holds : isNan (known .distance) ≡ false → valueAlong r g values (known .distance) ≡ HeightAt (known .value)
+  pub holds : isNan (known .distance) ≡ false → valueAlong r g values (known .distance) ≡ ValuedAt (known .value)

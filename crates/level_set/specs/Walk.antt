@@ -9,18 +9,18 @@ use Rattle.geometry.specs.Box.{validBox}
 use Rattle.geometry.specs.Segment.{rayAdmitted}
 use Rattle.geometry.specs.declared.ray.Ray.{Ray}
 use Rattle.casts.specs.Answer.{Answer, none, refused, says, invalidInput, badShape, outOfBounds, overflow, notConvergent}
-use Rattle.level_set.specs.Grid.{gridAdmitted, gridBox}
-use Rattle.level_set.specs.Slab.{rayAabbInterval}
-use Rattle.level_set.specs.Cells.{rayCellIndices, nextCellBoundary}
+use Rattle.distance_grid.specs.Grid.{gridAdmitted, gridBox}
+use Rattle.grid_steps.specs.Slab.{rayAabbInterval}
+use Rattle.grid_steps.specs.Cells.{rayCellIndices, nextCellBoundary}
 use Rattle.cubic.specs.Roots.{firstCubicRoot}
 use Rattle.level_set.specs.Hits.{pointAt, along, hitAlong, touchAt, samplesAlong, Remembered}
-use Rattle.level_set.specs.declared.grid.Grid.{Grid}
-use Rattle.level_set.specs.declared.interval.Interval.{Interval}
-use Rattle.level_set.specs.declared.interval.Interval.the-variants.{Within, Miss}
-use Rattle.level_set.specs.declared.cells.Cells.{Cells}
-use Rattle.level_set.specs.declared.cells.Cells.the-variants.{At as CellsAt, Overflow as NoCells}
-use Rattle.level_set.specs.declared.cells.Boundary.{Boundary}
-use Rattle.level_set.specs.declared.cells.Boundary.the-variants.{At as BoundaryAt, Overflow as NoBoundary}
+use Rattle.distance_grid.specs.declared.grid.Grid.{Grid}
+use Rattle.grid_steps.specs.declared.interval.Interval.{Interval}
+use Rattle.grid_steps.specs.declared.interval.Interval.the-variants.{Within, Miss}
+use Rattle.grid_steps.specs.declared.cells.Cells.{Cells}
+use Rattle.grid_steps.specs.declared.cells.Cells.the-variants.{At as CellsAt, Overflow as NoCells}
+use Rattle.grid_steps.specs.declared.cells.Boundary.{Boundary}
+use Rattle.grid_steps.specs.declared.cells.Boundary.the-variants.{At as BoundaryAt, Overflow as NoBoundary}
 use Rattle.cubic.specs.declared.roots.Root.{Root}
 use Rattle.cubic.specs.declared.roots.Root.the-variants.{At as RootAt, None as NoRoot, Overflow as RootOverflow}
 use Rattle.casts.specs.declared.answer.Cast.{Cast}

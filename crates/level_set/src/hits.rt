@@ -1,11 +1,11 @@
-use crate::grid::Grid;
-use crate::heights;
-use crate::heights::Height;
-use crate::places::Near;
-use crate::sampling;
-use crate::sampling::Sampled;
 use casts::answer;
 use casts::answer::Cast;
+use distance_grid::grid::Grid;
+use distance_grid::places::Near;
+use distance_grid::sampling;
+use distance_grid::sampling::Sampled;
+use distance_grid::valued;
+use distance_grid::valued::Valued;
 use geometry::ray::Ray;
 use geometry::vec3::Normalized;
 use geometry::vec3::Vec3;
@@ -13,7 +13,7 @@ ghost use mathlib.Core.Path.{_≡_};
 ghost use mathlib.Core.Bool.{true, false};
 ghost use lib.Ieee.{isNan};
 ghost use Rattle.casts.specs.Answer.{says};
-ghost use Rattle.level_set.specs.Grid.{Stands};
+ghost use Rattle.distance_grid.specs.Grid.{Stands};
 ghost use Rattle.level_set.specs.Hits.{pointAt, hitWith, touchAt, along, valueAlong, fractionOf, samplesAlong, hitAlong, Remembered};
 
 // The values at 0, 1/3, 2/3 and 1 of the way through a cell, or a refusal's number.
@@ -74,11 +74,11 @@ pub fn along(current: f64, end: f64, fraction: f64) -> f64
 }
 
 // The value at a distance. What its gradient refuses is refused with it.
-fn value_along(ray: Ray, grid: Grid, values: &[f64], near: Near, distance: f64) -> Height
+fn value_along(ray: Ray, grid: Grid, values: &[f64], near: Near, distance: f64) -> Valued
     requires { ⌜ Stands grid (now values) ⌝ }
     ensures { λ r. ⌜ r ≡ valueAlong ray grid (now (values .entry)) distance ⌝ }
 {
-    heights::height_at(grid, values, point_at(ray, distance), near)
+    valued::value_of(grid, values, point_at(ray, distance), near)
 }
 
 // Whether two numbers are the same: `==` excludes NaN, and equal bits exclude zeros of two signs. A no says nothing.
@@ -99,12 +99,12 @@ fn value_known(
     near: Near,
     distance: f64,
     known: Known,
-) -> Height
+) -> Valued
     requires { ⌜ Stands grid (now values) ⌝ ∗ ⌜ Remembered ray grid (now values) known ⌝ }
     ensures { λ r. ⌜ r ≡ valueAlong ray grid (now (values .entry)) distance ⌝ }
 {
     if is_same(known.distance, distance) {
-        return Height::At(known.value);
+        return Valued::At(known.value);
     }
     value_along(ray, grid, values, near, distance)
 }
@@ -147,8 +147,8 @@ pub fn samples_along(
         let distance = along(current, end, fraction(taken));
         let found = value_known(ray, grid, values, near, distance, known);
         match found {
-            Height::Refused(number) => return Samples::Refused(number),
-            Height::At(value) => {
+            Valued::Refused(number) => return Samples::Refused(number),
+            Valued::At(value) => {
                 y0 = y1;
                 y1 = y2;
                 y2 = y3;

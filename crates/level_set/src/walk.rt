@@ -1,25 +1,26 @@
-use crate::cells;
-use crate::cells::Boundary;
-use crate::cells::Cells;
-use crate::grid;
-use crate::grid::Grid;
 use crate::hits;
 use crate::hits::Known;
 use crate::hits::Samples;
-use crate::interval;
-use crate::interval::Interval;
-use crate::places::Near;
 use arithmetic::extremes;
 use casts::answer;
 use casts::answer::Cast;
 use cubic::roots;
 use cubic::roots::Root;
+use distance_grid::grid;
+use distance_grid::grid::Grid;
+use distance_grid::places::Near;
 use geometry::ray::Ray;
+use grid_steps::cells;
+use grid_steps::cells::Boundary;
+use grid_steps::cells::Cells;
+use grid_steps::interval;
+use grid_steps::interval::Interval;
 ghost use mathlib.Core.Path.{_≡_};
 ghost use Rattle.casts.specs.Answer.{says};
-ghost use Rattle.level_set.specs.Grid.{SidesStand, Stands};
+ghost use Rattle.distance_grid.specs.Grid.{SidesStand, Stands};
 ghost use Rattle.level_set.specs.Hits.{Remembered};
-ghost use Rattle.level_set.specs.Walk.{tells, Carries, Kept, goesOn, cellBy, cellCast, goesTo, walkStep, walkFrom, cellLimit, levelSetCast, rayLevelSet};
+ghost use Rattle.level_set.specs.Walk.{tells, Carries, Kept, goesOn, cellBy, cellCast, goesTo, walkStep, walkFrom, cellLimit};
+ghost use Rattle.level_set.specs.Walk.{levelSetCast, rayLevelSet};
 
 // What a cell gives: the answer, or the distance from which the walk goes on and the value that was taken there.
 pub enum Step {
@@ -52,7 +53,8 @@ fn cell_by(
     known: Known,
 ) -> Step
     requires { ⌜ Stands grid (now values) ⌝ ∗ ⌜ Remembered ray grid (now values) known ⌝ }
-    ensures { λ r. ⌜ tells r ≡ cellBy ray grid (now (values .entry)) current end exit samples ⌝ ∗ ⌜ Kept ray grid (now (values .entry)) r ⌝ }
+    ensures { λ r. ⌜ tells r ≡ cellBy ray grid (now (values .entry)) current end exit samples ⌝
+        ∗ ⌜ Kept ray grid (now (values .entry)) r ⌝ }
 {
     let root = roots::first_cubic_root(samples);
     match root {

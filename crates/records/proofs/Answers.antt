@@ -16,7 +16,7 @@ use Rattle.casts.specs.Triangle.{rayTriangle}
 use Rattle.height_field.specs.Cast.{rayHeightField}
 use Rattle.level_set.specs.Walk.{rayLevelSet}
 use Rattle.height_field.specs.declared.field.Field.{Field}
-use Rattle.level_set.specs.declared.grid.Grid.{Grid}
+use Rattle.distance_grid.specs.declared.grid.Grid.{Grid}
 use Rattle.records.specs.Bytes.{floatsAt}
 use Rattle.records.specs.Fields.{versionOf, kindOf, shapePlace, rayOf, shapePart, planeOf, cornersOf, fieldOf, heightCount, heightsOf, gridOf, valueCount, valuesOf, meshOf}
 use Rattle.records.specs.MeshAnswer.{meshAnswer}

@@ -15,8 +15,8 @@ use Rattle.geometry.specs.declared.vec3.Vec3.{Vec3}
 use Rattle.geometry.specs.declared.ray.Ray.{Ray}
 use Rattle.casts.specs.declared.plane.Plane.{Plane}
 use Rattle.height_field.specs.declared.field.Field.{Field}
-use Rattle.level_set.specs.declared.grid.Grid.{Grid}
-use Rattle.level_set.specs.declared.grid.Sides.{Sides}
+use Rattle.distance_grid.specs.declared.grid.Grid.{Grid}
+use Rattle.distance_grid.specs.declared.grid.Sides.{Sides}
 use Rattle.tree.specs.Mesh.{Mesh, thirds}
 use Rattle.records.specs.Bytes.{wordAt, bitsAt, floatAt, vectorAt, eachAt, floatsAt, wordsAt}
 use Rattle.records.specs.Fields.{versionOf, kindOf, isVersion, nearOf, shapePlace, rayOf, shapePart, planeOf, vertexCount, triangleCount, meshOf, fieldOf, heightCount, heightsOf, gridOf, valueCount, valuesOf}

@@ -9,7 +9,7 @@ use lib.ListN.{length}
 use Rattle.geometry.specs.declared.vec3.Vec3.{Vec3}
 use Rattle.geometry.specs.declared.ray.Ray.{Ray}
 use Rattle.height_field.specs.declared.field.Field.{Field}
-use Rattle.level_set.specs.declared.grid.Grid.{Grid}
+use Rattle.distance_grid.specs.declared.grid.Grid.{Grid}
 use Rattle.tree.specs.Mesh.{Mesh, thirds}
 use Rattle.records.specs.Parse.{Shape, plane, triangle, mesh, heights, distances}
 

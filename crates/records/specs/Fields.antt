@@ -10,7 +10,7 @@ use Rattle.geometry.specs.declared.ray.Ray.{Ray}
 use Rattle.geometry.specs.Numbers.{zeroᶠ}
 use Rattle.casts.specs.declared.plane.Plane.{Plane}
 use Rattle.height_field.specs.declared.field.Field.{Field}
-use Rattle.level_set.specs.declared.grid.Grid.{Grid}
+use Rattle.distance_grid.specs.declared.grid.Grid.{Grid}
 use Rattle.tree.specs.Mesh.{Mesh}
 use Rattle.records.specs.Bytes.{byteAt, wordAt, floatAt, vectorAt, floatsAt, wordsAt}
 

@@ -1,10 +1,10 @@
 use crate::bytes;
 use casts::plane::Plane;
+use distance_grid::grid::Grid;
+use distance_grid::grid::Sides;
 use geometry::ray::Ray;
 use geometry::vec3::Vec3;
 use height_field::field::Field;
-use level_set::grid::Grid;
-use level_set::grid::Sides;
 ghost use mathlib.Core.Path.{_≡_};
 ghost use Prim.Native.Nat.{_≤_};
 ghost use lib.ListN.{length};

@@ -17,7 +17,7 @@ use Rattle.casts.specs.Answer.{Answer, hit, none, refused, invalidInput, badSha
 use Rattle.casts.specs.Nearest.{Indexed, hitAt, noHit, stopped}
 use Rattle.casts.specs.declared.plane.Plane.{Plane}
 use Rattle.height_field.specs.declared.field.Field.{Field}
-use Rattle.level_set.specs.declared.grid.Grid.{Grid}
+use Rattle.distance_grid.specs.declared.grid.Grid.{Grid}
 use Rattle.tree.specs.Layout.{Tree, Areas}
 use Rattle.tree.specs.Mesh.{Mesh, lengthsAdmitted}
 use Rattle.tree_build.specs.Build as Build

@@ -31,7 +31,8 @@ use Rattle.whole_numbers.proofs.Vectors.{sub-whole, dot-whole, cross-wh
 use Rattle.arithmetic.proofs.ValueOrder.{value-number}
 use Rattle.arithmetic.proofs.WholeValues.{zero-is, zero-value as zero-value-of}
 use Rattle.arithmetic.proofs.ScalingLaws.{one-value}
-use Rattle.whole_numbers.proofs.Decisions.{Ratio, ratio, turned, turned-size, zero-value, not-negative, negative, above-whole, not-above-whole, near-is, Parted, parted}
+use Rattle.whole_numbers.proofs.Decisions.{Ratio, ratio, turned, turned-size, zero-value, not-negative, negative, above-whole}
+use Rattle.whole_numbers.proofs.Decisions.{not-above-whole, near-is, Parted, parted}
 use Rattle.whole_numbers.proofs.Sums.{sum-not-above-one, sum-above-one}
 use Rattle.whole_numbers.proofs.Drawings.{drawn, drawn-at}
 use Rattle.whole_numbers.proofs.Flat.{flat-zero, not-flat}

@@ -6,14 +6,16 @@ use Prim.Native.Nat.{ℕ, suc, _≤_}
 use lib.Dec.{T, lit≤}
 use lib.IntN.{ℤ, pos, negsuc, natAbs}
 use lib.Signed.{leZ-yes, ltZ-yes}
-use lib.Ieee.{Float, binary64, span, climb, size, odd, units, ofInt, round, neg, sum, add, sub, mul, div, lt, eq, le, isNan, ofFields, ofBits}
+use lib.Ieee.{Float, binary64, span, climb, size, odd, units, ofInt, round, neg, sum, add, sub, mul, div, lt, eq, le, isNan, ofFields}
+use lib.Ieee.{ofBits}
 use Rattle.arithmetic.specs.Basic.{isFinite, absolute}
 use Rattle.arithmetic.specs.Extremes.{maximumOf}
 use Rattle.arithmetic.specs.Root.{rootDigits, wholeRoot, rootRound, rootOf}
 use Rattle.arithmetic.specs.Scaling.{unit, digitsOf, scaledBy}
 use Rattle.arithmetic.proofs.Order.{eq-of-le-le, le-reflexive}
 use Rattle.arithmetic.proofs.RoundedNumbers.{round-number}
-use Rattle.geometry.specs.Vector.{finiteVec, subOf, negOf, absOf, maxElement, dotOf, checkedDot, crossOf, lengthOf, normalizable, zeroVec, dotTells, scaledToOne, overLength, tryNormalize}
+use Rattle.geometry.specs.Vector.{finiteVec, subOf, negOf, absOf, maxElement, dotOf, checkedDot, crossOf, lengthOf, normalizable, zeroVec}
+use Rattle.geometry.specs.Vector.{dotTells, scaledToOne, overLength, tryNormalize}
 use Rattle.geometry.specs.Segment.{unitLength, rayAdmitted}
 use Rattle.geometry.specs.declared.vec3.Vec3.{Vec3}
 use Rattle.geometry.specs.declared.ray.Ray.{Ray}
@@ -21,7 +23,8 @@ use Rattle.casts.specs.Surface.{outOfRange, facing}
 use Rattle.casts.specs.Answer.{Answer, hit, none, refused}
 use Rattle.casts.specs.Triangle.{flat, triangleNormal, triangleAbove, triangleAt, triangleOf, rayTriangle}
 use Rattle.whole_numbers.specs.Points.{Point}
-use Rattle.whole_numbers.specs.Board.{Drawing, Board, Drawn, DrawnAt, Crossing, Inside, Outside, sum as far, downward, along, ExactOnWholeNumbers}
+use Rattle.whole_numbers.specs.Board.{Drawing, Board, Drawn, DrawnAt, Crossing, Inside, Outside, sum as far, downward, along}
+use Rattle.whole_numbers.specs.Board.{ExactOnWholeNumbers}
 use Rattle.whole_numbers.specs.Boards.{Met}
 use Rattle.whole_numbers.proofs.WholeBoards.{exact-on-whole-numbers}
 
@@ -163,7 +166,10 @@ abbrev oppositeMissedDrawing : Drawing
 oppositeMissedDrawing = down (at (pos 86) (pos 85) (pos 5)) 10 (at (pos 1) (pos 0) (pos 0)) (at (pos 92) (pos 91) (pos 0))
 
 opposite-missed : rayTriangle (rayOf oppositeMissedDrawing) (cornersOf oppositeMissedDrawing) ≡ none
-unfolding ofInt span climb size odd units round neg sum add sub mul div lt eq le isNan ofFields ofBits isFinite absolute maximumOf rootDigits wholeRoot rootRound rootOf unit digitsOf scaledBy finiteVec subOf negOf absOf maxElement dotOf checkedDot crossOf lengthOf normalizable zeroVec dotTells scaledToOne overLength tryNormalize unitLength rayAdmitted outOfRange facing flat triangleNormal triangleAbove triangleAt triangleOf rayTriangle
+unfolding ofInt span climb size odd units round neg sum add sub mul div lt eq le isNan ofFields ofBits isFinite absolute maximumOf
+    rootDigits wholeRoot rootRound rootOf unit digitsOf scaledBy finiteVec subOf negOf absOf maxElement dotOf checkedDot crossOf lengthOf
+    normalizable zeroVec dotTells scaledToOne overLength tryNormalize unitLength rayAdmitted outOfRange facing flat triangleNormal
+    triangleAbove triangleAt triangleOf rayTriangle
 opposite-missed = refl
 
 -- K5, four times as large
@@ -171,7 +177,10 @@ abbrev oppositeHitDrawing : Drawing
 oppositeHitDrawing = down (at (pos 2) (pos 2) (pos 4)) 5 (at (pos 4) (pos 0) (pos 0)) (at (pos 0) (pos 4) (pos 0))
 
 opposite-hit : is-hit (rayTriangle (rayOf oppositeHitDrawing) (cornersOf oppositeHitDrawing)) ≡ true
-unfolding ofInt span climb size odd units round neg sum add sub mul div lt eq le isNan ofFields ofBits isFinite absolute maximumOf rootDigits wholeRoot rootRound rootOf unit digitsOf scaledBy finiteVec subOf negOf absOf maxElement dotOf checkedDot crossOf lengthOf normalizable zeroVec dotTells scaledToOne overLength tryNormalize unitLength rayAdmitted outOfRange facing flat triangleNormal triangleAbove triangleAt triangleOf rayTriangle
+unfolding ofInt span climb size odd units round neg sum add sub mul div lt eq le isNan ofFields ofBits isFinite absolute maximumOf
+    rootDigits wholeRoot rootRound rootOf unit digitsOf scaledBy finiteVec subOf negOf absOf maxElement dotOf checkedDot crossOf lengthOf
+    normalizable zeroVec dotTells scaledToOne overLength tryNormalize unitLength rayAdmitted outOfRange facing flat triangleNormal
+    triangleAbove triangleAt triangleOf rayTriangle
 opposite-hit = refl
 
 -- 525 times the rounded inverse of 75 is more than 7
@@ -179,12 +188,18 @@ abbrev maximumMissedDrawing : Drawing
 maximumMissedDrawing = down (at (pos 1) (pos 1) (pos 7)) 7 (at (pos 25) (pos 0) (pos 0)) (at (pos 0) (pos 3) (pos 0))
 
 maximum-missed : rayTriangle (rayOf maximumMissedDrawing) (cornersOf maximumMissedDrawing) ≡ none
-unfolding ofInt span climb size odd units round neg sum add sub mul div lt eq le isNan ofFields ofBits isFinite absolute maximumOf rootDigits wholeRoot rootRound rootOf unit digitsOf scaledBy finiteVec subOf negOf absOf maxElement dotOf checkedDot crossOf lengthOf normalizable zeroVec dotTells scaledToOne overLength tryNormalize unitLength rayAdmitted outOfRange facing flat triangleNormal triangleAbove triangleAt triangleOf rayTriangle
+unfolding ofInt span climb size odd units round neg sum add sub mul div lt eq le isNan ofFields ofBits isFinite absolute maximumOf
+    rootDigits wholeRoot rootRound rootOf unit digitsOf scaledBy finiteVec subOf negOf absOf maxElement dotOf checkedDot crossOf lengthOf
+    normalizable zeroVec dotTells scaledToOne overLength tryNormalize unitLength rayAdmitted outOfRange facing flat triangleNormal
+    triangleAbove triangleAt triangleOf rayTriangle
 maximum-missed = refl
 
 abbrev maximumHitDrawing : Drawing
 maximumHitDrawing = down (at (pos 1) (pos 1) (pos 4)) 4 (at (pos 4) (pos 0) (pos 0)) (at (pos 0) (pos 4) (pos 0))
 
 maximum-hit : is-hit (rayTriangle (rayOf maximumHitDrawing) (cornersOf maximumHitDrawing)) ≡ true
-unfolding ofInt span climb size odd units round neg sum add sub mul div lt eq le isNan ofFields ofBits isFinite absolute maximumOf rootDigits wholeRoot rootRound rootOf unit digitsOf scaledBy finiteVec subOf negOf absOf maxElement dotOf checkedDot crossOf lengthOf normalizable zeroVec dotTells scaledToOne overLength tryNormalize unitLength rayAdmitted outOfRange facing flat triangleNormal triangleAbove triangleAt triangleOf rayTriangle
+unfolding ofInt span climb size odd units round neg sum add sub mul div lt eq le isNan ofFields ofBits isFinite absolute maximumOf
+    rootDigits wholeRoot rootRound rootOf unit digitsOf scaledBy finiteVec subOf negOf absOf maxElement dotOf checkedDot crossOf lengthOf
+    normalizable zeroVec dotTells scaledToOne overLength tryNormalize unitLength rayAdmitted outOfRange facing flat triangleNormal
+    triangleAbove triangleAt triangleOf rayTriangle
 maximum-hit = refl

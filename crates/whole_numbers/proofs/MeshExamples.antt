@@ -7,7 +7,8 @@ use native.Mathlib.Omega.{arith}
 use lib.Dec.{T, lit≤}
 use lib.IntN.{ℤ, pos, negsuc, natAbs}
 use lib.Signed.{leZ-yes, ltZ-yes}
-use lib.Ieee.{Float, binary64, span, climb, size, odd, units, round, ofInt, neg, sum, add, sub, mul, lt, eq, le, ne, isNan, ofFields, ofBits}
+use lib.Ieee.{Float, binary64, span, climb, size, odd, units, round, ofInt, neg, sum, add, sub, mul, lt, eq, le, ne, isNan, ofFields}
+use lib.Ieee.{ofBits}
 use lib.ListN.{length}
 use Rattle.arithmetic.specs.Basic.{isFinite}
 use Rattle.arithmetic.specs.Extremes.{minimumOf, maximumOf}
@@ -128,7 +129,8 @@ odd-exact = meshes-exact ray mesh oddTree 3 4 plan refl (record { marks = 9; say
 
 -- ---- the first triangle is crossed in its first corner, a millimetre deep
 first-candidate : Candidate ray mesh 0
-unfolding touches touchSide triangleBox cornerAt vectorAt segmentBox segmentEnd addOf scaleOf minOf maxOf component minimumOf maximumOf isFinite ofBits ofFields isNan ne le eq lt mul sub add sum neg round units odd size climb span
+unfolding touches touchSide triangleBox cornerAt vectorAt segmentBox segmentEnd addOf scaleOf minOf maxOf component minimumOf maximumOf
+    isFinite ofBits ofFields isNan ne le eq lt mul sub add sum neg round units odd size climb span
 first-candidate = record { triangle = lit≤ tt; near = refl }
 
 abbrev is-negative : ℤ → Bool

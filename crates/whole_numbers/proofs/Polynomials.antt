@@ -80,8 +80,20 @@ sum-left-comm a b c = equal (rep-add (own a) (rep-add (own b) (own c))) (rep-add
 pub neg-sum : (a b : ℤ) → negℤ (a +ℤ b) ≡ negℤ a +ℤ negℤ b
 neg-sum a b = equal (rep-neg (rep-add (own a) (own b))) (rep-add (rep-neg (own a)) (rep-neg (own b))) (omega arith)
 
-pub ruleset ring =
-    (times-assoc, times-comm, times-left-comm, times-plus, plus-times, times-neg, neg-times, sum-comm, sum-assoc, sum-left-comm, neg-sum, negℤ-negℤ)
+pub ruleset ring = (
+  times-assoc,
+  times-comm,
+  times-left-comm,
+  times-plus,
+  plus-times,
+  times-neg,
+  neg-times,
+  sum-comm,
+  sum-assoc,
+  sum-left-comm,
+  neg-sum,
+  negℤ-negℤ,
+)
 
 -- a · (d × b) = - d · (a × b)
 pub triple : (a d b : Point) → dotP a (crossP d b) ≡ negℤ (dotP d (crossP a b))

@@ -2,7 +2,8 @@
 use mathlib.Core.Path.{_≡_, refl, sym, ap, _∙_, subst}
 use mathlib.Core.Bool.{Bool, true, false, not, cond}
 use Prim.Native.Nat.{ℕ, zero, suc, _+_, _-_, _*_, _^_, _≤_, _<_}
-use native.Mathlib.Nat.{mul-one, one-mul, mul-assoc, mul-comm, mul-left-comm, mul-right-comm, mul-pos, zero-lt-suc, zero-mul, le-of-mul-le-mul-right, mul-le-mul-right, le-trans, le-of-eq}
+use native.Mathlib.Nat.{mul-one, one-mul, mul-assoc, mul-comm, mul-left-comm, mul-right-comm, mul-pos, zero-lt-suc, zero-mul}
+use native.Mathlib.Nat.{le-of-mul-le-mul-right, mul-le-mul-right, le-trans, le-of-eq}
 use native.Mathlib.Omega.{arith}
 use lib.Dec.{T, lit≤, eqb}
 use lib.IntN.{ℤ, pos, negsuc}
@@ -38,7 +39,8 @@ unlike-false false = refl
 
 -- ---- the inverse
 div-one : (t : Bool) (n : ℕ) (d : ℤ)
-    → div binary64 (fin false 1 (pos 0)) (fin t (suc n) d) ≡ round binary64 (unlike false t) (1 * up (pos 0) * down d) (suc n * up d * down (pos 0))
+    → div binary64 (fin false 1 (pos 0)) (fin t (suc n) d) ≡ round binary64 (unlike false t) (1 * up (pos 0) * down d)
+    (suc n * up d * down (pos 0))
 unfolding div
 div-one t n d =
     ap (λ (b : Bool). cond b (cond (eqb 1 0) nan (inf (unlike false t)))

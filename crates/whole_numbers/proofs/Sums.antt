@@ -2,7 +2,8 @@
 use mathlib.Core.Path.{_≡_, refl, sym, ap, _∙_, subst}
 use mathlib.Core.Bool.{Bool, true, false, cond, false≢true}
 use Prim.Native.Nat.{ℕ, zero, suc, _+_, _-_, _*_, _^_, _≤_, _<_}
-use native.Mathlib.Nat.{mul-one, mul-assoc, mul-comm, mul-right-comm, mul-pos, zero-lt-suc, zero-mul, add-mul, le-of-mul-le-mul-right, mul-le-mul-right, le-trans, le-of-eq, lt-of-not-le}
+use native.Mathlib.Nat.{mul-one, mul-assoc, mul-comm, mul-right-comm, mul-pos, zero-lt-suc, zero-mul, add-mul, le-of-mul-le-mul-right}
+use native.Mathlib.Nat.{mul-le-mul-right, le-trans, le-of-eq, lt-of-not-le}
 use native.Mathlib.Omega.{arith}
 use lib.Dec.{T, ltb, lit≤}
 use lib.IntN.{ℤ, pos, natAbs}

@@ -4,7 +4,8 @@ use mathlib.Core.Logic.{_⊎_, inl, inr}
 use mathlib.Core.Bool.{Bool, true, false, not, _||_, cond, false≢true}
 use mathlib.Core.List.{List}
 use Prim.Native.Nat.{ℕ, zero, suc, _+_, _*_, _^_, _≤_, _<_}
-use native.Mathlib.Nat.{mul-comm, mul-pos, zero-lt-suc, mul-zero, mul-le-mul-right, mul-lt-mul-of-pos-right, lt-of-mul-lt-mul-right, le-of-mul-le-mul-right, eq-zero-or-pos}
+use native.Mathlib.Nat.{mul-comm, mul-pos, zero-lt-suc, mul-zero, mul-le-mul-right, mul-lt-mul-of-pos-right, lt-of-mul-lt-mul-right}
+use native.Mathlib.Nat.{le-of-mul-le-mul-right, eq-zero-or-pos}
 use native.Mathlib.Omega.{arith}
 use lib.Dec.{T, ltb→lt}
 use lib.IntN.{ℤ, pos, negsuc, natAbs, _+ℤ_}
@@ -20,7 +21,8 @@ use Rattle.arithmetic.specs.Scaling.{unit}
 use Rattle.arithmetic.proofs.SignedOrder.{less}
 use Rattle.whole_numbers.proofs.Integers.{no-factor, pp, np, size-is, add-parts}
 use Rattle.whole_numbers.specs.Points.{Point, crossP, dotP}
-use Rattle.whole_numbers.specs.Board.{Drawing, Board, Parallel, Degenerate, Crossing, Inside, Outside, first, second, sum, Within, ExactOnWholeNumbers, firstEdge, secondEdge}
+use Rattle.whole_numbers.specs.Board.{Drawing, Board, Parallel, Degenerate, Crossing, Inside, Outside, first, second, sum, Within}
+use Rattle.whole_numbers.specs.Board.{ExactOnWholeNumbers, firstEdge, secondEdge}
 use Rattle.arithmetic.proofs.ScalingLaws.{unit-pos}
 use Rattle.whole_numbers.proofs.Decisions.{Ratio, turned, negative}
 use Rattle.whole_numbers.proofs.Cramer.{cramer-u, cramer-v, cramer-t, parts, meet}

@@ -26,7 +26,8 @@ use Rattle.mesh.specs.Demand3.{PassesCheck, Admitted, Candidate, answerOf, IsHi
 use Rattle.mesh.proofs.Demand3.{demand3}
 use Rattle.whole_numbers.specs.Points.{Point}
 use Rattle.whole_numbers.specs.Board.{Drawing, Board, along, Parallel, Crossing, Within, ExactOnWholeNumbers}
-use Rattle.whole_numbers.specs.Boards.{Plan, drawingOf, Boards, Met, Missed, parallel, outside, behind, beyond, AtMost, MeshExact, MeshesExact}
+use Rattle.whole_numbers.specs.Boards.{Plan, drawingOf, Boards, Met, Missed, parallel, outside, behind, beyond, AtMost, MeshExact}
+use Rattle.whole_numbers.specs.Boards.{MeshesExact}
 use Rattle.whole_numbers.proofs.Whole.{Whole, WholeVec}
 use Rattle.whole_numbers.proofs.Drawings.{drawn, drawn-at}
 use Rattle.whole_numbers.proofs.Vectors.{whole-add, whole-mul}

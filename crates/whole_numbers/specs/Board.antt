@@ -1,4 +1,5 @@
--- Boards drawn on whole millimetres and bored along an axis: the exact crossing, and what the cast answers. Definitions only. Assumes nothing.
+-- Boards drawn on whole millimetres and bored along an axis: the exact crossing, and what the cast answers. Definitions only. Assumes
+-- nothing.
 use Prim.Native.Nat.{ℕ, _+_, _*_, _^_, _≤_, _<_}
 use mathlib.Core.Path.{_≡_}
 use mathlib.Core.Logic.{_⊎_}

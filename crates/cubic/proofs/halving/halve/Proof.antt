@@ -15,7 +15,9 @@ abs-requires c κs = tt
 
 returns : tie.Need-returns
 unfolding halve halveAt
-returns c = simp (sym (c .before .before .before .middle-of .ensures), sym (c .before .before .evaluate .ensures), sym (c .before .abs .ensures), c .if1 .taken)
+returns c =
+    let (at-middle-of, at-evaluate) : tie.After-middle-of × tie.After-evaluate = search in
+    simp (sym (at-middle-of .middle-of .ensures), sym (at-evaluate .evaluate .ensures), sym (c .before .abs .ensures), c .if1 .taken)
 
 is-sign-positive-requires : tie.Need-is-sign-positive-requires
 is-sign-positive-requires c κs = tt
@@ -25,11 +27,33 @@ is-sign-positive-requires-2 c κs = tt
 
 returns-2 : tie.Need-returns-2
 unfolding halve halveAt
-returns-2 c = simp (sym (c .before .before .before .before .before .before .middle-of .ensures), sym (c .before .before .before .before .before .evaluate .ensures), sym (c .before .before .before .before .abs .ensures), c .before .before .before .if1 .left, sym (c .before .before .is-sign-positive .ensures), sym (c .before .is-sign-positive2 .ensures), c .if2 .taken)
+returns-2 c =
+    let (at-middle-of, at-evaluate, at-abs, else1, at-is-sign-positive) :
+    tie.After-middle-of × tie.After-evaluate × tie.After-abs × tie.Else1 × tie.After-is-sign-positive = search in
+    simp (
+      sym (at-middle-of .middle-of .ensures),
+      sym (at-evaluate .evaluate .ensures),
+      sym (at-abs .abs .ensures),
+      else1 .if1 .left,
+      sym (at-is-sign-positive .is-sign-positive .ensures),
+      sym (c .before .is-sign-positive2 .ensures),
+      c .if2 .taken,
+    )
 
 returns-3 : tie.Need-returns-3
 unfolding halve halveAt
-returns-3 c = simp (sym (c .before .before .before .before .before .before .middle-of .ensures), sym (c .before .before .before .before .before .evaluate .ensures), sym (c .before .before .before .before .abs .ensures), c .before .before .before .if1 .left, sym (c .before .before .is-sign-positive .ensures), sym (c .before .is-sign-positive2 .ensures), c .if2 .left)
+returns-3 c =
+    let (at-middle-of, at-evaluate, at-abs, else1, at-is-sign-positive) :
+    tie.After-middle-of × tie.After-evaluate × tie.After-abs × tie.Else1 × tie.After-is-sign-positive = search in
+    simp (
+      sym (at-middle-of .middle-of .ensures),
+      sym (at-evaluate .evaluate .ensures),
+      sym (at-abs .abs .ensures),
+      else1 .if1 .left,
+      sym (at-is-sign-positive .is-sign-positive .ensures),
+      sym (c .before .is-sign-positive2 .ensures),
+      c .if2 .left,
+    )
 
 pub halve-spec : {M : Type 1} → statement M
 halve-spec =

@@ -1,4 +1,5 @@
--- `cubic::halving::halvings` meets its contract. The loop's invariant: the halvings that are left, of the interval as it is, give what all 64 give.
+-- `cubic::halving::halvings` meets its contract. The loop's invariant: the halvings that are left, of the interval as it is, give what all
+-- 64 give.
 -- The measure is how many are left. Assumes nothing.
 use mathlib.Core.Path.{_≡_, refl, sym, _∙_}
 use Rattle.cubic.specs.Halving.{halvings, settled}
@@ -22,30 +23,31 @@ loop-holds c = refl
 halve-requires : tie.Need-halve-requires Inv-loop μ-loop
 halve-requires c κs = tt
 
-enum-known-next : tie.Need-enum-known-next Inv-loop μ-loop
-enum-known-next c = search needs
-
 returns : tie.Need-returns Inv-loop μ-loop
-returns c = turn-found (c .before .before .before .before .before .before .args .cubic) (c .before .before .before .before .before .before .args .tolerance) _ _ _ _ (c .before .before .before .before .before .loop .inv) (c .before .before .before .before .loop-test .taken) (sym (c .before .next .given .1) ∙ c .before .before .before .halve .ensures)
-
-enum-known-next-2 : tie.Need-enum-known-next-2 Inv-loop μ-loop
-enum-known-next-2 c = search needs
-
-sub-left : tie.Need-sub-left Inv-loop μ-loop
-sub-left c = search needs
-
-loop-less : tie.Need-loop-less Inv-loop μ-loop
-loop-less c = search needs
+returns c =
+    let (start, at-loop, in-loop, at-halve) :
+    (tie.Start Inv-loop μ-loop) × (tie.At-loop Inv-loop μ-loop) × (tie.In-loop Inv-loop μ-loop) × (tie.After-halve Inv-loop μ-loop) =
+    search in
+    turn-found (start .args .cubic) (start .args .tolerance) _ _ _ _ (at-loop .loop .inv) (in-loop .loop-test .taken)
+    (sym (c .before .next .given .1) ∙ at-halve .halve .ensures)
 
 loop-again : tie.Need-loop-again Inv-loop μ-loop
-loop-again c = turn-open (c .before .before .before .before .before .before .args .cubic) (c .before .before .before .before .before .before .args .tolerance) _ _ _ _ (c .before .before .before .before .before .loop .inv) (c .before .before .before .before .loop-test .taken) (sym (c .before .next2 .given .1) ∙ c .before .before .before .halve .ensures)
+loop-again c =
+    let (start, at-loop, in-loop, at-halve) :
+    (tie.Start Inv-loop μ-loop) × (tie.At-loop Inv-loop μ-loop) × (tie.In-loop Inv-loop μ-loop) × (tie.After-halve Inv-loop μ-loop) =
+    search in
+    turn-open (start .args .cubic) (start .args .tolerance) _ _ _ _ (at-loop .loop .inv) (in-loop .loop-test .taken)
+    (sym (c .before .next2 .given .1) ∙ at-halve .halve .ensures)
 
 middle-of-requires : tie.Need-middle-of-requires Inv-loop μ-loop
 middle-of-requires c κs = tt
 
 returns-2 : tie.Need-returns-2 Inv-loop μ-loop
 unfolding settled
-returns-2 c = c .middle-of .ensures ∙ turn-last (c .before .before .before .args .cubic) (c .before .before .before .args .tolerance) _ (Open (c .before .before .loop .low) (c .before .before .loop .high) (c .before .before .loop .low-value)) _ (c .before .before .loop .inv) (c .before .loop-test .left)
+returns-2 c =
+    let (start, at-loop) : (tie.Start Inv-loop μ-loop) × (tie.At-loop Inv-loop μ-loop) = search in
+    c .middle-of .ensures ∙ turn-last (start .args .cubic) (start .args .tolerance) _
+    (Open (at-loop .loop .low) (at-loop .loop .high) (at-loop .loop .low-value)) _ (at-loop .loop .inv) (c .before .loop-test .left)
 
 pub halvings-spec : {M : Type 1} → statement M
 halvings-spec =
@@ -55,11 +57,11 @@ halvings-spec =
     μ-loop
     loop-holds
     halve-requires
-    enum-known-next
+    (search needs)  -- enum-known-next
     returns
-    enum-known-next-2
-    sub-left
-    loop-less
+    (search needs)  -- enum-known-next-2
+    (search needs)  -- sub-left
+    (search needs)  -- loop-less
     loop-again
     middle-of-requires
     returns-2)

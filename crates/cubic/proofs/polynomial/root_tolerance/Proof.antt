@@ -30,7 +30,19 @@ maximum-requires-4 c κs = tt
 
 returns : tie.Need-returns
 unfolding rootTolerance
-returns c = simp (sym (c .before .before .before .before .before .before .before .abs .ensures), sym (c .before .before .before .before .before .before .maximum .ensures), sym (c .before .before .before .before .before .abs2 .ensures), sym (c .before .before .before .before .maximum2 .ensures), sym (c .before .before .before .abs3 .ensures), sym (c .before .before .maximum3 .ensures), sym (c .before .abs4 .ensures), sym (c .maximum4 .ensures))
+returns c =
+    let (at-abs, at-maximum, at-abs2, at-maximum2, at-abs3, at-maximum3) :
+    tie.After-abs × tie.After-maximum × tie.After-abs2 × tie.After-maximum2 × tie.After-abs3 × tie.After-maximum3 = search in
+    simp (
+      sym (at-abs .abs .ensures),
+      sym (at-maximum .maximum .ensures),
+      sym (at-abs2 .abs2 .ensures),
+      sym (at-maximum2 .maximum2 .ensures),
+      sym (at-abs3 .abs3 .ensures),
+      sym (at-maximum3 .maximum3 .ensures),
+      sym (c .before .abs4 .ensures),
+      sym (c .maximum4 .ensures),
+    )
 
 pub root-tolerance-spec : {M : Type 1} → statement M
 root-tolerance-spec =

@@ -15,14 +15,25 @@ abs-requires c κs = tt
 
 returns : tie.Need-returns
 unfolding rootBetween
-returns c = simp (sym (c .before .before .before .evaluate .ensures), sym (c .before .before .evaluate2 .ensures), sym (c .before .abs .ensures), c .if1 .taken)
+returns c =
+    let (at-evaluate, at-evaluate2) : tie.After-evaluate × tie.After-evaluate2 = search in
+    simp (sym (at-evaluate .evaluate .ensures), sym (at-evaluate2 .evaluate2 .ensures), sym (c .before .abs .ensures), c .if1 .taken)
 
 abs-requires-2 : tie.Need-abs-requires-2
 abs-requires-2 c κs = tt
 
 returns-2 : tie.Need-returns-2
 unfolding rootBetween
-returns-2 c = simp (sym (c .before .before .before .before .before .evaluate .ensures), sym (c .before .before .before .before .evaluate2 .ensures), sym (c .before .before .before .abs .ensures), c .before .before .if1 .left, sym (c .before .abs2 .ensures), c .if2 .taken)
+returns-2 c =
+    let (at-evaluate, at-evaluate2, at-abs, else1) : tie.After-evaluate × tie.After-evaluate2 × tie.After-abs × tie.Else1 = search in
+    simp (
+      sym (at-evaluate .evaluate .ensures),
+      sym (at-evaluate2 .evaluate2 .ensures),
+      sym (at-abs .abs .ensures),
+      else1 .if1 .left,
+      sym (c .before .abs2 .ensures),
+      c .if2 .taken,
+    )
 
 is-sign-positive-requires : tie.Need-is-sign-positive-requires
 is-sign-positive-requires c κs = tt
@@ -32,14 +43,43 @@ is-sign-positive-requires-2 c κs = tt
 
 returns-3 : tie.Need-returns-3
 unfolding rootBetween
-returns-3 c = simp (sym (c .before .before .before .before .before .before .before .before .evaluate .ensures), sym (c .before .before .before .before .before .before .before .evaluate2 .ensures), sym (c .before .before .before .before .before .before .abs .ensures), c .before .before .before .before .before .if1 .left, sym (c .before .before .before .before .abs2 .ensures), c .before .before .before .if2 .left, sym (c .before .before .is-sign-positive .ensures), sym (c .before .is-sign-positive2 .ensures), c .if3 .taken)
+returns-3 c =
+    let (at-evaluate, at-evaluate2, at-abs, else1, at-abs2, else2, at-is-sign-positive) :
+    tie.After-evaluate × tie.After-evaluate2 × tie.After-abs × tie.Else1 × tie.After-abs2 × tie.Else2 × tie.After-is-sign-positive =
+    search in
+    simp (
+      sym (at-evaluate .evaluate .ensures),
+      sym (at-evaluate2 .evaluate2 .ensures),
+      sym (at-abs .abs .ensures),
+      else1 .if1 .left,
+      sym (at-abs2 .abs2 .ensures),
+      else2 .if2 .left,
+      sym (at-is-sign-positive .is-sign-positive .ensures),
+      sym (c .before .is-sign-positive2 .ensures),
+      c .if3 .taken,
+    )
 
 halvings-requires : tie.Need-halvings-requires
 halvings-requires c κs = tt
 
 returns-4 : tie.Need-returns-4
 unfolding rootBetween
-returns-4 c = simp (sym (c .before .before .before .before .before .before .before .before .before .evaluate .ensures), sym (c .before .before .before .before .before .before .before .before .evaluate2 .ensures), sym (c .before .before .before .before .before .before .before .abs .ensures), c .before .before .before .before .before .before .if1 .left, sym (c .before .before .before .before .before .abs2 .ensures), c .before .before .before .before .if2 .left, sym (c .before .before .before .is-sign-positive .ensures), sym (c .before .before .is-sign-positive2 .ensures), c .before .if3 .left, sym (c .halvings .ensures))
+returns-4 c =
+    let (at-evaluate, at-evaluate2, at-abs, else1, at-abs2, else2, at-is-sign-positive, at-is-sign-positive2) :
+    tie.After-evaluate × tie.After-evaluate2 × tie.After-abs × tie.Else1 × tie.After-abs2 × tie.Else2 × tie.After-is-sign-positive ×
+    tie.After-is-sign-positive2 = search in
+    simp (
+      sym (at-evaluate .evaluate .ensures),
+      sym (at-evaluate2 .evaluate2 .ensures),
+      sym (at-abs .abs .ensures),
+      else1 .if1 .left,
+      sym (at-abs2 .abs2 .ensures),
+      else2 .if2 .left,
+      sym (at-is-sign-positive .is-sign-positive .ensures),
+      sym (at-is-sign-positive2 .is-sign-positive2 .ensures),
+      c .before .if3 .left,
+      sym (c .halvings .ensures),
+    )
 
 pub root-between-spec : {M : Type 1} → statement M
 root-between-spec =

@@ -21,11 +21,21 @@ extrema-requires : tie.Need-extrema-requires
 extrema-requires c κs = tt
 
 search-turns-requires : tie.Need-search-turns-requires
-search-turns-requires c κs = subst AllBetween (sym (c .extrema .ensures)) (extrema-between (c .before .before .before .before .args .cubic))
+search-turns-requires c κs =
+    let start : tie.Start = search in
+    subst AllBetween (sym (c .extrema .ensures)) (extrema-between (start .args .cubic))
 
 returns-2 : tie.Need-returns-2
 unfolding rootOfCubic
-returns-2 c = simp (sym (c .before .before .before .before .finite-cubic .ensures), not-false (c .before .before .before .before .finite-cubic .result) (c .before .before .before .if1 .left), sym (c .before .before .root-tolerance .ensures), sym (c .before .extrema .ensures), sym (c .search-turns .ensures))
+returns-2 c =
+    let (at-finite-cubic, else1, at-root-tolerance) : tie.After-finite-cubic × tie.Else1 × tie.After-root-tolerance = search in
+    simp (
+      sym (at-finite-cubic .finite-cubic .ensures),
+      not-false (at-finite-cubic .finite-cubic .result) (else1 .if1 .left),
+      sym (at-root-tolerance .root-tolerance .ensures),
+      sym (c .before .extrema .ensures),
+      sym (c .search-turns .ensures),
+    )
 
 pub root-of-cubic-spec : {M : Type 1} → statement M
 root-of-cubic-spec =

@@ -5,17 +5,8 @@ use borrow.Author.Needs.{needs}
 use Rattle.cubic.proofs.roots.search_on.Statement.{statement}
 use Rattle.cubic.proofs.roots.search_on.Tie as tie
 
-enum-known-found : tie.Need-enum-known-found
-enum-known-found c = search needs
-
-enum-told : tie.Need-enum-told
-enum-told c = search needs
-
 root-between-requires : tie.Need-root-between-requires
 root-between-requires c κs = tt
-
-enum-told-2 : tie.Need-enum-told-2
-enum-told-2 c = search needs
 
 returns : tie.Need-returns
 unfolding searchOn
@@ -33,10 +24,10 @@ pub search-on-spec : {M : Type 1} → statement M
 search-on-spec =
     tie.close
     (tie.spec
-    enum-known-found
-    enum-told
+    (search needs)  -- enum-known-found
+    (search needs)  -- enum-told
     root-between-requires
-    enum-told-2
+    (search needs)  -- enum-told-2
     returns
     returns-2
     returns-3)

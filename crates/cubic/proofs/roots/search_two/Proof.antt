@@ -15,7 +15,9 @@ search-on-requires-3 c κs = tt
 
 returns : tie.Need-returns
 unfolding searchList searchFrom
-returns c = simp (sym (c .before .before .search-on .ensures), sym (c .before .search-on2 .ensures), sym (c .search-on3 .ensures))
+returns c =
+    let at-search-on : tie.After-search-on = search in
+    simp (sym (at-search-on .search-on .ensures), sym (c .before .search-on2 .ensures), sym (c .search-on3 .ensures))
 
 pub search-two-spec : {M : Type 1} → statement M
 search-two-spec =

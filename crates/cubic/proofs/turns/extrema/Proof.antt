@@ -18,14 +18,30 @@ vertex-requires c κs = tt
 
 returns : tie.Need-returns
 unfolding extrema
-returns c = simp (sym (c .before .before .before .before .abs .ensures), sym (c .before .before .before .abs2 .ensures), sym (c .before .before .maximum .ensures), c .before .if1 .taken, sym (c .vertex .ensures))
+returns c =
+    let (at-abs, at-abs2, at-maximum) : tie.After-abs × tie.After-abs2 × tie.After-maximum = search in
+    simp (
+      sym (at-abs .abs .ensures),
+      sym (at-abs2 .abs2 .ensures),
+      sym (at-maximum .maximum .ensures),
+      c .before .if1 .taken,
+      sym (c .vertex .ensures),
+    )
 
 turning-points-requires : tie.Need-turning-points-requires
 turning-points-requires c κs = tt
 
 returns-2 : tie.Need-returns-2
 unfolding extrema
-returns-2 c = simp (sym (c .before .before .before .before .abs .ensures), sym (c .before .before .before .abs2 .ensures), sym (c .before .before .maximum .ensures), c .before .if1 .left, sym (c .turning-points .ensures))
+returns-2 c =
+    let (at-abs, at-abs2, at-maximum) : tie.After-abs × tie.After-abs2 × tie.After-maximum = search in
+    simp (
+      sym (at-abs .abs .ensures),
+      sym (at-abs2 .abs2 .ensures),
+      sym (at-maximum .maximum .ensures),
+      c .before .if1 .left,
+      sym (c .turning-points .ensures),
+    )
 
 pub extrema-spec : {M : Type 1} → statement M
 extrema-spec =

@@ -12,7 +12,9 @@ kept-points-requires c κs = tt
 
 returns : tie.Need-returns
 unfolding turningPoints turningBy
-returns c = simp (c .before .before .if1 .taken, sym (c .before .root .ensures), sym (c .kept-points .ensures))
+returns c =
+    let then1 : tie.Then1 = search in
+    simp (then1 .if1 .taken, sym (c .before .root .ensures), sym (c .kept-points .ensures))
 
 returns-2 : tie.Need-returns-2
 unfolding turningPoints turningBy

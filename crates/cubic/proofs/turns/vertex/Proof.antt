@@ -9,11 +9,15 @@ between-ends-requires c κs = tt
 
 returns : tie.Need-returns
 unfolding vertex keptPoint
-returns c = simp (c .before .before .if1 .taken, sym (c .before .between-ends .ensures), c .if2 .taken)
+returns c =
+    let then1 : tie.Then1 = search in
+    simp (then1 .if1 .taken, sym (c .before .between-ends .ensures), c .if2 .taken)
 
 returns-2 : tie.Need-returns-2
 unfolding vertex keptPoint
-returns-2 c = simp (c .before .before .if1 .taken, sym (c .before .between-ends .ensures), c .if2 .left)
+returns-2 c =
+    let then1 : tie.Then1 = search in
+    simp (then1 .if1 .taken, sym (c .before .between-ends .ensures), c .if2 .left)
 
 returns-3 : tie.Need-returns-3
 unfolding vertex keptPoint

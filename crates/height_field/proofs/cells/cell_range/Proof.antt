@@ -9,42 +9,37 @@ returns : tie.Need-returns
 unfolding cellRange
 returns c = simp (c .if1 .taken)
 
-span-requires : tie.Need-span-requires
-span-requires c κs = search needs
-
 returns-2 : tie.Need-returns-2
 unfolding cellRange
-returns-2 c = simp (c .before .before .if1 .left, sym (c .before .span .ensures), c .if2 .taken)
-
-sub-last : tie.Need-sub-last
-sub-last c = search needs
-
-float-of-requires : tie.Need-float-of-requires
-float-of-requires c κs = search needs
-
-clamp-requires : tie.Need-clamp-requires
-clamp-requires c κs = search needs
-
-clamp-requires-2 : tie.Need-clamp-requires-2
-clamp-requires-2 c κs = search needs
-
-scaled-range-requires : tie.Need-scaled-range-requires
-scaled-range-requires c κs = search needs
+returns-2 c =
+    let else1 : tie.Else1 = search in
+    simp (else1 .if1 .left, sym (c .before .span .ensures), c .if2 .taken)
 
 returns-3 : tie.Need-returns-3
 unfolding cellRange
-returns-3 c = simp (c .before .before .before .before .before .before .if1 .left, sym (c .before .before .before .before .before .span .ensures), c .before .before .before .before .if2 .left, sym (c .before .before .before .float-of .ensures), sym (c .before .before .clamp .ensures), sym (c .before .clamp2 .ensures), sym (c .scaled-range .ensures))
+returns-3 c =
+    let (else1, at-span, else2, at-float-of, at-clamp) :
+    tie.Else1 × tie.After-span × tie.Else2 × tie.After-float-of × tie.After-clamp = search in
+    simp (
+      else1 .if1 .left,
+      sym (at-span .span .ensures),
+      else2 .if2 .left,
+      sym (at-float-of .float-of .ensures),
+      sym (at-clamp .clamp .ensures),
+      sym (c .before .clamp2 .ensures),
+      sym (c .scaled-range .ensures),
+    )
 
 pub cell-range-spec : {M : Type 1} → statement M
 cell-range-spec =
     tie.close
     (tie.spec
     returns
-    span-requires
+    (search needs)  -- span-requires
     returns-2
-    sub-last
-    float-of-requires
-    clamp-requires
-    clamp-requires-2
-    scaled-range-requires
+    (search needs)  -- sub-last
+    (search needs)  -- float-of-requires
+    (search needs)  -- clamp-requires
+    (search needs)  -- clamp-requires-2
+    (search needs)  -- scaled-range-requires
     returns-3)

@@ -5,12 +5,9 @@ use borrow.Author.Needs.{needs}
 use Rattle.height_field.proofs.cells.span.Statement.{statement}
 use Rattle.height_field.proofs.cells.span.Tie as tie
 
-float-of-requires : tie.Need-float-of-requires
-float-of-requires c κs = search needs
-
 returns : tie.Need-returns
 unfolding spanOf
 returns c = simp (sym (c .float-of .ensures))
 
 pub span-spec : {M : Type 1} → statement M
-span-spec = tie.close (tie.spec float-of-requires returns)
+span-spec = tie.close (tie.spec (search needs) returns)

@@ -9,34 +9,47 @@ use Rattle.height_field.proofs.field.field_vertex.Statement.{statement}
 use Rattle.height_field.proofs.field.field_vertex.Tie as tie
 
 within : (s : tie.Start)
-    → (s .args .row * s .args .field .columns + s .args .column < length (s .args .heights .now)) × (length (s .args .heights .now) ≤ 1048576)
+    → (s .args .row * s .args .field .columns + s .args .column < length (s .args .heights .now)) ×
+    (length (s .args .heights .now) ≤ 1048576)
 within s = vertex-within (s .args .field) (s .args .heights .now) (s .args .row) (s .args .column) (s .pre .0) (s .pre .1 .0) (s .pre .1 .1)
 
 mul-index : tie.Need-mul-index
-mul-index c = omega (arith, within (c .before .before))
+mul-index c =
+    let start : tie.Start = search in
+    omega (arith, within (start))
 
 add-index : tie.Need-add-index
-add-index c = omega (arith, within (c .before .before))
+add-index c =
+    let start : tie.Start = search in
+    omega (arith, within (start))
 
 mul-height : tie.Need-mul-height
-mul-height c = omega (arith, within (c .before .before))
+mul-height c =
+    let start : tie.Start = search in
+    omega (arith, within (start))
 
 shared-slice-read-height : tie.Need-shared-slice-read-height
-shared-slice-read-height c = omega (arith, within (c .before .before .before))
+shared-slice-read-height c =
+    let start : tie.Start = search in
+    omega (arith, within (start))
 
 float-of-requires : tie.Need-float-of-requires
 float-of-requires c κs =
-    let s = c .before .before .before in
+    let start : tie.Start = search in
+    let s = start in
     omega (arith, s .pre)
 
 float-of-requires-2 : tie.Need-float-of-requires-2
 float-of-requires-2 c κs =
-    let s = c .before .before .before .before .before in
+    let start : tie.Start = search in
+    let s = start in
     omega (arith, s .pre)
 
 returns : tie.Need-returns
 unfolding vertexAt
-returns c = simp (sym (c .before .before .before .float-of .ensures), sym (c .before .float-of2 .ensures))
+returns c =
+    let at-float-of : tie.After-float-of = search in
+    simp (sym (at-float-of .float-of .ensures), sym (c .before .float-of2 .ensures))
 
 pub field-vertex-spec : {M : Type 1} → statement M
 field-vertex-spec =

@@ -1,4 +1,5 @@
--- `pass::pass_row` meets its contract. The loop's invariant: the columns that are left, on top of what was found, give what all of them give. Assumes nothing.
+-- `pass::pass_row` meets its contract. The loop's invariant: the columns that are left, on top of what was found, give what all of them
+-- give. Assumes nothing.
 use Prim.Native.Nat.{_+_, _-_}
 use mathlib.Core.Path.{_≡_, refl, sym, ap, _∙_}
 use mathlib.Core.List.{map}
@@ -16,8 +17,10 @@ use Rattle.height_field.proofs.pass.pass_row.Tie as tie
 
 abbrev Inv-loop : tie.InvT-loop
 Inv-loop ray bounds field heights row first last best₀ column₀ best column =
-    passFrom (answerOf ray field heights) (saysIndexed best) (listAll (listCell field heights bounds) (map (cellAt field row) (run column (last + 1 - column))))
-    ≡ passFrom (answerOf ray field heights) (saysIndexed best₀) (listAll (listCell field heights bounds) (map (cellAt field row) (run column₀ (last + 1 - column₀))))
+    passFrom (answerOf ray field heights) (saysIndexed best)
+    (listAll (listCell field heights bounds) (map (cellAt field row) (run column (last + 1 - column))))
+    ≡ passFrom (answerOf ray field heights) (saysIndexed best₀)
+    (listAll (listCell field heights bounds) (map (cellAt field row) (run column₀ (last + 1 - column₀))))
 
 abbrev μ-loop : tie.MeasureT-loop
 μ-loop ray bounds field heights row first last best₀ column₀ best column = last + 1 - column
@@ -27,49 +30,47 @@ loop-holds c = refl
 
 pass-cell-requires : tie.Need-pass-cell-requires Inv-loop μ-loop
 pass-cell-requires c κs =
-    let s = c .before .before .before in
+    let start : tie.Start Inv-loop μ-loop = search in
+    let s = start in
     (s .pre .0, (omega (arith, s .pre), omega (arith, s .pre)))
-
-enum-known-cell : tie.Need-enum-known-cell Inv-loop μ-loop
-enum-known-cell c = search needs
-
-enum-told : tie.Need-enum-told Inv-loop μ-loop
-enum-told c = search needs
 
 returns : tie.Need-returns Inv-loop μ-loop
 returns c =
-    let turn = c .before .before .before in
-    let s = turn .before .before .before in
+    let (s, turn, at-pass-cell) :
+    (tie.Start Inv-loop μ-loop) × (tie.In-loop Inv-loop μ-loop) × (tie.After-pass-cell Inv-loop μ-loop) = search in
     let a = s .args in
     let at = turn .before .loop in
-    sym (pass-ends (answerOf (a .ray) (a .field) (a .heights .now)) (saysIndexed (at .best)) _ _ _ (saysPass (c .before .before .pass-cell .result))
+    sym (pass-ends (answerOf (a .ray) (a .field) (a .heights .now)) (saysIndexed (at .best)) _ _ _
+    (saysPass (at-pass-cell .pass-cell .result))
     (row-cons (listCell (a .field) (a .heights .now) (a .bounds)) (a .field) (a .row) (at .column) (a .last) (turn .loop-test .taken))
-    (c .before .before .pass-cell .ensures) _ (ap saysPass (c .enum-told .given .1))) ∙ at .inv
+    (at-pass-cell .pass-cell .ensures) _ (ap saysPass (c .enum-told .given .1))) ∙ at .inv
 
 add-column : tie.Need-add-column Inv-loop μ-loop
 add-column c =
-    let s = c .before .before .before .before .before .before .before in
-    omega (arith, s .pre, c .before .before .before .before .loop-test .taken)
-
-loop-less : tie.Need-loop-less Inv-loop μ-loop
-loop-less c = search needs
+    let (start, in-loop) : (tie.Start Inv-loop μ-loop) × (tie.In-loop Inv-loop μ-loop) = search in
+    let s = start in
+    omega (arith, s .pre, in-loop .loop-test .taken)
 
 loop-again : tie.Need-loop-again Inv-loop μ-loop
 loop-again c =
-    let turn = c .before .before .before .before in
-    let s = turn .before .before .before in
+    let (s, turn, at-pass-cell) :
+    (tie.Start Inv-loop μ-loop) × (tie.In-loop Inv-loop μ-loop) × (tie.After-pass-cell Inv-loop μ-loop) = search in
     let a = s .args in
     let at = turn .before .loop in
-    sym (pass-goes (answerOf (a .ray) (a .field) (a .heights .now)) (saysIndexed (at .best)) _ _ _ (saysPass (c .before .before .before .pass-cell .result))
+    sym (pass-goes (answerOf (a .ray) (a .field) (a .heights .now)) (saysIndexed (at .best)) _ _ _
+    (saysPass (at-pass-cell .pass-cell .result))
     (row-cons (listCell (a .field) (a .heights .now) (a .bounds)) (a .field) (a .row) (at .column) (a .last) (turn .loop-test .taken))
-    (c .before .before .before .pass-cell .ensures) _ (ap saysPass (c .before .cell .given .1))) ∙ at .inv
+    (at-pass-cell .pass-cell .ensures) _ (ap saysPass (c .before .cell .given .1))) ∙ at .inv
 
 returns-2 : tie.Need-returns-2 Inv-loop μ-loop
 returns-2 c =
-    let s = c .before .before .before in
+    let start : tie.Start Inv-loop μ-loop = search in
+    let s = start in
     let a = s .args in
     let at = c .before .loop in
-    sym (pass-done (answerOf (a .ray) (a .field) (a .heights .now)) (saysIndexed (at .best)) _ (row-none (listCell (a .field) (a .heights .now) (a .bounds)) (a .field) (a .row) (at .column) (a .last) (c .loop-test .left))) ∙ at .inv
+    sym (pass-done (answerOf (a .ray) (a .field) (a .heights .now)) (saysIndexed (at .best)) _
+    (row-none (listCell (a .field) (a .heights .now) (a .bounds)) (a .field) (a .row) (at .column) (a .last) (c .loop-test .left))) ∙ at
+    .inv
 
 pub pass-row-spec : {M : Type 1} → statement M
 pass-row-spec =
@@ -79,10 +80,10 @@ pass-row-spec =
     μ-loop
     loop-holds
     pass-cell-requires
-    enum-known-cell
-    enum-told
+    (search needs)  -- enum-known-cell
+    (search needs)  -- enum-told
     returns
     add-column
-    loop-less
+    (search needs)  -- loop-less
     loop-again
     returns-2)

@@ -22,29 +22,21 @@ loop-holds : tie.Need-loop-holds Inv-loop μ-loop
 unfolding passTriangles
 loop-holds c = (refl, omega arith)
 
-half-requires : tie.Need-half-requires Inv-loop μ-loop
-half-requires c κs = search needs
-
-add-pass-triangle : tie.Need-add-pass-triangle Inv-loop μ-loop
-add-pass-triangle c = search needs
-
 pass-triangle-requires : tie.Need-pass-triangle-requires Inv-loop μ-loop
 pass-triangle-requires c κs =
-    let s = c .before .before .before in
-    subst FiniteCorners (sym (c .half .ensures)) (half-finite (s .args .lower) (s .args .upper) (c .before .before .loop .triangle) (s .pre .0) (s .pre .1 .0))
-
-add-triangle : tie.Need-add-triangle Inv-loop μ-loop
-add-triangle c = search needs
-
-loop-less : tie.Need-loop-less Inv-loop μ-loop
-loop-less c = search needs
+    let (start, at-loop) : (tie.Start Inv-loop μ-loop) × (tie.At-loop Inv-loop μ-loop) = search in
+    let s = start in
+    subst FiniteCorners (sym (c .half .ensures)) (half-finite (s .args .lower) (s .args .upper) (at-loop .loop .triangle) (s .pre .0) (s
+    .pre .1 .0))
 
 loop-again : tie.Need-loop-again Inv-loop μ-loop
 loop-again c =
-    let l = c .before .before .before .loop in
-    let a = c .before .before .before .before .args in (
+    let (start, at-loop) : (tie.Start Inv-loop μ-loop) × (tie.At-loop Inv-loop μ-loop) = search in
+    let l = at-loop .loop in
+    let a = start .args in (
       c .pass-triangle .ensures
-          ∙ ap (λ (corners : List Vec3). passTriangle (a .ray) (a .bounds) corners (a .feature + l .triangle) (saysIndexed (l .found))) (c .before .half .ensures)
+          ∙ ap (λ (corners : List Vec3). passTriangle (a .ray) (a .bounds) corners (a .feature + l .triangle) (saysIndexed (l .found)))
+          (c .before .half .ensures)
           ∙ ap (passTriangle (a .ray) (a .bounds) (halfOf (a .lower) (a .upper) (l .triangle)) (a .feature + l .triangle)) (l .inv .0)
           ∙ sym (one-more (a .ray) (a .bounds) (a .lower) (a .upper) (a .feature) (saysIndexed (a .best)) (l .triangle)),
       omega arith,
@@ -52,8 +44,9 @@ loop-again c =
 
 returns : tie.Need-returns Inv-loop μ-loop
 returns c =
+    let start : tie.Start Inv-loop μ-loop = search in
     let l = c .before .loop in
-    let a = c .before .before .args in
+    let a = start .args in
     let all : l .triangle ≡ 2 = omega arith in
     l .inv .0 ∙ ap (passTriangles (a .ray) (a .bounds) (a .lower) (a .upper) (a .feature) (saysIndexed (a .best))) all
 
@@ -64,10 +57,10 @@ pass-triangles-spec =
     Inv-loop
     μ-loop
     loop-holds
-    half-requires
-    add-pass-triangle
+    (search needs)  -- half-requires
+    (search needs)  -- add-pass-triangle
     pass-triangle-requires
-    add-triangle
-    loop-less
+    (search needs)  -- add-triangle
+    (search needs)  -- loop-less
     loop-again
     returns)

@@ -18,7 +18,9 @@ unfolding fractionOf
 returns-3 c = sym (ap fractionOf (c .if3 .taken))
 
 returns-4 : tie.Need-returns-4
-returns-4 c = fraction-last _ (c .before .before .if1 .left) (c .before .if2 .left) (c .if3 .left)
+returns-4 c =
+    let else1 : tie.Else1 = search in
+    fraction-last _ (else1 .if1 .left) (c .before .if2 .left) (c .if3 .left)
 
 pub fraction-spec : {M : Type 1} → statement M
 fraction-spec = tie.close (tie.spec returns returns-2 returns-3 returns-4)

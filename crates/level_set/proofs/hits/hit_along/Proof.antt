@@ -8,34 +8,29 @@ use Rattle.level_set.proofs.hits.hit_along.Tie as tie
 point-at-requires : tie.Need-point-at-requires
 point-at-requires c κs = tt
 
-sample-requires : tie.Need-sample-requires
-sample-requires c κs = search needs
-
-enum-known-found : tie.Need-enum-known-found
-enum-known-found c = search needs
-
-enum-known-found-2 : tie.Need-enum-known-found-2
-enum-known-found-2 c = search needs
-
 hit-with-requires : tie.Need-hit-with-requires
 hit-with-requires c κs = tt
 
 returns : tie.Need-returns
 unfolding hitAlong
-returns c = simp (sym (c .before .before .before .before .point-at .ensures), sym (c .before .before .before .sample .ensures), c .before .found .given .1)
+returns c =
+    let (at-point-at, at-sample) : tie.After-point-at × tie.After-sample = search in
+    simp (sym (at-point-at .point-at .ensures), sym (at-sample .sample .ensures), c .before .found .given .1)
 
 returns-2 : tie.Need-returns-2
 unfolding hitAlong
-returns-2 c = simp (sym (c .before .before .before .before .before .point-at .ensures), sym (c .before .before .before .before .sample .ensures), c .before .before .found2 .given .1, sym (c .hit-with .ensures))
+returns-2 c =
+    let (at-point-at, at-sample, at-found2) : tie.After-point-at × tie.After-sample × tie.After-found2 = search in
+    simp (sym (at-point-at .point-at .ensures), sym (at-sample .sample .ensures), at-found2 .found2 .given .1, sym (c .hit-with .ensures))
 
 pub hit-along-spec : {M : Type 1} → statement M
 hit-along-spec =
     tie.close
     (tie.spec
     point-at-requires
-    sample-requires
-    enum-known-found
-    enum-known-found-2
+    (λ c κs. search needs)  -- sample-requires
+    (search needs)  -- enum-known-found
+    (search needs)  -- enum-known-found-2
     hit-with-requires
     returns
     returns-2)

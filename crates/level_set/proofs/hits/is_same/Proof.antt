@@ -17,7 +17,8 @@ returns : tie.Need-returns
 returns c =
     let start = c .before in (
       λ h. left-number _ _ (c .if1 .taken),
-      λ h. same-bits (start .args .x) (start .args .y) (subst T (sym (start .good .0 .1)) tt) (subst T (sym (start .good .1 .0 .1)) tt) (eqb-true _ _ h),
+      λ h. same-bits (start .args .x) (start .args .y) (subst T (sym (start .good .0 .1)) tt) (subst T (sym (start .good .1 .0 .1)) tt)
+          (eqb-true _ _ h),
     )
 
 returns-2 : tie.Need-returns-2

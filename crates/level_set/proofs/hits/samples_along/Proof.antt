@@ -25,34 +25,28 @@ fraction-requires c κs = tt
 along-requires : tie.Need-along-requires Inv-loop μ-loop
 along-requires c κs = tt
 
-value-known-requires : tie.Need-value-known-requires Inv-loop μ-loop
-value-known-requires c κs = search needs
-
-enum-known-found : tie.Need-enum-known-found Inv-loop μ-loop
-enum-known-found c = search needs
-
 returns : tie.Need-returns Inv-loop μ-loop
 returns c =
-    let args = c .before .before .before .before .before .before .before .before .before .args in
-    rest-refused (sampleAt (args .ray) (args .grid) (now (args .values)) (args .current) (args .end)) _ _ _ _ _ _ (c .before .before .before .before .before .before .loop-test .taken)
-    (sample-found (args .ray) (args .grid) (now (args .values)) (args .current) (args .end) _ _ _ _ _ (c .before .before .before .before .before .fraction .ensures) (c .before .before .before .before .along .ensures) (c .before .before .before .value-known .ensures) (c .before .found .given .1))
-    ∙ c .before .before .before .before .before .before .before .loop .inv
-
-enum-known-found-2 : tie.Need-enum-known-found-2 Inv-loop μ-loop
-enum-known-found-2 c = search needs
-
-add-taken : tie.Need-add-taken Inv-loop μ-loop
-add-taken c = search needs
-
-loop-less : tie.Need-loop-less Inv-loop μ-loop
-loop-less c = search needs
+    let (start, at-loop, in-loop, at-fraction, at-along, at-value-known) :
+    (tie.Start Inv-loop μ-loop) × (tie.At-loop Inv-loop μ-loop) × (tie.In-loop Inv-loop μ-loop) × (tie.After-fraction Inv-loop μ-loop) ×
+    (tie.After-along Inv-loop μ-loop) × (tie.After-value-known Inv-loop μ-loop) = search in
+    let args = start .args in
+    rest-refused (sampleAt (args .ray) (args .grid) (now (args .values)) (args .current) (args .end)) _ _ _ _ _ _
+    (in-loop .loop-test .taken)
+    (sample-found (args .ray) (args .grid) (now (args .values)) (args .current) (args .end) _ _ _ _ _ (at-fraction .fraction .ensures)
+    (at-along .along .ensures) (at-value-known .value-known .ensures) (c .before .found .given .1))
+    ∙ at-loop .loop .inv
 
 loop-again : tie.Need-loop-again Inv-loop μ-loop
 loop-again c =
-    let args = c .before .before .before .before .before .before .before .before .before .args in
-    rest-taken (sampleAt (args .ray) (args .grid) (now (args .values)) (args .current) (args .end)) _ _ _ _ _ _ (c .before .before .before .before .before .before .loop-test .taken)
-    (sample-found (args .ray) (args .grid) (now (args .values)) (args .current) (args .end) _ _ _ _ _ (c .before .before .before .before .before .fraction .ensures) (c .before .before .before .before .along .ensures) (c .before .before .before .value-known .ensures) (c .before .found2 .given .1))
-    ∙ c .before .before .before .before .before .before .before .loop .inv
+    let (start, at-loop, in-loop, at-fraction, at-along, at-value-known) :
+    (tie.Start Inv-loop μ-loop) × (tie.At-loop Inv-loop μ-loop) × (tie.In-loop Inv-loop μ-loop) × (tie.After-fraction Inv-loop μ-loop) ×
+    (tie.After-along Inv-loop μ-loop) × (tie.After-value-known Inv-loop μ-loop) = search in
+    let args = start .args in
+    rest-taken (sampleAt (args .ray) (args .grid) (now (args .values)) (args .current) (args .end)) _ _ _ _ _ _ (in-loop .loop-test .taken)
+    (sample-found (args .ray) (args .grid) (now (args .values)) (args .current) (args .end) _ _ _ _ _ (at-fraction .fraction .ensures)
+    (at-along .along .ensures) (at-value-known .value-known .ensures) (c .before .found2 .given .1))
+    ∙ at-loop .loop .inv
 
 returns-2 : tie.Need-returns-2 Inv-loop μ-loop
 returns-2 c = rest-done _ _ _ _ _ _ (c .loop-test .left) ∙ c .before .loop .inv
@@ -66,11 +60,11 @@ samples-along-spec =
     loop-holds
     fraction-requires
     along-requires
-    value-known-requires
-    enum-known-found
+    (λ c κs. search needs)  -- value-known-requires
+    (search needs)  -- enum-known-found
     returns
-    enum-known-found-2
-    add-taken
-    loop-less
+    (search needs)  -- enum-known-found-2
+    (search needs)  -- add-taken
+    (search needs)  -- loop-less
     loop-again
     returns-2)

@@ -8,12 +8,9 @@ use Rattle.level_set.proofs.hits.value_along.Tie as tie
 point-at-requires : tie.Need-point-at-requires
 point-at-requires c κs = tt
 
-height-at-requires : tie.Need-height-at-requires
-height-at-requires c κs = search needs
-
 returns : tie.Need-returns
 unfolding valueAlong
-returns c = simp (sym (c .before .point-at .ensures), sym (c .height-at .ensures))
+returns c = simp (sym (c .before .point-at .ensures), sym (c .value-of .ensures))
 
 pub value-along-spec : {M : Type 1} → statement M
-value-along-spec = tie.close (tie.spec point-at-requires height-at-requires returns)
+value-along-spec = tie.close (tie.spec point-at-requires (search needs) returns)

@@ -10,15 +10,11 @@ is-same-requires c κs = tt
 
 returns : tie.Need-returns
 returns c =
-    let start = c .before .before .before in
-    remembered-value (start .args .ray) (start .args .grid) (now (start .args .values)) (start .args .known) (start .args .distance) (start .pre .1)
+    let start : tie.Start = search in
+    let start = start in
+    remembered-value (start .args .ray) (start .args .grid) (now (start .args .values)) (start .args .known) (start .args .distance)
+    (start .pre .1)
     (c .before .is-same .ensures .0 (c .if1 .taken)) (c .before .is-same .ensures .1 (c .if1 .taken))
 
-value-along-requires : tie.Need-value-along-requires
-value-along-requires c κs = search needs
-
-returns-2 : tie.Need-returns-2
-returns-2 c = search needs
-
 pub value-known-spec : {M : Type 1} → statement M
-value-known-spec = tie.close (tie.spec is-same-requires returns value-along-requires returns-2)
+value-known-spec = tie.close (tie.spec is-same-requires returns (search needs) (λ c. search needs))

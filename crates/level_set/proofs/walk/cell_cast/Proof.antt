@@ -7,41 +7,41 @@ use borrow.Author.Needs.{needs}
 use Rattle.level_set.proofs.walk.cell_cast.Statement.{statement}
 use Rattle.level_set.proofs.walk.cell_cast.Tie as tie
 
-samples-along-requires : tie.Need-samples-along-requires
-samples-along-requires c κs = search needs
-
-enum-known-taken : tie.Need-enum-known-taken
-enum-known-taken c = search needs
-
-enum-known-taken-2 : tie.Need-enum-known-taken-2
-enum-known-taken-2 c = search needs
-
 along-requires : tie.Need-along-requires
 along-requires c κs = tt
 
 cell-by-requires : tie.Need-cell-by-requires
 cell-by-requires c κs =
-    let start = c .before .before .before .before .before .before in (
+    let (start, at-samples-along, at-taken2) : tie.Start × tie.After-samples-along × tie.After-taken2 = search in
+    let start = start in (
       start .pre .0,
-      last-remembered (start .args .ray) (start .args .grid) (now (start .args .values)) (start .args .current) (start .args .end) _ _ (c .along .ensures)
-          (c .before .before .before .before .samples-along .ensures) (c .before .before .taken2 .given .1),
+      last-remembered (start .args .ray) (start .args .grid) (now (start .args .values)) (start .args .current) (start .args .end) _ _
+          (c .along .ensures)
+          (at-samples-along .samples-along .ensures) (at-taken2 .taken2 .given .1),
     )
 
 returns : tie.Need-returns
 unfolding cellCast
-returns c = (simp (sym (c .before .before .before .samples-along .ensures), c .before .taken .given .1), ended)
+returns c =
+    let at-samples-along : tie.After-samples-along = search in
+    (simp (sym (at-samples-along .samples-along .ensures), c .before .taken .given .1), ended)
 
 returns-2 : tie.Need-returns-2
 unfolding cellCast
-returns-2 c = (simp (sym (c .before .before .before .before .before .samples-along .ensures), c .before .before .before .taken2 .given .1, sym (c .cell-by .ensures .0)), c .cell-by .ensures .1)
+returns-2 c =
+    let (at-samples-along, at-taken2) : tie.After-samples-along × tie.After-taken2 = search in (
+      simp (sym (at-samples-along .samples-along .ensures), at-taken2 .taken2 .given .1, sym (c .cell-by .ensures .0)),
+      c .cell-by .ensures
+          .1,
+    )
 
 pub cell-cast-spec : {M : Type 1} → statement M
 cell-cast-spec =
     tie.close
     (tie.spec
-    samples-along-requires
-    enum-known-taken
-    enum-known-taken-2
+    (λ c κs. search needs)  -- samples-along-requires
+    (search needs)  -- enum-known-taken
+    (search needs)  -- enum-known-taken-2
     along-requires
     cell-by-requires
     returns

@@ -5,9 +5,6 @@ use borrow.Author.Needs.{needs}
 use Rattle.level_set.proofs.walk.goes_to.Statement.{statement}
 use Rattle.level_set.proofs.walk.goes_to.Tie as tie
 
-touch-at-requires : tie.Need-touch-at-requires
-touch-at-requires c κs = search needs
-
 returns : tie.Need-returns
 unfolding goesTo
 returns c = (simp (c .before .if1 .taken, sym (c .touch-at .ensures)), ended)
@@ -15,13 +12,12 @@ returns c = (simp (c .before .if1 .taken, sym (c .touch-at .ensures)), ended)
 minimum-requires : tie.Need-minimum-requires
 minimum-requires c κs = tt
 
-cell-cast-requires : tie.Need-cell-cast-requires
-cell-cast-requires c κs = search needs
-
 returns-2 : tie.Need-returns-2
 unfolding goesTo
-returns-2 c = (simp (c .before .before .if1 .left, sym (c .before .minimum .ensures), sym (c .cell-cast .ensures .0)), c .cell-cast .ensures .1)
+returns-2 c =
+    let else1 : tie.Else1 = search in
+    (simp (else1 .if1 .left, sym (c .before .minimum .ensures), sym (c .cell-cast .ensures .0)), c .cell-cast .ensures .1)
 
 pub goes-to-spec : {M : Type 1} → statement M
 goes-to-spec =
-    tie.close (tie.spec touch-at-requires returns minimum-requires cell-cast-requires returns-2)
+    tie.close (tie.spec (λ c κs. search needs) returns minimum-requires (λ c κs. search needs) returns-2)

@@ -1,7 +1,7 @@
 -- `level_set::walk::ray_level_set` meets its contract. Assumes nothing.
 use Rattle.level_set.specs.Walk.{rayLevelSet}
 use mathlib.Core.Path.{sym, _∙_}
-use Rattle.level_set.proofs.GridLaws.{admitted-stands}
+use Rattle.distance_grid.proofs.GridLaws.{admitted-stands}
 use borrow.Author.Tests.{not-true, not-false}
 use Rattle.level_set.proofs.walk.ray_level_set.Statement.{statement}
 use Rattle.level_set.proofs.walk.ray_level_set.Tie as tie
@@ -18,14 +18,30 @@ is-admitted-requires c κs = tt
 
 returns-2 : tie.Need-returns-2
 unfolding rayLevelSet
-returns-2 c = simp (sym (c .before .before .before .validate .ensures), not-false (c .before .before .before .validate .result) (c .before .before .if1 .left), sym (c .before .is-admitted .ensures), not-true (c .before .is-admitted .result) (c .if2 .taken))
+returns-2 c =
+    let (at-validate, else1) : tie.After-validate × tie.Else1 = search in
+    simp (
+      sym (at-validate .validate .ensures),
+      not-false (at-validate .validate .result) (else1 .if1 .left),
+      sym (c .before .is-admitted .ensures),
+      not-true (c .before .is-admitted .result) (c .if2 .taken),
+    )
 
 level-set-cast-requires : tie.Need-level-set-cast-requires
-level-set-cast-requires c κs = admitted-stands _ _ (sym (c .before .is-admitted .ensures) ∙ not-false (c .before .is-admitted .result) (c .if2 .left))
+level-set-cast-requires c κs = admitted-stands _ _
+    (sym (c .before .is-admitted .ensures) ∙ not-false (c .before .is-admitted .result) (c .if2 .left))
 
 returns-3 : tie.Need-returns-3
 unfolding rayLevelSet
-returns-3 c = simp (sym (c .before .before .before .before .validate .ensures), not-false (c .before .before .before .before .validate .result) (c .before .before .before .if1 .left), sym (c .before .before .is-admitted .ensures), not-false (c .before .before .is-admitted .result) (c .before .if2 .left), sym (c .level-set-cast .ensures))
+returns-3 c =
+    let (at-validate, else1, at-is-admitted) : tie.After-validate × tie.Else1 × tie.After-is-admitted = search in
+    simp (
+      sym (at-validate .validate .ensures),
+      not-false (at-validate .validate .result) (else1 .if1 .left),
+      sym (at-is-admitted .is-admitted .ensures),
+      not-false (at-is-admitted .is-admitted .result) (c .before .if2 .left),
+      sym (c .level-set-cast .ensures),
+    )
 
 pub ray-level-set-spec : {M : Type 1} → statement M
 ray-level-set-spec =

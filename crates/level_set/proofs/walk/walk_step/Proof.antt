@@ -12,38 +12,58 @@ returns c = (simp (c .if1 .taken), ended)
 point-at-requires : tie.Need-point-at-requires
 point-at-requires c κs = tt
 
-ray-cell-indices-requires : tie.Need-ray-cell-indices-requires
-ray-cell-indices-requires c κs = search needs
-
-enum-known-cell : tie.Need-enum-known-cell
-enum-known-cell c = search needs
-
-enum-told : tie.Need-enum-told
-enum-told c = search needs
-
 returns-2 : tie.Need-returns-2
 unfolding walkStep
-returns-2 c = (simp (c .before .before .before .before .if1 .left, sym (c .before .before .before .point-at .ensures), sym (c .before .before .ray-cell-indices .ensures), c .enum-told .given .1), ended)
+returns-2 c =
+    let (else1, at-point-at, at-ray-cell-indices) : tie.Else1 × tie.After-point-at × tie.After-ray-cell-indices = search in (
+      simp (
+        else1 .if1 .left,
+        sym (at-point-at .point-at .ensures),
+        sym (at-ray-cell-indices .ray-cell-indices .ensures),
+        c .enum-told .given
+            .1,
+      ),
+      ended,
+    )
 
 next-cell-boundary-requires : tie.Need-next-cell-boundary-requires
 next-cell-boundary-requires c κs = tt
 
-enum-known-reached : tie.Need-enum-known-reached
-enum-known-reached c = search needs
-
-enum-told-2 : tie.Need-enum-told-2
-enum-told-2 c = search needs
-
 returns-3 : tie.Need-returns-3
 unfolding walkStep
-returns-3 c = (simp (c .before .before .before .before .before .before .before .before .if1 .left, sym (c .before .before .before .before .before .before .before .point-at .ensures), sym (c .before .before .before .before .before .before .ray-cell-indices .ensures), c .before .before .before .before .cell .given .1, sym (c .before .before .next-cell-boundary .ensures), c .enum-told2 .given .1), ended)
-
-goes-to-requires : tie.Need-goes-to-requires
-goes-to-requires c κs = search needs
+returns-3 c =
+    let (else1, at-point-at, at-ray-cell-indices, at-cell, at-next-cell-boundary) :
+    tie.Else1 × tie.After-point-at × tie.After-ray-cell-indices × tie.After-cell × tie.After-next-cell-boundary = search in (
+      simp (
+        else1 .if1 .left,
+        sym (at-point-at .point-at .ensures),
+        sym (at-ray-cell-indices .ray-cell-indices .ensures),
+        at-cell .cell
+            .given .1,
+        sym (at-next-cell-boundary .next-cell-boundary .ensures),
+        c .enum-told2 .given .1,
+      ),
+      ended,
+    )
 
 returns-4 : tie.Need-returns-4
 unfolding walkStep
-returns-4 c = (simp (c .before .before .before .before .before .before .before .before .before .before .if1 .left, sym (c .before .before .before .before .before .before .before .before .before .point-at .ensures), sym (c .before .before .before .before .before .before .before .before .ray-cell-indices .ensures), c .before .before .before .before .before .before .cell .given .1, sym (c .before .before .before .before .next-cell-boundary .ensures), c .before .before .reached .given .1, sym (c .goes-to .ensures .0)), c .goes-to .ensures .1)
+returns-4 c =
+    let (else1, at-point-at, at-ray-cell-indices, at-cell, at-next-cell-boundary, at-reached) :
+    tie.Else1 × tie.After-point-at × tie.After-ray-cell-indices × tie.After-cell × tie.After-next-cell-boundary × tie.After-reached =
+    search in (
+      simp (
+        else1 .if1 .left,
+        sym (at-point-at .point-at .ensures),
+        sym (at-ray-cell-indices .ray-cell-indices .ensures),
+        at-cell .cell
+            .given .1,
+        sym (at-next-cell-boundary .next-cell-boundary .ensures),
+        at-reached .reached .given .1,
+        sym (c .goes-to .ensures .0),
+      ),
+      c .goes-to .ensures .1,
+    )
 
 pub walk-step-spec : {M : Type 1} → statement M
 walk-step-spec =
@@ -51,13 +71,13 @@ walk-step-spec =
     (tie.spec
     returns
     point-at-requires
-    ray-cell-indices-requires
-    enum-known-cell
-    enum-told
+    (λ c κs. search needs)  -- ray-cell-indices-requires
+    (search needs)  -- enum-known-cell
+    (search needs)  -- enum-told
     returns-2
     next-cell-boundary-requires
-    enum-known-reached
-    enum-told-2
+    (search needs)  -- enum-known-reached
+    (search needs)  -- enum-told-2
     returns-3
-    goes-to-requires
+    (λ c κs. search needs)  -- goes-to-requires
     returns-4)

@@ -1,0 +1,6 @@
+-- The laws of a distance grid's places and samples, beside the functions' own proofs. Assumes nothing.
+pub mod GridLaws
+pub mod CellLaws
+pub mod NearLaws
+pub mod PlaceLaws
+pub mod ValuedLaws

@@ -1,0 +1,2 @@
+-- What the height grid and the distance grid share. Definitions only. Assumes nothing.
+pub mod Spacing

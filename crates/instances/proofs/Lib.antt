@@ -1,0 +1,2 @@
+-- Theorems at inputs that are written out. Assumes nothing.
+pub mod CallInstances
