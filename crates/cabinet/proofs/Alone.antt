@@ -16,8 +16,8 @@ use Rattle.tree.specs.Layout.{Tree}
 use Rattle.tree.specs.Mesh.{Mesh, thirds, candidates}
 use Rattle.lists.proofs.JoinedTests.{and-first, and-second}
 use Rattle.tree_check.proofs.Answers.{yes-passes}
-use Rattle.tree_limit.specs.Looking.{nodesLooked}
-use Rattle.tree_limit.proofs.Limits.{walk-looks-few}
+use Rattle.tree_walk.specs.Looking.{nodesLooked}
+use Rattle.tree_walk.proofs.Limits.{walk-looks-few}
 use Rattle.mesh.specs.MeshCast.{shapeAdmitted, roomFor, meshCast, rayMesh}
 use Rattle.mesh.specs.Demand3.{PassesCheck}
 use Rattle.mesh.proofs.WalkLists.{walk-lists-candidates}

@@ -18,12 +18,12 @@ use Rattle.casts.specs.Nearest.{Indexed, hitAt, noHit, stopped, nextOf, foldFro
 use Rattle.lists.specs.Lists.{range, insertBy, sortBy}
 use Rattle.tree.specs.Layout.{vectorAt, boxAt}
 use Rattle.tree.specs.Mesh.{Mesh, lengthsAdmitted, cornersInside, cornerAt, triangleAnswer}
-use Rattle.tree_query.specs.Walk.{times, takePlace, takePlaces, atLeaf, childFits, atBranch, atNode, takeNode, start, ended, walkOf}
+use Rattle.tree_walk.specs.Walk.{times, takePlace, takePlaces, atLeaf, childFits, atBranch, atNode, takeNode, start, ended, walkOf}
 use Rattle.tree_query.proofs.QueryExamples.{o, i, quarter, ten, eleven, lower, oddTree}
 use Rattle.mesh.specs.MeshCast.{shapeAdmitted, treeFits, roomFor, overWalk, meshCast, rayMesh}
 use Rattle.geometry.specs.declared.vec3.Vec3.{Vec3}
 use Rattle.geometry.specs.declared.ray.Ray.{Ray}
-use Rattle.tree_limit.specs.Looking.{endedLook, look, looks, walkWithin}
+use Rattle.tree_walk.specs.Looking.{endedLook, look, looks, walkWithin}
 use Rattle.cabinet.specs.declared.part.Span.{Span}
 use Rattle.cabinet.specs.declared.part.Part.{Part}
 use Rattle.cabinet.specs.Parts.{Areas, rangesInside, shapeFits, roomFits}

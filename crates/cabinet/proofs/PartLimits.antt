@@ -19,9 +19,9 @@ use Rattle.casts.specs.Nearest.{Indexed, stopped}
 use Rattle.tree.specs.Layout.{Tree}
 use Rattle.tree.specs.Mesh.{Mesh, thirds}
 use Rattle.lists.proofs.JoinedTests.{and-first, and-second}
-use Rattle.tree_query.specs.Walk.{walkOf}
-use Rattle.tree_limit.specs.Looking.{Looked, looked, usedUp, nodesLooked, walkWithin}
-use Rattle.tree_limit.proofs.Limits.{within-is}
+use Rattle.tree_walk.specs.Walk.{walkOf}
+use Rattle.tree_walk.specs.Looking.{Looked, looked, usedUp, nodesLooked, walkWithin}
+use Rattle.tree_walk.proofs.Limits.{within-is}
 use Rattle.mesh.specs.MeshCast.{overWalk, meshCast}
 use Rattle.cabinet.specs.PartCast.{Costed, costing, limitReached, afterLook, castWithin, movedRay, castMoved, needOf, ownCast}
 use Rattle.cabinet.specs.PartCast.{limited}

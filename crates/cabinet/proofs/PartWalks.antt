@@ -18,12 +18,12 @@ use Rattle.casts.specs.Nearest.{Indexed, stopped, nearestOf}
 use Rattle.lists.specs.Lists.{sorted, allBelow}
 use Rattle.tree.specs.Layout.{Tree}
 use Rattle.tree.specs.Mesh.{Mesh, thirds, triangleAnswer}
-use Rattle.tree_query.specs.Walk.{walking, broken, ended}
-use Rattle.tree_query.specs.Areas.{Grown}
-use Rattle.tree_limit.specs.Looking.{Looked, looked, usedUp, endedLook, walkWithin}
-use Rattle.tree_limit.specs.Areas.{lookedBy, GrownBy}
-use Rattle.tree_limit.specs.declared.within.Limited.{Limited}
-use Rattle.tree_limit.specs.declared.within.Limited.the-variants.{Count, Broken, UsedUp}
+use Rattle.tree_walk.specs.Walk.{walking, broken, ended}
+use Rattle.tree_walk.specs.Areas.{Grown}
+use Rattle.tree_walk.specs.Looking.{Looked, looked, usedUp, endedLook, walkWithin}
+use Rattle.tree_walk.specs.LookAreas.{lookedBy, GrownBy}
+use Rattle.tree_walk.specs.declared.within.Limited.{Limited}
+use Rattle.tree_walk.specs.declared.within.Limited.the-variants.{Count, Broken, UsedUp}
 use Rattle.mesh.specs.MeshCast.{overWalk}
 use Rattle.cabinet.specs.PartCast.{Costed, costing, limitReached, afterLook, castWithin, movedRay, castMoved}
 

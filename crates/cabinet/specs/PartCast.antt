@@ -12,7 +12,7 @@ use Rattle.casts.specs.Answer.{overflow}
 use Rattle.casts.specs.Nearest.{Indexed, stopped}
 use Rattle.tree.specs.Layout.{Tree}
 use Rattle.tree.specs.Mesh.{Mesh, thirds}
-use Rattle.tree_limit.specs.Looking.{Looked, looked, usedUp, nodesLooked, walkWithin}
+use Rattle.tree_walk.specs.Looking.{Looked, looked, usedUp, nodesLooked, walkWithin}
 use Rattle.mesh.specs.MeshCast.{overWalk, meshCast}
 
 -- the table's number for a limit that is used up

@@ -3,15 +3,15 @@ use casts::nearest::IndexedCast;
 use geometry::ray::Ray;
 use geometry::vec3::Vec3;
 use mesh::candidates;
-use tree_limit::within;
-use tree_limit::within::Limited;
+use tree_walk::within;
+use tree_walk::within::Limited;
 ghost use mathlib.Core.Path.{_≡_};
 ghost use mathlib.Core.Bool.{true};
 ghost use lib.ListN.{length};
 ghost use Rattle.geometry.specs.Vector.{finiteVec};
 ghost use Rattle.tree.specs.Mesh.{thirds, mesh};
 ghost use Rattle.tree.specs.Layout.{treeOf};
-ghost use Rattle.tree_query.specs.Areas.{WalkRoom};
+ghost use Rattle.tree_walk.specs.Areas.{WalkRoom};
 ghost use Rattle.cabinet.specs.PartCast.{castWithin, castMoved};
 ghost use Rattle.cabinet.specs.Steps.{saysCost};
 

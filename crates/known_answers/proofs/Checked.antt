@@ -51,7 +51,7 @@ use Rattle.tree_ranges.specs.Keys.{laneOf, keyOf, standsBefore}
 use Rattle.tree_build.specs.Ranges.{sortedRange, leftRange, rightRange, extentsFinite, orderBelow, boxesBelow}
 use Rattle.tree_build.specs.Build.{zeroed, roomFor, treeWritten, builtOf, buildOf}
 use Rattle.tree.specs.Mesh.{eachBox, triangleFits, trianglesFit, boxesWritten}
-use Rattle.tree_query.specs.Walk.{times, takePlace, takePlaces, atLeaf, childFits, atBranch, atNode, takeNode, start, ended, walkOf}
+use Rattle.tree_walk.specs.Walk.{times, takePlace, takePlaces, atLeaf, childFits, atBranch, atNode, takeNode, start, ended, walkOf}
 use Rattle.tree_query.specs.Query.{treeFits, walkFits}
 use Rattle.mesh.specs.MeshCast.{shapeAdmitted, roomFor as mesh-roomFor, overWalk, meshCast, rayMesh}
 use Rattle.mesh.specs.Through.{throughBuilt}

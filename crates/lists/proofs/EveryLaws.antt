@@ -2,7 +2,7 @@
 use Prim.Native.Nat.{ℕ, zero, suc, _+_, _-_, _<_, _≤_}
 use mathlib.Core.Path.{_≡_, refl, sym, ap, _∙_}
 use mathlib.Core.Bool.{Bool, true, false, _&&_}
-use mathlib.Core.List.{List, [], _∷_}
+use mathlib.Core.List.{List, [], _∷_, _++_}
 use native.Mathlib.Omega.{arith}
 use native.Mathlib.Nat.{sub-zero}
 use borrow.Author.Tests.{eqb-true, eqb-false}
@@ -74,3 +74,13 @@ every-and p q (x ∷ l) = ap (λ (b : Bool). (p x && q x) && b) (every-and p q l
     between true false false d = refl
     between true false true d = refl
     between true true c d = refl
+
+-- one more number that passes, behind the others and before them
+pub every-snoc : (p : ℕ → Bool) (xs : List ℕ) (x : ℕ) → every p xs ≡ true → p x ≡ true → every p (xs ++ (x ∷ [])) ≡ true
+unfolding every
+every-snoc p [] x a b = simp b
+every-snoc p (y ∷ ys) x a b = simp (and-first (p y) (every p ys) a, every-snoc p ys x (and-second (p y) (every p ys) a) b)
+
+pub every-cons : (p : ℕ → Bool) (x : ℕ) (xs : List ℕ) → p x ≡ true → every p xs ≡ true → every p (x ∷ xs) ≡ true
+unfolding every
+every-cons p x xs a b = simp (a, b)

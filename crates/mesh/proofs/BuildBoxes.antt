@@ -1,4 +1,5 @@
--- The union of valid boxes is valid, encloses both and lies within each box that does; so the box of a range of triangles encloses each of theirs, and the box of any part of it. Each is shown on one axis and then on all. Assumes nothing.
+-- The union of valid boxes is valid, encloses both and lies within each box that does; so the box of a range of triangles encloses each of
+-- theirs, and the box of any part of it. Each is shown on one axis and then on all. Assumes nothing.
 use Prim.Native.Nat.{ℕ, _<_}
 use mathlib.Core.Path.{_≡_, refl, sym, subst}
 use mathlib.Core.Logic.{_⊎_, inl, inr, ⊎-elim}
@@ -10,7 +11,8 @@ use lib.ListN.{length}
 use Rattle.arithmetic.specs.Basic.{isFinite}
 use Rattle.arithmetic.specs.Extremes.{minimumOf, maximumOf}
 use Rattle.arithmetic.proofs.Order.{le-left-number, le-right-number, le-reflexive, le-transitive, eq-of-le-le}
-use Rattle.arithmetic.proofs.ExtremesOrder.{minimum-one, maximum-one, minimum-below-first, minimum-below-second, maximum-above-first, maximum-above-second}
+use Rattle.arithmetic.proofs.ExtremesOrder.{minimum-one, maximum-one, minimum-below-first, minimum-below-second, maximum-above-first}
+use Rattle.arithmetic.proofs.ExtremesOrder.{maximum-above-second}
 use Rattle.geometry.specs.Vector.{minOf, maxOf}
 use Rattle.geometry.specs.Box.{validSide, validBox, withinSide, encloses, sameSide, sameBox, unionOf}
 use Rattle.geometry.specs.declared.vec3.Vec3.{Vec3}
@@ -51,7 +53,8 @@ record Valid (low high : Float) : Type 0 where
 
 valid-of : (low high : Float) → Valid low high → validSide low high ≡ true
 unfolding validSide
-valid-of low high v = and-both (isFinite low) (isFinite high && le low high) (v .low-finite) (and-both (isFinite high) (le low high) (v .high-finite) (v .rises))
+valid-of low high v = and-both (isFinite low) (isFinite high && le low high) (v .low-finite)
+    (and-both (isFinite high) (le low high) (v .high-finite) (v .rises))
 
 of-valid : (low high : Float) → validSide low high ≡ true → Valid low high
 unfolding validSide
@@ -76,7 +79,8 @@ valid-on b h a = of-valid (on a (b .min)) (on a (b .max)) (axis-of-every (λ (a 
 
 valid-box : (b : Aabb) → ((a : Axis) → ValidOn a b) → validBox b ≡ true
 unfolding validBox
-valid-box b h = every-of-axis (λ (a : Axis). validSide (on a (b .min)) (on a (b .max))) (λ (a : Axis). valid-of (on a (b .min)) (on a (b .max)) (h a))
+valid-box b h = every-of-axis (λ (a : Axis). validSide (on a (b .min)) (on a (b .max)))
+    (λ (a : Axis). valid-of (on a (b .min)) (on a (b .max)) (h a))
 
 abbrev WithinOn : Axis → Aabb → Aabb → Type 0
 WithinOn a b c = (le (on a (b .min)) (on a (c .min)) ≡ true) × (le (on a (c .max)) (on a (b .max)) ≡ true)
@@ -84,8 +88,11 @@ WithinOn a b c = (le (on a (b .min)) (on a (c .min)) ≡ true) × (le (on a (c .
 within-on : (b c : Aabb) → encloses b c ≡ true → (a : Axis) → WithinOn a b c
 unfolding encloses withinSide
 within-on b c h a =
-    let side = axis-of-every (λ (a : Axis). le (on a (b .min)) (on a (c .min)) && le (on a (c .max)) (on a (b .max))) h a in
-    (and-first (le (on a (b .min)) (on a (c .min))) (le (on a (c .max)) (on a (b .max))) side, and-second (le (on a (b .min)) (on a (c .min))) (le (on a (c .max)) (on a (b .max))) side)
+    let side = axis-of-every (λ (a : Axis). le (on a (b .min)) (on a (c .min)) && le (on a (c .max)) (on a (b .max))) h a in (
+      and-first (le (on a (b .min)) (on a (c .min))) (le (on a (c .max)) (on a (b .max))) side,
+      and-second
+          (le (on a (b .min)) (on a (c .min))) (le (on a (c .max)) (on a (b .max))) side,
+    )
 
 enclosing : (b c : Aabb) → ((a : Axis) → WithinOn a b c) → encloses b c ≡ true
 unfolding encloses withinSide
@@ -96,7 +103,8 @@ enclosing b c h =
 -- ---- one box
 pub valid-same : (b : Aabb) → validBox b ≡ true → sameBox b b ≡ true
 unfolding sameBox sameSide
-valid-same b h = every-of-axis (λ (a : Axis). eq (on a (b .min)) (on a (b .min)) && eq (on a (b .max)) (on a (b .max))) (λ (a : Axis). both a (valid-on b h a))
+valid-same b h = every-of-axis (λ (a : Axis). eq (on a (b .min)) (on a (b .min)) && eq (on a (b .max)) (on a (b .max)))
+    (λ (a : Axis). both a (valid-on b h a))
   where
     self : (x : Float) → isNan x ≡ false → eq x x ≡ true
     self x n = eq-of-le-le x x (le-reflexive x n) (le-reflexive x n)
@@ -112,8 +120,11 @@ encloses-itself b h = enclosing b b (λ (a : Axis). let v = valid-on b h a in
     (le-reflexive (on a (b .min)) (low-number v), le-reflexive (on a (b .max)) (high-number v)))
 
 pub encloses-through : (b c d : Aabb) → encloses b c ≡ true → encloses c d ≡ true → encloses b d ≡ true
-encloses-through b c d h k = enclosing b d (λ (a : Axis). let u = within-on b c h a in let v = within-on c d k a in
-    (le-transitive (on a (b .min)) (on a (c .min)) (on a (d .min)) (u .0) (v .0), le-transitive (on a (d .max)) (on a (c .max)) (on a (b .max)) (v .1) (u .1)))
+encloses-through b c d h k = enclosing b d (λ (a : Axis). let u = within-on b c h a in let v = within-on c d k a in (
+  le-transitive (on a (b .min)) (on a (c .min)) (on a (d .min)) (u .0) (v .0),
+  le-transitive (on a (d .max)) (on a (c .max))
+      (on a (b .max)) (v .1) (u .1),
+))
 
 -- ---- the union of two
 union-low : (a : Axis) (b c : Aabb) → on a (unionOf b c .min) ≡ minimumOf (on a (b .min)) (on a (c .min))
@@ -176,8 +187,10 @@ union-valid b c p q = valid-box (unionOf b c) on-axis
         let w = valid-on c q a in
         let u = union-on b c p q a .0 in
         record {
-          low-finite = rw (union-low a b c) (minimum-keeps (λ (z : Float). isFinite z ≡ true) (on a (b .min)) (on a (c .min)) (v .low-finite) (w .low-finite));
-          high-finite = rw (union-high a b c) (maximum-keeps (λ (z : Float). isFinite z ≡ true) (on a (b .max)) (on a (c .max)) (v .high-finite) (w .high-finite));
+          low-finite = rw (union-low a b c) (minimum-keeps (λ (z : Float). isFinite z ≡ true) (on a (b .min)) (on a (c .min)) (v
+              .low-finite) (w .low-finite));
+          high-finite = rw (union-high a b c) (maximum-keeps (λ (z : Float). isFinite z ≡ true) (on a (b .max)) (on a (c .max)) (v
+              .high-finite) (w .high-finite));
           rises =
               le-transitive (on a (unionOf b c .min)) (on a (b .min)) (on a (unionOf b c .max)) (u .0)
               (le-transitive (on a (b .min)) (on a (b .max)) (on a (unionOf b c .max)) (v .rises) (u .1));
@@ -202,13 +215,15 @@ module _ (value : ℕ → Aabb) where
   unfolding folded
   folded-valid b [] p h = p
   folded-valid b (t ∷ ts) p h =
-      folded-valid (unionOf b (value t)) ts (union-valid b (value t) p (h t (head-listed t ts))) (λ (x : ℕ) (k : 0 < count x ts). h x (tail-listed x t ts k))
+      folded-valid (unionOf b (value t)) ts (union-valid b (value t) p (h t (head-listed t ts)))
+      (λ (x : ℕ) (k : 0 < count x ts). h x (tail-listed x t ts k))
 
   folded-within : (d b : Aabb) (ts : List ℕ) → encloses d b ≡ true → AllWithin d ts → encloses d (folded unionOf value b ts) ≡ true
   unfolding folded
   folded-within d b [] p h = p
   folded-within d b (t ∷ ts) p h =
-      folded-within d (unionOf b (value t)) ts (union-within b (value t) d p (h t (head-listed t ts))) (λ (x : ℕ) (k : 0 < count x ts). h x (tail-listed x t ts k))
+      folded-within d (unionOf b (value t)) ts (union-within b (value t) d p (h t (head-listed t ts)))
+      (λ (x : ℕ) (k : 0 < count x ts). h x (tail-listed x t ts k))
 
   folded-first : (b : Aabb) (ts : List ℕ) → validBox b ≡ true → AllValid ts → encloses (folded unionOf value b ts) b ≡ true
   unfolding folded
@@ -226,7 +241,8 @@ module _ (value : ℕ → Aabb) where
       let rest : AllValid ts = λ (x : ℕ) (k : 0 < count x ts). h x (tail-listed x t ts k) in
       let valid = h t (head-listed t ts) in
       let next = union-valid b (value t) p valid in
-      go (folded-each (unionOf b (value t)) ts next rest x) (folded-first (unionOf b (value t)) ts next rest) (union-second b (value t) p valid) (same-or-other x t)
+      go (folded-each (unionOf b (value t)) ts next rest x) (folded-first (unionOf b (value t)) ts next rest)
+      (union-second b (value t) p valid) (same-or-other x t)
     where
       go : (0 < count x ts → encloses (folded unionOf value (unionOf b (value t)) ts) (value x) ≡ true)
           → encloses (folded unionOf value (unionOf b (value t)) ts) (unionOf b (value t)) ≡ true

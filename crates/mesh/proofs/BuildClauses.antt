@@ -15,11 +15,14 @@ use Rattle.tree.specs.Mesh.{Mesh, thirds, cornersInside, triangleBox}
 use Rattle.lists.proofs.CountLaws.{one-same, one-other, count-cons, count-range-inside, range-bounds}
 use Rattle.tree_build.specs.Shape.{shapeOf, sizeOf, nodesOf}
 use Rattle.tree_build.proofs.Shapes.{sizeOf-shapeOf, nodesOf-shapeOf}
-use Rattle.tree_check.specs.Check.{triangleCount, nodes, isLeaf, isBranch, childrenOf, placesOf, kindsKnown, childrenAbove, leavesInside, namedOnce, placedOnce, orderedOnce, leavesFilled, cornersKnown, boxesSame, boxesValid, nodeEncloses, enclosed, clausesHold}
+use Rattle.tree_check.specs.Check.{triangleCount, nodes, isLeaf, isBranch, childrenOf, placesOf, kindsKnown, childrenAbove, leavesInside}
+use Rattle.tree_check.specs.Check.{namedOnce, placedOnce, orderedOnce, leavesFilled, cornersKnown, boxesSame, boxesValid, nodeEncloses}
+use Rattle.tree_check.specs.Check.{enclosed, clausesHold}
 use Rattle.mesh.proofs.BuildBoxes.{valid-same}
 use Rattle.mesh.proofs.BuildOrder.{shape-filled}
 use Rattle.mesh.proofs.BuildNodes.{Written, Kind, is-leaf, is-branch, NodeAt, nodes-below}
-use Rattle.mesh.proofs.BuildCounts.{branch-is-branch, branch-is-no-leaf, branch-names, branch-places, leaf-is-leaf, leaf-is-no-branch, leaf-names, leaf-holds, named-below, places-below}
+use Rattle.mesh.proofs.BuildCounts.{branch-is-branch, branch-is-no-leaf, branch-names, branch-places, leaf-is-leaf}
+use Rattle.mesh.proofs.BuildCounts.{leaf-is-no-branch, leaf-names, leaf-holds, named-below, places-below}
 
 -- ---- tests over a list and over a range
 pub every-of-listed : (p : ℕ → Bool) (l : List ℕ) → ((x : ℕ) → 0 < count x l → p x ≡ true) → every p l ≡ true
@@ -29,9 +32,11 @@ every-of-listed p (y ∷ l) h =
     and-both (p y) (every p l) (h y (omega (arith, count-cons y y l, one-same y y refl)))
     (every-of-listed p l (λ (x : ℕ) (k : 0 < count x l). h x (omega (arith, count-cons x y l))))
 
-pub every-of-range : (p : ℕ → Bool) (start size : ℕ) → ((x : ℕ) → start ≤ x → x < start + size → p x ≡ true) → every p (range start size) ≡ true
+pub every-of-range : (p : ℕ → Bool) (start size : ℕ) → ((x : ℕ) → start ≤ x → x < start + size → p x ≡ true) → every p (range start size) ≡
+    true
 every-of-range p start size h =
-    every-of-listed p (range start size) (λ (x : ℕ) (k : 0 < count x (range start size)). let b = range-bounds x start size k in h x (b .0) (b .1))
+    every-of-listed p (range start size) (λ (x : ℕ) (k : 0 < count x (range start size)). let b = range-bounds x start size k in h x (b .0)
+    (b .1))
 
 pub every-below : (p : ℕ → Bool) (size : ℕ) → ((x : ℕ) → x < size → p x ≡ true) → every p (range 0 size) ≡ true
 every-below p size h = every-of-range p 0 size (λ (x : ℕ) (a : 0 ≤ x) (b : x < 0 + size). h x (omega arith))
@@ -98,7 +103,8 @@ module _ (m : Mesh) (t : Tree) (b : Built m t) where
   children-above i (is-branch left right c) =
       or-second (not (isBranch m t i)) (differTest i && every (laterTest i) (childrenOf m t i))
       (and-both (differTest i) (every (laterTest i) (childrenOf m t i))
-      (ap not (ne-eqb (firstAt (t .nodeWords) i) (secondAt (t .nodeWords) i) (λ e. omega (arith, c .words .first-word, c .words .second-word, c .ordered))))
+      (ap not (ne-eqb (firstAt (t .nodeWords) i) (secondAt (t .nodeWords) i)
+      (λ e. omega (arith, c .words .first-word, c .words .second-word, c .ordered))))
       (every-two (laterTest i) (childrenOf m t i) left right (branch-names m t i left right (c .words))
       (later left (omega (arith, c .later)) (omega (arith, c .ordered, c .below)))
       (later right (omega (arith, c .later, c .ordered)) (omega (arith, c .below)))))
@@ -109,14 +115,16 @@ module _ (m : Mesh) (t : Tree) (b : Built m t) where
   leaf-inside : (i : ℕ) → Kind t n i → (not (isLeaf m t i) || leb (firstAt (t .nodeWords) i + secondAt (t .nodeWords) i) n) ≡ true
   leaf-inside i (is-leaf first size l) =
       or-second (not (isLeaf m t i)) (leb (firstAt (t .nodeWords) i + secondAt (t .nodeWords) i) n)
-      (le-leb (firstAt (t .nodeWords) i + secondAt (t .nodeWords) i) n (omega (arith, l .words .first-word, l .words .second-word, l .inside)))
+      (le-leb (firstAt (t .nodeWords) i + secondAt (t .nodeWords) i) n
+      (omega (arith, l .words .first-word, l .words .second-word, l .inside)))
   leaf-inside i (is-branch left right c) =
       or-first (not (isLeaf m t i)) (leb (firstAt (t .nodeWords) i + secondAt (t .nodeWords) i) n)
       (ap not (branch-is-no-leaf m t i left right (c .words)))
 
   leaf-filled : (i : ℕ) → Kind t n i → (not (isLeaf m t i) || ltb 0 (secondAt (t .nodeWords) i)) ≡ true
   leaf-filled i (is-leaf first size l) =
-      or-second (not (isLeaf m t i)) (ltb 0 (secondAt (t .nodeWords) i)) (lt-ltb 0 (secondAt (t .nodeWords) i) (omega (arith, l .words .second-word, l .filled)))
+      or-second (not (isLeaf m t i)) (ltb 0 (secondAt (t .nodeWords) i))
+      (lt-ltb 0 (secondAt (t .nodeWords) i) (omega (arith, l .words .second-word, l .filled)))
   leaf-filled i (is-branch left right c) =
       or-first (not (isLeaf m t i)) (ltb 0 (secondAt (t .nodeWords) i)) (ap not (branch-is-no-leaf m t i left right (c .words)))
 
@@ -142,7 +150,12 @@ module _ (m : Mesh) (t : Tree) (b : Built m t) where
   named i p q =
       let all = named-below m t 0 0 (shapeOf n) (range 0 n) (b .written) i in
       let same = ap (λ (k : ℕ). count i (gather (childrenOf m t) (range 0 k))) (b .node-count) in
-      omega (arith, one-other i 0 (λ e. omega arith), count-range-inside i 0 (nodesOf (shapeOf n)) (omega arith) (omega (arith, b .node-count)))
+      omega (
+        arith,
+        one-other i 0 (λ e. omega arith),
+        count-range-inside i 0 (nodesOf (shapeOf n)) (omega arith)
+            (omega (arith, b .node-count)),
+      )
 
   placed : (p : ℕ) → p < n → count p (gather (placesOf m t) (nodes m t)) ≡ 1
   placed p h =
@@ -155,7 +168,8 @@ module _ (m : Mesh) (t : Tree) (b : Built m t) where
 
   -- ---- the clauses
   pub built-passes : clausesHold m t ≡ true
-  unfolding clausesHold kindsKnown childrenAbove leavesInside namedOnce placedOnce orderedOnce leavesFilled cornersKnown boxesSame boxesValid enclosed
+  unfolding clausesHold kindsKnown childrenAbove leavesInside namedOnce placedOnce orderedOnce leavesFilled cornersKnown boxesSame
+      boxesValid enclosed
   built-passes =
       and-both _ _ (le-leb (t .nodeCount) (2 * n) (omega (arith, b .node-count, nodesOf-shapeOf n (b .some))))
       (and-both _ _ (each-node (λ (i : ℕ). isLeaf m t i || isBranch m t i) kind-known)
@@ -165,9 +179,11 @@ module _ (m : Mesh) (t : Tree) (b : Built m t) where
       (every-of-range (λ (i : ℕ). eqb (count i (gather (childrenOf m t) (nodes m t))) 1) 1 (t .nodeCount - 1)
       (λ (i : ℕ) (p : 1 ≤ i) (q : i < 1 + (t .nodeCount - 1)). eq-eqb (count i (gather (childrenOf m t) (nodes m t))) 1 (named i p q)))
       (and-both _ _
-      (every-below (λ (p : ℕ). eqb (count p (gather (placesOf m t) (nodes m t))) 1) n (λ (p : ℕ) (h : p < n). eq-eqb (count p (gather (placesOf m t) (nodes m t))) 1 (placed p h)))
+      (every-below (λ (p : ℕ). eqb (count p (gather (placesOf m t) (nodes m t))) 1) n
+      (λ (p : ℕ) (h : p < n). eq-eqb (count p (gather (placesOf m t) (nodes m t))) 1 (placed p h)))
       (and-both _ _
-      (every-below (λ (x : ℕ). eqb (count x (take n (t .order))) 1) n (λ (x : ℕ) (h : x < n). eq-eqb (count x (take n (t .order))) 1 (ordered x h)))
+      (every-below (λ (x : ℕ). eqb (count x (take n (t .order))) 1) n
+      (λ (x : ℕ) (h : x < n). eq-eqb (count x (take n (t .order))) 1 (ordered x h)))
       (and-both _ _ (each-node (λ (i : ℕ). not (isLeaf m t i) || ltb 0 (secondAt (t .nodeWords) i)) leaf-filled)
       (and-both _ _ (every-below (cornersInside (thirds (length (m .vertices))) (m .triangles)) n (b .corners))
       (and-both _ _ (every-below (λ (x : ℕ). sameBox (boxAt (t .triangleBoxes) x) (triangleBox (m .vertices) (m .triangles) x)) n same)

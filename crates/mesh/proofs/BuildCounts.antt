@@ -1,4 +1,5 @@
--- Below a shape that stands in a tree's areas each node but the first is named as a child once, and the leaves' places are those of its range, one after another. Assumes nothing.
+-- Below a shape that stands in a tree's areas each node but the first is named as a child once, and the leaves' places are those of its
+-- range, one after another. Assumes nothing.
 use Prim.Native.Nat.{ℕ, zero, suc, _+_}
 use native.Mathlib.Nat.{add-zero, zero-add}
 use mathlib.Core.Path.{_≡_, refl, sym, ap, _∙_}
@@ -35,7 +36,8 @@ range-branch node a b =
     let f : suc node ≡ node + 1 = omega arith in
     rw e (ap (λ (k : ℕ). node ∷ range k (a + b)) f ∙ ap (λ (r : List ℕ). node ∷ r) (range-parts (node + 1) a b))
 
-gather-branch : (f : ℕ → List ℕ) (node a b : ℕ) → gather f (range node (1 + (a + b))) ≡ f node ++ (gather f (range (node + 1) a) ++ gather f (range (node + 1 + a) b))
+gather-branch : (f : ℕ → List ℕ) (node a b : ℕ) → gather f (range node (1 + (a + b))) ≡ f node ++
+    (gather f (range (node + 1) a) ++ gather f (range (node + 1 + a) b))
 gather-branch f node a b =
     ap (gather f) (range-branch node a b)
     ∙ gather-cons f node (range (node + 1) a ++ range (node + 1 + a) b)
@@ -94,7 +96,8 @@ module _ (m : Mesh) (t : Tree) where
       omega (arith, count-nil x, ap (count x) (range-one node), count-cons x node [])
   named-below node start (branch l r) ts w x =
       let a = named-below (node + 1) start l (lefts t node start l r ts w) (written-left t node start l r ts w) x in
-      let b = named-below (node + 1 + nodesOf l) (start + sizeOf l) r (rights t node start l r ts w) (written-right t node start l r ts w) x in
+      let b = named-below (node + 1 + nodesOf l) (start + sizeOf l) r (rights t node start l r ts w) (written-right t node start l r ts w)
+      x in
       let names = ap (count x) (branch-names m t node (node + 1) (node + 1 + nodesOf l) (branch-words t node start l r ts w)) in
       let lefts = gather (childrenOf m t) (range (node + 1) (nodesOf l)) in
       let rights = gather (childrenOf m t) (range (node + 1 + nodesOf l) (nodesOf r)) in
@@ -112,12 +115,14 @@ module _ (m : Mesh) (t : Tree) where
       )
 
   -- the leaves' places, one after another
-  pub places-below : (node start : ℕ) (s : Shape) (ts : List ℕ) → Written t node start s ts → gather (placesOf m t) (range node (nodesOf s)) ≡ range start (sizeOf s)
+  pub places-below : (node start : ℕ) (s : Shape) (ts : List ℕ) → Written t node start s ts → gather (placesOf m t) (range node (nodesOf s))
+      ≡ range start (sizeOf s)
   unfolding nodesOf sizeOf
   places-below node start (leaf n) ts w = gather-one (placesOf m t) node ∙ leaf-holds m t node start n (leaf-words t node start n ts w)
   places-below node start (branch l r) ts w =
       let rest : List ℕ → List ℕ =
-      λ (p : List ℕ). p ++ (gather (placesOf m t) (range (node + 1) (nodesOf l)) ++ gather (placesOf m t) (range (node + 1 + nodesOf l) (nodesOf r)))
+      λ (p : List ℕ). p ++ (gather (placesOf m t) (range (node + 1) (nodesOf l)) ++ gather (placesOf m t) (range (node + 1 + nodesOf l)
+      (nodesOf r)))
       in
       gather-branch (placesOf m t) node (nodesOf l) (nodesOf r)
       ∙ ap rest (branch-places m t node (node + 1) (node + 1 + nodesOf l) (branch-words t node start l r ts w))

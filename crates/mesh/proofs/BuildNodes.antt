@@ -1,4 +1,5 @@
--- Where the words, boxes and order below a shape stand in a tree's areas, so do those of its halves; and each node below it is a filled leaf or a branch with two later children, whose valid box encloses what stands below it. Assumes nothing.
+-- Where the words, boxes and order below a shape stand in a tree's areas, so do those of its halves; and each node below it is a filled
+-- leaf or a branch with two later children, whose valid box encloses what stands below it. Assumes nothing.
 use Prim.Native.Nat.{ℕ, _+_, _-_, _*_, _≤_, _<_}
 use mathlib.Core.Path.{_≡_, refl, ap, _∙_, subst}
 use mathlib.Core.Logic.{_⊎_, inl, inr}
@@ -73,8 +74,10 @@ module _ (t : Tree) where
 
     pub written-left : Written (node + 1) start l lefts
     written-left = record {
-      words = run-first 0 (t .nodeWords) (3 * (node + 1)) (wordsOf (node + 1) start l) (wordsOf (node + 1 + nodesOf l) (start + sizeOf l) r) words-below;
-      boxes = run-first nan (t .nodeBoxes) (6 * (node + 1)) (boxesBelow (t .triangleBoxes) l lefts) (boxesBelow (t .triangleBoxes) r rights) boxes-below;
+      words = run-first 0 (t .nodeWords) (3 * (node + 1)) (wordsOf (node + 1) start l) (wordsOf (node + 1 + nodesOf l) (start + sizeOf l) r)
+          words-below;
+      boxes = run-first nan (t .nodeBoxes) (6 * (node + 1)) (boxesBelow (t .triangleBoxes) l lefts) (boxesBelow (t .triangleBoxes) r rights)
+          boxes-below;
       placed = run-first 0 (t .order) start (orderBelow (t .triangleBoxes) l lefts) (orderBelow (t .triangleBoxes) r rights) places-below;
       long = long-left;
     }
@@ -82,10 +85,12 @@ module _ (t : Tree) where
     pub written-right : Written (node + 1 + nodesOf l) (start + sizeOf l) r rights
     written-right = record {
       words =
-          run-second 0 (t .nodeWords) (3 * (node + 1)) (wordsOf (node + 1) start l) (wordsOf (node + 1 + nodesOf l) (start + sizeOf l) r) words-below
+          run-second 0 (t .nodeWords) (3 * (node + 1)) (wordsOf (node + 1) start l) (wordsOf (node + 1 + nodesOf l) (start + sizeOf l) r)
+          words-below
           (3 * (node + 1 + nodesOf l)) (omega (arith, three-words-a-node (node + 1) start l));
       boxes =
-          run-second nan (t .nodeBoxes) (6 * (node + 1)) (boxesBelow (t .triangleBoxes) l lefts) (boxesBelow (t .triangleBoxes) r rights) boxes-below
+          run-second nan (t .nodeBoxes) (6 * (node + 1)) (boxesBelow (t .triangleBoxes) l lefts) (boxesBelow (t .triangleBoxes) r rights)
+          boxes-below
           (6 * (node + 1 + nodesOf l)) (omega (arith, six-numbers-a-node (t .triangleBoxes) l lefts));
       placed =
           run-second 0 (t .order) start (orderBelow (t .triangleBoxes) l lefts) (orderBelow (t .triangleBoxes) r rights) places-below
@@ -98,20 +103,23 @@ module _ (t : Tree) where
   leaf-words node start n ts w = run-words (t .nodeWords) node 0 start n (w .words)
 
   -- the first box below a shape is that of its range
-  first-box : (node start : ℕ) (s : Shape) (ts : List ℕ) → Written node start s ts → boxAt (t .nodeBoxes) node ≡ hullOf (t .triangleBoxes) ts
+  first-box : (node start : ℕ) (s : Shape) (ts : List ℕ) → Written node start s ts → boxAt (t .nodeBoxes) node ≡ hullOf (t .triangleBoxes)
+      ts
   unfolding boxesBelow
   first-box node start (leaf n) ts w = run-box (t .nodeBoxes) node (hullOf (t .triangleBoxes) ts) (w .boxes)
   first-box node start (branch l r) ts w =
       run-box (t .nodeBoxes) node (hullOf (t .triangleBoxes) ts)
       (run-first nan (t .nodeBoxes) (6 * node) (boxNumbers (hullOf (t .triangleBoxes) ts))
-      (boxesBelow (t .triangleBoxes) l (leftRange (t .triangleBoxes) l ts) ++ boxesBelow (t .triangleBoxes) r (rightRange (t .triangleBoxes) l ts)) (w .boxes))
+      (boxesBelow (t .triangleBoxes) l (leftRange (t .triangleBoxes) l ts) ++ boxesBelow (t .triangleBoxes) r
+      (rightRange (t .triangleBoxes) l ts)) (w .boxes))
 
   -- ---- a node of a tree over n triangles
   pub record LeafAt (n i first size : ℕ) : Type 0 where
     pub words : Words (t .nodeWords) i 0 first size
     pub filled : 0 < size
     pub inside : first + size ≤ n
-    pub holds : (p : ℕ) → first ≤ p → p < first + size → encloses (boxAt (t .nodeBoxes) i) (boxAt (t .triangleBoxes) (wordAt (t .order) p)) ≡ true
+    pub holds : (p : ℕ) → first ≤ p → p < first + size → encloses (boxAt (t .nodeBoxes) i) (boxAt (t .triangleBoxes) (wordAt (t .order) p))
+        ≡ true
 
   pub record BranchAt (i left right : ℕ) : Type 0 where
     pub words : Words (t .nodeWords) i 1 left right
@@ -130,7 +138,8 @@ module _ (t : Tree) where
     pub kinds : Kind n i
 
   -- the box of a range encloses that of a part of it
-  part-enclosed : (node part : ℕ) (ts us : List ℕ) → boxAt (t .nodeBoxes) node ≡ hullOf (t .triangleBoxes) ts → boxAt (t .nodeBoxes) part ≡ hullOf (t .triangleBoxes) us
+  part-enclosed : (node part : ℕ) (ts us : List ℕ) → boxAt (t .nodeBoxes) node ≡ hullOf (t .triangleBoxes) ts → boxAt (t .nodeBoxes) part ≡
+      hullOf (t .triangleBoxes) us
       → 0 < length us → AllValid (boxAt (t .triangleBoxes)) ts → ((x : ℕ) → count x us ≤ count x ts)
       → encloses (boxAt (t .nodeBoxes) node) (boxAt (t .nodeBoxes) part) ≡ true
   part-enclosed node part ts us e f some valid within =
@@ -172,7 +181,8 @@ module _ (t : Tree) where
               ordered = omega (arith, some-node l);
               below = omega (arith, some-node r);
               holds-left =
-                  part-enclosed node (node + 1) ts (lefts node start l r ts w) (first-box node start (branch l r) ts w) (first-box (node + 1) start l (lefts node start l r ts w) wl)
+                  part-enclosed node (node + 1) ts (lefts node start l r ts w) (first-box node start (branch l r) ts w)
+                  (first-box (node + 1) start l (lefts node start l r ts w) wl)
                   (omega (arith, wl .long, filled-size l (f .0))) valid (λ (x : ℕ). omega (arith, count-halves (t .triangleBoxes) l ts x));
               holds-right =
                   part-enclosed node (node + 1 + nodesOf l) ts (rights node start l r ts w) (first-box node start (branch l r) ts w)
@@ -180,7 +190,8 @@ module _ (t : Tree) where
                   (omega (arith, wr .long, filled-size r (f .1))) valid (λ (x : ℕ). omega (arith, count-halves (t .triangleBoxes) l ts x));
             }
 
-    pub nodes-below : (node start : ℕ) (s : Shape) (ts : List ℕ) → Written node start s ts → Filled s → AllValid (boxAt (t .triangleBoxes)) ts
+    pub nodes-below : (node start : ℕ) (s : Shape) (ts : List ℕ) → Written node start s ts → Filled s → AllValid (boxAt (t .triangleBoxes))
+        ts
         → node + nodesOf s ≤ t .nodeCount → start + sizeOf s ≤ n → (i : ℕ) → node ≤ i → i < node + nodesOf s → NodeAt n i
     unfolding nodesOf sizeOf
     nodes-below node start (leaf k) ts w f valid few fits i a b =
@@ -189,12 +200,15 @@ module _ (t : Tree) where
     nodes-below node start (branch l r) ts w f valid few fits i a b =
         go (first-node node start (branch l r) ts w f valid few fits)
         (nodes-below (node + 1) start l (lefts node start l r ts w) (written-left node start l r ts w) (f .0)
-        (λ (x : ℕ) (k : 0 < count x (lefts node start l r ts w)). valid x (omega (arith, count-halves (t .triangleBoxes) l ts x))) (omega arith) (omega arith) i)
+        (λ (x : ℕ) (k : 0 < count x (lefts node start l r ts w)). valid x (omega (arith, count-halves (t .triangleBoxes) l ts x)))
+        (omega arith) (omega arith) i)
         (nodes-below (node + 1 + nodesOf l) (start + sizeOf l) r (rights node start l r ts w) (written-right node start l r ts w) (f .1)
-        (λ (x : ℕ) (k : 0 < count x (rights node start l r ts w)). valid x (omega (arith, count-halves (t .triangleBoxes) l ts x))) (omega arith) (omega arith) i)
+        (λ (x : ℕ) (k : 0 < count x (rights node start l r ts w)). valid x (omega (arith, count-halves (t .triangleBoxes) l ts x)))
+        (omega arith) (omega arith) i)
         (same-or-other node i) (ltb i (node + 1 + nodesOf l)) refl
       where
-        go : NodeAt n node → (node + 1 ≤ i → i < node + 1 + nodesOf l → NodeAt n i) → (node + 1 + nodesOf l ≤ i → i < node + 1 + nodesOf l + nodesOf r → NodeAt n i)
+        go : NodeAt n node → (node + 1 ≤ i → i < node + 1 + nodesOf l → NodeAt n i) →
+            (node + 1 + nodesOf l ≤ i → i < node + 1 + nodesOf l + nodesOf r → NodeAt n i)
             → (node ≡ i) ⊎ (node ≡ i → ⊥) → (b : Bool) → ltb i (node + 1 + nodesOf l) ≡ b → NodeAt n i
         go here left right (inl e) b c = subst (λ (j : ℕ). NodeAt n j) e here
         go here left right (inr d) true c = left (omega (arith, d)) (ltb-true i (node + 1 + nodesOf l) c)

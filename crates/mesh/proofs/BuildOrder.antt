@@ -1,4 +1,5 @@
--- Sorting, halving and the order that the build leaves keep each number of a range, as often as it stands there, and its length; and a shape of triangles has no empty leaf. Assumes nothing.
+-- Sorting, halving and the order that the build leaves keep each number of a range, as often as it stands there, and its length; and a
+-- shape of triangles has no empty leaf. Assumes nothing.
 use Prim.Native.Nat.{ℕ, zero, suc, _+_, _-_, _/_, _≤_, _<_}
 use mathlib.Core.Path.{_≡_, refl, sym, ap, _∙_}
 use mathlib.Core.Bool.{Bool, true, false, cond}

@@ -1,4 +1,5 @@
--- The last sentence of demand 3 holds: where the build answers with a node count, it has written the tree of an admitted mesh with some triangles, and that tree passes the check. Assumes nothing.
+-- The last sentence of demand 3 holds: where the build answers with a node count, it has written the tree of an admitted mesh with some
+-- triangles, and that tree passes the check. Assumes nothing.
 use Prim.Native.Nat.{ℕ, _*_, _<_, _≤_}
 use mathlib.Core.Path.{_≡_, refl, sym, ap, _∙_}
 use mathlib.Core.Bool.{Bool, true, false, _&&_, cond}
@@ -14,12 +15,12 @@ use Rattle.lists.proofs.JoinedTests.{and-first, and-second}
 use Rattle.casts.specs.Answer.{badShape, noRoom, outOfBounds, overflow}
 use Rattle.lists.specs.Lists.{range, count}
 use Rattle.tree.specs.Layout.{Tree, Areas, treeIn}
-use Rattle.tree.specs.Mesh.{Mesh, thirds, lengthsAdmitted, cornersInside, triangleBox}
+use Rattle.tree.specs.Mesh.{Mesh, thirds, lengthsAdmitted, cornersInside, triangleBox, eachBox, triangleCount, triangleFits, trianglesFit}
 use Rattle.lists.proofs.CountLaws.{every-at, member-of-count, length-range, count-range-inside}
 use Rattle.tree_build.specs.Shape.{shapeOf, nodesOf, wordsOf}
 use Rattle.tree_build.specs.Ranges.{extentsFinite, orderBelow, boxesBelow}
 use Rattle.tree_build.specs.Build.{Outcome, nodes, refused, zeroed, roomFor, treeWritten, builtOf, buildOf}
-use Rattle.tree.specs.Mesh.{eachBox, triangleCount, triangleFits, trianglesFit, boxesWritten}
+use Rattle.tree.specs.Mesh.{boxesWritten}
 use Rattle.tree_build.proofs.Shapes.{sizeOf-shapeOf}
 use Rattle.tree_check.specs.Check.{clausesHold, treePasses}
 use Rattle.tree_check.specs.Verdict.{roomFor as roomToCheck}
@@ -41,7 +42,8 @@ module _ (o : Outcome) (number : ℕ) (left : Areas) (count : ℕ) where
   taken true h = (refl, refl)
   taken false h = absurd (no-refusal number count h)
 
-  taken-else : (b : Bool) → cond b (refusedWith number left) o .answer ≡ nodes count → (b ≡ false) × (cond b (refusedWith number left) o ≡ o)
+  taken-else : (b : Bool) → cond b (refusedWith number left) o .answer ≡ nodes count → (b ≡ false) ×
+      (cond b (refusedWith number left) o ≡ o)
   taken-else true h = absurd (no-refusal number count h)
   taken-else false h = (refl, refl)
 
@@ -104,7 +106,8 @@ module _ (m : Mesh) (a : Areas) (some : 0 < triangleCount m) (fit : trianglesFit
 
   triangle-fits : (x : ℕ) → x < n → triangleFits m x ≡ true
   unfolding trianglesFit
-  triangle-fits x h = every-at (triangleFits m) (range 0 n) fit x (member-of-count x (range 0 n) (omega (arith, count-range-inside x 0 n (omega arith) (omega arith))))
+  triangle-fits x h = every-at (triangleFits m) (range 0 n) fit x
+      (member-of-count x (range 0 n) (omega (arith, count-range-inside x 0 n (omega arith) (omega arith))))
 
   pub tree-built : Built m tree
   unfolding treeWritten boxesWritten triangleFits
@@ -113,7 +116,8 @@ module _ (m : Mesh) (a : Areas) (some : 0 < triangleCount m) (fit : trianglesFit
     node-count = refl;
     written = record {
       words = run-front 0 (wordsOf 0 0 (shapeOf n)) (drop (length (wordsOf 0 0 (shapeOf n))) (a .nodeWords));
-      boxes = run-front nan (boxesBelow boxes (shapeOf n) (range 0 n)) (drop (length (boxesBelow boxes (shapeOf n) (range 0 n))) (a .nodeBoxes));
+      boxes = run-front nan (boxesBelow boxes (shapeOf n) (range 0 n))
+          (drop (length (boxesBelow boxes (shapeOf n) (range 0 n))) (a .nodeBoxes));
       placed = run-front 0 ordered (drop (length ordered) (a .order));
       long = length-range 0 n ∙ sym (sizeOf-shapeOf n);
     };
@@ -121,13 +125,16 @@ module _ (m : Mesh) (a : Areas) (some : 0 < triangleCount m) (fit : trianglesFit
         λ (x : ℕ).
         ap (count x) (take-at ordered (drop (length ordered) (a .order)) n (length-order boxes (shapeOf n) (range 0 n) ∙ length-range 0 n))
         ∙ count-order boxes (shapeOf n) (range 0 n) x;
-    corners = λ (x : ℕ) (h : x < n). and-first (cornersInside (thirds (length (m .vertices))) (m .triangles) x) (validBox (triangleBox (m .vertices) (m .triangles) x)) (triangle-fits x h);
+    corners = λ (x : ℕ) (h : x < n). and-first (cornersInside (thirds (length (m .vertices))) (m .triangles) x)
+        (validBox (triangleBox (m .vertices) (m .triangles) x)) (triangle-fits x h);
     boxes =
         λ (x : ℕ) (h : x < n).
         run-boxes boxes (triangleBox (m .vertices) (m .triangles)) 0 n
-        (run-front nan (eachBox (triangleBox (m .vertices) (m .triangles)) (range 0 n)) (drop (length (eachBox (triangleBox (m .vertices) (m .triangles)) (range 0 n))) (a .triangleBoxes)))
+        (run-front nan (eachBox (triangleBox (m .vertices) (m .triangles)) (range 0 n))
+        (drop (length (eachBox (triangleBox (m .vertices) (m .triangles)) (range 0 n))) (a .triangleBoxes)))
         x (omega arith) (omega arith);
-    boxes-valid = λ (x : ℕ) (h : x < n). and-second (cornersInside (thirds (length (m .vertices))) (m .triangles) x) (validBox (triangleBox (m .vertices) (m .triangles) x)) (triangle-fits x h);
+    boxes-valid = λ (x : ℕ) (h : x < n). and-second (cornersInside (thirds (length (m .vertices))) (m .triangles) x)
+        (validBox (triangleBox (m .vertices) (m .triangles) x)) (triangle-fits x h);
   }
     where
       boxes : List Float
@@ -147,7 +154,8 @@ over-long new old k h =
     le-leb k (length (new ++ drop (length new) old)) (simp (length-append, length-drop) (omega arith))
 
 room-to-check : (m : Mesh) (a : Areas) (work marks : ℕ) → roomFor (triangleCount m) a work ≡ true → 3 * triangleCount m ≤ marks
-    → roomToCheck (triangleCount m) (length (treeWritten m a .nodeBoxes)) (length (treeWritten m a .triangleBoxes)) (length (treeWritten m a .nodeWords)) (length (treeWritten m a .order)) marks ≡ true
+    → roomToCheck (triangleCount m) (length (treeWritten m a .nodeBoxes)) (length (treeWritten m a .triangleBoxes))
+    (length (treeWritten m a .nodeWords)) (length (treeWritten m a .order)) marks ≡ true
 unfolding roomFor roomToCheck treeWritten boxesWritten
 room-to-check m a work marks h long =
     let n = triangleCount m in
@@ -159,10 +167,21 @@ room-to-check m a work marks h long =
     let h1 = and-second boxes (around && (words && (ordered && worked))) h in
     let h2 = and-second around (words && (ordered && worked)) h1 in
     let h3 = and-second words (ordered && worked) h2 in
-    simp
-    (over-long (boxesBelow (boxesWritten m (a .triangleBoxes)) (shapeOf n) (range 0 n)) (a .nodeBoxes) (12 * n) (and-first boxes (around && (words && (ordered && worked))) h), over-long (eachBox (triangleBox (m .vertices) (m .triangles)) (range 0 n)) (a .triangleBoxes) (6 * n) (and-first around (words && (ordered && worked)) h1), over-long (wordsOf 0 0 (shapeOf n)) (a .nodeWords) (6 * n) (and-first words (ordered && worked) h2), over-long (orderBelow (boxesWritten m (a .triangleBoxes)) (shapeOf n) (range 0 n)) (a .order) n (and-first ordered worked h3), le-leb (3 * n) marks long)
+    simp (
+      over-long (boxesBelow (boxesWritten m (a .triangleBoxes)) (shapeOf n) (range 0 n)) (a .nodeBoxes) (12 * n)
+          (and-first boxes (around && (words && (ordered && worked))) h),
+      over-long
+          (eachBox (triangleBox (m .vertices) (m .triangles)) (range 0 n)) (a .triangleBoxes) (6 * n)
+          (and-first around (words && (ordered && worked)) h1),
+      over-long (wordsOf 0 0 (shapeOf n)) (a .nodeWords) (6 * n)
+          (and-first words (ordered && worked) h2),
+      over-long (orderBelow (boxesWritten m (a .triangleBoxes)) (shapeOf n) (range 0 n))
+          (a .order) n (and-first ordered worked h3),
+      le-leb (3 * n) marks long,
+    )
 
-built-tree-passes : (m : Mesh) (areas : Areas) (work count : ℕ) → buildOf m areas work .answer ≡ nodes count → treePasses m (treeIn count (buildOf m areas work .after)) ≡ true
+built-tree-passes : (m : Mesh) (areas : Areas) (work count : ℕ) → buildOf m areas work .answer ≡ nodes count → treePasses m
+    (treeIn count (buildOf m areas work .after)) ≡ true
 unfolding treePasses
 built-tree-passes m areas work count h =
     let c = build-accepted m areas work count h in
@@ -181,6 +200,7 @@ built-trees-pass m areas work count marks h long =
     let p = build-passed m areas work count h in
     let c = build-accepted m areas work count h in
     passes-yes m (treeIn count (buildOf m areas work .after)) marks (p .lengths)
-    (ap (λ (o : Outcome). roomToCheck (triangleCount m) (length (o .after .nodeBoxes)) (length (o .after .triangleBoxes)) (length (o .after .nodeWords)) (length (o .after .order)) marks) (c .outcome)
+    (ap (λ (o : Outcome). roomToCheck (triangleCount m) (length (o .after .nodeBoxes)) (length (o .after .triangleBoxes))
+    (length (o .after .nodeWords)) (length (o .after .order)) marks) (c .outcome)
     ∙ room-to-check m areas work marks (p .room) long)
     (built-tree-passes m areas work count h)

@@ -1,4 +1,5 @@
--- Which lists stand in an area from a place on: the parts of such a list stand there too, a node's words and a box are read from them, and so is the box of each triangle. Assumes nothing.
+-- Which lists stand in an area from a place on: the parts of such a list stand there too, a node's words and a box are read from them, and
+-- so is the box of each triangle. Assumes nothing.
 use Prim.Native.Nat.{ℕ, zero, suc, _+_, _*_, _≤_, _<_}
 use native.Mathlib.Nat.{add-zero, zero-add}
 use mathlib.Core.Path.{_≡_, refl, sym, ap, _∙_}
@@ -26,7 +27,10 @@ module _ {A : Type 0} (d : A) where
 
   module _ (area : List A) (place : ℕ) (xs ys : List A) (r : Run d area place (xs ++ ys)) where
     pub run-first : Run d area place xs
-    run-first = record { reads = λ (i : ℕ) (h : i < length xs). r .reads i (omega (arith, length-append xs ys)) ∙ List·getD-append xs ys d i h }
+    run-first = record {
+      reads = λ (i : ℕ) (h : i < length xs). r .reads i (omega (arith, length-append xs ys)) ∙ List·getD-append xs ys d i
+          h;
+    }
 
     pub run-second : (after : ℕ) → place + length xs ≡ after → Run d area after ys
     run-second after e = record {
@@ -45,7 +49,8 @@ pub run-box : (area : List Float) (i : ℕ) (b : Aabb) → Run nan area (6 * i) 
 unfolding boxAt vectorAt boxNumbers
 run-box area i b r =
     let p = ap (λ (k : ℕ). getD area k nan) (sym (add-zero (6 * i))) ∙ r .reads 0 (omega arith) in
-    let at : (k j : ℕ) → k ≡ 6 * i + j → getD area k nan ≡ getD area (6 * i + j) nan = λ (k j : ℕ) (e : k ≡ 6 * i + j). ap (λ (k : ℕ). getD area k nan) e in
+    let at : (k j : ℕ) → k ≡ 6 * i + j → getD area k nan ≡ getD area (6 * i + j) nan = λ (k j : ℕ) (e : k ≡ 6 * i + j). ap
+    (λ (k : ℕ). getD area k nan) e in
     simp (
       p,
       r .reads 1 (omega arith),
@@ -63,7 +68,8 @@ pub record Words (area : List ℕ) (node kind first second : ℕ) : Type 0 where
   pub first-word : firstAt area node ≡ first
   pub second-word : secondAt area node ≡ second
 
-pub run-words : (area : List ℕ) (node kind first second : ℕ) → Run 0 area (3 * node) (kind ∷ (first ∷ (second ∷ []))) → Words area node kind first second
+pub run-words : (area : List ℕ) (node kind first second : ℕ) → Run 0 area (3 * node) (kind ∷ (first ∷ (second ∷ []))) → Words area node kind
+    first second
 run-words area node kind first second r = record {
   kind-word = ap (λ (k : ℕ). getD area k 0) (sym (add-zero (3 * node))) ∙ r .reads 0 (omega arith);
   first-word = r .reads 1 (omega arith);
@@ -71,12 +77,16 @@ run-words area node kind first second r = record {
 }
 
 -- ---- one box after another
-pub run-boxes : (area : List Float) (box : ℕ → Aabb) (start size : ℕ) → Run nan area (6 * start) (eachBox box (range start size)) → (x : ℕ) → start ≤ x → x < start + size → boxAt area x ≡ box x
+pub run-boxes : (area : List Float) (box : ℕ → Aabb) (start size : ℕ) → Run nan area (6 * start) (eachBox box (range start size)) → (x : ℕ)
+    → start ≤ x → x < start + size → boxAt area x ≡ box x
 unfolding eachBox range
 run-boxes area box start zero r x p q = absurd (omega arith)
 run-boxes area box start (suc size) r x p q = go (run-boxes area box (suc start) size) (same-or-other x start)
   where
-    go : (Run nan area (6 * suc start) (eachBox box (range (suc start) size)) → (x : ℕ) → suc start ≤ x → x < suc start + size → boxAt area x ≡ box x) → (x ≡ start) ⊎ (x ≡ start → ⊥) → boxAt area x ≡ box x
-    go rest (inl e) = rw e (run-box area start (box start) (run-first nan area (6 * start) (boxNumbers (box start)) (eachBox box (range (suc start) size)) r))
+    go : (Run nan area (6 * suc start) (eachBox box (range (suc start) size)) → (x : ℕ) → suc start ≤ x → x < suc start + size → boxAt area
+        x ≡ box x) → (x ≡ start) ⊎ (x ≡ start → ⊥) → boxAt area x ≡ box x
+    go rest (inl e) = rw e (run-box area start (box start) (run-first nan area (6 * start) (boxNumbers (box start)) (eachBox box (range (suc
+        start) size)) r))
     go rest (inr n) =
-        rest (run-second nan area (6 * start) (boxNumbers (box start)) (eachBox box (range (suc start) size)) r (6 * suc start) (omega (arith, six-numbers (box start)))) x (omega (arith, n)) (omega arith)
+        rest (run-second nan area (6 * start) (boxNumbers (box start)) (eachBox box (range (suc start) size)) r (6 * suc start)
+        (omega (arith, six-numbers (box start)))) x (omega (arith, n)) (omega arith)

@@ -16,25 +16,27 @@ use Rattle.geometry.specs.declared.aabb.Aabb.{Aabb}
 use Rattle.geometry.specs.declared.ray.Ray.{Ray}
 use Rattle.geometry.proofs.BoxLaws.{segment-box-valid}
 use Rattle.casts.specs.Answer.{invalidInput, badShape, noRoom, wrongPose, outOfBounds, overflow}
-use Rattle.casts.specs.Nearest.{Indexed, stopped, nearestOf}
-use Rattle.lists.specs.Lists.{sorted, allBelow}
+use Rattle.casts.specs.Nearest.{Indexed, stopped, noHit, foldFrom, nearestOf}
+use Rattle.lists.specs.Lists.{sortBy, sorted, allBelow}
 use Rattle.tree.specs.Layout.{Tree}
 use Rattle.tree.specs.Mesh.{Mesh, thirds, lengthsAdmitted, triangleAnswer}
 use Rattle.lists.proofs.JoinedTests.{and-first, and-second}
-use Rattle.tree_query.specs.Walk.{walking, broken, ended, walkOf}
-use Rattle.tree_query.specs.Areas.{listed, Grown, GrownTo}
-use Rattle.tree_query.specs.declared.step.Filled.{Filled}
-use Rattle.tree_query.specs.declared.step.Filled.the-variants.{Count, Broken}
+use Rattle.tree_walk.specs.Walk.{walking, broken, ended, walkOf}
+use Rattle.tree_walk.specs.Areas.{listed, Grown, GrownTo}
+use Rattle.tree_walk.specs.declared.step.Filled.{Filled}
+use Rattle.tree_walk.specs.declared.step.Filled.the-variants.{Count, Broken}
 use Rattle.tree_query.specs.Query.{walkFits}
 use Rattle.lists.proofs.RefusalLaws as Refusals
 use Rattle.mesh.specs.MeshCast.{shapeAdmitted, roomFor, meshTests, testsPass, overWalk, meshCast, rayMesh}
 
 -- what admitted lengths say of the counts
-module _ (vertices triangles pose nodes : ℕ) (h : (lengthsAdmitted vertices triangles && (lengthsAdmitted pose triangles && leb nodes (2 * thirds triangles))) ≡ true) where
+module _ (vertices triangles pose nodes : ℕ) (h : (lengthsAdmitted vertices triangles && (lengthsAdmitted pose triangles && leb nodes (2 *
+    thirds triangles))) ≡ true) where
   pub triangles-few : thirds triangles ≤ 65536
   unfolding lengthsAdmitted
   triangles-few =
-      let a : lengthsAdmitted vertices triangles ≡ true = and-first (lengthsAdmitted vertices triangles) (lengthsAdmitted pose triangles && leb nodes (2 * thirds triangles)) h in
+      let a : lengthsAdmitted vertices triangles ≡ true = and-first (lengthsAdmitted vertices triangles)
+      (lengthsAdmitted pose triangles && leb nodes (2 * thirds triangles)) h in
       let b = and-second (leb vertices 196608) (eqb (triangles % 3) 0 && leb triangles 196608)
       (and-second (eqb (vertices % 3) 0) (leb vertices 196608 && (eqb (triangles % 3) 0 && leb triangles 196608)) a) in
       let k : triangles ≤ 196608 = leb-true triangles 196608 (and-second (eqb (triangles % 3) 0) (leb triangles 196608) b) in
@@ -58,7 +60,8 @@ module _ (r : Ray) (m : Mesh) (pose : List Float) (t : Tree) where
   unfolding meshCast
   cast-overflow h = simp h
 
-  module _ (v : rayAdmitted r ≡ true) (f : finiteVec (segmentEnd r) ≡ true) (box : Aabb) (b : box ≡ segmentBox r) (x : Filled) (exit : List ℕ)
+  module _ (v : rayAdmitted r ≡ true) (f : finiteVec (segmentEnd r) ≡ true) (box : Aabb) (b : box ≡ segmentBox r) (x : Filled)
+      (exit : List ℕ)
       (w : ended t n box (listed [] x exit) ≡ walkOf t n box) where
     -- both ends are finite
     valid : validBox box ≡ true
@@ -74,14 +77,22 @@ module _ (r : Ray) (m : Mesh) (pose : List Float) (t : Tree) where
         let w' : broken ≡ walkOf t n box = subst (λ (y : Filled). ended t n box (listed [] y exit) ≡ walkOf t n box) e w in
         ap (overWalk r pose (m .triangles)) w' ∙ over
 
-    pub cast-nearest : (k : ℕ) (answer : Indexed) → x ≡ Count k → answer ≡ nearestOf (triangleAnswer r pose (m .triangles)) (sorted (take k exit)) → answer ≡ meshCast r m pose t
+    pub cast-nearest : (k : ℕ) (answer : Indexed) → x ≡ Count k → answer ≡ nearestOf (triangleAnswer r pose (m .triangles))
+        (sorted (take k exit)) → answer ≡ meshCast r m pose t
     unfolding overWalk ended
     cast-nearest k answer e a =
-        let w' : walking [] (sorted (take k exit)) ≡ walkOf t n box = subst (λ (y : Filled). ended t n box (listed [] y exit) ≡ walkOf t n box) e w in
+        let w' : walking [] (sorted (take k exit)) ≡ walkOf t n box = subst
+        (λ (y : Filled). ended t n box (listed [] y exit) ≡ walkOf t n box) e w in
         a ∙ ap (overWalk r pose (m .triangles)) w' ∙ over
 
+    -- nothing is listed
+    pub cast-empty : (k : ℕ) → x ≡ Count k → k ≡ 0 → noHit ≡ meshCast r m pose t
+    unfolding foldFrom sortBy
+    cast-empty k e z = cast-nearest k noHit e (rw z)
+
 -- the walk's list is within its area and below the triangle count
-pub list-inside : (n k : ℕ) (entry exit : List ℕ) (x : Filled) → GrownTo n entry 0 x exit → x ≡ Count k → (k ≤ length exit) × (allBelow n (take k exit) ≡ true)
+pub list-inside : (n k : ℕ) (entry exit : List ℕ) (x : Filled) → GrownTo n entry 0 x exit → x ≡ Count k → (k ≤ length exit) ×
+    (allBelow n (take k exit) ≡ true)
 list-inside n k entry exit x g e =
     let g' : Grown n entry exit 0 k = subst (λ (y : Filled). GrownTo n entry 0 y exit) e g in
     (g' .inside, g' .below)

@@ -14,9 +14,12 @@ use Rattle.lists.specs.Lists.{range, count, every, gather}
 use Rattle.tree.specs.Layout.{Tree, wordAt, boxAt, firstAt, secondAt}
 use Rattle.tree.specs.Mesh.{Mesh, thirds, cornersInside, triangleBox}
 use Rattle.lists.proofs.CountLaws.{count-nil, every-at, member-of-count, count-range-inside}
-use Rattle.tree_check.specs.Check.{triangleCount, nodes, isLeaf, isBranch, childrenOf, placesOf, kindsKnown, childrenAbove, leavesInside, namedOnce, placedOnce, orderedOnce, leavesFilled, cornersKnown, boxesSame, boxesValid, nodeEncloses, enclosed, clausesHold, treePasses}
+use Rattle.tree_check.specs.Check.{triangleCount, nodes, isLeaf, isBranch, childrenOf, placesOf, kindsKnown, childrenAbove, leavesInside}
+use Rattle.tree_check.specs.Check.{namedOnce, placedOnce, orderedOnce, leavesFilled, cornersKnown, boxesSame, boxesValid, nodeEncloses}
+use Rattle.tree_check.specs.Check.{enclosed, clausesHold, treePasses}
 
-pub every-in-range : (p : ℕ → Bool) (start size : ℕ) → every p (range start size) ≡ true → (x : ℕ) → start ≤ x → x < start + size → p x ≡ true
+pub every-in-range : (p : ℕ → Bool) (start size : ℕ) → every p (range start size) ≡ true → (x : ℕ) → start ≤ x → x < start + size → p x ≡
+    true
 every-in-range p start size h x a b =
     every-at p (range start size) h x (member-of-count x (range start size) (omega (arith, count-range-inside x start size a b)))
 
@@ -54,12 +57,14 @@ pub record Checked (m : Mesh) (t : Tree) : Type 0 where
   pub ordered : (x : ℕ) → x < triangleCount m t → count x (take (triangleCount m t) (t .order)) ≡ 1
   pub corners : (x : ℕ) → x < triangleCount m t → cornersInside (thirds (length (m .vertices))) (m .triangles) x ≡ true
   pub same : (x : ℕ) → x < triangleCount m t → sameBox (boxAt (t .triangleBoxes) x) (triangleBox (m .vertices) (m .triangles) x) ≡ true
-  pub child-enclosed : (i k : ℕ) → i < t .nodeCount → 0 < count k (childrenOf m t i) → encloses (boxAt (t .nodeBoxes) i) (boxAt (t .nodeBoxes) k) ≡ true
+  pub child-enclosed : (i k : ℕ) → i < t .nodeCount → 0 < count k (childrenOf m t i) → encloses (boxAt (t .nodeBoxes) i)
+      (boxAt (t .nodeBoxes) k) ≡ true
   pub triangle-enclosed : (i p : ℕ) → i < t .nodeCount → 0 < count p (placesOf m t i)
       → encloses (boxAt (t .nodeBoxes) i) (boxAt (t .triangleBoxes) (wordAt (t .order) p)) ≡ true
 
 -- ---- a node that is no branch has no children, and one that is no leaf no places
-pub branch-children : (m : Mesh) (t : Tree) (i : ℕ) → isBranch m t i ≡ true → childrenOf m t i ≡ firstAt (t .nodeWords) i ∷ (secondAt (t .nodeWords) i ∷ [])
+pub branch-children : (m : Mesh) (t : Tree) (i : ℕ) → isBranch m t i ≡ true → childrenOf m t i ≡ firstAt (t .nodeWords) i ∷
+    (secondAt (t .nodeWords) i ∷ [])
 unfolding childrenOf
 branch-children m t i e = simp e
 
@@ -67,7 +72,8 @@ pub no-children : (m : Mesh) (t : Tree) (i : ℕ) → isBranch m t i ≡ false �
 unfolding childrenOf
 no-children m t i e = simp e
 
-pub leaf-places : (m : Mesh) (t : Tree) (i : ℕ) → isLeaf m t i ≡ true → placesOf m t i ≡ range (firstAt (t .nodeWords) i) (secondAt (t .nodeWords) i)
+pub leaf-places : (m : Mesh) (t : Tree) (i : ℕ) → isLeaf m t i ≡ true → placesOf m t i ≡ range (firstAt (t .nodeWords) i)
+    (secondAt (t .nodeWords) i)
 unfolding placesOf
 leaf-places m t i e = simp e
 
@@ -78,7 +84,8 @@ no-places m t i e = simp e
 module _ (m : Mesh) (t : Tree) (h : clausesHold m t ≡ true) where
   clauses : List Bool
   clauses =
-      leb (t .nodeCount) (2 * triangleCount m t) ∷ kindsKnown m t ∷ childrenAbove m t ∷ leavesInside m t ∷ namedOnce m t ∷ placedOnce m t ∷ orderedOnce m t
+      leb (t .nodeCount) (2 * triangleCount m t) ∷ kindsKnown m t ∷ childrenAbove m t ∷ leavesInside m t ∷ namedOnce m t ∷ placedOnce m t ∷
+      orderedOnce m t
       ∷ leavesFilled m t ∷ cornersKnown m t ∷ boxesSame m t ∷ boxesValid m t ∷ enclosed m t ∷ []
 
   clause : (k : ℕ) → getD clauses k true ≡ true
@@ -94,8 +101,12 @@ module _ (m : Mesh) (t : Tree) (h : clausesHold m t ≡ true) where
           let rule = passes-where (isBranch m t i) _ (every-in-range _ 0 (t .nodeCount) (clause 2) i (omega arith) (omega arith)) e in
           let fits : (ltb i k && ltb k (t .nodeCount)) ≡ true =
           every-at (λ (k : ℕ). ltb i k && ltb k (t .nodeCount)) (childrenOf m t i)
-          (and-second (not (eqb (firstAt (t .nodeWords) i) (secondAt (t .nodeWords) i))) _ rule) k (member-of-count k (childrenOf m t i) child) in
-          (ltb-true i k (and-first (ltb i k) (ltb k (t .nodeCount)) fits), ltb-true k (t .nodeCount) (and-second (ltb i k) (ltb k (t .nodeCount)) fits))
+          (and-second (not (eqb (firstAt (t .nodeWords) i) (secondAt (t .nodeWords) i))) _ rule) k
+          (member-of-count k (childrenOf m t i) child) in (
+            ltb-true i k (and-first (ltb i k) (ltb k (t .nodeCount)) fits),
+            ltb-true k (t .nodeCount)
+                (and-second (ltb i k) (ltb k (t .nodeCount)) fits),
+          )
       go false e = absurd (omega (arith, ap (count k) (no-children m t i e), count-nil k))
 
   children-differ : (i : ℕ) → i < t .nodeCount → isBranch m t i ≡ true → firstAt (t .nodeWords) i ≡ secondAt (t .nodeWords) i → ⊥
@@ -137,17 +148,22 @@ module _ (m : Mesh) (t : Tree) (h : clausesHold m t ≡ true) where
         λ (x : ℕ) (below : x < triangleCount m t).
         every-in-range (λ (x : ℕ). validBox (boxAt (t .triangleBoxes) x)) 0 (triangleCount m t)
         (and-second (every (λ (i : ℕ). validBox (boxAt (t .nodeBoxes) i)) (nodes m t)) _ boxes-valid) x (omega arith) (omega arith);
-    named = λ (i : ℕ) (p : 0 < i) (q : i < t .nodeCount). eqb-true _ 1 (every-in-range _ 1 (t .nodeCount - 1) (clause 4) i (omega arith) (omega arith));
-    placed = λ (p : ℕ) (below : p < triangleCount m t). eqb-true _ 1 (every-in-range _ 0 (triangleCount m t) (clause 5) p (omega arith) (omega arith));
-    ordered = λ (x : ℕ) (below : x < triangleCount m t). eqb-true _ 1 (every-in-range _ 0 (triangleCount m t) (clause 6) x (omega arith) (omega arith));
+    named = λ (i : ℕ) (p : 0 < i) (q : i < t .nodeCount). eqb-true _ 1
+        (every-in-range _ 1 (t .nodeCount - 1) (clause 4) i (omega arith) (omega arith));
+    placed = λ (p : ℕ) (below : p < triangleCount m t). eqb-true _ 1
+        (every-in-range _ 0 (triangleCount m t) (clause 5) p (omega arith) (omega arith));
+    ordered = λ (x : ℕ) (below : x < triangleCount m t). eqb-true _ 1
+        (every-in-range _ 0 (triangleCount m t) (clause 6) x (omega arith) (omega arith));
     corners = λ (x : ℕ) (below : x < triangleCount m t). every-in-range _ 0 (triangleCount m t) (clause 8) x (omega arith) (omega arith);
     same = λ (x : ℕ) (below : x < triangleCount m t). every-in-range _ 0 (triangleCount m t) (clause 9) x (omega arith) (omega arith);
     child-enclosed =
         λ (i k : ℕ) (below : i < t .nodeCount) (child : 0 < count k (childrenOf m t i)).
-        every-at _ (childrenOf m t i) (and-first (every _ (childrenOf m t i)) _ (enclosing i below)) k (member-of-count k (childrenOf m t i) child);
+        every-at _ (childrenOf m t i) (and-first (every _ (childrenOf m t i)) _ (enclosing i below)) k
+        (member-of-count k (childrenOf m t i) child);
     triangle-enclosed =
         λ (i p : ℕ) (below : i < t .nodeCount) (place : 0 < count p (placesOf m t i)).
-        every-at _ (placesOf m t i) (and-second (every _ (childrenOf m t i)) (every _ (placesOf m t i)) (enclosing i below)) p (member-of-count p (placesOf m t i) place);
+        every-at _ (placesOf m t i) (and-second (every _ (childrenOf m t i)) (every _ (placesOf m t i)) (enclosing i below)) p
+        (member-of-count p (placesOf m t i) place);
   }
 
 -- "yes exactly when the node count is 0 with n = 0, or" the clauses hold
@@ -157,5 +173,9 @@ checked-or-empty m t h = go (eqb (t .nodeCount) 0 && eqb (triangleCount m t) 0) 
   where
     go : (b : Bool) → (eqb (t .nodeCount) 0 && eqb (triangleCount m t) 0) ≡ b → Checked m t ⊎ ((t .nodeCount ≡ 0) × (triangleCount m t ≡ 0))
     go true e =
-        inr (eqb-true (t .nodeCount) 0 (and-first (eqb (t .nodeCount) 0) (eqb (triangleCount m t) 0) e), eqb-true (triangleCount m t) 0 (and-second (eqb (t .nodeCount) 0) (eqb (triangleCount m t) 0) e))
+        inr (
+          eqb-true (t .nodeCount) 0 (and-first (eqb (t .nodeCount) 0) (eqb (triangleCount m t) 0) e),
+          eqb-true (triangleCount m t) 0
+              (and-second (eqb (t .nodeCount) 0) (eqb (triangleCount m t) 0) e),
+        )
     go false e = inl (checked m t (ap (λ (b : Bool). b || clausesHold m t) (sym e) ∙ h))

@@ -1,4 +1,5 @@
--- Demand 3 holds: the mesh cast through a checked tree is the fold of triangle answers over the candidates, and that fold has the properties that the demand names. Assumes nothing.
+-- Demand 3 holds: the mesh cast through a checked tree is the fold of triangle answers over the candidates, and that fold has the
+-- properties that the demand names. Assumes nothing.
 use Prim.Native.Nat.{ℕ, _*_, _≤_, _<_}
 use mathlib.Core.Path.{_≡_, refl, sym, ap, _∙_}
 use mathlib.Core.Logic.{_⊎_, inl, inr}
@@ -42,19 +43,32 @@ module _ (r : Ray) (m : Mesh) where
 
   pub candidates-count : (i : ℕ) (b : Bool) → near i ≡ b → count i listed ≡ cond b (count i (range 0 (thirds (length (m .triangles))))) 0
   unfolding candidates
-  candidates-count i b e = count-keep near i (range 0 (thirds (length (m .triangles)))) ∙ ap (λ (b : Bool). cond b (count i (range 0 (thirds (length (m .triangles))))) 0) e
+  candidates-count i b e = count-keep near i (range 0 (thirds (length (m .triangles)))) ∙ ap
+      (λ (b : Bool). cond b (count i (range 0 (thirds (length (m .triangles))))) 0) e
 
   pub candidate-listed : (i : ℕ) → Candidate r m i → List·Memᴰ i listed
   candidate-listed i c =
       member-of-count i listed
-      (omega (arith, candidates-count i true (c .near), count-range-inside i 0 (thirds (length (m .triangles))) (omega arith) (omega (arith, c .triangle))))
+      (omega (
+        arith,
+        candidates-count i true (c .near),
+        count-range-inside i 0 (thirds (length (m .triangles))) (omega arith)
+            (omega (arith, c .triangle)),
+      ))
 
   pub listed-candidate : (i : ℕ) → List·Memᴰ i listed → Candidate r m i
   listed-candidate i h = go (near i) refl
     where
       go : (b : Bool) → near i ≡ b → Candidate r m i
       go true e = record {
-        triangle = omega (arith, range-bounds i 0 (thirds (length (m .triangles))) (omega (arith, count-of-member i listed h, candidates-count i true e)));
+        triangle = omega (
+          arith,
+          range-bounds i 0 (thirds (length (m .triangles))) (omega (
+            arith,
+            count-of-member i listed h,
+            candidates-count i true e,
+          )),
+        );
         near = e;
       }
       go false e = absurd (omega (arith, count-of-member i listed h, candidates-count i false e))
@@ -71,10 +85,12 @@ few-nodes m t h = go (checked-or-empty m t h)
     go (inl c) = c .few
     go (inr e) = omega arith
 
-corners-inside : (m : Mesh) (t : Tree) → treePasses m t ≡ true → (i : ℕ) → i < triangleCount m t → cornersInside (thirds (length (m .vertices))) (m .triangles) i ≡ true
+corners-inside : (m : Mesh) (t : Tree) → treePasses m t ≡ true → (i : ℕ) → i < triangleCount m t → cornersInside
+    (thirds (length (m .vertices))) (m .triangles) i ≡ true
 corners-inside m t h i below = go (checked-or-empty m t h)
   where
-    go : Checked m t ⊎ ((t .nodeCount ≡ 0) × (triangleCount m t ≡ 0)) → cornersInside (thirds (length (m .vertices))) (m .triangles) i ≡ true
+    go : Checked m t ⊎ ((t .nodeCount ≡ 0) × (triangleCount m t ≡ 0)) → cornersInside (thirds (length (m .vertices))) (m .triangles) i ≡
+        true
     go (inl c) = c .corners i below
     go (inr e) = absurd (omega arith)
 
@@ -93,7 +109,16 @@ module _ (r : Ray) (m : Mesh) (t : Tree) (list stack : ℕ) (a : Admitted r m t 
   pub cast-is-fold : rayMesh r m (m .vertices) t list stack ≡ nearestOf foldedAnswer (candidates m (segmentBox r))
   unfolding rayMesh meshCast overWalk
   cast-is-fold =
-      simp (a .ray, shape-admitted, a .areas, eq-eqb (length (m .vertices)) (length (m .vertices)) refl, a .end, segment-box-valid r (a .ray) (a .end), walk-lists-candidates m t (segmentBox r) passes)
+      simp (
+        a .ray,
+        shape-admitted,
+        a .areas,
+        eq-eqb (length (m .vertices)) (length (m .vertices)) refl,
+        a .end,
+        segment-box-valid r
+            (a .ray) (a .end),
+        walk-lists-candidates m t (segmentBox r) passes,
+      )
 
   pub answers-same : (i : ℕ) → Candidate r m i → foldedAnswer i ≡ answerOf r m i
   unfolding answerOf rayTriangle
@@ -108,7 +133,8 @@ module _ (r : Ray) (m : Mesh) (t : Tree) (list stack : ℕ) (a : Admitted r m t 
     index = l .index;
     refuses = record { candidate = c; answers = sym (answers-same (l .index) c) ∙ l .refuses };
     lowest =
-        λ (j other : ℕ) (f : Refuses r m j other). l .lowest j other (candidate-listed r m j (f .candidate)) (answers-same j (f .candidate) ∙ f .answers);
+        λ (j other : ℕ) (f : Refuses r m j other). l .lowest j other (candidate-listed r m j (f .candidate))
+        (answers-same j (f .candidate) ∙ f .answers);
   }
     where
       l : LowestRefusal foldedAnswer (candidates m (segmentBox r)) k
@@ -117,7 +143,8 @@ module _ (r : Ray) (m : Mesh) (t : Tree) (list stack : ℕ) (a : Admitted r m t 
       c : Candidate r m (l .index)
       c = listed-candidate r m (l .index) (l .member)
 
-  lowest-nearest : (normal : Vec3) (distance : Float) (i : ℕ) → folded ≡ hitAt normal distance i → LowestNearest foldedAnswer (candidates m (segmentBox r)) normal distance i
+  lowest-nearest : (normal : Vec3) (distance : Float) (i : ℕ) → folded ≡ hitAt normal distance i → LowestNearest foldedAnswer
+      (candidates m (segmentBox r)) normal distance i
   lowest-nearest normal distance i =
       hit-of-lowest-nearest foldedAnswer (candidates m (segmentBox r)) (candidates-ascend r m) normal distance i
       (λ (j : ℕ) (h : List·Memᴰ j (candidates m (segmentBox r))). answers-are-numbers r (m .vertices) (m .triangles) j)
@@ -126,7 +153,8 @@ module _ (r : Ray) (m : Mesh) (t : Tree) (list stack : ℕ) (a : Admitted r m t 
   nearest-hit normal distance i h = record {
     is-hit = record { candidate = c; answers = sym (answers-same i c) ∙ l .answers };
     as-far =
-        λ (j : ℕ) (n : Vec3) (d : Float) (f : IsHit r m j n d). l .nearest j (candidate-listed r m j (f .candidate)) n d (answers-same j (f .candidate) ∙ f .answers);
+        λ (j : ℕ) (n : Vec3) (d : Float) (f : IsHit r m j n d). l .nearest j (candidate-listed r m j (f .candidate)) n d
+        (answers-same j (f .candidate) ∙ f .answers);
     farther =
         λ (j : ℕ) (n : Vec3) (d : Float) (f : IsHit r m j n d) (lower : j < i).
         l .farther-below j (candidate-listed r m j (f .candidate)) lower n d (answers-same j (f .candidate) ∙ f .answers);
@@ -142,7 +170,8 @@ module _ (r : Ray) (m : Mesh) (t : Tree) (list stack : ℕ) (a : Admitted r m t 
   fold-meets-demand = record {
     refuses-if =
         λ (i number : ℕ) (f : Refuses r m i number).
-        refusal-stops foldedAnswer noHit (candidates m (segmentBox r)) i number (candidate-listed r m i (f .candidate)) (answers-same i (f .candidate) ∙ f .answers);
+        refusal-stops foldedAnswer noHit (candidates m (segmentBox r)) i number (candidate-listed r m i (f .candidate))
+        (answers-same i (f .candidate) ∙ f .answers);
     refuses-only-if = lowest-refuses;
     none-if =
         λ h. none-of-nones foldedAnswer (candidates m (segmentBox r))

@@ -1,4 +1,5 @@
--- The notes of the listed triangles: what is left of them gives the whole, and the winner's answer is that of the fold over the same list ascending. Assumes that those hit are hit at numbers.
+-- The notes of the listed triangles: what is left of them gives the whole, and the winner's answer is that of the fold over the same list
+-- ascending. Assumes that those hit are hit at numbers.
 use Prim.Native.Nat.{ℕ, zero, suc, _+_, _<_, _≤_}
 use mathlib.Core.Path.{_≡_, refl, sym, ap, _∙_}
 use mathlib.Core.Bool.{Bool, true, false, cond}
@@ -36,7 +37,8 @@ every-at n (suc i) (x ∷ xs) a h =
     let k : i < length xs = omega arith in
     every-at n i xs (and-second (ltb x n) (allBelow n xs) a) k
 
-pub listed-below : (list : List ℕ) (found : ℕ) → found ≤ length list → (n i : ℕ) → allBelow n (take found list) ≡ true → i < found → getD list i 0 < n
+pub listed-below : (list : List ℕ) (found : ℕ) → found ≤ length list → (n i : ℕ) → allBelow n (take found list) ≡ true → i < found → getD
+    list i 0 < n
 listed-below list found inside n i a h =
     let l : length (take found list) ≡ found = length-take-le found list inside in
     let k : i < length (take found list) = omega arith in
@@ -46,7 +48,8 @@ each-below : (n : ℕ) (l : List ℕ) → allBelow n l ≡ true → Each (λ (i 
 unfolding every
 each-below n [] a j m = absurd (List·Memᴰ·not-nil m)
 each-below n (x ∷ xs) a j m =
-    each-cons (λ (i : ℕ). i < n) x xs (λ k e. let h = ltb-true x n (and-first (ltb x n) (allBelow n xs) a) in omega arith) (each-below n xs (and-second (ltb x n) (allBelow n xs) a)) j m
+    each-cons (λ (i : ℕ). i < n) x xs (λ k e. let h = ltb-true x n (and-first (ltb x n) (allBelow n xs) a) in omega arith)
+    (each-below n xs (and-second (ltb x n) (allBelow n xs) a)) j m
 
 module _ (answer : ℕ → Answer) (list : List ℕ) (found : ℕ) where
   pub record Folding (notes : Summary) (i : ℕ) : Type 0 where
@@ -57,7 +60,8 @@ module _ (answer : ℕ → Answer) (list : List ℕ) (found : ℕ) where
   folding-begins notes e = record { within = omega arith; gives = ap (λ (s : Summary). summaryFrom answer s (take found list)) e }
 
   module _ (inside : found ≤ length list) where
-    pub folding-goes : (notes next : Summary) (a : Reach) (i : ℕ) → Folding notes i → i < found → a ≡ reachOf (answer (getD list i 0)) → next ≡ noteOf notes (getD list i 0) a → Folding next (i + 1)
+    pub folding-goes : (notes next : Summary) (a : Reach) (i : ℕ) → Folding notes i → i < found → a ≡ reachOf (answer (getD list i 0)) →
+        next ≡ noteOf notes (getD list i 0) a → Folding next (i + 1)
     unfolding summaryFrom
     folding-goes notes next a i f h e g =
         let l : length (take found list) ≡ found = length-take-le found list inside in
@@ -115,4 +119,8 @@ module _ (answer : ℕ → Answer) (numbers : HitsAreNumbers answer) (l : List �
     hit-wins a f r g = g ∙ ap (nextOf noHit index) f ∙ ap (answerAt answer) (sym e) ∙ nearest
 
     pub winner-reached : (n : ℕ) → allBelow n l ≡ true → Below n answer index (At distance)
-    winner-reached n below = rw (sym wins ∙ e) at (winner-of-list (Below n answer) answer l (λ (j : ℕ) (m : List·Memᴰ j l). (each-below n l below j m, refl)))
+    winner-reached n below = rw (sym wins ∙ e) at (winner-of-list (Below n answer) answer l (λ (j : ℕ) (m : List·Memᴰ j l). (
+      each-below n l
+          below j m,
+      refl,
+    )))

@@ -15,7 +15,7 @@ use Rattle.casts.proofs.HitLaws.{Measured, OfIndexedHit, stopped-such, cond-suc
 use Rattle.tree.specs.Layout.{Tree}
 use Rattle.tree.specs.Mesh.{Mesh, thirds, triangleAnswer}
 use Rattle.tree.proofs.Corners.{answers-measured}
-use Rattle.tree_query.specs.Walk.{Walking, walking, broken, walkOf}
+use Rattle.tree_walk.specs.Walk.{Walking, walking, broken, walkOf}
 use Rattle.mesh.specs.MeshCast.{shapeAdmitted, roomFor, overWalk, meshCast, rayMesh}
 
 module _ (r : Ray) where
@@ -31,7 +31,8 @@ module _ (r : Ray) where
       segment-such stopped r (λ (box : Aabb). overWalk r pose (m .triangles) (walkOf t (thirds (length (m .triangles))) box))
       (OfIndexedHit (Measured r)) (stopped-such (Measured r)) (λ (box : Aabb). over-walk-measured pose (m .triangles) _)
 
-  pub ray-mesh-hit-measured : (m : Mesh) (pose : List Float) (t : Tree) (list stack : ℕ) → OfIndexedHit (Measured r) (rayMesh r m pose t list stack)
+  pub ray-mesh-hit-measured : (m : Mesh) (pose : List Float) (t : Tree) (list stack : ℕ) → OfIndexedHit (Measured r)
+      (rayMesh r m pose t list stack)
   unfolding rayMesh
   ray-mesh-hit-measured m pose t list stack =
       let posed = cond (eqb (length pose) (length (m .vertices))) (meshCast r m pose t) (stopped wrongPose) in

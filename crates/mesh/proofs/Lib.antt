@@ -1,4 +1,5 @@
 -- Laws about the mesh cast, up to demand 3, and about the trees that the build writes. Assumes nothing.
+pub mod Reaching
 pub mod Folding
 pub mod Casting
 pub mod HitDistances

@@ -1,4 +1,5 @@
--- In a checked tree no node is named twice and no triangle stands in two places, told by counts over all nodes; each node but the first has a parent below it, and each triangle a leaf. Assumes nothing.
+-- In a checked tree no node is named twice and no triangle stands in two places, told by counts over all nodes; each node but the first has
+-- a parent below it, and each triangle a leaf. Assumes nothing.
 use Prim.Native.Nat.{ℕ, zero, suc, _≤_, _<_}
 use mathlib.Core.Path.{_≡_, refl, ap, subst}
 use mathlib.Core.Logic.{_⊎_, inl, inr}
@@ -11,7 +12,8 @@ use borrow.Author.Tests.{ltb-true, ltb-false}
 use Rattle.lists.specs.Lists.{range, count, gather}
 use Rattle.tree.specs.Layout.{Tree, wordAt, firstAt, secondAt}
 use Rattle.tree.specs.Mesh.{Mesh}
-use Rattle.lists.proofs.CountLaws.{one-same, one-other, same-or-other, count-cons, count-nil, length-range, count-range-inside, range-bounds, From, gathered-from, gathers, gather-gather, gather-words}
+use Rattle.lists.proofs.CountLaws.{one-same, one-other, same-or-other, count-cons, count-nil, length-range, count-range-inside, range-bounds}
+use Rattle.lists.proofs.CountLaws.{From, gathered-from, gathers, gather-gather, gather-words}
 use Rattle.lists.proofs.WithinLaws.{Within, within-through, within-length, within-gather, within-of-full}
 use Rattle.tree_check.specs.Check.{triangleCount, nodes, isLeaf, childrenOf, placesOf}
 use Rattle.mesh.proofs.CheckedTree.{Checked, leaf-places, no-places}
@@ -50,15 +52,25 @@ module _ (m : Mesh) (t : Tree) (c : Checked m t) where
   pub named-within : 0 < t .nodeCount → Within (0 ∷ gather (childrenOf m t) (nodes m t)) (nodes m t)
   named-within some = record { at-most = λ (i : ℕ). at i (same-or-other i 0) (below-or-not i (t .nodeCount)) }
     where
-      at : (i : ℕ) → (i ≡ 0) ⊎ (i ≡ 0 → ⊥) → (i < t .nodeCount) ⊎ (t .nodeCount ≤ i) → count i (0 ∷ gather (childrenOf m t) (nodes m t)) ≤ count i (nodes m t)
+      at : (i : ℕ) → (i ≡ 0) ⊎ (i ≡ 0 → ⊥) → (i < t .nodeCount) ⊎ (t .nodeCount ≤ i) → count i (0 ∷ gather (childrenOf m t) (nodes m t)) ≤
+          count i (nodes m t)
       at i (inl e) b =
-          let none : count i (gather (childrenOf m t) (nodes m t)) ≡ 0 = count-zero (count i (gather (childrenOf m t) (nodes m t))) (λ h. omega (arith, child-bounds i h)) in
+          let none : count i (gather (childrenOf m t) (nodes m t)) ≡ 0 = count-zero (count i (gather (childrenOf m t) (nodes m t)))
+          (λ h. omega (arith, child-bounds i h)) in
           omega (arith, count-cons i 0 (gather (childrenOf m t) (nodes m t)), one-same i 0 e, count-range i (t .nodeCount) (omega arith))
       at i (inr n) (inl b) =
           let pos : 0 < i = omega (arith, n) in
-          omega (arith, count-cons i 0 (gather (childrenOf m t) (nodes m t)), one-other i 0 n, c .named i pos b, count-range i (t .nodeCount) b)
+          omega (
+            arith,
+            count-cons i 0 (gather (childrenOf m t) (nodes m t)),
+            one-other i 0 n,
+            c .named i pos b,
+            count-range i
+                (t .nodeCount) b,
+          )
       at i (inr n) (inr b) =
-          let none : count i (gather (childrenOf m t) (nodes m t)) ≡ 0 = count-zero (count i (gather (childrenOf m t) (nodes m t))) (λ h. omega (arith, child-bounds i h)) in
+          let none : count i (gather (childrenOf m t) (nodes m t)) ≡ 0 = count-zero (count i (gather (childrenOf m t) (nodes m t)))
+          (λ h. omega (arith, child-bounds i h)) in
           omega (arith, count-cons i 0 (gather (childrenOf m t) (nodes m t)), one-other i 0 n)
 
   -- a node's parent
@@ -88,23 +100,31 @@ module _ (m : Mesh) (t : Tree) (c : Checked m t) where
       go true e =
           let place : 0 < count p (range (firstAt (t .nodeWords) (f .source)) (secondAt (t .nodeWords) (f .source))) =
           subst (λ (l : List ℕ). 0 < count p l) (leaf-places m t (f .source) e) (f .given) in
-          omega (arith, range-bounds p (firstAt (t .nodeWords) (f .source)) (secondAt (t .nodeWords) (f .source)) place, c .inside (f .source) below e)
+          omega (
+            arith,
+            range-bounds p (firstAt (t .nodeWords) (f .source)) (secondAt (t .nodeWords) (f .source)) place,
+            c .inside
+                (f .source) below e,
+          )
       go false e = absurd (omega (arith, f .given, ap (count p) (no-places m t (f .source) e), count-nil p))
 
   places-within : Within (gather (placesOf m t) (nodes m t)) (range 0 (triangleCount m t))
   places-within = record { at-most = λ (p : ℕ). at p (below-or-not p (triangleCount m t)) }
     where
-      at : (p : ℕ) → (p < triangleCount m t) ⊎ (triangleCount m t ≤ p) → count p (gather (placesOf m t) (nodes m t)) ≤ count p (range 0 (triangleCount m t))
+      at : (p : ℕ) → (p < triangleCount m t) ⊎ (triangleCount m t ≤ p) → count p (gather (placesOf m t) (nodes m t)) ≤ count p
+          (range 0 (triangleCount m t))
       at p (inl b) = omega (arith, c .placed p b, count-range p (triangleCount m t) b)
       at p (inr b) =
-          let none : count p (gather (placesOf m t) (nodes m t)) ≡ 0 = count-zero (count p (gather (placesOf m t) (nodes m t))) (λ h. omega (arith, place-bound p h)) in
+          let none : count p (gather (placesOf m t) (nodes m t)) ≡ 0 = count-zero (count p (gather (placesOf m t) (nodes m t)))
+          (λ h. omega (arith, place-bound p h)) in
           omega arith
 
   -- the order's first n words
   order-full : Within (range 0 (triangleCount m t)) (take (triangleCount m t) (t .order))
   order-full = record { at-most = λ (x : ℕ). at x (below-or-not x (triangleCount m t)) }
     where
-      at : (x : ℕ) → (x < triangleCount m t) ⊎ (triangleCount m t ≤ x) → count x (range 0 (triangleCount m t)) ≤ count x (take (triangleCount m t) (t .order))
+      at : (x : ℕ) → (x < triangleCount m t) ⊎ (triangleCount m t ≤ x) → count x (range 0 (triangleCount m t)) ≤ count x
+          (take (triangleCount m t) (t .order))
       at x (inl b) = omega (arith, c .ordered x b, count-range x (triangleCount m t) b)
       at x (inr b) =
           let none : count x (range 0 (triangleCount m t)) ≡ 0 =
@@ -114,7 +134,8 @@ module _ (m : Mesh) (t : Tree) (c : Checked m t) where
   pub words-are-order : gather (placedAt t) (range 0 (triangleCount m t)) ≡ take (triangleCount m t) (t .order)
   words-are-order =
       let long = within-length (range 0 (triangleCount m t)) (take (triangleCount m t) (t .order)) order-full in
-      gather-words (t .order) 0 (triangleCount m t) (omega (arith, length-range 0 (triangleCount m t), length-take (triangleCount m t) (t .order)))
+      gather-words (t .order) 0 (triangleCount m t)
+      (omega (arith, length-range 0 (triangleCount m t), length-take (triangleCount m t) (t .order)))
 
   pub order-within : Within (gather (placedAt t) (range 0 (triangleCount m t))) (range 0 (triangleCount m t))
   order-within =
@@ -125,8 +146,10 @@ module _ (m : Mesh) (t : Tree) (c : Checked m t) where
   -- the triangles of all nodes: each once at most
   pub triangles-within : Within (gather (trianglesOf m t) (nodes m t)) (range 0 (triangleCount m t))
   triangles-within =
-      within-through (gather (trianglesOf m t) (nodes m t)) (gather (placedAt t) (range 0 (triangleCount m t))) (range 0 (triangleCount m t))
-      (subst (λ (l : List ℕ). Within l (gather (placedAt t) (range 0 (triangleCount m t)))) (gather-gather (placedAt t) (placesOf m t) (nodes m t))
+      within-through (gather (trianglesOf m t) (nodes m t)) (gather (placedAt t) (range 0 (triangleCount m t)))
+      (range 0 (triangleCount m t))
+      (subst (λ (l : List ℕ). Within l (gather (placedAt t) (range 0 (triangleCount m t))))
+      (gather-gather (placedAt t) (placesOf m t) (nodes m t))
       (within-gather (placedAt t) (gather (placesOf m t) (nodes m t)) (range 0 (triangleCount m t)) places-within))
       order-within
 
@@ -139,7 +162,13 @@ module _ (m : Mesh) (t : Tree) (c : Checked m t) where
     pub holds : x ≡ wordAt (t .order) place
 
   pub home-of : (x : ℕ) → x < triangleCount m t → Home x
-  home-of x b = record { node = g .source; below = omega (arith, range-bounds (g .source) 0 (t .nodeCount) (g .listed)); place = f .source; placed = g .given; holds = holds }
+  home-of x b = record {
+    node = g .source;
+    below = omega (arith, range-bounds (g .source) 0 (t .nodeCount) (g .listed));
+    place = f .source;
+    placed = g .given;
+    holds = holds;
+  }
     where
       f : From (placedAt t) (range 0 (triangleCount m t)) x
       f = gathered-from (placedAt t) (range 0 (triangleCount m t)) x (omega (arith, ap (count x) words-are-order, c .ordered x b))
@@ -156,7 +185,14 @@ module _ (m : Mesh) (t : Tree) (c : Checked m t) where
           go : (x ≡ wordAt (t .order) (f .source)) ⊎ (x ≡ wordAt (t .order) (f .source) → ⊥) → x ≡ wordAt (t .order) (f .source)
           go (inl e) = e
           go (inr n) =
-              absurd (omega (arith, f .given, count-cons x (wordAt (t .order) (f .source)) [], one-other x (wordAt (t .order) (f .source)) n, count-nil x))
+              absurd (omega (
+                arith,
+                f .given,
+                count-cons x (wordAt (t .order) (f .source)) [],
+                one-other x (wordAt (t .order) (f .source))
+                    n,
+                count-nil x,
+              ))
 
   pub home-holds : (x : ℕ) → (h : Home x) → 0 < count x (trianglesOf m t (h .node))
   home-holds x h =

@@ -1,4 +1,5 @@
--- The walk of a checked tree lists the candidates: it ends within the node count, every node whose box touches is taken, and the sorted list is the touching triangles of the mesh. Assumes nothing.
+-- The walk of a checked tree lists the candidates: it ends within the node count, every node whose box touches is taken, and the sorted
+-- list is the touching triangles of the mesh. Assumes nothing.
 use Prim.Native.Nat.{ℕ, zero, suc, _+_, _<_}
 use mathlib.Core.Path.{_≡_, refl, sym, ap, _∙_}
 use mathlib.Core.Logic.{_⊎_, inl, inr, _≢_}
@@ -14,10 +15,11 @@ use Rattle.geometry.proofs.BoxLaws.{touches-grows, touches-of-same}
 use Rattle.lists.specs.Lists.{range, count, keep, gather, sortBy, sorted}
 use Rattle.tree.specs.Layout.{Tree, wordAt, boxAt}
 use Rattle.tree.specs.Mesh.{Mesh, triangleBox, candidates}
-use Rattle.lists.proofs.CountLaws.{one-same, count-cons, count-nil, count-append, count-keep, keep-alike, length-range, range-bounds, count-range-inside}
+use Rattle.lists.proofs.CountLaws.{one-same, count-cons, count-nil, count-append, count-keep, keep-alike, length-range, range-bounds}
+use Rattle.lists.proofs.CountLaws.{count-range-inside}
 use Rattle.lists.proofs.WithinLaws.{Within, within-length, within-gather}
 use Rattle.lists.proofs.SortLaws.{count-sorted, sorted-rises, rising-equal, ascending-rises, range-ascends, keep-ascends}
-use Rattle.tree_query.specs.Walk.{walking, times, takeNode, start, ended, walkOf}
+use Rattle.tree_walk.specs.Walk.{walking, times, takeNode, start, ended, walkOf}
 use Rattle.tree_check.specs.Check.{triangleCount, nodes, placesOf, treePasses}
 use Rattle.mesh.proofs.CheckedTree.{Checked, checked-or-empty}
 use Rattle.mesh.proofs.TreeCounts.{trianglesOf, triangles-within, parent-of, home-of, home-holds}
@@ -42,8 +44,18 @@ module _ (m : Mesh) (t : Tree) (box : Aabb) (c : Checked m t) (some : 0 < t .nod
   unfolding times takeNode
   walk-ends zero taken [] list h s = record { taken = taken; list' = list; goes = refl; state = s }
   walk-ends zero taken (node ∷ stack) list h s =
-      absurd (omega (arith, within-length (taken ++ (node ∷ stack)) (nodes m t) (all-within m t box c some taken (node ∷ stack) list s), length-append taken (node ∷ stack), length-range 0 (t .nodeCount)))
-  walk-ends (suc k) taken [] list h s = record { taken = taken; list' = list; goes = times-done t (triangleCount m t) box k list; state = s }
+      absurd (omega (
+        arith,
+        within-length (taken ++ (node ∷ stack)) (nodes m t) (all-within m t box c some taken (node ∷ stack) list s),
+        length-append taken (node ∷ stack),
+        length-range 0 (t .nodeCount),
+      ))
+  walk-ends (suc k) taken [] list h s = record {
+    taken = taken;
+    list' = list;
+    goes = times-done t (triangleCount m t) box k list;
+    state = s;
+  }
   walk-ends (suc k) taken (node ∷ stack) list h s =
       let next = step m t box c some taken stack list node s in
       let end = walk-ends k (node ∷ taken) (next .stack') (next .list') (omega arith) (next .state) in
@@ -79,14 +91,16 @@ module _ (m : Mesh) (t : Tree) (box : Aabb) (c : Checked m t) (some : 0 < t .nod
         let p = parent-of m t c (suc i) (omega arith) below in
         let encloses = c .child-enclosed (p .node) (suc i) (omega (arith, p .lower)) (p .child) in
         let grown = touches-grows (boxAt (t .nodeBoxes) (p .node)) (boxAt (t .nodeBoxes) (suc i)) box encloses touching in
-        still (suc i) (s .opened (p .node) (suc i) (touching-taken bound (p .node) (omega (arith, p .lower)) (omega (arith, p .lower)) grown) grown (p .child))
+        still (suc i) (s .opened (p .node) (suc i) (touching-taken bound (p .node) (omega (arith, p .lower)) (omega (arith, p .lower))
+        grown) grown (p .child))
 
     touching-listed : (x : ℕ) → x < triangleCount m t → triangleTouches t box x ≡ true → 0 < count x list
     touching-listed x below touching =
         let h = home-of m t c x below in
         let there : triangleTouches t box (wordAt (t .order) (h .place)) ≡ true = ap (triangleTouches t box) (sym (h .holds)) ∙ touching in
         let encloses = c .triangle-enclosed (h .node) (h .place) (h .below) (h .placed) in
-        let grown = touches-grows (boxAt (t .nodeBoxes) (h .node)) (boxAt (t .triangleBoxes) (wordAt (t .order) (h .place))) box encloses there in
+        let grown = touches-grows (boxAt (t .nodeBoxes) (h .node)) (boxAt (t .triangleBoxes) (wordAt (t .order) (h .place))) box encloses
+        there in
         s .found (h .node) x (touching-taken (t .nodeCount) (h .node) (h .below) (h .below) grown) grown (home-holds m t c x h) touching
 
     list-within : Within list (range 0 (triangleCount m t))
@@ -99,8 +113,10 @@ module _ (m : Mesh) (t : Tree) (box : Aabb) (c : Checked m t) (some : 0 < t .nod
     list-counts : (x : ℕ) → count x list ≡ count x (keep (triangleTouches t box) (range 0 (triangleCount m t)))
     list-counts x = go (triangleTouches t box x) refl (count x (range 0 (triangleCount m t))) refl
       where
-        kept : (b : Bool) → triangleTouches t box x ≡ b → count x (keep (triangleTouches t box) (range 0 (triangleCount m t))) ≡ cond b (count x (range 0 (triangleCount m t))) 0
-        kept b e = count-keep (triangleTouches t box) x (range 0 (triangleCount m t)) ∙ ap (λ (b : Bool). cond b (count x (range 0 (triangleCount m t))) 0) e
+        kept : (b : Bool) → triangleTouches t box x ≡ b → count x (keep (triangleTouches t box) (range 0 (triangleCount m t))) ≡ cond b
+            (count x (range 0 (triangleCount m t))) 0
+        kept b e = count-keep (triangleTouches t box) x (range 0 (triangleCount m t)) ∙ ap
+            (λ (b : Bool). cond b (count x (range 0 (triangleCount m t))) 0) e
 
         unlisted : (k : ℕ) → count x list ≡ k → triangleTouches t box x ≡ false → count x list ≡ 0
         unlisted zero f e = f
@@ -112,12 +128,20 @@ module _ (m : Mesh) (t : Tree) (box : Aabb) (c : Checked m t) (some : 0 < t .nod
         go true e zero f = omega (arith, kept true e, list-within .at-most x)
         go true e (suc k) f =
             let below = range-bounds x 0 (triangleCount m t) (omega arith) in
-            omega (arith, kept true e, list-within .at-most x, touching-listed x (omega arith) e, count-range-inside x 0 (triangleCount m t) (omega arith) (omega arith))
+            omega (
+              arith,
+              kept true e,
+              list-within .at-most x,
+              touching-listed x (omega arith) e,
+              count-range-inside x 0 (triangleCount m t)
+                  (omega arith) (omega arith),
+            )
 
     sorted-is-kept : sorted list ≡ keep (triangleTouches t box) (range 0 (triangleCount m t))
     sorted-is-kept =
         rising-equal (sorted list) (keep (triangleTouches t box) (range 0 (triangleCount m t))) (sorted-rises list)
-        (ascending-rises (keep (triangleTouches t box) (range 0 (triangleCount m t))) (keep-ascends (triangleTouches t box) (range 0 (triangleCount m t)) (range-ascends 0 (triangleCount m t))))
+        (ascending-rises (keep (triangleTouches t box) (range 0 (triangleCount m t)))
+        (keep-ascends (triangleTouches t box) (range 0 (triangleCount m t)) (range-ascends 0 (triangleCount m t))))
         (λ (x : ℕ). count-sorted x list ∙ list-counts x)
 
   kept-are-candidates : keep (triangleTouches t box) (range 0 (triangleCount m t)) ≡ candidates m box
@@ -125,7 +149,8 @@ module _ (m : Mesh) (t : Tree) (box : Aabb) (c : Checked m t) (some : 0 < t .nod
   kept-are-candidates =
       keep-alike (triangleTouches t box) (λ (x : ℕ). touches (triangleBox (m .vertices) (m .triangles) x) box) (range 0 (triangleCount m t))
       (λ (x : ℕ) (h : 0 < count x (range 0 (triangleCount m t))).
-      touches-of-same (boxAt (t .triangleBoxes) x) (triangleBox (m .vertices) (m .triangles) x) box (c .same x (omega (arith, range-bounds x 0 (triangleCount m t) h))))
+      touches-of-same (boxAt (t .triangleBoxes) x) (triangleBox (m .vertices) (m .triangles) x) box
+      (c .same x (omega (arith, range-bounds x 0 (triangleCount m t) h))))
 
   walk-of-nodes : eqb (t .nodeCount) 0 ≡ false → walkOf t (triangleCount m t) box ≡ walking [] (candidates m box)
   unfolding walkOf start ended
@@ -138,7 +163,8 @@ no-candidates : (m : Mesh) (t : Tree) (box : Aabb) → triangleCount m t ≡ 0 �
 unfolding candidates range keep
 no-candidates m t box e = simp e
 
-walk-of-nothing : (m : Mesh) (t : Tree) (box : Aabb) → t .nodeCount ≡ 0 → triangleCount m t ≡ 0 → walkOf t (triangleCount m t) box ≡ walking [] (candidates m box)
+walk-of-nothing : (m : Mesh) (t : Tree) (box : Aabb) → t .nodeCount ≡ 0 → triangleCount m t ≡ 0 → walkOf t (triangleCount m t) box ≡ walking
+    [] (candidates m box)
 unfolding walkOf start ended times sortBy
 walk-of-nothing m t box e f = simp (e, no-candidates m t box f)
 
@@ -152,7 +178,8 @@ nothing-placed m t c e = go (triangleCount m t) refl
     go (suc k) f =
         absurd (omega (arith, c .placed 0 (omega arith), ap (λ (n : ℕ). count 0 (gather (placesOf m t) (range 0 n))) e, count-nil 0))
 
-pub walk-lists-candidates : (m : Mesh) (t : Tree) (box : Aabb) → treePasses m t ≡ true → walkOf t (triangleCount m t) box ≡ walking [] (candidates m box)
+pub walk-lists-candidates : (m : Mesh) (t : Tree) (box : Aabb) → treePasses m t ≡ true → walkOf t (triangleCount m t) box ≡ walking []
+    (candidates m box)
 walk-lists-candidates m t box h = either (checked-or-empty m t h)
   where
     go : Checked m t → (b : Bool) → eqb (t .nodeCount) 0 ≡ b → walkOf t (triangleCount m t) box ≡ walking [] (candidates m box)

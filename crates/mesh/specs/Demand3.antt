@@ -1,4 +1,5 @@
--- Demand 3 as one statement: what the mesh cast answers at the mesh's own vertices with any tree that passes the check. Definitions only. Assumes nothing.
+-- Demand 3 as one statement: what the mesh cast answers at the mesh's own vertices with any tree that passes the check. Definitions only.
+-- Assumes nothing.
 use Prim.Native.Nat.{ℕ, _<_, _≤_}
 use mathlib.Core.Path.{_≡_}
 use mathlib.Core.Bool.{true, false}
@@ -31,7 +32,8 @@ pub record Admitted (r : Ray) (m : Mesh) (t : Tree) (list stack : ℕ) : Type 0 
   pub areas : roomFor m t list stack ≡ true
 
 module _ (r : Ray) (m : Mesh) where
-  -- "The candidates are the triangles whose box touches the segment's box"; "a candidate's box is that of its three vertices in the mesh, whatever the tree says"
+  -- "The candidates are the triangles whose box touches the segment's box"; "a candidate's box is that of its three vertices in the mesh,
+  -- whatever the tree says"
   pub record Candidate (i : ℕ) : Type 0 where
     pub triangle : i < thirds (length (m .triangles))
     pub near : touches (triangleBox (m .vertices) (m .triangles) i) (segmentBox r) ≡ true

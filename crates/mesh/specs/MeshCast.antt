@@ -14,7 +14,7 @@ use Rattle.casts.specs.Nearest.{Indexed, stopped, nearestOf}
 use Rattle.lists.specs.Refusals.{Test, refusing, unlessRefused, allPass}
 use Rattle.tree.specs.Layout.{Tree}
 use Rattle.tree.specs.Mesh.{Mesh, thirds, lengthsAdmitted, triangleAnswer}
-use Rattle.tree_query.specs.Walk.{Walking, walking, broken, walkOf}
+use Rattle.tree_walk.specs.Walk.{Walking, walking, broken, walkOf}
 unfoldable pub use Rattle.tree_query.specs.Query.{treeFits}
 
 -- "bad shape": the mesh's lengths, those of the vertices to cast at, and "a node count above 2n is 2"

@@ -20,7 +20,7 @@ ghost use Rattle.lists.specs.Lists.{sorted, allBelow};
 ghost use Rattle.tree.specs.Mesh.{thirds, triangleAnswer};
 
 // The answer of one triangle without its normal, for an admitted ray: an index past the vertices is 5.
-pub fn triangle_reach(ray: Ray, pose: &[f64], triangles: &[u32], index: usize) -> Reach
+fn triangle_reach(ray: Ray, pose: &[f64], triangles: &[u32], index: usize) -> Reach
     requires { ⌜ 3 * index + 3 ≤ length (now triangles) ⌝ }
     ensures { λ r. ⌜ r ≡ reachOf (triangleAnswer ray (now (pose .entry)) (now (triangles .entry)) index) ⌝ }
 {

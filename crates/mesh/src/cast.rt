@@ -4,8 +4,8 @@ use casts::nearest::IndexedCast;
 use geometry::ray::Ray;
 use tree::mesh;
 use tree_query::query;
-use tree_query::step::Filled;
 use tree_query::walk;
+use tree_walk::step::Filled;
 ghost use mathlib.Core.Path.{_≡_};
 ghost use mathlib.Core.Bool.{true, false, _&&_};
 ghost use Prim.Native.Nat.{_*_};
@@ -15,7 +15,7 @@ ghost use Rattle.geometry.specs.Segment.{rayAdmitted};
 ghost use Rattle.casts.specs.Nearest.{saysIndexed};
 ghost use Rattle.tree.specs.Mesh.{thirds, lengthsAdmitted, mesh};
 ghost use Rattle.tree.specs.Layout.{treeOf};
-ghost use Rattle.tree_query.specs.Areas.{WalkRoom};
+ghost use Rattle.tree_walk.specs.Areas.{WalkRoom};
 ghost use Rattle.mesh.specs.MeshCast.{testsPass, meshCast, rayMesh};
 ghost use Rattle.mesh.specs.Demand3.{Admitted, MeetsDemand};
 
@@ -69,6 +69,9 @@ fn mesh_cast(
     let Filled::Count(found) = walked else {
         return IndexedCast::Refused(answer::OUT_OF_BOUNDS);
     };
+    if found == 0 {
+        return IndexedCast::None;
+    }
     candidates::nearest_of(ray, pose, triangles, list, found)
 }
 

@@ -19,7 +19,7 @@ use Rattle.lists.proofs.CountLaws.{count-keep}
 use Rattle.tree_query.specs.Query.{count as countOf, refused as refusedWith}
 use Rattle.mesh_hits.specs.Listing.{HitArea, Outcome, isHit, hitsOf, inOrder, numbersOf, placesOf, refusedAt}
 use Rattle.mesh_hits.specs.Listing.{written, fitted, afterRefusals, listingOf}
-use Rattle.mesh_hits.proofs.OrderLaws.{in-order-count}
+use Rattle.mesh_hits.proofs.HitOrder.{in-order-count}
 use Rattle.mesh_hits.proofs.PlaceLaws.{at-counted, IsHitOf, hit-of, AllHit, NumbersAt, stands-at}
 
 -- ---- a count is no refusal

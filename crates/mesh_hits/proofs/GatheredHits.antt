@@ -16,7 +16,8 @@ use Rattle.lists.specs.Lists.{keep}
 use Rattle.tree.specs.Layout.{wordAt, numberAt}
 use Rattle.mesh.proofs.Folding.{Folding, folding-begins, folding-goes, folding-ends}
 use Rattle.mesh_hits.specs.Listing.{isHit, hitsOf, depthAt}
-use Rattle.mesh_hits.specs.Rows.{Keyed, Stored, StoredNext}
+use Rattle.mesh_hits.specs.Rows.{Stored, StoredNext}
+use Rattle.depth_sort.specs.SortRows.{Keyed}
 use Rattle.mesh_hits.proofs.Storing.{stored-more}
 
 pub keep-shorter : (p : ℕ → Bool) (l : List ℕ) → length (keep p l) ≤ length l

@@ -18,10 +18,10 @@ use Rattle.lists.specs.Lists.{count}
 use Rattle.tree.specs.Layout.{wordAt, numberAt}
 use Rattle.lists.proofs.CountLaws.{member-of-count}
 use Rattle.lists.proofs.InOrder.{Rising, rising-sorted}
-use Rattle.mesh_hits.specs.Order.{keyedAhead, ahead}
+use Rattle.depth_sort.specs.Order.{keyedAhead, ahead}
 use Rattle.mesh_hits.specs.Listing.{HitArea, depthOf, hitsOf, depthAt, listingOf}
 use Rattle.mesh_hits.specs.Promise.{Ascends, firstOf}
-use Rattle.mesh_hits.proofs.OrderLaws.{ahead-total, ahead-transitive, ahead-antisymmetric, ahead-itself, ahead-level, ahead-nearer}
+use Rattle.depth_sort.proofs.OrderLaws.{ahead-total, ahead-transitive, ahead-antisymmetric, ahead-itself, ahead-level, ahead-nearer}
 use Rattle.mesh_hits.proofs.PlaceLaws.{at-counted, Place, IsHitOf}
 use Rattle.mesh_hits.proofs.CountedHits.{places, Counted, index-at, place-at, hit-at}
 use Rattle.mesh_hits.proofs.CastAmong.{hit-is, placed, of-list, fits-cast}

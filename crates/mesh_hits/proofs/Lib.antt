@@ -1,9 +1,6 @@
 -- Laws about the listing of all hits. Assumes nothing.
-pub mod OrderLaws
+pub mod HitOrder
 pub mod PlaceLaws
-pub mod Copying
-pub mod Merging
-pub mod Sorting
 pub mod Storing
 pub mod GatheredHits
 pub mod Putting

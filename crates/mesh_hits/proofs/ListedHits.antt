@@ -25,9 +25,9 @@ use Rattle.tree_query.specs.Query.{Listing, count as countOf}
 use Rattle.mesh.proofs.Folding.{nobody-wins, refusal-wins, hit-wins, winner-reached}
 use Rattle.mesh_hits.specs.Listing.{HitArea, hitArea, Outcome, isHit, depthOf, hitsOf, depthAt, inOrder, numbersOf, placesOf}
 use Rattle.mesh_hits.specs.Listing.{written, fitted, refusedAt, afterRefusals, listingOf}
-use Rattle.mesh_hits.specs.Rows.{Keyed, Stored, Ready, Struck}
-use Rattle.mesh_hits.specs.SortRows.{Ordered}
-use Rattle.mesh_hits.proofs.OrderLaws.{in-order-count, sorted-hits}
+use Rattle.mesh_hits.specs.Rows.{Stored, Ready, Struck}
+use Rattle.depth_sort.specs.SortRows.{Keyed, Ordered}
+use Rattle.mesh_hits.proofs.HitOrder.{in-order-count, sorted-hits}
 use Rattle.mesh_hits.proofs.Storing.{miss-is-no-hit, refusal-is-no-hit}
 use Rattle.mesh_hits.proofs.GatheredHits.{keep-shorter}
 use Rattle.mesh_hits.proofs.PlaceLaws.{at-counted}

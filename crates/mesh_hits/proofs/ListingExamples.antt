@@ -25,12 +25,12 @@ use Rattle.tree_check.specs.Check.{childrenOf, placesOf, kindsKnown, childrenAb
 use Rattle.tree_check.specs.Check.{orderedOnce, leavesFilled, cornersKnown, boxesSame, boxesValid, nodeEncloses, enclosed}
 use Rattle.tree_check.specs.Check.{clausesHold, treePasses}
 use Rattle.tree_check.specs.Verdict.{yes, checkOf, roomFor as marksFit}
-use Rattle.tree_query.specs.Walk.{times, takePlace, takePlaces, atLeaf, childFits, atBranch, atNode, takeNode, start, ended, walkOf}
+use Rattle.tree_walk.specs.Walk.{times, takePlace, takePlaces, atLeaf, childFits, atBranch, atNode, takeNode, start, ended, walkOf}
 use Rattle.tree_query.specs.Query.{Listing, count as countOf, refused}
 use Rattle.tree_query.proofs.QueryExamples.{o, i, quarter, ten, eleven, lower, oddTree}
 use Rattle.mesh.specs.MeshCast.{shapeAdmitted, treeFits, roomFor, rayMesh}
 use Rattle.mesh.specs.Demand3.{Admitted}
-use Rattle.mesh_hits.specs.Order.{notFarther, keyedAhead}
+use Rattle.depth_sort.specs.Order.{notFarther, keyedAhead}
 use Rattle.mesh_hits.specs.Listing.{HitArea, hitArea, Outcome, isHit, depthOf, placeOf, numbersOf, placesOf as placesHeld}
 use Rattle.mesh_hits.specs.Listing.{written, fitted, afterRefusals, listingOf, overWalk, meshListing, rayMeshAll}
 use Rattle.mesh_hits.specs.Promise.{ListsHits, firstOf}

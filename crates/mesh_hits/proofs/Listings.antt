@@ -20,10 +20,10 @@ use Rattle.lists.specs.Lists.{sorted}
 use Rattle.lists.proofs.SortLaws.{sorted-rises}
 use Rattle.tree.specs.Layout.{Tree}
 use Rattle.tree.specs.Mesh.{Mesh, thirds, lengthsAdmitted, triangleAnswer}
-use Rattle.tree_query.specs.Walk.{Walking, walking, broken, ended, walkOf}
-use Rattle.tree_query.specs.Areas.{listed}
-use Rattle.tree_query.specs.declared.step.Filled.{Filled}
-use Rattle.tree_query.specs.declared.step.Filled.the-variants.{Count, Broken}
+use Rattle.tree_walk.specs.Walk.{Walking, walking, broken, ended, walkOf}
+use Rattle.tree_walk.specs.Areas.{listed}
+use Rattle.tree_walk.specs.declared.step.Filled.{Filled}
+use Rattle.tree_walk.specs.declared.step.Filled.the-variants.{Count, Broken}
 use Rattle.tree_query.specs.Query.{walkFits}
 use Rattle.mesh.specs.MeshCast.{shapeAdmitted, roomFor}
 use Rattle.mesh_hits.specs.Listing.{HitArea, Outcome, refusedAt, unchanged, listingOf, overWalk, meshListing, rayMeshAll}

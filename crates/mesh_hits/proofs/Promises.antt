@@ -23,7 +23,7 @@ use Rattle.tree.specs.Layout.{Tree, wordAt, numberAt, vectorAt}
 use Rattle.tree.specs.Mesh.{Mesh, thirds, triangleAnswer, candidates}
 use Rattle.lists.proofs.CountLaws.{member-of-count, count-range-inside}
 use Rattle.tree.proofs.Corners.{answers-are-numbers}
-use Rattle.tree_query.specs.Walk.{Walking, walking, broken, walkOf}
+use Rattle.tree_walk.specs.Walk.{Walking, walking, broken, walkOf}
 use Rattle.tree_query.specs.Query.{count as countOf, refused as refusedWith}
 use Rattle.mesh.specs.MeshCast.{shapeAdmitted, roomFor, overWalk as castOverWalk, meshCast, rayMesh}
 use Rattle.mesh.specs.Demand3.{Admitted, Candidate, IsHit}

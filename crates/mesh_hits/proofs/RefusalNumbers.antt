@@ -26,7 +26,7 @@ use Rattle.casts.proofs.AnswerLists.{none-not-refused, hit-not-refused, stopped
 use Rattle.casts.proofs.NearestRefusals.{stopped-by-first-refusal}
 use Rattle.tree.specs.Layout.{Tree}
 use Rattle.tree.specs.Mesh.{Mesh, thirds, cornersInside, cornerAt, triangleAnswer}
-use Rattle.tree_query.specs.Walk.{Walking, walking, broken, walkOf}
+use Rattle.tree_walk.specs.Walk.{Walking, walking, broken, walkOf}
 use Rattle.tree_query.specs.Query.{Listing, count as countOf, refused as refusedWith}
 use Rattle.mesh.specs.MeshCast.{shapeAdmitted, roomFor}
 use Rattle.mesh_hits.specs.Listing.{HitArea, Outcome, hitsOf, inOrder, placesOf, refusedAt, written, fitted}

@@ -18,7 +18,8 @@ use Rattle.tree.specs.Layout.{numberAt, wordAt}
 use Rattle.lists.proofs.CountLaws.{same-or-other}
 use Rattle.lists.proofs.Runs.{stored-after}
 use Rattle.mesh_hits.specs.Listing.{isHit, depthOf, hitsOf, depthAt}
-use Rattle.mesh_hits.specs.Rows.{Keyed, Stored, StoredNext}
+use Rattle.mesh_hits.specs.Rows.{Stored, StoredNext}
+use Rattle.depth_sort.specs.SortRows.{Keyed}
 
 -- ---- one triangle
 pub miss-is-no-hit : (d : Float) → Miss ≡ At d → ⊥

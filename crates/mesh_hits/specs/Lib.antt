@@ -1,6 +1,4 @@
--- All hits along a ray: their order, the listing, and what a user finds in it. Definitions only. Assumes nothing.
-pub mod Order
+-- All hits along a ray: the listing, and what a user finds in it. Definitions only. Assumes nothing.
 pub mod Listing
 pub mod Rows
-pub mod SortRows
 pub mod Promise

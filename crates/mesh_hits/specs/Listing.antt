@@ -15,10 +15,10 @@ use Rattle.casts.specs.Nearest.{Indexed, hitAt, noHit, stopped, nearestOf}
 use Rattle.lists.specs.Lists.{keep, sortBy}
 use Rattle.tree.specs.Layout.{Tree}
 use Rattle.tree.specs.Mesh.{Mesh, thirds, triangleAnswer}
-use Rattle.tree_query.specs.Walk.{Walking, walking, broken, walkOf}
+use Rattle.tree_walk.specs.Walk.{Walking, walking, broken, walkOf}
 use Rattle.tree_query.specs.Query.{Listing, count, refused as refusedWith}
 use Rattle.mesh.specs.MeshCast.{shapeAdmitted, roomFor}
-use Rattle.mesh_hits.specs.Order.{ahead}
+use Rattle.depth_sort.specs.Order.{ahead}
 
 -- "The hit area is u32 indices, one a place, and f64, four a place, distance then normal"
 pub record HitArea : Type 0 where

@@ -14,7 +14,7 @@ use Rattle.tree.specs.Mesh.{Mesh}
 use Rattle.tree_query.specs.Query.{count as countOf, refused}
 use Rattle.mesh.specs.MeshCast.{rayMesh}
 use Rattle.mesh.specs.Demand3.{IsHit, Admitted}
-use Rattle.mesh_hits.specs.Order.{keyedAhead}
+use Rattle.depth_sort.specs.Order.{keyedAhead}
 use Rattle.mesh_hits.specs.Listing.{HitArea, Outcome, rayMeshAll}
 
 -- a hit at a place of the area

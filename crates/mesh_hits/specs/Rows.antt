@@ -11,11 +11,8 @@ use Rattle.casts.specs.declared.answer.Reach.{Reach}
 use Rattle.casts.specs.declared.answer.Reach.the-variants.{At}
 use Rattle.lists.specs.Lists.{count}
 use Rattle.tree.specs.Layout.{numberAt, wordAt}
+use Rattle.depth_sort.specs.SortRows.{Keyed}
 use Rattle.mesh_hits.specs.Listing.{isHit, hitsOf, depthAt}
-
--- the first number of each place is its triangle's depth
-pub record Keyed (depth : ℕ → Float) (indices : List ℕ) (numbers : List Float) : Type 0 where
-  pub at : (i : ℕ) → i < length indices → numberAt numbers (4 * i) ≡ depth (wordAt indices i)
 
 -- the hits of a list, as far as there are places; past them the areas are unchanged
 pub record Stored (answer : ℕ → Answer) (list : List ℕ) (places : ℕ) (indices₀ : List ℕ) (numbers₀ : List Float)

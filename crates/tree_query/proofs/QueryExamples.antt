@@ -9,7 +9,7 @@ use Rattle.geometry.specs.Box.{validSide, validBox, touchSide, touches}
 use Rattle.geometry.specs.declared.aabb.Aabb.{Aabb}
 use Rattle.lists.specs.Lists.{range, insertBy, sortBy}
 use Rattle.tree.specs.Layout.{Tree, vectorAt, boxAt}
-use Rattle.tree_query.specs.Walk.{times, takePlace, takePlaces, atLeaf, childFits, atBranch, atNode, takeNode, start, ended, walkOf}
+use Rattle.tree_walk.specs.Walk.{times, takePlace, takePlaces, atLeaf, childFits, atBranch, atNode, takeNode, start, ended, walkOf}
 use Rattle.tree_query.specs.Query.{count, refused, countsAdmitted, treeFits, walkFits, afterWalk, queryOf}
 
 abbrev pub o : Float
@@ -40,7 +40,8 @@ abbrev pub oddTree : Tree
 oddTree = record {
   nodeCount = 3;
   nodeBoxes =
-      o ∷ (o ∷ (lower ∷ (eleven ∷ (i ∷ (o ∷ (ten ∷ (o ∷ (o ∷ (eleven ∷ (i ∷ (o ∷ (o ∷ (o ∷ (lower ∷ (i ∷ (i ∷ (o ∷ (o ∷ (o ∷ (o ∷ (o ∷ (o ∷ (o ∷ (o ∷ (o ∷ (o ∷ (o ∷ (o ∷ (o ∷ (o ∷ (o ∷ (o ∷ (o ∷ (o ∷ (o ∷ [])))))))))))))))))))))))))))))))))));
+      o ∷ (o ∷ (lower ∷ (eleven ∷ (i ∷ (o ∷ (ten ∷ (o ∷ (o ∷ (eleven ∷ (i ∷ (o ∷ (o ∷ (o ∷ (lower ∷ (i ∷ (i ∷ (o ∷ (o ∷ (o ∷ (o ∷ (o ∷ (o ∷
+      (o ∷ (o ∷ (o ∷ (o ∷ (o ∷ (o ∷ (o ∷ (o ∷ (o ∷ (o ∷ (o ∷ (o ∷ (o ∷ [])))))))))))))))))))))))))))))))))));
   triangleBoxes = boxes;
   nodeWords = 1 ∷ (2 ∷ (1 ∷ (0 ∷ (0 ∷ (1 ∷ (0 ∷ (1 ∷ (2 ∷ (9 ∷ (9 ∷ (9 ∷ (9 ∷ (9 ∷ (9 ∷ (9 ∷ (9 ∷ (9 ∷ [])))))))))))))))));
   order = 1 ∷ (2 ∷ (0 ∷ []));
@@ -70,7 +71,13 @@ twiceNamed = record {
 pub queries-answered :
     queryOf column 3 oddTree area 4
     ∷ (queryOf (boxFrom o o lower eleven i i) 3 oddTree area 4
-    ∷ (queryOf column 3 (record { nodeCount = 0; nodeBoxes = oddTree .nodeBoxes; triangleBoxes = boxes; nodeWords = oddTree .nodeWords; order = oddTree .order }) area 4
+    ∷ (queryOf column 3 (record {
+      nodeCount = 0;
+      nodeBoxes = oddTree .nodeBoxes;
+      triangleBoxes = boxes;
+      nodeWords = oddTree .nodeWords;
+      order = oddTree .order;
+    }) area 4
     ∷ (queryOf (boxFrom o o lower eleven i i) 3 twiceNamed area 4
     ∷ (queryOf (boxFrom i o o o i i) 3 oddTree area 4
     ∷ (queryOf column 1 oddTree area 4
@@ -82,5 +89,6 @@ pub queries-answered :
     ∷ (record { answer = refused 1; list = area }
     ∷ (record { answer = refused 2; list = area }
     ∷ (record { answer = refused 3; list = 7 ∷ (7 ∷ []) } ∷ []))))))
-unfolding queryOf afterWalk walkFits treeFits countsAdmitted walkOf ended start takeNode atNode atBranch childFits atLeaf takePlaces takePlace times boxAt vectorAt sortBy insertBy range touches touchSide validBox validSide isFinite le isNan ofBits
+unfolding queryOf afterWalk walkFits treeFits countsAdmitted walkOf ended start takeNode atNode atBranch childFits atLeaf takePlaces
+    takePlace times boxAt vectorAt sortBy insertBy range touches touchSide validBox validSide isFinite le isNan ofBits
 queries-answered = refl

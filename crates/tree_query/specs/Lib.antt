@@ -1,5 +1,2 @@
--- The walk and the query. Definitions only. Assumes nothing.
-pub mod Walk
-pub mod Sorting
-pub mod Areas
+-- The query. Definitions only. Assumes nothing.
 pub mod Query

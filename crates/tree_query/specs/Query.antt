@@ -9,7 +9,7 @@ use Rattle.geometry.specs.declared.aabb.Aabb.{Aabb}
 use Rattle.casts.specs.Answer.{invalidInput, badShape, noRoom, outOfBounds}
 use Rattle.lists.specs.Refusals.{Test, refusing, unlessRefused, allPass}
 use Rattle.tree.specs.Layout.{Tree, allLong, treeLengths}
-use Rattle.tree_query.specs.Walk.{Walking, walking, broken, walkOf}
+use Rattle.tree_walk.specs.Walk.{Walking, walking, broken, walkOf}
 use Rattle.tree_query.specs.declared.query.Listed.{Listed}
 use Rattle.tree_query.specs.declared.query.Listed.the-variants.{Count, Refused}
 

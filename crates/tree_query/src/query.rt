@@ -1,8 +1,8 @@
-use crate::sort;
-use crate::step::Filled;
 use crate::walk;
 use casts::answer;
 use geometry::aabb::Aabb;
+use index_sort::sort;
+use tree_walk::step::Filled;
 ghost use mathlib.Core.Path.{_≡_};
 ghost use mathlib.Core.Bool.{false};
 ghost use Prim.Native.Nat.{_≤_};

@@ -1,17 +1,19 @@
-use crate::sort;
-use crate::step;
-use crate::step::Filled;
-use crate::step::Stepped;
 use geometry::aabb::Aabb;
+use index_sort::sort;
+use tree::layout;
+use tree_walk::step::Filled;
+use tree_walk::within;
+use tree_walk::within::Limited;
 ghost use mathlib.Core.Path.{_≡_};
 ghost use mathlib.Core.List.{[]};
 ghost use Prim.Native.Nat.{_<_};
-ghost use Rattle.tree_query.specs.Walk.{ended, walkOf};
-ghost use Rattle.tree_query.specs.Areas.{listed, GrownTo, WalkRoom};
+ghost use Rattle.tree_walk.specs.Walk.{ended, walkOf};
+ghost use Rattle.tree_walk.specs.Areas.{listed, GrownTo, WalkRoom};
 ghost use Rattle.tree.specs.Layout.{treeOf};
 
 // The touching triangles in the walk's own order, in the first places of the list, whose rest is as it was; the stack may hold anything afterwards.
-// The node that is taken next is kept apart from the stack, since a place stored and read back at every node would be waited for. A walk past the node count is 5.
+// It is the walk under a limit that no walk uses up: at most one node more is taken from the stack than there are, and that one is 5.
+// A box far off the tree leaves at its first node, here, where the walk itself stays out of line.
 pub fn gather(
     bounds: Aabb,
     count: usize,
@@ -29,41 +31,32 @@ pub fn gather(
     if nodes == 0 {
         return Filled::Count(0);
     }
-    let mut next: usize = 0;
-    let mut height: usize = 0;
-    let mut listed: usize = 0;
-    let mut taken: usize = 0;
-    while taken < nodes {
-        let step = step::take_node(
-            bounds,
-            count,
-            nodes,
-            node_boxes,
-            triangle_boxes,
-            node_words,
-            order,
-            list,
-            listed,
-            stack,
-            next,
-            height,
-        );
-        match step {
-            Stepped::Next { node, top, found } => {
-                next = node;
-                height = top;
-                listed = found;
-                taken += 1;
-            }
-            Stepped::Ended(found) => {
-                return Filled::Count(found);
-            }
-            Stepped::Stopped => {
-                return Filled::Broken;
-            }
+    if !layout::box_at(node_boxes, 0).touches(bounds) {
+        return Filled::Count(0);
+    }
+    let walked = within::gather_within(
+        bounds,
+        count,
+        nodes,
+        node_boxes,
+        triangle_boxes,
+        node_words,
+        order,
+        list,
+        stack,
+        nodes + 1,
+    );
+    match walked {
+        Limited::Count { found, spent: _ } => {
+            return Filled::Count(found);
+        }
+        Limited::Broken(_) => {
+            return Filled::Broken;
+        }
+        Limited::UsedUp(_) => {
+            return Filled::Broken;
         }
     }
-    Filled::Broken
 }
 
 // The same triangles, ascending.

@@ -14,38 +14,40 @@ Inv-loop ray pose triangles list found notes₀ i₀ notes i = Folding (triangle
 abbrev μ-loop : tie.MeasureT-loop
 μ-loop ray pose triangles list found notes₀ i₀ notes i = found - i
 
-empty-requires : tie.Need-empty-requires Inv-loop μ-loop
-empty-requires c κs = search needs
+-- the places of the loop
+abbrev Start : Type 0
+Start = tie.Start Inv-loop μ-loop
+
+abbrev At : Type 0
+At = tie.At-loop Inv-loop μ-loop
+
+abbrev Within : Type 0
+Within = tie.In-loop Inv-loop μ-loop
 
 loop-holds : tie.Need-loop-holds Inv-loop μ-loop
 loop-holds c = folding-begins _ _ _ _ (c .empty .ensures)
 
-mul-index : tie.Need-mul-index Inv-loop μ-loop
-mul-index c = search needs
-
-shared-slice-read-index : tie.Need-shared-slice-read-index Inv-loop μ-loop
-shared-slice-read-index c = search needs
-
 cast-triangle-reach : tie.Need-cast-triangle-reach Inv-loop μ-loop
-cast-triangle-reach c = omega (arith, c .shared-slice-known4 .given (c .before .before .loop .i))
+cast-triangle-reach c =
+    let l : At = search in
+    omega (arith, c .shared-slice-known4 .given (l .loop .i))
 
 triangle-reach-requires : tie.Need-triangle-reach-requires Inv-loop μ-loop
-triangle-reach-requires c κs = omega (arith, listed-below _ _ (c .before .before .before .before .before .before .before .pre .0) _ _ (c .before .before .before .before .before .before .before .pre .1) (c .before .loop-test .taken))
+triangle-reach-requires c κs =
+    let (s, i) : Start × Within = search in
+    omega (arith, listed-below _ _ (s .pre .0) _ _ (s .pre .1) (i .loop-test .taken))
 
-note-requires : tie.Need-note-requires Inv-loop μ-loop
-note-requires c κs = search needs
-
-add-i : tie.Need-add-i Inv-loop μ-loop
-add-i c = search needs
-
-loop-less : tie.Need-loop-less Inv-loop μ-loop
-loop-less c = search needs
-
+-- one more triangle
 loop-again : tie.Need-loop-again Inv-loop μ-loop
-loop-again c = folding-goes _ _ _ (c .before .before .before .before .before .before .before .before .before .pre .0) _ _ _ _ (c .before .before .before .before .loop .inv) (c .before .before .before .loop-test .taken) (c .before .triangle-reach .ensures) (c .note .ensures)
+loop-again c =
+    let (s, l, i) : Start × At × Within = search in
+    folding-goes _ _ _ (s .pre .0) _ _ _ _ (l .loop .inv) (i .loop-test .taken) (c .before .triangle-reach .ensures) (c .note .ensures)
 
+-- all of them
 returns : tie.Need-returns Inv-loop μ-loop
-returns c = folding-ends _ _ _ (c .before .before .before .before .before .before .pre .0) _ _ (c .before .loop .inv) (c .loop-test .left)
+returns c =
+    let s : Start = search in
+    folding-ends _ _ _ (s .pre .0) _ _ (c .before .loop .inv) (c .loop-test .left)
 
 pub note-all-spec : {M : Type 1} → statement M
 note-all-spec =
@@ -53,14 +55,14 @@ note-all-spec =
     (tie.spec
     Inv-loop
     μ-loop
-    empty-requires
+    (λ c κs. search needs)  -- empty-requires
     loop-holds
-    mul-index
-    shared-slice-read-index
+    (search needs)  -- mul-index
+    (search needs)  -- shared-slice-read-index
     cast-triangle-reach
     triangle-reach-requires
-    note-requires
-    add-i
-    loop-less
+    (λ c κs. search needs)  -- note-requires
+    (search needs)  -- add-i
+    (search needs)  -- loop-less
     loop-again
     returns)

@@ -1,68 +1,89 @@
--- `mesh::cast::mesh_cast` meets its contract. Assumes nothing.
-use Rattle.mesh.proofs.Casting.{end-is, cast-overflow, cast-broken, cast-nearest, list-inside}
+-- `mesh::cast::mesh_cast` meets its contract: the segment's end is refused, the walk's 5 is told, and else the nearest of its list.
+-- Assumes nothing.
+use Rattle.geometry.specs.Segment.{segmentEnd}
+use Rattle.geometry.specs.Vector.{finiteVec}
+use Rattle.mesh.proofs.Casting.{end-is, cast-overflow, cast-broken, cast-empty, cast-nearest, list-inside}
 use Rattle.geometry.proofs.BoxLaws.{origin-finite}
+use mathlib.Core.Bool.{true}
+use mathlib.Core.Path.{_≡_}
 use borrow.Author.Tests.{not-true, not-false}
 use borrow.Author.Needs.{needs}
 use Rattle.mesh.proofs.cast.mesh_cast.Statement.{statement}
 use Rattle.mesh.proofs.cast.mesh_cast.Tie as tie
 
-segment-end-requires : tie.Need-segment-end-requires
-segment-end-requires c κs = search needs
+start : tie.Else1 → tie.Start
+start e = search
 
-is-finite-requires : tie.Need-is-finite-requires
-is-finite-requires c κs = search needs
+-- past the first test the segment's end is finite
+finite : (e : tie.Else1) → finiteVec (segmentEnd (start e .args .ray)) ≡ true
+unfolding start
+finite e =
+    let n : tie.After-segment-end = search in
+    end-is _ _ _ (e .before .is-finite .ensures) (n .segment-end .ensures) _ (not-false (e .before .is-finite .result) (e .if1 .left))
 
+-- the end overflows
 returns : tie.Need-returns
-returns c = cast-overflow _ _ _ _ (end-is _ _ _ (c .before .is-finite .ensures) (c .before .before .segment-end .ensures) _ (not-true (c .before .is-finite .result) (c .if1 .taken)))
+returns c =
+    let n : tie.After-segment-end = search in
+    cast-overflow _ _ _ _ (end-is _ _ _ (c .before .is-finite .ensures) (n .segment-end .ensures) _
+    (not-true (c .before .is-finite .result) (c .if1 .taken)))
 
 segment-box-requires : tie.Need-segment-box-requires
-segment-box-requires c κs = (origin-finite _ (c .before .before .before .before .before .before .before .before .before .before .before .pre .0), c .before .before .segment-end .ensures)
+segment-box-requires c κs =
+    let (s, n) : tie.Start × tie.After-segment-end = search in
+    (origin-finite _ (s .pre .0), n .segment-end .ensures)
 
 gather-requires : tie.Need-gather-requires
-gather-requires c κs = c .before .before .before .before .before .before .before .before .before .before .before .before .before .before .pre .1
+gather-requires c κs =
+    let s : tie.Start = search in
+    s .pre .1
 
-enum-known-walked : tie.Need-enum-known-walked
-enum-known-walked c = search needs
-
-enum-told : tie.Need-enum-told
-enum-told c = search needs
-
-same-length : tie.Need-same-length
-same-length c = search needs
-
-same-length-2 : tie.Need-same-length-2
-same-length-2 c = search needs
-
+-- the walk met a 5
 returns-2 : tie.Need-returns-2
-returns-2 c = cast-broken _ _ _ _ (c .before .before .before .before .before .before .before .before .before .before .before .before .before .before .before .before .before .before .before .before .before .pre .0) (end-is _ _ _ (c .before .before .before .before .before .before .before .before .before .before .before .is-finite .ensures) (c .before .before .before .before .before .before .before .before .before .before .before .before .segment-end .ensures) _ (not-false (c .before .before .before .before .before .before .before .before .before .before .before .is-finite .result) (c .before .before .before .before .before .before .before .before .before .before .if1 .left))) _ (c .before .before .before .before .before .before .before .before .before .segment-box .ensures) _ _ (c .before .before .before .before .before .before .gather .ensures .0) (c .enum-told .given .1)
+unfolding start
+returns-2 c =
+    let (s, e, b, g) : tie.Start × tie.Else1 × tie.After-segment-box × tie.After-gather = search in
+    cast-broken _ _ _ _ (s .pre .0) (finite e) _ (b .segment-box .ensures) _ _ (g .gather .ensures .0) (c .enum-told .given .1)
+
+-- it listed nothing
+returns-3 : tie.Need-returns-3
+unfolding start
+returns-3 c =
+    let (s, e, b, g, k) : tie.Start × tie.Else1 × tie.After-segment-box × tie.After-gather × tie.After-walked = search in
+    cast-empty _ _ _ _ (s .pre .0) (finite e) _ (b .segment-box .ensures) _ _ (g .gather .ensures .0) _ (k .walked .given .1)
+    (c .if2 .taken)
 
 nearest-of-requires : tie.Need-nearest-of-requires
-nearest-of-requires c κs = list-inside _ _ _ _ _ (c .before .before .before .before .before .before .before .before .gather .ensures .1) (c .before .before .walked .given .1)
+nearest-of-requires c κs =
+    let (g, k) : tie.After-gather × tie.After-walked = search in
+    list-inside _ _ _ _ _ (g .gather .ensures .1) (k .walked .given .1)
 
-same-length-3 : tie.Need-same-length-3
-same-length-3 c = search needs
-
-same-length-4 : tie.Need-same-length-4
-same-length-4 c = search needs
-
-returns-3 : tie.Need-returns-3
-returns-3 c = cast-nearest _ _ _ _ (c .before .before .before .before .before .before .before .before .before .before .before .before .before .before .before .before .before .before .before .before .before .before .before .before .pre .0) (end-is _ _ _ (c .before .before .before .before .before .before .before .before .before .before .before .before .before .before .is-finite .ensures) (c .before .before .before .before .before .before .before .before .before .before .before .before .before .before .before .segment-end .ensures) _ (not-false (c .before .before .before .before .before .before .before .before .before .before .before .before .before .before .is-finite .result) (c .before .before .before .before .before .before .before .before .before .before .before .before .before .if1 .left))) _ (c .before .before .before .before .before .before .before .before .before .before .before .before .segment-box .ensures) _ _ (c .before .before .before .before .before .before .before .before .before .gather .ensures .0) _ _ (c .before .before .before .walked .given .1) (c .nearest-of .ensures)
+-- the nearest of those that it listed
+returns-4 : tie.Need-returns-4
+unfolding start
+returns-4 c =
+    let (e, b, g, k) : tie.Else1 × tie.After-segment-box × tie.After-gather × tie.After-walked = search in
+    cast-nearest _ _ _ _ (start e .pre .0) (finite e) _ (b .segment-box .ensures) _ _ (g .gather .ensures .0) _ _ (k .walked .given .1)
+    (c .nearest-of .ensures)
 
 pub mesh-cast-spec : {M : Type 1} → statement M
 mesh-cast-spec =
     tie.close
     (tie.spec
-    segment-end-requires
-    is-finite-requires
+    (λ c κs. search needs)  -- segment-end-requires
+    (λ c κs. search needs)  -- is-finite-requires
     returns
     segment-box-requires
     gather-requires
-    enum-known-walked
-    enum-told
-    same-length
-    same-length-2
+    (search needs)  -- enum-known-walked
+    (search needs)  -- enum-told
+    (search needs)  -- same-length
+    (search needs)  -- same-length-2
     returns-2
+    (search needs)  -- same-length-3
+    (search needs)  -- same-length-4
+    returns-3
     nearest-of-requires
-    same-length-3
-    same-length-4
-    returns-3)
+    (search needs)  -- same-length-5
+    (search needs)  -- same-length-6
+    returns-4)

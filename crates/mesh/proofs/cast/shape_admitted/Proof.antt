@@ -1,35 +1,38 @@
 -- `mesh::cast::shape_admitted` meets its contract. Assumes nothing.
-use borrow.Author.Tests.{not-true, not-false}
-use mathlib.Core.Path.{sym}
+use Rattle.lists.proofs.JoinedTests.{test-passed, test-failed}
 use borrow.Author.Needs.{needs}
 use Rattle.mesh.proofs.cast.shape_admitted.Statement.{statement}
 use Rattle.mesh.proofs.cast.shape_admitted.Tie as tie
 
-lengths-admitted-requires : tie.Need-lengths-admitted-requires
-lengths-admitted-requires c κs = search needs
-
+-- the mesh's own lengths are refused
 returns : tie.Need-returns
-returns c = simp (sym (c .before .lengths-admitted .ensures), not-true (c .before .lengths-admitted .result) (c .if1 .taken))
+returns c = simp (test-failed (c .before .lengths-admitted .ensures) (c .if1 .taken))
 
-lengths-admitted-requires-2 : tie.Need-lengths-admitted-requires-2
-lengths-admitted-requires-2 c κs = search needs
-
+-- those of the vertices to cast at are
 returns-2 : tie.Need-returns-2
-returns-2 c = simp (sym (c .before .before .before .lengths-admitted .ensures), not-false (c .before .before .before .lengths-admitted .result) (c .before .before .if1 .left), sym (c .before .lengths-admitted2 .ensures), not-true (c .before .lengths-admitted2 .result) (c .if2 .taken))
+returns-2 c =
+    let e : tie.Else1 = search in
+    simp (
+      test-passed (e .before .lengths-admitted .ensures) (e .if1 .left),
+      test-failed (c .before .lengths-admitted2 .ensures) (c .if2 .taken),
+    )
 
-mul-result : tie.Need-mul-result
-mul-result c = search needs
-
+-- the node count tells
 returns-3 : tie.Need-returns-3
-returns-3 c = simp (sym (c .before .before .before .lengths-admitted .ensures), not-false (c .before .before .before .lengths-admitted .result) (c .before .before .if1 .left), sym (c .before .lengths-admitted2 .ensures), not-false (c .before .lengths-admitted2 .result) (c .if2 .left))
+returns-3 c =
+    let (e, f) : tie.Else1 × tie.Else2 = search in
+    simp (
+      test-passed (e .before .lengths-admitted .ensures) (e .if1 .left),
+      test-passed (f .before .lengths-admitted2 .ensures) (f .if2 .left),
+    )
 
 pub shape-admitted-spec : {M : Type 1} → statement M
 shape-admitted-spec =
     tie.close
     (tie.spec
-    lengths-admitted-requires
+    (λ c κs. search needs)  -- lengths-admitted-requires
     returns
-    lengths-admitted-requires-2
+    (λ c κs. search needs)  -- lengths-admitted-requires-2
     returns-2
-    mul-result
+    (search needs)  -- mul-result
     returns-3)

@@ -15,13 +15,24 @@ returns-2 : tie.Need-returns-2
 unfolding walkFits
 returns-2 c =
     let at-tree-fits : tie.After-tree-fits = search in
-    simp (sym (at-tree-fits .tree-fits .ensures), not-false (at-tree-fits .tree-fits .result) (c .before .if1 .left), lt-leb _ _ (c .if2 .taken))
+    simp (
+      sym (at-tree-fits .tree-fits .ensures),
+      not-false (at-tree-fits .tree-fits .result) (c .before .if1 .left),
+      lt-leb _ _
+          (c .if2 .taken),
+    )
 
 returns-3 : tie.Need-returns-3
 unfolding walkFits
 returns-3 c =
     let at-tree-fits : tie.After-tree-fits = search in
-    simp (sym (at-tree-fits .tree-fits .ensures), not-false (at-tree-fits .tree-fits .result) (c .before .if1 .left), le-leb _ _ (c .if2 .left), add-one)
+    simp (
+      sym (at-tree-fits .tree-fits .ensures),
+      not-false (at-tree-fits .tree-fits .result) (c .before .if1 .left),
+      le-leb _ _
+          (c .if2 .left),
+      add-one,
+    )
 
 pub walk-fits-spec : {M : Type 1} → statement M
 walk-fits-spec = tie.close (tie.spec (search needs) returns returns-2 returns-3)

@@ -1,0 +1,3 @@
+-- Hits along a ray in order of depth. Definitions only. Assumes nothing.
+pub mod Order
+pub mod SortRows

@@ -1,0 +1,8 @@
+-- The laws of the walk, beside the functions' own proofs. Assumes nothing.
+pub mod Places
+pub mod Branches
+pub mod Nodes
+pub mod Walks
+pub mod Limits
+pub mod Gathering
+pub mod LookExamples
