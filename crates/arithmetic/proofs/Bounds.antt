@@ -1,13 +1,16 @@
--- Numbers of at most a power of two in size stay so under a sum, a product and a quotient, so that none of these overflows. Assumes nothing.
+-- Numbers of at most a power of two in size stay so under a sum, a product and a quotient, so that none of these overflows. Assumes
+-- nothing.
 use mathlib.Core.Path.{_≡_, refl, sym, ap, subst, _∙_}
 use mathlib.Core.Bool.{Bool, true, false, cond, true≢false, Bool·beq, _&&_}
 use Prim.Native.Nat.{ℕ, zero, suc, _+_, _-_, _*_, _^_, _≤_, _<_}
-use native.Mathlib.Nat.{le-trans, le-of-eq, add-comm, mul-one, one-mul, zero-mul, pos-of-ne-zero, mul-comm, mul-assoc, mul-right-comm, mul-mul-mul-comm, mul-pos, mul-le-mul, mul-le-mul-right, le-of-mul-le-mul-right, pow-suc}
+use native.Mathlib.Nat.{le-trans, le-of-eq, add-comm, mul-one, one-mul, zero-mul, pos-of-ne-zero, mul-comm, mul-assoc, mul-right-comm}
+use native.Mathlib.Nat.{mul-mul-mul-comm, mul-pos, mul-le-mul, mul-le-mul-right, le-of-mul-le-mul-right, pow-suc}
 use native.Mathlib.Omega.{arith}
 use lib.Dec.{T, ltb, eqb, lit<}
 use lib.Pow.{pow-add, pow-mono, pow-lt}
 use lib.IntN.{ℤ, pos}
-use lib.Ieee.{Float, nan, inf, fin, binary64, prec, emax, low, up, down, odd, units, round, neg, sum, add, sub, mul, div, lt, le, isNan, ofBits, unlike}
+use lib.Ieee.{Float, nan, inf, fin, binary64, prec, emax, low, up, down, odd, units, round, neg, sum, add, sub, mul, div, lt, le, isNan}
+use lib.Ieee.{ofBits, unlike}
 use lib.Ieee.Fits.{up-pos, down-pos, round-is}
 use lib.Ieee.Exact.{HasValue, round-exact}
 use lib.Ieee.Order.{round-mono}

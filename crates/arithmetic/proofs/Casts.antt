@@ -2,7 +2,8 @@
 use mathlib.Core.Path.{_≡_, refl, sym, ap, _∙_, subst}
 use mathlib.Core.Bool.{Bool, true, false, cond, true≢false, false≢true}
 use Prim.Native.Nat.{ℕ, _+_, _-_, _*_, _/_, _^_, _≤_, _<_, min}
-use native.Mathlib.Nat.{mul-one, mul-right-comm, mul-lt-mul-of-pos-right, lt-of-mul-lt-mul-right, mul-div-cancel, div-lt-iff-lt-mul, le-div-iff-mul-le, zero-div, zero-min}
+use native.Mathlib.Nat.{mul-one, mul-right-comm, mul-lt-mul-of-pos-right, lt-of-mul-lt-mul-right, mul-div-cancel, div-lt-iff-lt-mul}
+use native.Mathlib.Nat.{le-div-iff-mul-le, zero-div, zero-min}
 use native.Mathlib.Omega.{arith}
 use lib.Dec.{T, lt→ltb}
 use lib.IntN.{pos}
@@ -19,7 +20,8 @@ abbrev pub none : Float
 none = fin false 0 (pos 0)
 
 -- ---- by a fraction that the number equals
-pub in-range : (x : Float) (n c : ℕ) → 0 < c → HasValue x false n c → n < 2 ^ 64 * c → T (lt (fin true 1 (pos 0)) x) × T (lt x (fin false 1 (pos 64)))
+pub in-range : (x : Float) (n c : ℕ) → 0 < c → HasValue x false n c → n < 2 ^ 64 * c → T (lt (fin true 1 (pos 0)) x) × T
+    (lt x (fin false 1 (pos 64)))
 unfolding lt
 in-range nan n c C v h = absurd v
 in-range (inf s) n c C v h = absurd v
@@ -27,7 +29,8 @@ in-range (fin true m e) n c C v h = absurd (true≢false (v .0))
 in-range (fin false m e) n c C v h =
     let d = down-pos e in
     let scaled : n * down e < 2 ^ 64 * c * down e = mul-lt-mul-of-pos-right h d in
-    let below : m * up e * c < 2 ^ 64 * down e * c = subst (λ (z : ℕ). z < 2 ^ 64 * down e * c) (sym (v .1)) (subst (λ (z : ℕ). n * down e < z) (mul-right-comm (2 ^ 64) c (down e)) scaled) in
+    let below : m * up e * c < 2 ^ 64 * down e * c = subst (λ (z : ℕ). z < 2 ^ 64 * down e * c) (sym (v .1))
+    (subst (λ (z : ℕ). n * down e < z) (mul-right-comm (2 ^ 64) c (down e)) scaled) in
     let under : m * up e < 2 ^ 64 * down e = lt-of-mul-lt-mul-right c below in
     (lt→ltb 0 (1 * down e + m * up e * 1) (omega arith), lt→ltb (m * up e * 1) (2 ^ 64 * down e) (omega arith))
 
@@ -47,7 +50,8 @@ cast-of-value nan s n v = absurd v
 cast-of-value (inf t) s n v = absurd v
 cast-of-value (fin t m e) s n v =
     ap (λ (b : Bool). cond b 0 (min (m * up e / down e) (2 ^ 64 - 1))) (v .0)
-    ∙ ap (λ (z : ℕ). cond s 0 (min z (2 ^ 64 - 1))) (ap (λ (z : ℕ). z / down e) (sym (mul-one (m * up e)) ∙ v .1) ∙ mul-div-cancel n (down-pos e))
+    ∙ ap (λ (z : ℕ). cond s 0 (min z (2 ^ 64 - 1)))
+    (ap (λ (z : ℕ). z / down e) (sym (mul-one (m * up e)) ∙ v .1) ∙ mul-div-cancel n (down-pos e))
 
 -- ---- by the tests of the code
 pub cast-of-none : (x : Float) → lt none x ≡ false → wholeOf x ≡ 0
@@ -72,5 +76,6 @@ cast-of-large (fin false m e) h k =
     let q : 2 ^ 64 ≤ m * up e / down e = le-div-iff-mul-le (down-pos e) .1 (omega arith) in
     omega arith
 
-pub cast-in-range : (x : Float) → lt none x ≡ true → lt x (fin false 1 (pos 64)) ≡ true → T (lt (fin true 1 (pos 0)) x) × T (lt x (fin false 1 (pos 64)))
+pub cast-in-range : (x : Float) → lt none x ≡ true → lt x (fin false 1 (pos 64)) ≡ true → T (lt (fin true 1 (pos 0)) x) × T
+    (lt x (fin false 1 (pos 64)))
 cast-in-range x h k = (subst T (sym (lt-transitive (fin true 1 (pos 0)) none x (unfold lt in refl) h)) tt, subst T (sym k) tt)

@@ -19,7 +19,8 @@ absolute-sum : (f : Format) (a b c : ℕ) → absolute (sum f false a true b c) 
 unfolding sum
 absolute-sum f a b c = go (ltb a b) (ltb-true a b) (ltb-false a b)
   where
-    go : (t : Bool) → (t ≡ true → a < b) → (t ≡ false → b ≤ a) → absolute (cond t (round f true (b - a) c) (round f false (a - b) c)) ≡ round f false (apart a b) c
+    go : (t : Bool) → (t ≡ true → a < b) → (t ≡ false → b ≤ a) → absolute (cond t (round f true (b - a) c) (round f false (a - b) c)) ≡
+        round f false (apart a b) c
     go true h k =
         let l : a < b = h refl in
         let e : b - a ≡ apart a b = omega arith in
@@ -29,15 +30,18 @@ absolute-sum f a b c = go (ltb a b) (ltb-true a b) (ltb-false a b)
         let e : a - b ≡ apart a b = omega arith in
         absolute-round f false (a - b) c ∙ ap (λ (z : ℕ). round f false z c) e
 
-sub-finite : (m : ℕ) (e : ℤ) (n : ℕ) (d : ℤ) → sub binary64 (fin false m e) (fin false n d) ≡ sum binary64 false (m * up e * down d) true (n * up d * down e) (down e * down d)
+sub-finite : (m : ℕ) (e : ℤ) (n : ℕ) (d : ℤ) → sub binary64 (fin false m e) (fin false n d) ≡ sum binary64 false (m * up e * down d) true
+    (n * up d * down e) (down e * down d)
 unfolding sub
 sub-finite m e n d = refl
 
-pub absolute-sub : (x y : Float) → T (positive x) → T (positive y) → absolute (sub binary64 x y) ≡ round binary64 false (apart (num x * den y) (num y * den x)) (den x * den y)
+pub absolute-sub : (x y : Float) → T (positive x) → T (positive y) → absolute (sub binary64 x y) ≡ round binary64 false
+    (apart (num x * den y) (num y * den x)) (den x * den y)
 absolute-sub nan y p q = absurd p
 absolute-sub (inf s) y p q = absurd p
 absolute-sub (fin true m e) y p q = absurd p
 absolute-sub (fin false m e) nan p q = absurd q
 absolute-sub (fin false m e) (inf t) p q = absurd q
 absolute-sub (fin false m e) (fin true n d) p q = absurd q
-absolute-sub (fin false m e) (fin false n d) p q = ap absolute (sub-finite m e n d) ∙ absolute-sum binary64 (m * up e * down d) (n * up d * down e) (down e * down d)
+absolute-sub (fin false m e) (fin false n d) p q = ap absolute (sub-finite m e n d) ∙ absolute-sum binary64 (m * up e * down d)
+    (n * up d * down e) (down e * down d)

@@ -29,7 +29,8 @@ fromOne-is (fin false m e) p =
     ∙ ap (λ (z : ℕ). round binary64 false (apart (m * up e) z) (down e * 1)) (one-mul (down e))
     ∙ ap (λ (z : ℕ). round binary64 false (apart (m * up e) (down e)) z) (mul-one (down e))
 
-grows : (x y : Float) → T (positive x) → T (positive y) → apart (num x) (den x) * den y ≤ apart (num y) (den y) * den x → T (le (fromOne x) (fromOne y))
+grows : (x y : Float) → T (positive x) → T (positive y) → apart (num x) (den x) * den y ≤ apart (num y) (den y) * den x → T
+    (le (fromOne x) (fromOne y))
 grows x y p q h =
     subst (λ (z : Float). T (le z (fromOne y))) (sym (fromOne-is x p))
     (subst (λ (z : Float). T (le (round binary64 false (apart (num x) (den x)) (den x)) z)) (sym (fromOne-is y q))

@@ -1,4 +1,5 @@
--- Minimum and maximum are one of their operands, so finite where both are, and below or above both where these are no NaN; where the first operand is no NaN one comparison tells which. Assumes nothing.
+-- Minimum and maximum are one of their operands, so finite where both are, and below or above both where these are no NaN; where the first
+-- operand is no NaN one comparison tells which. Assumes nothing.
 use mathlib.Core.Path.{_≡_, refl, sym, ap, _∙_}
 use mathlib.Core.Logic.{_⊎_, inl, inr, ⊎-elim}
 use mathlib.Core.Bool.{Bool, true, false, cond, false≢true}
@@ -67,10 +68,12 @@ module _ (x y : Float) (p : isNan x ≡ false) (q : isNan y ≡ false) where
   minimum-below-first = rw minimum-is (pick-keeps (λ (z : Float). le z x ≡ true) (lt y x) x y (le-of-lt y x) (λ h. le-reflexive x p))
 
   pub minimum-below-second : le (minimumOf x y) y ≡ true
-  minimum-below-second = rw minimum-is (pick-keeps (λ (z : Float). le z y ≡ true) (lt y x) x y (λ h. le-reflexive y q) (le-of-not-lt x y p q))
+  minimum-below-second = rw minimum-is (pick-keeps (λ (z : Float). le z y ≡ true) (lt y x) x y (λ h. le-reflexive y q) (le-of-not-lt x y p
+      q))
 
   pub maximum-above-first : le x (maximumOf x y) ≡ true
   maximum-above-first = rw maximum-is (pick-keeps (λ (z : Float). le x z ≡ true) (lt x y) x y (le-of-lt x y) (λ h. le-reflexive x p))
 
   pub maximum-above-second : le y (maximumOf x y) ≡ true
-  maximum-above-second = rw maximum-is (pick-keeps (λ (z : Float). le y z ≡ true) (lt x y) x y (λ h. le-reflexive y q) (le-of-not-lt y x q p))
+  maximum-above-second = rw maximum-is (pick-keeps (λ (z : Float). le y z ≡ true) (lt x y) x y (λ h. le-reflexive y q) (le-of-not-lt y x q
+      p))

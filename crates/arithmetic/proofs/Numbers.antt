@@ -1,4 +1,5 @@
--- A value lies strictly between the infinities exactly where it is finite, and is then no NaN; nor are values that are equal. Assumes nothing.
+-- A value lies strictly between the infinities exactly where it is finite, and is then no NaN; nor are values that are equal. Assumes
+-- nothing.
 use mathlib.Core.Path.{_≡_, refl, sym, ap, subst, _∙_}
 use mathlib.Core.Bool.{Bool, true, false, not, false≢true}
 use lib.Dec.{T}

@@ -1,4 +1,5 @@
--- The order of floats, for every value: `le` is transitive, total off NaN and the negation of the reversed `lt`; `lt` is irreflexive and transitive, also mixed with `le`; a NaN is below, equal to and at most nothing. Assumes nothing.
+-- The order of floats, for every value: `le` is transitive, total off NaN and the negation of the reversed `lt`; `lt` is irreflexive and
+-- transitive, also mixed with `le`; a NaN is below, equal to and at most nothing. Assumes nothing.
 use mathlib.Core.Path.{_≡_, refl, sym, ap, _∙_}
 use mathlib.Core.Bool.{Bool, true, false, not, _&&_, _||_, true≢false, false≢true, and-false, or-true}
 use Prim.Native.Nat.{_*_}
@@ -145,7 +146,8 @@ not-lt-transitive (fin s m e) (fin t n d) nan p q r h k = refl
 not-lt-transitive (fin s m e) (fin t n d) (inf u) p q r h k = k
 not-lt-transitive (fin s m e) (fin t n d) (fin u o c) p q r h k =
     below-not u (o * up c) (down c) s (m * up e) (down e)
-    (through (plus s (m * up e)) (less s (m * up e)) (plus t (n * up d)) (less t (n * up d)) (plus u (o * up c)) (less u (o * up c)) (down e) (down d) (down c) (down-pos d)
+    (through (plus s (m * up e)) (less s (m * up e)) (plus t (n * up d)) (less t (n * up d)) (plus u (o * up c)) (less u (o * up c))
+    (down e) (down d) (down c) (down-pos d)
     (not-below t (n * up d) (down d) s (m * up e) (down e) h)
     (not-below u (o * up c) (down c) t (n * up d) (down d) k))
 
@@ -162,14 +164,16 @@ lt-of-lt-le x y z h k = go (lt x z) refl
   where
     go : (b : Bool) → lt x z ≡ b → lt x z ≡ true
     go true e = e
-    go false e = absurd (true≢false (sym h ∙ not-lt-of-le y x (le-transitive y z x k (le-of-not-lt z x (le-right-number y z k) (le-left-number x y (le-of-lt x y h)) e))))
+    go false e = absurd (true≢false (sym h ∙ not-lt-of-le y x (le-transitive y z x k (le-of-not-lt z x (le-right-number y z k)
+        (le-left-number x y (le-of-lt x y h)) e))))
 
 pub lt-of-le-lt : (x y z : Float) → le x y ≡ true → lt y z ≡ true → lt x z ≡ true
 lt-of-le-lt x y z h k = go (lt x z) refl
   where
     go : (b : Bool) → lt x z ≡ b → lt x z ≡ true
     go true e = e
-    go false e = absurd (true≢false (sym k ∙ not-lt-of-le z y (le-transitive z x y (le-of-not-lt z x (le-right-number y z (le-of-lt y z k)) (le-left-number x y h) e) h)))
+    go false e = absurd (true≢false (sym k ∙ not-lt-of-le z y (le-transitive z x y (le-of-not-lt z x (le-right-number y z (le-of-lt y z k))
+        (le-left-number x y h) e) h)))
 
 pub lt-transitive : (x y z : Float) → lt x y ≡ true → lt y z ≡ true → lt x z ≡ true
 lt-transitive x y z h k = lt-of-lt-le x y z h (le-of-lt y z k)

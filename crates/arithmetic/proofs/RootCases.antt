@@ -76,10 +76,12 @@ highest b l h = go (leb (2 ^ 63) b) refl
         ∙ ap (lt none) (sym (signed-fields b ∙ ap (λ (s : Bool). ofFields binary64 s (b % 2 ^ 63 / 2 ^ 52) (b % 2 ^ 52)) e)) ∙ h))
     go false e =
         let k : b < 2 ^ 63 = leb-false (2 ^ 63) b e in
-        let v : ofBits binary64 b ≡ cond (eqb (b % 2 ^ 52) 0) (inf false) nan = positive-fields b k ∙ ap (λ (z : ℕ). ofFields binary64 false z (b % 2 ^ 52)) (field k) ∙ top-field (b % 2 ^ 52) in
+        let v : ofBits binary64 b ≡ cond (eqb (b % 2 ^ 52) 0) (inf false) nan = positive-fields b k ∙ ap
+        (λ (z : ℕ). ofFields binary64 false z (b % 2 ^ 52)) (field k) ∙ top-field (b % 2 ^ 52) in
         v ∙ infinite (eqb (b % 2 ^ 52) 0) (sym (ap (lt none) v) ∙ h)
 
-pub highest-infinite : (x : Float) → T (fits binary64 x) → lt (ofBits binary64 0) x ≡ true → 2047 * 2 ^ 52 ≤ toBits binary64 x → x ≡ inf false
+pub highest-infinite : (x : Float) → T (fits binary64 x) → lt (ofBits binary64 0) x ≡ true → 2047 * 2 ^ 52 ≤ toBits binary64 x → x ≡ inf
+    false
 highest-infinite x f h l =
     let v : ofBits binary64 (toBits binary64 x) ≡ x = ofBits-toBits binary64 x f in
     sym v ∙ highest (toBits binary64 x) l (ap (lt none) v ∙ ap (λ (z : Float). lt z x) (sym zero-pattern) ∙ h)
@@ -107,7 +109,8 @@ zero-root nan h = absurd (false≢true h)
 zero-root (inf s) h = absurd (false≢true h)
 zero-root (fin s zero e) h = refl
 zero-root (fin s (suc m) e) h =
-    let z : suc m * up e * 1 ≡ 0 * down e = eqb-true (suc m * up e * 1) (0 * down e) (and-true (eqb (suc m * up e * 1) (0 * down e)) (Bool·beq s false || eqb (suc m * up e * 1) 0) h) in
+    let z : suc m * up e * 1 ≡ 0 * down e = eqb-true (suc m * up e * 1) (0 * down e)
+    (and-true (eqb (suc m * up e * 1) (0 * down e)) (Bool·beq s false || eqb (suc m * up e * 1) 0) h) in
     absurd (lt-irrefl 0 (subst (λ (k : ℕ). 0 < k) (z ∙ zero-mul (down e)) (size-pos m e)))
 
 pub zero-is-root : (x : Float) → eq x (ofBits binary64 0) ≡ true → x ≡ rootOf x
@@ -119,7 +122,8 @@ unfolding eq
 zero-equal s e =
     let z : zero * up e * 1 ≡ 0 = ap (λ (k : ℕ). k * 1) (zero-mul (up e)) in
     let w : 0 * down e ≡ 0 = zero-mul (down e) in
-    ap (λ (k : ℕ). eqb k (0 * down e) && (Bool·beq s false || eqb k 0)) z ∙ ap (λ (k : ℕ). eqb 0 k && (Bool·beq s false || true)) w ∙ or-true (Bool·beq s false)
+    ap (λ (k : ℕ). eqb k (0 * down e) && (Bool·beq s false || eqb k 0)) z ∙ ap (λ (k : ℕ). eqb 0 k && (Bool·beq s false || true)) w ∙
+    or-true (Bool·beq s false)
   where
     or-true : (b : Bool) → (b || true) ≡ true
     or-true true = refl
@@ -127,7 +131,8 @@ zero-equal s e =
 
 pub positive-above : (m : ℕ) (e : ℤ) → lt none (fin false (suc m) e) ≡ true
 unfolding lt
-positive-above m e = lt-ltb (0 * 1 * down e) (suc m * up e * 1) (subst (λ (k : ℕ). k < suc m * up e * 1) (sym (zero-mul (down e))) (size-pos m e))
+positive-above m e = lt-ltb (0 * 1 * down e) (suc m * up e * 1)
+    (subst (λ (k : ℕ). k < suc m * up e * 1) (sym (zero-mul (down e))) (size-pos m e))
 
 no-root : (x : Float) → lt none x ≡ false → eq x none ≡ false → nan ≡ rootOf x
 unfolding rootOf
@@ -142,5 +147,7 @@ nan-quotient : div binary64 (ofBits binary64 0) (ofBits binary64 0) ≡ nan
 unfolding div ofBits
 nan-quotient = refl
 
-pub quotient-is-root : (x : Float) → lt (ofBits binary64 0) x ≡ false → eq x (ofBits binary64 0) ≡ false → div binary64 (ofBits binary64 0) (ofBits binary64 0) ≡ rootOf x
-quotient-is-root x h k = nan-quotient ∙ no-root x (subst (λ (z : Float). lt z x ≡ false) zero-pattern h) (subst (λ (z : Float). eq x z ≡ false) zero-pattern k)
+pub quotient-is-root : (x : Float) → lt (ofBits binary64 0) x ≡ false → eq x (ofBits binary64 0) ≡ false → div binary64 (ofBits binary64 0)
+    (ofBits binary64 0) ≡ rootOf x
+quotient-is-root x h k = nan-quotient ∙ no-root x (subst (λ (z : Float). lt z x ≡ false) zero-pattern h)
+    (subst (λ (z : Float). eq x z ≡ false) zero-pattern k)

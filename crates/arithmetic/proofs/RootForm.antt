@@ -16,7 +16,8 @@ use borrow.Author.Tests.{ltb-true, ltb-false}
 use Rattle.arithmetic.specs.Root.{rootOf, NearestRoot}
 use Rattle.arithmetic.proofs.RootWhole.{nearest-exists}
 use Rattle.arithmetic.proofs.RootScaled.{rootOf-scaled, root-digits, under-top, units-odd}
-use Rattle.arithmetic.proofs.RootPatterns.{normal-scaled, even-digits, EvenDigits, Lifted, lifted-at-first, lifted-left, lifted-again, lifted-scaled}
+use Rattle.arithmetic.proofs.RootPatterns.{normal-scaled, even-digits, EvenDigits, Lifted, lifted-at-first, lifted-left}
+use Rattle.arithmetic.proofs.RootPatterns.{lifted-again, lifted-scaled}
 use Rattle.arithmetic.proofs.RootCases.{none, zero-pattern, positive-above, above-pattern, highest-infinite}
 
 pub record Scaled (x : Float) (m k : ℕ) : Type 0 where
@@ -37,15 +38,25 @@ lifted-whole (suc k) b m B l = go (ltb m (2 ^ 52)) (ltb-true m (2 ^ 52)) (ltb-fa
     less : suc k - 1 ≡ k
     less = omega arith
 
-    go : (c : Bool) → (c ≡ true → m < 2 ^ 52) → (c ≡ false → 2 ^ 52 ≤ m) → (Lifted b (m * 4) k → (m' : ℕ) × (k' : ℕ) × Lifted b m' k' × (2 ^ 52 ≤ m'))
+    go : (c : Bool) → (c ≡ true → m < 2 ^ 52) → (c ≡ false → 2 ^ 52 ≤ m) →
+        (Lifted b (m * 4) k → (m' : ℕ) × (k' : ℕ) × Lifted b m' k' × (2 ^ 52 ≤ m'))
         → (m' : ℕ) × (k' : ℕ) × Lifted b m' k' × (2 ^ 52 ≤ m')
     go true h g ih = ih (subst (Lifted b (m * 4)) less (lifted-again b m (suc k) (zero-lt-suc k) l (h refl)))
     go false h g ih = (m, suc k, l, g refl)
 
 subnormal-form : (b : ℕ) → 0 < b → b < 2 ^ 52 → (m : ℕ) × (k : ℕ) × Scaled (ofBits binary64 b) m k
 subnormal-form b B h =
-    let w = lifted-whole 511 b b B (lifted-at-first b h) in
-    (w .0, w .1, record { least = w .3; most = small (w .0) (w .2 .small); count = few (w .1) (w .2 .count); value = lifted-scaled b (w .0) (w .1) h (w .2) })
+    let w = lifted-whole 511 b b B (lifted-at-first b h) in (
+      w .0,
+      w .1,
+      record {
+        least = w .3;
+        most = small (w .0) (w .2 .small);
+        count = few (w .1) (w .2 .count);
+        value = lifted-scaled b (w .0)
+            (w .1) h (w .2);
+      },
+    )
   where
     small : (m : ℕ) → m ≤ 2 ^ 54 - 4 → m ≤ 2 ^ 54 - 2
     small m l = omega arith
@@ -57,8 +68,13 @@ normal-form : (b : ℕ) → 2 ^ 52 ≤ b → b < 2047 * 2 ^ 52 → (m : ℕ) × 
 normal-form b lo hi =
     let r = b + 1021 * 2 ^ 52 in
     let c = r % 2 ^ 53 in
-    let d : EvenDigits ((c % 2 ^ 52 + 2 ^ 52) * (1 + c / 2 ^ 52)) = even-digits c ((c % 2 ^ 52 + 2 ^ 52) * (1 + c / 2 ^ 52)) (omega arith) refl in
-    ((c % 2 ^ 52 + 2 ^ 52) * (1 + c / 2 ^ 52), r / 2 ^ 53, record { least = d .least; most = d .most; count = omega arith; value = normal-scaled b r lo hi refl })
+    let d : EvenDigits ((c % 2 ^ 52 + 2 ^ 52) * (1 + c / 2 ^ 52)) = even-digits c ((c % 2 ^ 52 + 2 ^ 52) * (1 + c / 2 ^ 52)) (omega arith)
+    refl in (
+      (c % 2 ^ 52 + 2 ^ 52) * (1 + c / 2 ^ 52),
+      r / 2 ^ 53,
+      record
+          { least = d .least; most = d .most; count = omega arith; value = normal-scaled b r lo hi refl },
+    )
 
 pattern-form : (b : ℕ) → 0 < b → b < 2047 * 2 ^ 52 → (m : ℕ) × (k : ℕ) × Scaled (ofBits binary64 b) m k
 pattern-form b B h = go (ltb b (2 ^ 52)) (ltb-true b (2 ^ 52)) (ltb-false b (2 ^ 52))
@@ -81,9 +97,12 @@ above x p = ap (λ (z : Float). lt z x) zero-pattern ∙ go x p
 pub positive-form : (x : Float) → T (positive x) → T (fits binary64 x) → (m : ℕ) × (k : ℕ) × Scaled x m k
 positive-form x p f =
     let b = toBits binary64 x in
-    subst (λ (v : Float). (m : ℕ) × (k : ℕ) × Scaled v m k) (ofBits-toBits binary64 x f) (pattern-form b (above-pattern x f (above x p)) (below (ltb b (2047 * 2 ^ 52)) (ltb-true b (2047 * 2 ^ 52)) (ltb-false b (2047 * 2 ^ 52))))
+    subst (λ (v : Float). (m : ℕ) × (k : ℕ) × Scaled v m k) (ofBits-toBits binary64 x f)
+    (pattern-form b (above-pattern x f (above x p))
+    (below (ltb b (2047 * 2 ^ 52)) (ltb-true b (2047 * 2 ^ 52)) (ltb-false b (2047 * 2 ^ 52))))
   where
-    below : (c : Bool) → (c ≡ true → toBits binary64 x < 2047 * 2 ^ 52) → (c ≡ false → 2047 * 2 ^ 52 ≤ toBits binary64 x) → toBits binary64 x < 2047 * 2 ^ 52
+    below : (c : Bool) → (c ≡ true → toBits binary64 x < 2047 * 2 ^ 52) → (c ≡ false → 2047 * 2 ^ 52 ≤ toBits binary64 x) → toBits binary64
+        x < 2047 * 2 ^ 52
     below true l g = l refl
     below false l g = absurd (subst (λ (v : Float). T (finite v)) (highest-infinite x f (above x p) (g refl)) (positive-finite x p))
 
@@ -112,7 +131,8 @@ root-form x p f = go (positive-form x p f)
           nearest = h;
           digits = d .0;
           result = subst (λ (v : Float). HasValue v false (r * 2 ^ k) (2 ^ 1074)) (sym e) (odd-sign 54 false r k 1074);
-          held = subst (λ (v : Float). T (fits binary64 v)) (sym e) (odd-fits binary64 54 false r k (lt-of-lt-of-le (d .1) (lit≤ tt)) (under r (d .1)) t);
+          held = subst (λ (v : Float). T (fits binary64 v)) (sym e)
+              (odd-fits binary64 54 false r k (lt-of-lt-of-le (d .1) (lit≤ tt)) (under r (d .1)) t);
         }
       where
         under : (r : ℕ) → r < 2 ^ 53 → r ≤ 2 ^ 53

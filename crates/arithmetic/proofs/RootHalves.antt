@@ -2,7 +2,8 @@
 use mathlib.Core.Path.{_≡_, refl, sym, ap, _∙_, subst}
 use mathlib.Core.Logic.{inl, inr}
 use Prim.Native.Nat.{ℕ, suc, _+_, _-_, _*_, _/_, _%_, _^_, _≤_, _<_, zero-le}
-use native.Mathlib.Nat.{le-of-suc-le-suc, lt-of-not-le, add-mul, mul-add, mul-comm, mul-right-comm, mul-mul-mul-comm, mul-le-mul, le-refl, add-zero, add-assoc, eq-zero-or-pos}
+use native.Mathlib.Nat.{le-of-suc-le-suc, lt-of-not-le, add-mul, mul-add, mul-comm, mul-right-comm, mul-mul-mul-comm, mul-le-mul, le-refl}
+use native.Mathlib.Nat.{add-zero, add-assoc, eq-zero-or-pos}
 use native.Mathlib.Omega.{arith}
 use mathlib.Core.Bool.{Bool, true, false}
 use lib.Dec.{leb, ltb}
@@ -61,7 +62,12 @@ pub parts-small : (t : ℕ) → t ≤ 2 ^ 54 → PartsSmall t
 parts-small t h =
     let a : t / 2 ^ 27 ≤ 2 ^ 27 = omega arith in
     let b : t % 2 ^ 27 ≤ 2 ^ 27 = omega arith in
-    record { high = product-le (t / 2 ^ 27) (t / 2 ^ 27) a a; cross = product-le (t / 2 ^ 27) (t % 2 ^ 27) a b; low = product-le (t % 2 ^ 27) (t % 2 ^ 27) b b }
+    record {
+      high = product-le (t / 2 ^ 27) (t / 2 ^ 27) a a;
+      cross = product-le (t / 2 ^ 27) (t % 2 ^ 27) a b;
+      low = product-le
+          (t % 2 ^ 27) (t % 2 ^ 27) b b;
+    }
 
 -- ---- half of the whole root of 4 * n, rounded up, is the number nearest to the root of n
 pub half-nearest : (n t : ℕ) → 0 < t → t * t ≤ 4 * n → 4 * n < (t + 1) * (t + 1) → NearestRoot n ((t + 1) / 2)
@@ -94,16 +100,33 @@ pub record Between (m low high : ℕ) : Type 0 where
 pub between-at-first : (m : ℕ) → 2 ^ 52 ≤ m → m < 2 ^ 54 → Between m (2 ^ 53) (2 ^ 54)
 between-at-first m h k = record { order = omega arith; start = omega arith; stop = omega arith; lower = omega arith; upper = omega arith }
 
-pub between-raised : (m low high : ℕ) → Between m low high → 1 < high - low → leb ((low + (high - low) / 2) * (low + (high - low) / 2)) (m * 2 ^ 54) ≡ true → Between m (low + (high - low) / 2) high
-between-raised m low high b w t = record { order = omega (arith, b); start = omega (arith, b); stop = b .stop; lower = leb-true ((low + (high - low) / 2) * (low + (high - low) / 2)) (m * 2 ^ 54) t; upper = b .upper }
+pub between-raised : (m low high : ℕ) → Between m low high → 1 < high - low → leb ((low + (high - low) / 2) * (low + (high - low) / 2))
+    (m * 2 ^ 54) ≡ true → Between m (low + (high - low) / 2) high
+between-raised m low high b w t = record {
+  order = omega (arith, b);
+  start = omega (arith, b);
+  stop = b .stop;
+  lower = leb-true ((low +
+      (high - low) / 2) * (low + (high - low) / 2)) (m * 2 ^ 54) t;
+  upper = b .upper;
+}
 
-pub between-lowered : (m low high : ℕ) → Between m low high → 1 < high - low → leb ((low + (high - low) / 2) * (low + (high - low) / 2)) (m * 2 ^ 54) ≡ false → Between m low (low + (high - low) / 2)
-between-lowered m low high b w t = record { order = omega (arith, b); start = b .start; stop = omega (arith, b); lower = b .lower; upper = leb-false ((low + (high - low) / 2) * (low + (high - low) / 2)) (m * 2 ^ 54) t }
+pub between-lowered : (m low high : ℕ) → Between m low high → 1 < high - low → leb ((low + (high - low) / 2) * (low + (high - low) / 2))
+    (m * 2 ^ 54) ≡ false → Between m low (low + (high - low) / 2)
+between-lowered m low high b w t = record {
+  order = omega (arith, b);
+  start = b .start;
+  stop = omega (arith, b);
+  lower = b .lower;
+  upper =
+      leb-false ((low + (high - low) / 2) * (low + (high - low) / 2)) (m * 2 ^ 54) t;
+}
 
 pub between-nearest : (m low high : ℕ) → Between m low high → high - low ≤ 1 → NearestRoot (m * 2 ^ 52) ((low + 1) / 2)
 between-nearest m low high b w =
     let e : high ≡ low + 1 = omega (arith, b) in
-    half-nearest (m * 2 ^ 52) low (omega (arith, b)) (omega (arith, b)) (let u : m * 2 ^ 54 < (low + 1) * (low + 1) = subst (λ (z : ℕ). m * 2 ^ 54 < z * z) e (b .upper) in omega arith)
+    half-nearest (m * 2 ^ 52) low (omega (arith, b)) (omega (arith, b))
+    (let u : m * 2 ^ 54 < (low + 1) * (low + 1) = subst (λ (z : ℕ). m * 2 ^ 54 < z * z) e (b .upper) in omega arith)
 
 -- ---- by halves of 32 digits: the rest that `mended_root` finds of a close q, modulo 2 ^ 64, is m * 2 ^ 52 - q * q
 square-of-words : (t : ℕ) → t * t ≡ t / 2 ^ 32 * (t / 2 ^ 32) * 2 ^ 64 + t / 2 ^ 32 * (t % 2 ^ 32) * 2 ^ 33 + t % 2 ^ 32 * (t % 2 ^ 32)
@@ -148,10 +171,12 @@ put-together m s aa ab bb square rest e l u p q h =
     let d : m ≡ m / 2 ^ 12 * 2 ^ 12 + m % 2 ^ 12 = omega arith in
     same-word (m * 2 ^ 52) (s + rest) (aa + ab / 2 ^ 31 + k + j) (m / 2 ^ 12) (omega arith) (omega arith) (omega arith)
 
-pub rest-is : (m q square rest : ℕ) → CloseRoot m q → square ≡ (q / 2 ^ 32 * (q % 2 ^ 32) % 2 ^ 31 * 2 ^ 33 + q % 2 ^ 32 * (q % 2 ^ 32)) % 2 ^ 64
+pub rest-is : (m q square rest : ℕ) → CloseRoot m q → square ≡ (q / 2 ^ 32 * (q % 2 ^ 32) % 2 ^ 31 * 2 ^ 33 + q % 2 ^ 32 * (q % 2 ^ 32)) % 2
+    ^ 64
     → (rest + square) % 2 ^ 64 ≡ m % 2 ^ 12 * 2 ^ 52 → rest ≤ 5 * q + 6 → m * 2 ^ 52 ≡ q * q + rest
 rest-is m q square rest c p r h =
-    put-together m (q * q) (q / 2 ^ 32 * (q / 2 ^ 32)) (q / 2 ^ 32 * (q % 2 ^ 32)) (q % 2 ^ 32 * (q % 2 ^ 32)) square rest (square-of-words q) (c .lower) (c .upper) p r (omega (arith, c .small))
+    put-together m (q * q) (q / 2 ^ 32 * (q / 2 ^ 32)) (q / 2 ^ 32 * (q % 2 ^ 32)) (q % 2 ^ 32 * (q % 2 ^ 32)) square rest
+    (square-of-words q) (c .lower) (c .upper) p r (omega (arith, c .small))
 
 -- ---- by the rest, the nearest root is the guess or one of the two numbers above it
 pub guess-nearest : (n q rest : ℕ) → 0 < n → n ≡ q * q + rest → rest ≤ q → NearestRoot n q
@@ -161,7 +186,11 @@ guess-nearest n q rest N e h = record { above = at (q * q) e; below = omega arit
     zero-square z f = ap (λ (k : ℕ). k * k) f
 
     at : (s : ℕ) → n ≡ s + rest → s < n + q
-    at s f = elim (eq-zero-or-pos q) [ inl z ↦ (let r : rest ≡ 0 = omega arith in let y : q * q ≡ 0 = zero-square q z in omega arith) | inr z ↦ omega arith ]
+    at s f = elim (eq-zero-or-pos q) [
+      | inl z ↦ (let r : rest ≡ 0 = omega arith in let y : q * q ≡ 0 = zero-square q z in omega arith)
+      | inr
+          z ↦ omega arith
+    ]
 
 pub one-up-nearest : (n q rest : ℕ) → n ≡ q * q + rest → q < rest → rest ≤ 3 * q + 2 → NearestRoot n (q + 1)
 one-up-nearest n q rest e h k =
@@ -173,13 +202,16 @@ two-up-nearest n q rest e h k =
     let s : (q + 2) * (q + 2) ≡ q * q + 2 * (q * 2) + 4 = square-sum q 2 in
     record { above = omega arith; below = omega arith }
 
-pub corrected-nearest : (n q rest : ℕ) → 0 < n → n ≡ q * q + rest → rest ≤ 5 * q + 6 → NearestRoot n (q + boolByte (ltb q rest) + boolByte (ltb (3 * q + 2) rest))
-corrected-nearest n q rest N e h = go (ltb q rest) (ltb (3 * q + 2) rest) (ltb-true q rest) (ltb-false q rest) (ltb-true (3 * q + 2) rest) (ltb-false (3 * q + 2) rest)
+pub corrected-nearest : (n q rest : ℕ) → 0 < n → n ≡ q * q + rest → rest ≤ 5 * q + 6 → NearestRoot n
+    (q + boolByte (ltb q rest) + boolByte (ltb (3 * q + 2) rest))
+corrected-nearest n q rest N e h = go (ltb q rest) (ltb (3 * q + 2) rest) (ltb-true q rest) (ltb-false q rest) (ltb-true (3 * q + 2) rest)
+    (ltb-false (3 * q + 2) rest)
   where
     clash : rest ≤ q → 3 * q + 2 < rest → ⊥
     clash x y = omega arith
 
-    go : (a b : Bool) → (a ≡ true → q < rest) → (a ≡ false → rest ≤ q) → (b ≡ true → 3 * q + 2 < rest) → (b ≡ false → rest ≤ 3 * q + 2) → NearestRoot n (q + boolByte a + boolByte b)
+    go : (a b : Bool) → (a ≡ true → q < rest) → (a ≡ false → rest ≤ q) → (b ≡ true → 3 * q + 2 < rest) → (b ≡ false → rest ≤ 3 * q + 2) →
+        NearestRoot n (q + boolByte a + boolByte b)
     go false false p p' r r' = subst (NearestRoot n) (sym (add-zero (q + 0) ∙ add-zero q)) (guess-nearest n q rest N e (p' refl))
     go false true p p' r r' = absurd (clash (p' refl) (r refl))
     go true false p p' r r' = subst (NearestRoot n) (sym (add-zero (q + 1))) (one-up-nearest n q rest e (p refl) (r' refl))

@@ -1,8 +1,10 @@
--- What else a caller may want of `rootOf`: it fits its format, is above zero where its argument is, is not negative where its argument is not,
+-- What else a caller may want of `rootOf`: it fits its format, is above zero where its argument is, is not negative where its argument is
+-- not,
 -- and grows with its argument. Assumes nothing.
 use mathlib.Core.Path.{_≡_, refl, sym, ap, _∙_, subst}
 use Prim.Native.Nat.{ℕ, zero, suc, _+_, _*_, _^_, _≤_, _<_, zero-le}
-use native.Mathlib.Nat.{le-add-left, add-comm, mul-comm, mul-assoc, mul-right-comm, mul-pos, mul-le-mul-right, mul-lt-mul-of-pos-right, zero-mul, zero-lt-suc, lt-irrefl, lt-of-lt-of-le}
+use native.Mathlib.Nat.{le-add-left, add-comm, mul-comm, mul-assoc, mul-right-comm, mul-pos, mul-le-mul-right, mul-lt-mul-of-pos-right}
+use native.Mathlib.Nat.{zero-mul, zero-lt-suc, lt-irrefl, lt-of-lt-of-le}
 use native.Mathlib.Omega.{arith}
 use mathlib.Core.Bool.{_&&_, Bool, true, false, _||_}
 use lib.IntN.{ℤ}
@@ -32,17 +34,20 @@ root-fits (fin false (suc m) e) f = root-form (fin false (suc m) e) (lt→ltb 0 
 pub root-positive : (x : Float) → T (positive x) → T (fits binary64 x) → T (positive (rootOf x))
 root-positive x p f =
     let R = root-form x p f in
-    positive-of-value (rootOf x) (R .2 * 2 ^ R .1) (2 ^ 1074) (R .3 .result) (mul-pos (lt-of-lt-of-le (pow-pos 52) (R .3 .digits)) (pow-pos (R .1)))
+    positive-of-value (rootOf x) (R .2 * 2 ^ R .1) (2 ^ 1074) (R .3 .result)
+    (mul-pos (lt-of-lt-of-le (pow-pos 52) (R .3 .digits)) (pow-pos (R .1)))
 
 -- ---- not negative
 below-zero : (m : ℕ) (e : ℤ) → T (le none (fin true (suc m) e)) → ⊥
 unfolding le
 below-zero m e h =
-    let z : 0 * 1 * down e ≡ suc m * up e * 1 = eqb→eq (0 * 1 * down e) (suc m * up e * 1) (and-l (eqb (0 * 1 * down e) (suc m * up e * 1)) (false || eqb (0 * 1 * down e) 0) h) in
+    let z : 0 * 1 * down e ≡ suc m * up e * 1 = eqb→eq (0 * 1 * down e) (suc m * up e * 1)
+    (and-l (eqb (0 * 1 * down e) (suc m * up e * 1)) (false || eqb (0 * 1 * down e) 0) h) in
     lt-irrefl 0 (subst (λ (k : ℕ). 0 < k) (sym z ∙ zero-mul (down e)) (mul-pos (mul-pos (zero-lt-suc m) (up-pos e)) (zero-lt-suc 0)))
 
 zero-under : (x : Float) (a c : ℕ) → 0 < c → HasValue x false a c → T (le none x)
-zero-under x a c C v = le-of-values none x 0 1 a c (zero-lt-suc 0) C (refl, refl) v (subst (λ (k : ℕ). k ≤ a * 1) (sym (zero-mul c)) zero-le)
+zero-under x a c C v = le-of-values none x 0 1 a c (zero-lt-suc 0) C (refl, refl) v
+    (subst (λ (k : ℕ). k ≤ a * 1) (sym (zero-mul c)) zero-le)
 
 pub root-not-negative : (x : Float) → T (fits binary64 x) → T (le none x) → T (le none (rootOf x))
 unfolding rootOf
@@ -104,7 +109,8 @@ module _ (x y : Float) (p : T (positive x)) (q : T (positive y)) (f : T (fits bi
       let r = num (rootOf y) * den (rootOf x) in
       go (leb l r) (leb-true l r) (leb-false l r)
     where
-      go : (c : Bool) → (c ≡ true → num (rootOf x) * den (rootOf y) ≤ num (rootOf y) * den (rootOf x)) → (c ≡ false → num (rootOf y) * den (rootOf x) < num (rootOf x) * den (rootOf y)) → T (le (rootOf x) (rootOf y))
+      go : (c : Bool) → (c ≡ true → num (rootOf x) * den (rootOf y) ≤ num (rootOf y) * den (rootOf x)) →
+          (c ≡ false → num (rootOf y) * den (rootOf x) < num (rootOf x) * den (rootOf y)) → T (le (rootOf x) (rootOf y))
       go true k l = cross→le (rootOf x) (rootOf y) (root-positive x p f) (root-positive y q g) (k refl)
       go false k l = absurd (not-crossed (cross→lt (rootOf y) (rootOf x) (root-positive y q g) (root-positive x p f) (l refl)))
 
@@ -123,10 +129,14 @@ zero-below s e (inf t) p = absurd p
 zero-below s e (fin true n d) p = absurd p
 zero-below false e (fin false n d) p =
     or-first (ltb (zero * up e * down d) (n * up d * down e)) (eqb (zero * up e * down d) (n * up d * down e) && true)
-    (lt→ltb (zero * up e * down d) (n * up d * down e) (subst (λ (k : ℕ). k < n * up d * down e) (sym (nothing e d)) (mul-pos (mul-pos (ltb→lt 0 n p) (up-pos d)) (down-pos e))))
+    (lt→ltb (zero * up e * down d) (n * up d * down e)
+    (subst (λ (k : ℕ). k < n * up d * down e) (sym (nothing e d)) (mul-pos (mul-pos (ltb→lt 0 n p) (up-pos d)) (down-pos e))))
 zero-below true e (fin false n d) p =
-    or-first (ltb 0 (zero * up e * down d + n * up d * down e)) (eqb (zero * up e * down d) (n * up d * down e) && (false || eqb (zero * up e * down d) 0))
-    (lt→ltb 0 (zero * up e * down d + n * up d * down e) (lt-of-lt-of-le (mul-pos (mul-pos (ltb→lt 0 n p) (up-pos d)) (down-pos e)) (le-add-left (n * up d * down e) (zero * up e * down d))))
+    or-first (ltb 0 (zero * up e * down d + n * up d * down e))
+    (eqb (zero * up e * down d) (n * up d * down e) && (false || eqb (zero * up e * down d) 0))
+    (lt→ltb 0 (zero * up e * down d + n * up d * down e)
+    (lt-of-lt-of-le (mul-pos (mul-pos (ltb→lt 0 n p) (up-pos d)) (down-pos e))
+    (le-add-left (n * up d * down e) (zero * up e * down d))))
 
 no-less : (a b : ℕ) → a ≡ 0 → 0 < b → (p q : Bool) → (T p → b < a) → (T q → a ≡ b) → (r : Bool) → T (p || (q && r)) → ⊥
 no-less a b z B true q h k r t = apart (h tt)
@@ -144,11 +154,13 @@ unfolding le
 zero-not-below-negative false e n d h =
     let a = zero * up e * down d in
     let b = suc n * up d * down e in
-    no-less a b (nothing e d) (mul-pos (mul-pos (zero-lt-suc n) (up-pos d)) (down-pos e)) false (eqb a b) (λ t. absurd t) (eqb→eq a b) (eqb a 0) h
+    no-less a b (nothing e d) (mul-pos (mul-pos (zero-lt-suc n) (up-pos d)) (down-pos e)) false (eqb a b) (λ t. absurd t) (eqb→eq a b)
+    (eqb a 0) h
 zero-not-below-negative true e n d h =
     let a = zero * up e * down d in
     let b = suc n * up d * down e in
-    no-less a b (nothing e d) (mul-pos (mul-pos (zero-lt-suc n) (up-pos d)) (down-pos e)) (ltb b a) (eqb a b) (ltb→lt b a) (eqb→eq a b) true h
+    no-less a b (nothing e d) (mul-pos (mul-pos (zero-lt-suc n) (up-pos d)) (down-pos e)) (ltb b a) (eqb a b) (ltb→lt b a) (eqb→eq a b) true
+    h
 
 zero-grows : (s : Bool) (e : ℤ) (y : Float) → T (fits binary64 y) → T (le (fin s zero e) y) → T (le (fin s zero e) (rootOf y))
 unfolding rootOf
@@ -157,7 +169,8 @@ zero-grows s e (inf true) g h = absurd (unfold le in h)
 zero-grows s e (inf false) g h = h
 zero-grows s e (fin t zero d) g h = h
 zero-grows s e (fin true (suc n) d) g h = absurd (zero-not-below-negative s e n d h)
-zero-grows s e (fin false (suc n) d) g h = zero-below s e (rootOf (fin false (suc n) d)) (root-positive (fin false (suc n) d) (lt→ltb 0 (suc n) (zero-lt-suc n)) g)
+zero-grows s e (fin false (suc n) d) g h = zero-below s e (rootOf (fin false (suc n) d))
+    (root-positive (fin false (suc n) d) (lt→ltb 0 (suc n) (zero-lt-suc n)) g)
 
 zero-root : (s : Bool) (e : ℤ) → fin s zero e ≡ rootOf (fin s zero e)
 unfolding rootOf
@@ -170,10 +183,12 @@ under-infinity nan p = absurd p
 under-infinity (inf s) p = absurd p
 under-infinity (fin s m e) p = tt
 
-above-grows : (x y : Float) → T (positive x) → T (fits binary64 x) → T (fits binary64 y) → T (le x y) → T (above y) → T (le (rootOf x) (rootOf y))
+above-grows : (x y : Float) → T (positive x) → T (fits binary64 x) → T (fits binary64 y) → T (le x y) → T (above y) → T
+    (le (rootOf x) (rootOf y))
 above-grows x nan p f g h u = absurd u
 above-grows x (inf true) p f g h u = absurd u
-above-grows x (inf false) p f g h u = subst (λ (z : Float). T (le (rootOf x) z)) infinite-root (under-infinity (rootOf x) (root-positive x p f))
+above-grows x (inf false) p f g h u = subst (λ (z : Float). T (le (rootOf x) z)) infinite-root
+    (under-infinity (rootOf x) (root-positive x p f))
 above-grows x (fin true n d) p f g h u = absurd u
 above-grows x (fin false n d) p f g h u = positive-grows x (fin false n d) p u f g h
 

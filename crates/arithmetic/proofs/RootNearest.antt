@@ -1,9 +1,12 @@
 -- `rootOf x` is the float nearest to the exact root of x: of the floats that are not negative, each other one lies farther from it.
--- A float y is farther from the root of x than r is if the root lies on r's side of the middle of r and y, as 4 * x and (r + y)² say, in exact fractions. Assumes nothing.
+-- A float y is farther from the root of x than r is if the root lies on r's side of the middle of r and y, as 4 * x and (r + y)² say, in
+-- exact fractions. Assumes nothing.
 use mathlib.Core.Path.{_≡_, refl, sym, ap, _∙_, subst}
 use mathlib.Core.Logic.{inl, inr}
 use Prim.Native.Nat.{ℕ, zero, suc, _+_, _*_, _^_, _≤_, _<_, zero-le}
-use native.Mathlib.Nat.{add-comm, add-le-add, mul-suc, mul-comm, mul-assoc, mul-right-comm, add-mul, mul-mul-mul-comm, mul-pos, mul-le-mul, mul-le-mul-left, mul-le-mul-right, mul-lt-mul-of-pos-right, lt-of-mul-lt-mul-right, le-trans, le-of-eq, le-of-lt, le-of-suc-le-suc, lt-of-lt-of-le, lt-of-le-of-lt, not-le-of-lt, suc-mul, eq-or-lt-of-le, zero-lt-suc}
+use native.Mathlib.Nat.{add-comm, add-le-add, mul-suc, mul-comm, mul-assoc, mul-right-comm, add-mul, mul-mul-mul-comm, mul-pos, mul-le-mul}
+use native.Mathlib.Nat.{mul-le-mul-left, mul-le-mul-right, mul-lt-mul-of-pos-right, lt-of-mul-lt-mul-right, le-trans, le-of-eq, le-of-lt}
+use native.Mathlib.Nat.{le-of-suc-le-suc, lt-of-lt-of-le, lt-of-le-of-lt, not-le-of-lt, suc-mul, eq-or-lt-of-le, zero-lt-suc}
 use native.Mathlib.Omega.{arith}
 use mathlib.Core.Bool.{false}
 use lib.Dec.{T}
@@ -47,7 +50,8 @@ below-middle n r p y P h l =
 
 above-middle : (n r p y : ℕ) → 0 < p → NearestRoot n (suc r) → y ≤ r * p → (suc r * p + y) * (suc r * p + y) < 4 * (n * (p * p))
 above-middle n r p y P h l =
-    let a : suc r * p + y ≤ (2 * r + 1) * p = subst (λ (z : ℕ). suc r * p + y ≤ z) (add-comm (suc r * p) (r * p) ∙ sym (twice r p)) (add-le-add (le-of-eq refl) l) in
+    let a : suc r * p + y ≤ (2 * r + 1) * p = subst (λ (z : ℕ). suc r * p + y ≤ z) (add-comm (suc r * p) (r * p) ∙ sym (twice r p))
+    (add-le-add (le-of-eq refl) l) in
     let s : suc r * suc r ≡ r * r + r + suc r = suc-mul r (suc r) ∙ ap (λ (z : ℕ). z + suc r) (mul-suc r r) in
     let m : middle r < 4 * n = omega (arith, h .above, middle-is r) in
     lt-of-le-of-lt (le-trans (mul-le-mul a a) (le-of-eq (square-scaled (2 * r + 1) p)))
@@ -79,14 +83,16 @@ module _ (nx dx nr dr ny dy X R Y u : ℕ) (ex : nx * (u * u) ≡ X * dx) (er : 
   sum-side =
       add-mul (nr * dy) (ny * dr) u
       ∙ ap (λ (z : ℕ). z + ny * dr * u) (mul-right-comm nr dy u ∙ ap (λ (z : ℕ). z * dy) er ∙ mul-assoc R dr dy)
-      ∙ ap (λ (z : ℕ). R * (dr * dy) + z) (mul-right-comm ny dr u ∙ ap (λ (z : ℕ). z * dr) ey ∙ mul-assoc Y dy dr ∙ ap (λ (z : ℕ). Y * z) (mul-comm dy dr))
+      ∙ ap (λ (z : ℕ). R * (dr * dy) + z) (mul-right-comm ny dr u ∙ ap (λ (z : ℕ). z * dr) ey ∙ mul-assoc Y dy dr ∙ ap (λ (z : ℕ). Y * z)
+      (mul-comm dy dr))
       ∙ sym (add-mul R Y (dr * dy))
 
   right-side : (nr * dy + ny * dr) * (nr * dy + ny * dr) * dx * (u * u) ≡ (R + Y) * (R + Y) * (dr * dy * (dr * dy) * dx)
   right-side =
       let s = nr * dy + ny * dr in
       mul-right-comm (s * s) dx (u * u)
-      ∙ ap (λ (z : ℕ). z * dx) (mul-mul-mul-comm s s u u ∙ ap (λ (z : ℕ). z * z) sum-side ∙ mul-mul-mul-comm (R + Y) (dr * dy) (R + Y) (dr * dy))
+      ∙ ap (λ (z : ℕ). z * dx) (mul-mul-mul-comm s s u u ∙ ap (λ (z : ℕ). z * z) sum-side ∙ mul-mul-mul-comm (R + Y) (dr * dy) (R + Y) (dr *
+      dy))
       ∙ mul-assoc ((R + Y) * (R + Y)) (dr * dy * (dr * dy)) dx
 
   module _ (Dx : 0 < dx) (Dr : 0 < dr) (Dy : 0 < dy) where
@@ -94,10 +100,12 @@ module _ (nx dx nr dr ny dy X R Y u : ℕ) (ex : nx * (u * u) ≡ X * dx) (er : 
     scale-pos = mul-pos (mul-pos (mul-pos Dr Dy) (mul-pos Dr Dy)) Dx
 
     to-below : 4 * X < (R + Y) * (R + Y) → 4 * nx * (dr * dy * (dr * dy)) < (nr * dy + ny * dr) * (nr * dy + ny * dr) * dx
-    to-below h = lt-of-mul-lt-mul-right (u * u) (subst (λ (z : ℕ). z < (nr * dy + ny * dr) * (nr * dy + ny * dr) * dx * (u * u)) (sym left-side) (subst (λ (z : ℕ). 4 * X * (dr * dy * (dr * dy) * dx) < z) (sym right-side) (mul-lt-mul-of-pos-right h scale-pos)))
+    to-below h = lt-of-mul-lt-mul-right (u * u) (subst (λ (z : ℕ). z < (nr * dy + ny * dr) * (nr * dy + ny * dr) * dx * (u * u)) (sym
+        left-side) (subst (λ (z : ℕ). 4 * X * (dr * dy * (dr * dy) * dx) < z) (sym right-side) (mul-lt-mul-of-pos-right h scale-pos)))
 
     to-above : (R + Y) * (R + Y) < 4 * X → (nr * dy + ny * dr) * (nr * dy + ny * dr) * dx < 4 * nx * (dr * dy * (dr * dy))
-    to-above h = lt-of-mul-lt-mul-right (u * u) (subst (λ (z : ℕ). z < 4 * nx * (dr * dy * (dr * dy)) * (u * u)) (sym right-side) (subst (λ (z : ℕ). (R + Y) * (R + Y) * (dr * dy * (dr * dy) * dx) < z) (sym left-side) (mul-lt-mul-of-pos-right h scale-pos)))
+    to-above h = lt-of-mul-lt-mul-right (u * u) (subst (λ (z : ℕ). z < 4 * nx * (dr * dy * (dr * dy)) * (u * u)) (sym right-side) (subst (λ
+        (z : ℕ). (R + Y) * (R + Y) * (dr * dy * (dr * dy) * dx) < z) (sym left-side) (mul-lt-mul-of-pos-right h scale-pos)))
 
 -- ---- the law
 module _ (x y : Float) (n k r m c : ℕ) (F : RootForm x n k r) (N : m < 2 ^ 53) (w : HasValue y false (m * 2 ^ c) (2 ^ 1074)) where
@@ -114,7 +122,8 @@ module _ (x y : Float) (n k r m c : ℕ) (F : RootForm x n k r) (N : m < 2 ^ 53)
   farther-above h =
       to-below (num x) (den x) (num (rootOf x)) (den (rootOf x)) (num y) (den y) (n * (2 ^ k * 2 ^ k)) (r * 2 ^ k) (m * 2 ^ c) (2 ^ 1074)
       argument-cross result-cross other-cross (den-pos x) (den-pos (rootOf x)) (den-pos y)
-      (below-middle n r (2 ^ k) (m * 2 ^ c) (pow-pos k) (F .nearest) (next-up r k m c (F .digits) N (lt-units (rootOf x) y (r * 2 ^ k) (m * 2 ^ c) (F .result) w h)))
+      (below-middle n r (2 ^ k) (m * 2 ^ c) (pow-pos k) (F .nearest)
+      (next-up r k m c (F .digits) N (lt-units (rootOf x) y (r * 2 ^ k) (m * 2 ^ c) (F .result) w h)))
 
   farther-below : T (lt y (rootOf x)) → RootAboveMiddle x (rootOf x) y
   farther-below h =
@@ -122,7 +131,8 @@ module _ (x y : Float) (n k r m c : ℕ) (F : RootForm x n k r) (N : m < 2 ^ 53)
       argument-cross result-cross other-cross (den-pos x) (den-pos (rootOf x)) (den-pos y)
       (in-units r (F .digits) (F .nearest) (lt-units y (rootOf x) (m * 2 ^ c) (r * 2 ^ k) w (F .result) h))
     where
-      in-units : (s : ℕ) → 2 ^ 52 ≤ s → NearestRoot n s → m * 2 ^ c < s * 2 ^ k → (s * 2 ^ k + m * 2 ^ c) * (s * 2 ^ k + m * 2 ^ c) < 4 * (n * (2 ^ k * 2 ^ k))
+      in-units : (s : ℕ) → 2 ^ 52 ≤ s → NearestRoot n s → m * 2 ^ c < s * 2 ^ k → (s * 2 ^ k + m * 2 ^ c) * (s * 2 ^ k + m * 2 ^ c) < 4 *
+          (n * (2 ^ k * 2 ^ k))
       in-units zero d p l = absurd (not-le-of-lt (pow-pos 52) d)
       in-units (suc s) d p l = elim (eq-or-lt-of-le d) [
         | inl e ↦ above-exact n (suc s) (2 ^ k) (m * 2 ^ c) (pow-pos k) (zero-lt-suc s) (subst (λ (z : ℕ). z * z ≤ n) e (F .low)) l
@@ -133,5 +143,8 @@ pub root-is-nearest : (x y : Float) → T (positive x) → T (fits binary64 x) �
     → (T (lt (rootOf x) y) → RootBelowMiddle x (rootOf x) y) × (T (lt y (rootOf x)) → RootAboveMiddle x (rootOf x) y)
 root-is-nearest x y p f u g =
     let R = root-form x p f in
-    let w = units-of y u g in
-    (farther-above x y (R .0) (R .1) (R .2) (w .0) (w .1) (R .3) (w .2) (w .3), farther-below x y (R .0) (R .1) (R .2) (w .0) (w .1) (R .3) (w .2) (w .3))
+    let w = units-of y u g in (
+      farther-above x y (R .0) (R .1) (R .2) (w .0) (w .1) (R .3) (w .2) (w .3),
+      farther-below x y (R .0) (R .1) (R .2) (w .0) (w .1) (R .3)
+          (w .2) (w .3),
+    )

@@ -2,7 +2,9 @@
 use mathlib.Core.Path.{_≡_, refl, sym, ap, _∙_, subst}
 use mathlib.Core.Logic.{inl, inr}
 use Prim.Native.Nat.{ℕ, zero, suc, _+_, _-_, _*_, _/_, _%_, _^_, _≤_, _<_}
-use native.Mathlib.Nat.{eq-or-lt-of-le, add-comm, mul-comm, mul-one, eq-of-mul-eq-mul-right, mod-eq-of-lt, mul-assoc, mul-right-comm, mul-mul-mul-comm, mul-le-mul-left, mul-le-mul-right, le-trans, le-of-eq, le-of-suc-le-suc, lt-irrefl, lt-of-lt-of-le, not-le-of-lt, not-suc-le-zero, zero-lt-suc, pow-succ'}
+use native.Mathlib.Nat.{eq-or-lt-of-le, add-comm, mul-comm, mul-one, eq-of-mul-eq-mul-right, mod-eq-of-lt, mul-assoc, mul-right-comm}
+use native.Mathlib.Nat.{mul-mul-mul-comm, mul-le-mul-left, mul-le-mul-right, le-trans, le-of-eq, le-of-suc-le-suc, lt-irrefl}
+use native.Mathlib.Nat.{lt-of-lt-of-le, not-le-of-lt, not-suc-le-zero, zero-lt-suc, pow-succ'}
 use native.Mathlib.Omega.{arith}
 use mathlib.Core.Bool.{Bool, false, cond}
 use lib.Dec.{leb, eqb, lit≤}
@@ -28,7 +30,8 @@ low-field t = refl
 
 middle-field : (x t : ℕ) → suc x < 2047 → ofFields binary64 false (suc x) t ≡ odd 53 false (2 ^ 52 + t) x 1074
 unfolding ofFields
-middle-field x t h = ap (λ (b : Bool). cond b (cond (eqb t 0) (inf false) nan) (odd 53 false (2 ^ 52 + t) x 1074)) (ne-eqb (suc x) 2047 (λ e. apart e))
+middle-field x t h = ap (λ (b : Bool). cond b (cond (eqb t 0) (inf false) nan) (odd 53 false (2 ^ 52 + t) x 1074))
+    (ne-eqb (suc x) 2047 (λ e. apart e))
   where
     apart : suc x ≡ 2047 → ⊥
     apart e = omega arith
@@ -42,10 +45,12 @@ subnormal-value b h =
     let e : b / 2 ^ 52 ≡ 0 = omega arith in
     let t : b % 2 ^ 52 ≡ b = mod-eq-of-lt h in
     subst (λ (x : Float). HasValue x false b (2 ^ 1074))
-    (sym (positive-fields b (omega arith) ∙ ap (λ (z : ℕ). ofFields binary64 false z (b % 2 ^ 52)) e ∙ ap (ofFields binary64 false 0) t ∙ low-field b))
+    (sym (positive-fields b (omega arith) ∙ ap (λ (z : ℕ). ofFields binary64 false z (b % 2 ^ 52)) e ∙ ap (ofFields binary64 false 0) t ∙
+    low-field b))
     (subst (λ (a : ℕ). HasValue (odd 53 false b 0 1074) false a (2 ^ 1074)) (mul-one b) (odd-sign 53 false b 0 1074))
 
-pub normal-value : (b x : ℕ) → b / 2 ^ 52 ≡ suc x → suc x < 2047 → HasValue (ofBits binary64 b) false ((2 ^ 52 + b % 2 ^ 52) * 2 ^ x) (2 ^ 1074)
+pub normal-value : (b x : ℕ) → b / 2 ^ 52 ≡ suc x → suc x < 2047 → HasValue (ofBits binary64 b) false ((2 ^ 52 + b % 2 ^ 52) * 2 ^ x)
+    (2 ^ 1074)
 normal-value b x e h =
     subst (λ (v : Float). HasValue v false ((2 ^ 52 + b % 2 ^ 52) * 2 ^ x) (2 ^ 1074))
     (sym (positive-fields b (omega arith) ∙ ap (λ (z : ℕ). ofFields binary64 false z (b % 2 ^ 52)) e ∙ middle-field x (b % 2 ^ 52) h))
@@ -86,9 +91,11 @@ normal-at b x t p k f g h l e =
 
 -- the same by the numbers that `normal_root` finds: r is the pattern with 1021 added to the exponent's field
 pub normal-scaled : (b r : ℕ) → 2 ^ 52 ≤ b → b < 2047 * 2 ^ 52 → r ≡ b + 1021 * 2 ^ 52
-    → HasValue (ofBits binary64 b) false ((r % 2 ^ 53 % 2 ^ 52 + 2 ^ 52) * (1 + r % 2 ^ 53 / 2 ^ 52) * 2 ^ 52 * (2 ^ (r / 2 ^ 53) * 2 ^ (r / 2 ^ 53))) (2 ^ 2148)
+    → HasValue (ofBits binary64 b) false ((r % 2 ^ 53 % 2 ^ 52 + 2 ^ 52) * (1 + r % 2 ^ 53 / 2 ^ 52) * 2 ^ 52 * (2 ^ (r / 2 ^ 53) * 2 ^ (r /
+    2 ^ 53))) (2 ^ 2148)
 normal-scaled b r lo hi e =
-    normal-at b (b / 2 ^ 52 - 1) (r % 2 ^ 53 % 2 ^ 52) (r % 2 ^ 53 / 2 ^ 52) (r / 2 ^ 53) (omega arith) (omega arith) (omega arith) (omega arith) (omega arith)
+    normal-at b (b / 2 ^ 52 - 1) (r % 2 ^ 53 % 2 ^ 52) (r % 2 ^ 53 / 2 ^ 52) (r / 2 ^ 53) (omega arith) (omega arith) (omega arith)
+    (omega arith) (omega arith)
 
 -- ---- the digits, doubled or not, of `even_digits`
 pub digits-once : (c : ℕ) → c < 2 ^ 52 → c + 2 ^ 52 ≡ (c % 2 ^ 52 + 2 ^ 52) * (1 + c / 2 ^ 52)
@@ -105,7 +112,11 @@ digits-twice c h k =
 
 -- at 2 ^ 52 both are the same
 pub digits-plain : (c : ℕ) → c ≤ 2 ^ 52 → c + 2 ^ 52 ≡ (c % 2 ^ 52 + 2 ^ 52) * (1 + c / 2 ^ 52)
-digits-plain c h = elim (eq-or-lt-of-le h) [ inl e ↦ (let t : c + 2 ^ 52 ≡ c + c = omega arith in t ∙ digits-twice c (omega arith) (omega arith)) | inr l ↦ digits-once c l ]
+digits-plain c h = elim (eq-or-lt-of-le h) [
+  | inl e ↦ (let t : c + 2 ^ 52 ≡ c + c = omega arith in t ∙ digits-twice c (omega arith) (omega
+      arith))
+  | inr l ↦ digits-once c l
+]
 
 pub record EvenDigits (m : ℕ) : Type 0 where
   pub least : 2 ^ 52 ≤ m
@@ -122,18 +133,25 @@ even-digits c m h e =
 coarse : (x : Float) (a c d : ℕ) → 0 < d → HasValue x false (a * d) (c * d) → HasValue x false a c
 coarse nan a c d D v = v
 coarse (inf s) a c d D v = v
-coarse (fin s m e) a c d D v = (v .0, eq-of-mul-eq-mul-right d D (m * up e * c) (a * down e) (mul-assoc (m * up e) c d ∙ v .1 ∙ mul-right-comm a d (down e)))
+coarse (fin s m e) a c d D v = (
+  v .0,
+  eq-of-mul-eq-mul-right d D (m * up e * c) (a * down e) (mul-assoc (m * up e) c d ∙ v .1 ∙
+      mul-right-comm a d (down e)),
+)
 
 -- the pattern that is c above the one of 1
-pub from-one-value : (c : ℕ) → c < 2 ^ 53 → HasValue (ofBits binary64 (c + 1023 * 2 ^ 52)) false ((c % 2 ^ 52 + 2 ^ 52) * (1 + c / 2 ^ 52)) (2 ^ 52)
+pub from-one-value : (c : ℕ) → c < 2 ^ 53 → HasValue (ofBits binary64 (c + 1023 * 2 ^ 52)) false ((c % 2 ^ 52 + 2 ^ 52) * (1 + c / 2 ^ 52))
+    (2 ^ 52)
 from-one-value c h =
     let b = c + 1023 * 2 ^ 52 in
     let x = 1022 + c / 2 ^ 52 in
     let t : 2 ^ 52 + b % 2 ^ 52 ≡ c % 2 ^ 52 + 2 ^ 52 = omega arith in
-    let p : 2 ^ x ≡ (1 + c / 2 ^ 52) * 2 ^ 1022 = pow-add 2 1022 (c / 2 ^ 52) ∙ mul-comm (2 ^ 1022) (2 ^ (c / 2 ^ 52)) ∙ ap (λ (z : ℕ). z * 2 ^ 1022) (digit-power (c / 2 ^ 52) (omega arith)) in
+    let p : 2 ^ x ≡ (1 + c / 2 ^ 52) * 2 ^ 1022 = pow-add 2 1022 (c / 2 ^ 52) ∙ mul-comm (2 ^ 1022) (2 ^ (c / 2 ^ 52)) ∙ ap
+    (λ (z : ℕ). z * 2 ^ 1022) (digit-power (c / 2 ^ 52) (omega arith)) in
     coarse (ofBits binary64 b) ((c % 2 ^ 52 + 2 ^ 52) * (1 + c / 2 ^ 52)) (2 ^ 52) (2 ^ 1022) (pow-pos 1022)
     (subst (λ (z : ℕ). HasValue (ofBits binary64 b) false z (2 ^ 1074))
-    (ap (λ (z : ℕ). z * 2 ^ x) t ∙ ap (λ (z : ℕ). (c % 2 ^ 52 + 2 ^ 52) * z) p ∙ sym (mul-assoc (c % 2 ^ 52 + 2 ^ 52) (1 + c / 2 ^ 52) (2 ^ 1022)))
+    (ap (λ (z : ℕ). z * 2 ^ x) t ∙ ap (λ (z : ℕ). (c % 2 ^ 52 + 2 ^ 52) * z) p ∙ sym
+    (mul-assoc (c % 2 ^ 52 + 2 ^ 52) (1 + c / 2 ^ 52) (2 ^ 1022)))
     (normal-value b x (omega arith) (omega arith)))
 
 -- ---- the subnormal number b, times 4 until it has 53 digits or more: the invariant of the loop in `subnormal_root`
@@ -156,9 +174,15 @@ pub lifted-again : (b m k : ℕ) → 0 < k → Lifted b m k → m < 2 ^ 52 → L
 lifted-again b m zero K l h = absurd (lt-irrefl 0 K)
 lifted-again b m (suc k) K l h =
     let e : suc k - 1 ≡ k = omega arith in
-    let s : 2 ^ suc k * 2 ^ suc k ≡ 2 * 2 * (2 ^ k * 2 ^ k) = ap (λ (z : ℕ). z * z) (pow-succ' 2 k) ∙ mul-mul-mul-comm 2 (2 ^ k) 2 (2 ^ k) in
+    let s : 2 ^ suc k * 2 ^ suc k ≡ 2 * 2 * (2 ^ k * 2 ^ k) = ap (λ (z : ℕ). z * z) (pow-succ' 2 k) ∙ mul-mul-mul-comm 2 (2 ^ k) 2
+    (2 ^ k) in
     subst (Lifted b (m * 4)) (sym e)
-    (record { value = mul-assoc m 4 (2 ^ k * 2 ^ k) ∙ ap (λ (z : ℕ). m * z) (sym s) ∙ l .value; small = omega arith; count = omega (arith, l .count) })
+    (record {
+      value = mul-assoc m 4 (2 ^ k * 2 ^ k) ∙ ap (λ (z : ℕ). m * z) (sym s) ∙ l .value;
+      small = omega arith;
+      count = omega
+          (arith, l .count);
+    })
 
 pub lifted-scaled : (b m k : ℕ) → b < 2 ^ 52 → Lifted b m k → HasValue (ofBits binary64 b) false (m * 2 ^ 52 * (2 ^ k * 2 ^ k)) (2 ^ 2148)
 lifted-scaled b m k h l =

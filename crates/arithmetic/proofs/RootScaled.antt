@@ -1,8 +1,11 @@
--- The root of a float whose value is N * 4 ^ k in units of 2 ^ -2148, N having 105 or 106 digits: by the whole number r nearest to N's root, `rootOf` is r * 2 ^ k
+-- The root of a float whose value is N * 4 ^ k in units of 2 ^ -2148, N having 105 or 106 digits: by the whole number r nearest to N's
+-- root, `rootOf` is r * 2 ^ k
 -- units of 2 ^ -1074, whose bit pattern is k * 2 ^ 52 + r. Assumes nothing.
 use mathlib.Core.Path.{_≡_, refl, sym, ap, _∙_, subst}
 use Prim.Native.Nat.{ℕ, zero, suc, _+_, _-_, _*_, _/_, _%_, _^_, _≤_, _<_, compare}
-use native.Mathlib.Nat.{mul-comm, mul-assoc, mul-pos, mul-div-cancel, mul-le-mul-right, mul-lt-mul-of-pos-right, lt-of-lt-of-le, lt-of-not-le, not-le-of-lt, le-trans, le-of-eq, lt-irrefl, zero-mul, zero-add, mul-le-mul, mul-le-mul-left, suc-mul, mod-le, le-of-lt}
+use native.Mathlib.Nat.{mul-comm, mul-assoc, mul-pos, mul-div-cancel, mul-le-mul-right, mul-lt-mul-of-pos-right, lt-of-lt-of-le}
+use native.Mathlib.Nat.{lt-of-not-le, not-le-of-lt, le-trans, le-of-eq, lt-irrefl, zero-mul, zero-add, mul-le-mul, mul-le-mul-left, suc-mul}
+use native.Mathlib.Nat.{mod-le, le-of-lt}
 use native.Mathlib.Omega.{arith}
 use mathlib.Core.Bool.{Bool, true, false, not, cond, true≢false}
 use lib.IntN.{ℤ}
@@ -49,10 +52,12 @@ core-is : (n den k r : ℕ) → 0 < n → 0 < den → NearestRoot n r → core (
 core-is n den k r N D p =
     let u = den * (2 ^ k * 2 ^ k) in
     let U : 0 < u = mul-pos D (mul-pos (pow-pos k) (pow-pos k)) in
-    ap (λ (z : ℕ). units binary64 false (nearest (wholeRoot z) (compare (n * u * 4) ((2 * wholeRoot z + 1) * (2 * wholeRoot z + 1) * u))) k) (mul-div-cancel n U)
+    ap (λ (z : ℕ). units binary64 false (nearest (wholeRoot z) (compare (n * u * 4) ((2 * wholeRoot z + 1) * (2 * wholeRoot z + 1) * u))) k)
+    (mul-div-cancel n U)
     ∙ ap (λ (z : ℕ). units binary64 false z k) (nearest-kept n u r N U p)
 
-rootRound-scaled : (num den n k r : ℕ) → 0 < den → num * 2 ^ 2148 ≡ n * (2 ^ k * 2 ^ k) * den → 2 ^ 104 ≤ n → n < 2 ^ 106 → NearestRoot n r → rootRound binary64 num den ≡ units binary64 false r k
+rootRound-scaled : (num den n k r : ℕ) → 0 < den → num * 2 ^ 2148 ≡ n * (2 ^ k * 2 ^ k) * den → 2 ^ 104 ≤ n → n < 2 ^ 106 → NearestRoot n r
+    → rootRound binary64 num den ≡ units binary64 false r k
 rootRound-scaled num den n k r D e lo hi p =
     let P = 2 ^ k * 2 ^ k in
     let q : num * 2 ^ 2148 / den ≡ n * P = ap (λ (z : ℕ). z / den) e ∙ mul-div-cancel (n * P) D in
@@ -66,14 +71,17 @@ rootRound-scaled num den n k r D e lo hi p =
     positive h = omega arith
 
 no-zero : (e : ℤ) (a : ℕ) → 0 < a → zero * up e * 2 ^ 2148 ≡ a * down e → ⊥
-no-zero e a A h = lt-irrefl 0 (subst (λ (z : ℕ). 0 < z) (sym h ∙ ap (λ (z : ℕ). z * 2 ^ 2148) (zero-mul (up e)) ∙ zero-mul (2 ^ 2148)) (mul-pos A (down-pos e)))
+no-zero e a A h = lt-irrefl 0 (subst (λ (z : ℕ). 0 < z) (sym h ∙ ap (λ (z : ℕ). z * 2 ^ 2148) (zero-mul (up e)) ∙ zero-mul (2 ^ 2148))
+    (mul-pos A (down-pos e)))
 
-pub rootOf-scaled : (x : Float) (n k r : ℕ) → HasValue x false (n * (2 ^ k * 2 ^ k)) (2 ^ 2148) → 2 ^ 104 ≤ n → n < 2 ^ 106 → NearestRoot n r → rootOf x ≡ units binary64 false r k
+pub rootOf-scaled : (x : Float) (n k r : ℕ) → HasValue x false (n * (2 ^ k * 2 ^ k)) (2 ^ 2148) → 2 ^ 104 ≤ n → n < 2 ^ 106 → NearestRoot n
+    r → rootOf x ≡ units binary64 false r k
 unfolding rootOf
 rootOf-scaled nan n k r v lo hi p = absurd v
 rootOf-scaled (inf s) n k r v lo hi p = absurd v
 rootOf-scaled (fin true m e) n k r v lo hi p = absurd (true≢false (v .0))
-rootOf-scaled (fin false zero e) n k r v lo hi p = absurd (no-zero e (n * (2 ^ k * 2 ^ k)) (mul-pos (above-zero lo) (mul-pos (pow-pos k) (pow-pos k))) (v .1))
+rootOf-scaled (fin false zero e) n k r v lo hi p = absurd
+    (no-zero e (n * (2 ^ k * 2 ^ k)) (mul-pos (above-zero lo) (mul-pos (pow-pos k) (pow-pos k))) (v .1))
   where
     above-zero : 2 ^ 104 ≤ n → 0 < n
     above-zero h = omega arith
@@ -135,11 +143,13 @@ root-digits n r lo hi p = (lt-of-not-le low, lt-of-not-le high)
     clash c q t s a b d e f = omega arith
 
     high : 2 ^ 53 ≤ r → ⊥
-    high h = clash (2 ^ 106 - 2 ^ 53) ((2 ^ 53 - 1) * r) (2 ^ 53 * r) (r * r) (mul-le-mul-left (2 ^ 53 - 1) h) (suc-mul (2 ^ 53 - 1) r) (mul-le-mul-right r h) (p .above) hi
+    high h = clash (2 ^ 106 - 2 ^ 53) ((2 ^ 53 - 1) * r) (2 ^ 53 * r) (r * r) (mul-le-mul-left (2 ^ 53 - 1) h) (suc-mul (2 ^ 53 - 1) r)
+        (mul-le-mul-right r h) (p .above) hi
 
 -- ---- what `scaled_root` puts together
 pub no-nan : (n : ℕ) → n < 2047 * 2 ^ 52 → T (not (nanBits binary64 n))
-no-nan n h = subst (λ (b : Bool). T (not b)) (sym (nanBits-above binary64 n ∙ le-ltb (2047 * 2 ^ 52) (n % 2 ^ 63) (le-trans (mod-le n (2 ^ 63)) (le-of-lt h)))) tt
+no-nan n h = subst (λ (b : Bool). T (not b)) (sym (nanBits-above binary64 n ∙ le-ltb (2047 * 2 ^ 52) (n % 2 ^ 63) (le-trans (mod-le n (2 ^
+    63)) (le-of-lt h)))) tt
 
 pub record Assembled (m k r : ℕ) : Type 0 where
   pub small : k * 2 ^ 52 + r < 2047 * 2 ^ 52
@@ -150,7 +160,12 @@ pub assembled : (m k r : ℕ) → 2 ^ 52 ≤ m → m ≤ 2 ^ 54 - 2 → k ≤ 15
 assembled m k r lo hi l p =
     let d = root-digits (m * 2 ^ 52) r (omega arith) (omega arith) p in
     let s : k * 2 ^ 52 + r < 2047 * 2 ^ 52 = fit (d .1) in
-    record { small = s; number = no-nan (k * 2 ^ 52 + r) s; is = λ x v. sym (rootOf-scaled x (m * 2 ^ 52) k r v (omega arith) (omega arith) p ∙ units-pattern r k (d .0) (d .1) l) }
+    record {
+      small = s;
+      number = no-nan (k * 2 ^ 52 + r) s;
+      is = λ x v. sym
+          (rootOf-scaled x (m * 2 ^ 52) k r v (omega arith) (omega arith) p ∙ units-pattern r k (d .0) (d .1) l);
+    }
   where
     fit : r < 2 ^ 53 → k * 2 ^ 52 + r < 2047 * 2 ^ 52
     fit h = omega arith

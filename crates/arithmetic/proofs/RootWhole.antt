@@ -1,7 +1,9 @@
--- `wholeRoot` is the largest number whose square is at most n, and what `rootRound` keeps of it is the whole number nearest to the root. Assumes nothing.
+-- `wholeRoot` is the largest number whose square is at most n, and what `rootRound` keeps of it is the whole number nearest to the root.
+-- Assumes nothing.
 use mathlib.Core.Path.{_≡_, refl, sym, ap, _∙_, subst}
 use Prim.Native.Nat.{ℕ, zero, suc, _+_, _*_, _^_, _≤_, _<_, zero-le, compare, Ordering, Ordering·lt, Ordering·eq, Ordering·gt}
-use native.Mathlib.Nat.{add-assoc, zero-add, two-pow-succ, le-antisymm, lt-of-not-le, le-of-suc-le-suc, mul-le-mul-left, mul-le-mul-right, mul-lt-mul-of-pos-right, mul-add, add-mul, one-mul, mul-right-comm, suc-mul, mul-suc, mul-mul-mul-comm, zero-lt-suc}
+use native.Mathlib.Nat.{add-assoc, zero-add, two-pow-succ, le-antisymm, lt-of-not-le, le-of-suc-le-suc, mul-le-mul-left, mul-le-mul-right}
+use native.Mathlib.Nat.{mul-lt-mul-of-pos-right, mul-add, add-mul, one-mul, mul-right-comm, suc-mul, mul-suc, mul-mul-mul-comm, zero-lt-suc}
 use native.Mathlib.Numerals.{add-one}
 use native.Mathlib.Omega.{arith}
 use mathlib.Core.Bool.{Bool, true, false, not, cond}
@@ -24,12 +26,14 @@ rootDigits-whole : (b n r : ℕ) → r * r ≤ n → n < (r + 2 ^ b) * (r + 2 ^ 
 unfolding rootDigits
 rootDigits-whole zero n r lo hi = record { lower = lo; upper = one-more n r hi }
 rootDigits-whole (suc b) n r lo hi =
-    go (leb ((r + 2 ^ b) * (r + 2 ^ b)) n) (leb-true ((r + 2 ^ b) * (r + 2 ^ b)) n) (leb-false ((r + 2 ^ b) * (r + 2 ^ b)) n) (rootDigits-whole b n)
+    go (leb ((r + 2 ^ b) * (r + 2 ^ b)) n) (leb-true ((r + 2 ^ b) * (r + 2 ^ b)) n) (leb-false ((r + 2 ^ b) * (r + 2 ^ b)) n)
+    (rootDigits-whole b n)
   where
     go : (c : Bool) → (c ≡ true → (r + 2 ^ b) * (r + 2 ^ b) ≤ n) → (c ≡ false → n < (r + 2 ^ b) * (r + 2 ^ b))
         → ((s : ℕ) → s * s ≤ n → n < (s + 2 ^ b) * (s + 2 ^ b) → WholeRoot n (rootDigits b n s))
         → WholeRoot n (rootDigits b n (cond c (r + 2 ^ b) r))
-    go true h k ih = ih (r + 2 ^ b) (h refl) (subst (λ (z : ℕ). n < z * z) (ap (λ (z : ℕ). r + z) (two-pow-succ b) ∙ sym (add-assoc r (2 ^ b) (2 ^ b))) hi)
+    go true h k ih = ih (r + 2 ^ b) (h refl) (subst (λ (z : ℕ). n < z * z) (ap (λ (z : ℕ). r + z) (two-pow-succ b) ∙ sym (add-assoc r (2 ^
+        b) (2 ^ b))) hi)
     go false h k ih = ih r lo (k refl)
 
 below-square : (n p : ℕ) → n < p → 0 < p → n < (0 + p) * (0 + p)
@@ -118,7 +122,8 @@ upper-nearest n w h k =
     let s : suc w * suc w ≡ w * w + w + suc w = suc-mul w (suc w) ∙ ap (λ (z : ℕ). z + suc w) (mul-suc w w) in
     record { above = omega arith; below = omega (arith, h .upper) }
 
-pub nearest-kept : (n u r : ℕ) → 0 < n → 0 < u → NearestRoot n r → nearest (wholeRoot n) (compare (n * u * 4) (middle (wholeRoot n) * u)) ≡ r
+pub nearest-kept : (n u r : ℕ) → 0 < n → 0 < u → NearestRoot n r → nearest (wholeRoot n) (compare (n * u * 4) (middle (wholeRoot n) * u)) ≡
+    r
 nearest-kept n u r N U p = at (wholeRoot n) (wholeRoot-whole n)
   where
     at : (w : ℕ) → WholeRoot n w → nearest w (compare (n * u * 4) (middle w * u)) ≡ r
@@ -130,12 +135,14 @@ nearest-kept n u r N U p = at (wholeRoot n) (wholeRoot-whole n)
         lower : n ≤ w * w + w → nearest w (compare (n * u * 4) (middle w * u)) ≡ r
         lower k =
             let l : n * 4 < middle w = omega (arith, M) in
-            ap (nearest w) (compare-less (n * u * 4) (middle w * u) (scaled-less n u (middle w) U l)) ∙ nearest-unique n w r (lower-nearest n w N h k) p
+            ap (nearest w) (compare-less (n * u * 4) (middle w * u) (scaled-less n u (middle w) U l)) ∙ nearest-unique n w r
+            (lower-nearest n w N h k) p
 
         upper : w * w + w < n → nearest w (compare (n * u * 4) (middle w * u)) ≡ r
         upper k =
             let l : middle w < n * 4 = omega (arith, M) in
-            ap (nearest w) (compare-more (n * u * 4) (middle w * u) (scaled-more n u (middle w) U l)) ∙ nearest-unique n (suc w) r (upper-nearest n w h k) p
+            ap (nearest w) (compare-more (n * u * 4) (middle w * u) (scaled-more n u (middle w) U l)) ∙ nearest-unique n (suc w) r
+            (upper-nearest n w h k) p
 
         go : (b : Bool) → (b ≡ true → n ≤ w * w + w) → (b ≡ false → w * w + w < n) → nearest w (compare (n * u * 4) (middle w * u)) ≡ r
         go true k l = lower (k refl)

@@ -18,7 +18,8 @@ odd-number d s (suc q) k l = refl
 
 units-number : (f : Format) (s : Bool) (q k : ℕ) → isNan (units f s q k) ≡ false
 unfolding units isNan
-units-number f s q k = chosen-number (ltb (q * 2 ^ k) (2 ^ (low f + suc (emax f)))) (odd (suc (prec f)) s q k (low f)) (inf s) (odd-number (suc (prec f)) s q k (low f)) refl
+units-number f s q k = chosen-number (ltb (q * 2 ^ k) (2 ^ (low f + suc (emax f)))) (odd (suc (prec f)) s q k (low f)) (inf s)
+    (odd-number (suc (prec f)) s q k (low f)) refl
 
 pub round-number : (f : Format) (s : Bool) (num den : ℕ) → isNan (round f s num den) ≡ false
 round-number f s num den = ap isNan (round-is f s num den) ∙ units-number f s _ _
@@ -36,7 +37,8 @@ square-number f nan h = absurd (false≢true h)
 square-number f (inf s) h = absurd (false≢true h)
 square-number f (fin s m e) h = round-number f _ _ _
 
-pub positive-sum-number : (f : Format) (x y : Float) → negative x ≡ false → negative y ≡ false → isNan x ≡ false → isNan y ≡ false → isNan (add f x y) ≡ false
+pub positive-sum-number : (f : Format) (x y : Float) → negative x ≡ false → negative y ≡ false → isNan x ≡ false → isNan y ≡ false → isNan
+    (add f x y) ≡ false
 unfolding add negative isNan
 positive-sum-number f nan y p q h k = absurd (true≢false h)
 positive-sum-number f (inf true) y p q h k = absurd (true≢false p)

@@ -1,4 +1,5 @@
--- Rounding keeps the sign and does not let it change the size. So a square is not negative, and nor is a sum of two values that are not. Assumes nothing.
+-- Rounding keeps the sign and does not let it change the size. So a square is not negative, and nor is a sum of two values that are not.
+-- Assumes nothing.
 use mathlib.Core.Path.{_≡_, refl, sym, ap, _∙_}
 use mathlib.Core.Bool.{Bool, true, false, cond, true≢false}
 use Prim.Native.Nat.{ℕ, zero, suc, _+_, _*_, _^_}
@@ -18,7 +19,8 @@ absolute-units : (f : Format) (s : Bool) (q k : ℕ) → absolute (units f s q k
 unfolding units
 absolute-units f s q k = go (ltb (q * 2 ^ k) (2 ^ (low f + suc (emax f))))
   where
-    go : (b : Bool) → absolute (cond b (odd (suc (prec f)) s q k (low f)) (inf s)) ≡ cond b (odd (suc (prec f)) false q k (low f)) (inf false)
+    go : (b : Bool) → absolute (cond b (odd (suc (prec f)) s q k (low f)) (inf s)) ≡ cond b (odd (suc (prec f)) false q k (low f))
+        (inf false)
     go true = absolute-odd (suc (prec f)) s q k (low f)
     go false = unfold absolute in refl
 
@@ -35,11 +37,13 @@ absolute-not-negative (fin s m e) = refl
 pub round-not-negative : (f : Format) (a c : ℕ) → negative (round f false a c) ≡ false
 round-not-negative f a c = ap negative (sym (absolute-round f false a c)) ∙ absolute-not-negative (round f false a c)
 
-mul-finite : (f : Format) (s : Bool) (m : ℕ) (e : ℤ) → mul f (fin s m e) (fin s m e) ≡ round f (unlike s s) (m * up e * (m * up e)) (down e * down e)
+mul-finite : (f : Format) (s : Bool) (m : ℕ) (e : ℤ) → mul f (fin s m e) (fin s m e) ≡ round f (unlike s s) (m * up e * (m * up e))
+    (down e * down e)
 unfolding mul
 mul-finite f s m e = refl
 
-add-finite : (f : Format) (m : ℕ) (e : ℤ) (n : ℕ) (d : ℤ) → add f (fin false m e) (fin false n d) ≡ round f false (m * up e * down d + n * up d * down e) (down e * down d)
+add-finite : (f : Format) (m : ℕ) (e : ℤ) (n : ℕ) (d : ℤ) → add f (fin false m e) (fin false n d) ≡ round f false
+    (m * up e * down d + n * up d * down e) (down e * down d)
 unfolding add
 add-finite f m e n d = refl
 

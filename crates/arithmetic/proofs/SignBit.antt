@@ -56,7 +56,8 @@ absolute-is-number (fin s m e) n = refl
 
 -- so that the pattern is no NaN's
 pub cleared-is-number : (x : Float) → T (fits binary64 x) → isNan x ≡ false → T (not (nanBits binary64 (toBits binary64 x % signBit)))
-cleared-is-number x t n = subst (λ (b : Bool). T (not b)) (sym (nanBits-is binary64 (toBits binary64 x % signBit) ∙ (ap isNan (absolute-of-bits x t n) ∙ absolute-is-number x n))) tt
+cleared-is-number x t n = subst (λ (b : Bool). T (not b))
+    (sym (nanBits-is binary64 (toBits binary64 x % signBit) ∙ (ap isNan (absolute-of-bits x t n) ∙ absolute-is-number x n))) tt
 
 pub nan-absolute : (x : Float) → isNan x ≡ true → x ≡ absolute x
 unfolding absolute isNan

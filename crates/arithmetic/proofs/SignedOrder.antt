@@ -91,16 +91,27 @@ pub less-times : (s : Bool) (a k : ℕ) → less s (a * k) ≡ less s a * k
 less-times false a k = sym (zero-mul k)
 less-times true a k = refl
 
-pub through : (x⁺ x⁻ y⁺ y⁻ z⁺ z⁻ p q r : ℕ) → 0 < q → x⁺ * q + y⁻ * p ≤ y⁺ * p + x⁻ * q → y⁺ * r + z⁻ * q ≤ z⁺ * q + y⁻ * r → x⁺ * r + z⁻ * p ≤ z⁺ * p + x⁻ * r
+pub through : (x⁺ x⁻ y⁺ y⁻ z⁺ z⁻ p q r : ℕ) → 0 < q → x⁺ * q + y⁻ * p ≤ y⁺ * p + x⁻ * q → y⁺ * r + z⁻ * q ≤ z⁺ * q + y⁻ * r → x⁺ * r + z⁻ *
+    p ≤ z⁺ * p + x⁻ * r
 through x⁺ x⁻ y⁺ y⁻ z⁺ z⁻ p q r Q h k =
     let a : x⁺ * q * r + y⁻ * p * r ≤ y⁺ * p * r + x⁻ * q * r = simp (← add-mul) (mul-le-mul-right r h) in
     let b : y⁺ * r * p + z⁻ * q * p ≤ z⁺ * q * p + y⁻ * r * p = simp (← add-mul) (mul-le-mul-right p k) in
     le-of-mul-le-mul-right (simp add-mul
-    (omega (arith, mul-right-comm x⁺ r q, mul-right-comm z⁻ p q, mul-right-comm z⁺ p q, mul-right-comm x⁻ r q, mul-right-comm y⁺ p r, mul-right-comm y⁻ p r))) Q
+    (omega (
+      arith,
+      mul-right-comm x⁺ r q,
+      mul-right-comm z⁻ p q,
+      mul-right-comm z⁺ p q,
+      mul-right-comm x⁻ r q,
+      mul-right-comm y⁺ p r,
+      mul-right-comm y⁻ p r,
+    ))) Q
 
 -- ±x / p is not below ±y / q, as an inequality of the parts
-pub not-below : (s : Bool) (x p : ℕ) (t : Bool) (y q : ℕ) → below s (x * q) t (y * p) ≡ false → plus t y * p + less s x * q ≤ plus s x * q + less t y * p
+pub not-below : (s : Bool) (x p : ℕ) (t : Bool) (y q : ℕ) → below s (x * q) t (y * p) ≡ false → plus t y * p + less s x * q ≤ plus s x * q +
+    less t y * p
 not-below s x p t y q h = simp (plus-times, less-times) at (below-false s (x * q) t (y * p) h)
 
-pub below-not : (s : Bool) (x p : ℕ) (t : Bool) (y q : ℕ) → plus t y * p + less s x * q ≤ plus s x * q + less t y * p → below s (x * q) t (y * p) ≡ false
+pub below-not : (s : Bool) (x p : ℕ) (t : Bool) (y q : ℕ) → plus t y * p + less s x * q ≤ plus s x * q + less t y * p → below s (x * q) t
+    (y * p) ≡ false
 below-not s x p t y q h = false-below s (x * q) t (y * p) (simp (plus-times, less-times) h)

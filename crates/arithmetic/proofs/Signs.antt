@@ -62,7 +62,8 @@ zero-sign (fin false zero e) h = refl
 zero-sign (fin s (suc m) e) h = absurd (not-level m e (Bool·beq s false || eqb (suc m * up e * 1) 0) h)
 
 -- a value that is neither below zero nor equal to it: its sign is positive
-not-negative : (m : ℕ) (e : ℤ) → ltb 0 (m * up e * 1 + 0 * down e) ≡ false → (eqb (m * up e * 1) (0 * down e) && (false || eqb (m * up e * 1) 0)) ≡ false → ⊥
+not-negative : (m : ℕ) (e : ℤ) → ltb 0 (m * up e * 1 + 0 * down e) ≡ false →
+    (eqb (m * up e * 1) (0 * down e) && (false || eqb (m * up e * 1) 0)) ≡ false → ⊥
 not-negative m e h g =
     let l : m * up e * 1 + 0 * down e ≤ 0 = ltb-false 0 (m * up e * 1 + 0 * down e) h in
     let a : eqb (m * up e * 1) (0 * down e) ≡ true = eq-eqb (m * up e * 1) (0 * down e) (omega arith) in

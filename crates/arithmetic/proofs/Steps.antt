@@ -2,7 +2,8 @@
 use mathlib.Core.Path.{_≡_, refl, sym, ap, _∙_, subst}
 use mathlib.Core.Bool.{Bool, true, false, true≢false, false≢true}
 use Prim.Native.Nat.{ℕ, _+_, _-_, _*_, _/_, _%_, _^_, _≤_, _<_}
-use native.Mathlib.Nat.{lt-of-lt-of-le, mul-one, one-mul, mul-comm, mul-right-comm, mul-lt-mul-of-pos-right, mul-le-mul-right, add-mul, div-lt-iff-lt-mul, div-add-mod', mod-lt, div-mul-le-self, div-div-eq-div-mul, add-div-right}
+use native.Mathlib.Nat.{lt-of-lt-of-le, mul-one, one-mul, mul-comm, mul-right-comm, mul-lt-mul-of-pos-right, mul-le-mul-right, add-mul}
+use native.Mathlib.Nat.{div-lt-iff-lt-mul, div-add-mod', mod-lt, div-mul-le-self, div-div-eq-div-mul, add-div-right}
 use native.Mathlib.Omega.{arith}
 use lib.Dec.{T, ltb, lit≤}
 use lib.Arith.{digits-div}
@@ -38,7 +39,8 @@ mul-two : (f : Format) (m : ℕ) (e : ℤ) → mul f (fin false m e) (fin false 
 unfolding mul
 mul-two f m e = refl
 
-pub doubled-value : (a : Float) → T (fits binary64 a) → lt none a ≡ true → lt a large ≡ true → HasValue (mul binary64 a (fin false 1 (pos 1))) false (2 * num a) (den a)
+pub doubled-value : (a : Float) → T (fits binary64 a) → lt none a ≡ true → lt a large ≡ true → HasValue
+    (mul binary64 a (fin false 1 (pos 1))) false (2 * num a) (den a)
 unfolding lt
 doubled-value nan f h k = absurd (false≢true h)
 doubled-value (inf true) f h k = absurd (false≢true h)
@@ -47,8 +49,10 @@ doubled-value (fin true m e) f h k = absurd (false≢true h)
 doubled-value (fin false m e) f h k =
     let g = ltb-true (m * up e * 1) (2 ^ 52 * down e) k in
     let room : m * up e * 2 < 2 ^ 53 * down e = omega arith in
-    subst (λ (x : Float). HasValue x false (2 * (m * up e)) (down e)) (sym (mul-two binary64 m e ∙ ap (λ (z : ℕ). round binary64 false (m * up e * 2) z) (mul-one (down e))))
-    (subst (λ (z : ℕ). HasValue (round binary64 false (m * up e * 2) (down e)) false z (down e)) (mul-comm (m * up e) 2) (scaled-exact binary64 false m e 1 f (lt-of-lt-of-le room (mul-le-mul-right (down e) (lit≤ tt)))))
+    subst (λ (x : Float). HasValue x false (2 * (m * up e)) (down e))
+    (sym (mul-two binary64 m e ∙ ap (λ (z : ℕ). round binary64 false (m * up e * 2) z) (mul-one (down e))))
+    (subst (λ (z : ℕ). HasValue (round binary64 false (m * up e * 2) (down e)) false z (down e)) (mul-comm (m * up e) 2)
+    (scaled-exact binary64 false m e 1 f (lt-of-lt-of-le room (mul-le-mul-right (down e) (lit≤ tt)))))
 
 -- ---- a whole number below another
 ltb-scale : (a b k : ℕ) → 0 < k → ltb (a * k) (b * k) ≡ ltb a b
@@ -67,7 +71,8 @@ whole-below-is (fin false m e) nan w v u = absurd u
 whole-below-is (fin false m e) (inf t) w v u = absurd u
 whole-below-is (fin false m e) (fin true n d) w v u = absurd (true≢false (u .0))
 whole-below-is (fin false m e) (fin false n d) w v u =
-    let p : m * up e * down d ≡ w * down d * down e = ap (λ (z : ℕ). z * down d) (sym (mul-one (m * up e)) ∙ v .1) ∙ mul-right-comm w (down e) (down d) in
+    let p : m * up e * down d ≡ w * down d * down e = ap (λ (z : ℕ). z * down d) (sym (mul-one (m * up e)) ∙ v .1) ∙ mul-right-comm w
+    (down e) (down d) in
     ap (λ (z : ℕ). ltb z (n * up d * down e)) p ∙ ltb-scale (w * down d) (n * up d) (down e) (down-pos e)
 
 -- ---- a fraction rounded up, from its whole part
@@ -89,7 +94,8 @@ up-none a c C h =
 
 -- (2 a / c + 1) / 2 rounds a / c to the nearest, half way up
 halves-is : (a c : ℕ) → 0 < c → (2 * a / c + 1) / 2 ≡ (2 * a + c) / (2 * c)
-halves-is a c C = ap (λ (z : ℕ). z / 2) (sym (add-div-right (2 * a) C)) ∙ div-div-eq-div-mul (2 * a + c) c 2 ∙ ap (λ (z : ℕ). (2 * a + c) / z) (mul-comm c 2)
+halves-is a c C = ap (λ (z : ℕ). z / 2) (sym (add-div-right (2 * a) C)) ∙ div-div-eq-div-mul (2 * a + c) c 2 ∙ ap
+    (λ (z : ℕ). (2 * a + c) / z) (mul-comm c 2)
 
 -- ---- the steps
 module _ (a : Float) (above : lt none a ≡ true) (under : lt a large ≡ true) where
@@ -109,7 +115,8 @@ module _ (a : Float) (above : lt none a ≡ true) (under : lt a large ≡ true) 
       ∙ ap (λ (n : ℕ). ltb (n * den a) (num a)) cut-is
 
   pub raised-one : lt (ofInt binary64 (pos (wholeOf a))) a ≡ true → towardNegative true (num a) (den a) ≡ wholeOf a + 1
-  raised-one h = up-one (num a) (den a) (den-pos a) (ltb-true (num a / den a * den a) (num a) (sym cut-below-is ∙ h)) ∙ ap (λ (n : ℕ). n + 1) (sym cut-is)
+  raised-one h = up-one (num a) (den a) (den-pos a) (ltb-true (num a / den a * den a) (num a) (sym cut-below-is ∙ h)) ∙ ap
+      (λ (n : ℕ). n + 1) (sym cut-is)
 
   pub raised-none : lt (ofInt binary64 (pos (wholeOf a))) a ≡ false → towardNegative true (num a) (den a) ≡ wholeOf a
   raised-none h = up-none (num a) (den a) (den-pos a) (ltb-false (num a / den a * den a) (num a) (sym cut-below-is ∙ h)) ∙ sym cut-is
@@ -119,13 +126,16 @@ module _ (a : Float) (above : lt none a ≡ true) (under : lt a large ≡ true) 
     doubled = mul binary64 a (fin false 1 (pos 1))
 
     pub doubled-in-range : T (lt (fin true 1 (pos 0)) doubled) × T (lt doubled (fin false 1 (pos 64)))
-    doubled-in-range = let b = below-large a above under in in-range doubled (2 * num a) (den a) (den-pos a) (doubled-value a held above under) (omega arith)
+    doubled-in-range = let b = below-large a above under in in-range doubled (2 * num a) (den a) (den-pos a)
+        (doubled-value a held above under) (omega arith)
 
     halves-are : wholeOf doubled ≡ 2 * num a / den a
-    halves-are = let b = below-large a above under in cast-is doubled (2 * num a) (den a) (den-pos a) (doubled-value a held above under) (omega arith)
+    halves-are = let b = below-large a above under in cast-is doubled (2 * num a) (den a) (den-pos a) (doubled-value a held above under)
+        (omega arith)
 
     pub halves-small : wholeOf doubled < 2 ^ 53
-    halves-small = let b = below-large a above under in subst (λ (n : ℕ). n < 2 ^ 53) (sym halves-are) (div-lt-iff-lt-mul (den-pos a) .1 (omega arith))
+    halves-small = let b = below-large a above under in subst (λ (n : ℕ). n < 2 ^ 53) (sym halves-are)
+        (div-lt-iff-lt-mul (den-pos a) .1 (omega arith))
 
     pub nearest-is : (wholeOf doubled + 1) / 2 ≡ tiesAway false (num a) (den a)
     nearest-is = ap (λ (n : ℕ). (n + 1) / 2) halves-are ∙ halves-is (num a) (den a) (den-pos a)

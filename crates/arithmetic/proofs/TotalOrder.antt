@@ -1,4 +1,5 @@
--- `totalOrder` is reflexive, total and transitive, and antisymmetric among the values that an f64 holds. And where two numbers are equal it goes by their bit patterns. Assumes nothing.
+-- `totalOrder` is reflexive, total and transitive, and antisymmetric among the values that an f64 holds. And where two numbers are equal it
+-- goes by their bit patterns. Assumes nothing.
 use mathlib.Core.Path.{_≡_, refl, sym, ap, _∙_, subst}
 use mathlib.Core.Logic.{_⊎_, inl, inr}
 use mathlib.Core.Bool.{Bool, true, false, not, _||_, cond, true≢false, false≢true, or-true}
@@ -14,27 +15,33 @@ use lib.Ieee.Nearest.{div-same}
 use borrow.Author.Tests.{ltb-false, leb-true, le-leb, lt-leb}
 use Rattle.arithmetic.specs.Basic.{negative}
 use Rattle.arithmetic.specs.Ordering.{totalOrder}
-use Rattle.arithmetic.proofs.Order.{lt-nan-false, nan-lt-false, le-left-number, le-right-number, le-of-lt, le-of-not-lt, not-lt-of-le, le-transitive, lt-of-lt-le, lt-of-le-lt, le-reflexive, is-nan}
+use Rattle.arithmetic.proofs.Order.{lt-nan-false, nan-lt-false, le-left-number, le-right-number, le-of-lt, le-of-not-lt}
+use Rattle.arithmetic.proofs.Order.{not-lt-of-le, le-transitive, lt-of-lt-le, lt-of-le-lt, le-reflexive, is-nan}
 
 -- ---- equal numbers of one sign have one bit pattern
 toBits-is : (f : Format) (s : Bool) (m : ℕ) (e : ℤ)
-    → toBits f (fin s m e) ≡ cond s (top f) 0 + (size (m * up e * 2 ^ low f / down e) - prec f) * hid f + m * up e * 2 ^ low f / down e / 2 ^ (size (m * up e * 2 ^ low f / down e) - prec f)
+    → toBits f (fin s m e) ≡ cond s (top f) 0 + (size (m * up e * 2 ^ low f / down e) - prec f) * hid f + m * up e * 2 ^ low f / down e / 2
+    ^ (size (m * up e * 2 ^ low f / down e) - prec f)
 unfolding toBits
 toBits-is f s m e = refl
 
-toBits-same : (f : Format) (s : Bool) (m : ℕ) (e : ℤ) (n : ℕ) (d : ℤ) → m * up e * down d ≡ n * up d * down e → toBits f (fin s m e) ≡ toBits f (fin s n d)
+toBits-same : (f : Format) (s : Bool) (m : ℕ) (e : ℤ) (n : ℕ) (d : ℤ) → m * up e * down d ≡ n * up d * down e → toBits f (fin s m e) ≡
+    toBits f (fin s n d)
 toBits-same f s m e n d h =
     let l = 2 ^ low f in
-    let units : m * up e * l * down d ≡ n * up d * l * down e = mul-right-comm (m * up e) l (down d) ∙ ap (λ (z : ℕ). z * l) h ∙ mul-right-comm (n * up d) (down e) l in
+    let units : m * up e * l * down d ≡ n * up d * l * down e = mul-right-comm (m * up e) l (down d) ∙ ap (λ (z : ℕ). z * l) h ∙
+    mul-right-comm (n * up d) (down e) l in
     toBits-is f s m e
-    ∙ ap (λ (z : ℕ). cond s (top f) 0 + (size z - prec f) * hid f + z / 2 ^ (size z - prec f)) (div-same (m * up e * l) (down e) (n * up d * l) (down d) (down-pos e) (down-pos d) units)
+    ∙ ap (λ (z : ℕ). cond s (top f) 0 + (size z - prec f) * hid f + z / 2 ^ (size z - prec f))
+    (div-same (m * up e * l) (down e) (n * up d * l) (down d) (down-pos e) (down-pos d) units)
     ∙ sym (toBits-is f s n d)
 
 nothing : (a b : ℕ) → 0 < b → a * b ≡ 0 → a ≡ 0
 nothing a b B h = eq-of-mul-eq-mul-right b B a 0 (h ∙ sym (zero-mul b))
 
 zero-bits : (s : Bool) (m : ℕ) (e d : ℤ) → m * up e * down d ≡ 0 → toBits binary64 (fin s m e) ≡ toBits binary64 (fin s 0 (pos 0))
-zero-bits s m e d h = toBits-same binary64 s m e 0 (pos 0) (mul-one (m * up e) ∙ nothing (m * up e) (down d) (down-pos d) h ∙ sym (zero-mul (down e)))
+zero-bits s m e d h = toBits-same binary64 s m e 0 (pos 0)
+    (mul-one (m * up e) ∙ nothing (m * up e) (down d) (down-pos d) h ∙ sym (zero-mul (down e)))
 
 plus-zero-bits : toBits binary64 (fin false 0 (pos 0)) ≡ 0
 unfolding toBits
@@ -107,18 +114,21 @@ at-most-before x y h g = go (lt x y) refl
     go true e = lesser-before x y e
     go false e = unfold totalOrder in simp (e, not-lt-of-le x y h, le-left-number x y h, le-right-number x y h, g)
 
-parts : (a b v n g : Bool) → v ≡ false → cond a true (cond b false (cond v true (cond n false g))) ≡ true → (a ≡ true) ⊎ ((b ≡ false) × ((n ≡ false) × (g ≡ true)))
+parts : (a b v n g : Bool) → v ≡ false → cond a true (cond b false (cond v true (cond n false g))) ≡ true → (a ≡ true) ⊎
+    ((b ≡ false) × ((n ≡ false) × (g ≡ true)))
 parts true b v n g q h = inl refl
 parts false true v n g q h = absurd (false≢true h)
 parts false false true n g q h = absurd (true≢false q)
 parts false false false true g q h = absurd (false≢true h)
 parts false false false false g q h = inr (refl, (refl, h))
 
-pub before-number-is : (x y : Float) → isNan y ≡ false → totalOrder x y ≡ true → (lt x y ≡ true) ⊎ ((le x y ≡ true) × ((negative x || not (negative y)) ≡ true))
+pub before-number-is : (x y : Float) → isNan y ≡ false → totalOrder x y ≡ true → (lt x y ≡ true) ⊎
+    ((le x y ≡ true) × ((negative x || not (negative y)) ≡ true))
 unfolding totalOrder
 before-number-is x y q h = go (parts (lt x y) (lt y x) (isNan y) (isNan x) (negative x || not (negative y)) q h)
   where
-    go : (lt x y ≡ true) ⊎ ((lt y x ≡ false) × ((isNan x ≡ false) × ((negative x || not (negative y)) ≡ true))) → (lt x y ≡ true) ⊎ ((le x y ≡ true) × ((negative x || not (negative y)) ≡ true))
+    go : (lt x y ≡ true) ⊎ ((lt y x ≡ false) × ((isNan x ≡ false) × ((negative x || not (negative y)) ≡ true))) → (lt x y ≡ true) ⊎
+        ((le x y ≡ true) × ((negative x || not (negative y)) ≡ true))
     go (inl a) = inl a
     go (inr w) = inr (le-of-not-lt x y (w .1 .0) q (w .0), w .1 .1)
 
@@ -143,7 +153,11 @@ totalOrder-total x y = go (isNan x) (isNan y) refl refl
     apart p q true b h k = inl (lesser-before x y h)
     apart p q false true h k = inr (lesser-before y x k)
     apart p q false false h k =
-        elim (one-sign (negative x) (negative y)) [ inl g ↦ inl (at-most-before x y (le-of-not-lt x y p q k) g) | inr g ↦ inr (at-most-before y x (le-of-not-lt y x q p h) g) ]
+        elim (one-sign (negative x) (negative y)) [
+          | inl g ↦ inl (at-most-before x y (le-of-not-lt x y p q k) g)
+          | inr g ↦ inr
+              (at-most-before y x (le-of-not-lt y x q p h) g)
+        ]
 
     go : (a b : Bool) → isNan x ≡ a → isNan y ≡ b → (totalOrder x y ≡ true) ⊎ (totalOrder y x ≡ true)
     go true b p q = inr (subst (λ (z : Float). totalOrder y z ≡ true) (sym (is-nan x p)) (before-nan y))
@@ -165,7 +179,8 @@ totalOrder-transitive x y z h k = go (isNan z) refl
           | inr v ↦
               elim (before-number-is y z r k) [
                 | inl b ↦ lesser-before x z (lt-of-le-lt x y z (v .0) b)
-                | inr w ↦ at-most-before x z (le-transitive x y z (v .0) (w .0)) (sign-through (negative x) (negative y) (negative z) (v .1) (w .1))
+                | inr w ↦ at-most-before x z (le-transitive x y z (v .0) (w .0))
+                    (sign-through (negative x) (negative y) (negative z) (v .1) (w .1))
               ]
         ]
 
@@ -174,7 +189,8 @@ totalOrder-transitive x y z h k = go (isNan z) refl
     go false r = numbers r (le-left-number y z (le-of-before y z r k))
 
 -- two numbers that an f64 holds, each at or before the other: one bit pattern
-same-number : (x y : Float) → T (fits binary64 x) → T (fits binary64 y) → isNan y ≡ false → totalOrder x y ≡ true → totalOrder y x ≡ true → x ≡ y
+same-number : (x y : Float) → T (fits binary64 x) → T (fits binary64 y) → isNan y ≡ false → totalOrder x y ≡ true → totalOrder y x ≡ true →
+    x ≡ y
 same-number x y f g q h k =
     let a : le x y ≡ true = le-of-before x y q h in
     let p : isNan x ≡ false = le-left-number x y a in
@@ -189,7 +205,8 @@ same-number x y f g q h k =
     signs : (x y : Float) → isNan y ≡ false → totalOrder x y ≡ true → lt x y ≡ false → (negative x || not (negative y)) ≡ true
     signs x y q h e = elim (before-number-is x y q h) [ inl a ↦ absurd (true≢false (sym a ∙ e)) | inr w ↦ w .1 ]
 
-pub totalOrder-antisymmetric : (x y : Float) → T (fits binary64 x) → T (fits binary64 y) → totalOrder x y ≡ true → totalOrder y x ≡ true → x ≡ y
+pub totalOrder-antisymmetric : (x y : Float) → T (fits binary64 x) → T (fits binary64 y) → totalOrder x y ≡ true → totalOrder y x ≡ true → x
+    ≡ y
 totalOrder-antisymmetric x y f g h k = go (isNan y) refl
   where
     go : (b : Bool) → isNan y ≡ b → x ≡ y

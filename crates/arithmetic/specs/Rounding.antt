@@ -3,7 +3,8 @@ use Prim.Native.Nat.{ℕ, _+_, _-_, _*_, _/_}
 use mathlib.Core.Bool.{Bool, true, false}
 use lib.Ieee.{Float, nan, inf, fin, binary64, up, down, round, toUnsigned}
 
--- x with its size, a fraction, made a whole number by a rule that sees the sign too. NaN and the infinities stay, and a result of zero keeps the sign of x.
+-- x with its size, a fraction, made a whole number by a rule that sees the sign too. NaN and the infinities stay, and a result of zero
+-- keeps the sign of x.
 unfoldable pub wholeBy : (Bool → ℕ → ℕ → ℕ) → Float → Float
 wholeBy rule nan = nan
 wholeBy rule (inf s) = inf s

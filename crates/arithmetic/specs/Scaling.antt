@@ -1,4 +1,5 @@
--- A float times a power of two, in exact terms and rounded once, the power told by the size of another float. Definitions only. Assumes nothing.
+-- A float times a power of two, in exact terms and rounded once, the power told by the size of another float. Definitions only. Assumes
+-- nothing.
 use Prim.Native.Nat.{ℕ, _*_, _/_, _^_}
 use lib.Ieee.{Float, nan, inf, fin, binary64, up, down, size, round}
 

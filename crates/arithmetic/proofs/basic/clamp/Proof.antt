@@ -4,19 +4,13 @@ use borrow.Author.Needs.{needs}
 use Rattle.arithmetic.proofs.basic.clamp.Statement.{statement}
 use Rattle.arithmetic.proofs.basic.clamp.Tie as tie
 
-at-most-requires : tie.Need-at-most-requires
-at-most-requires c κs = search needs
-
 returns : tie.Need-returns
 unfolding clampTo
 returns c = simp (c .before .if1 .taken) (c .at-most .ensures)
-
-at-most-requires-2 : tie.Need-at-most-requires-2
-at-most-requires-2 c κs = search needs
 
 returns-2 : tie.Need-returns-2
 unfolding clampTo
 returns-2 c = simp (c .before .if1 .left) (c .at-most2 .ensures)
 
 pub clamp-spec : {M : Type 1} → statement M
-clamp-spec = tie.close (tie.spec at-most-requires returns at-most-requires-2 returns-2)
+clamp-spec = tie.close (tie.spec (search needs) returns (search needs) returns-2)

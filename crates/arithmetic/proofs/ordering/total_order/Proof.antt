@@ -1,4 +1,5 @@
--- `ordering::total_order` meets its contract: its tests are those of the definition, and the bit patterns decide between equal numbers. Assumes nothing.
+-- `ordering::total_order` meets its contract: its tests are those of the definition, and the bit patterns decide between equal numbers.
+-- Assumes nothing.
 use mathlib.Core.Path.{_≡_, sym, _∙_, subst}
 use mathlib.Core.Bool.{Bool, false, not}
 use lib.Dec.{T}
@@ -22,29 +23,42 @@ returns-2 c = simp (c .before .if1 .left, c .if2 .taken)
 
 returns-3 : tie.Need-returns-3
 unfolding totalOrder
-returns-3 c = simp (c .before .before .if1 .left, c .before .if2 .left, sym (ne-self-is-nan (c .before .before .before .args .y)) ∙ c .if3 .taken)
+returns-3 c =
+    let (start, else1) : tie.Start × tie.Else1 = search in
+    simp (else1 .if1 .left, c .before .if2 .left, sym (ne-self-is-nan (start .args .y)) ∙ c .if3 .taken)
 
 returns-4 : tie.Need-returns-4
 unfolding totalOrder
 returns-4 c =
-    simp
-    (c .before .before .before .if1 .left, c .before .before .if2 .left, sym (ne-self-is-nan (c .before .before .before .before .args .y)) ∙ c .before .if3 .left, sym (ne-self-is-nan (c .before .before .before .before .args .x)) ∙ c .if4 .taken)
+    let (start, else1, else2) : tie.Start × tie.Else1 × tie.Else2 = search in
+    simp (
+      else1 .if1 .left,
+      else2 .if2 .left,
+      sym (ne-self-is-nan (start .args .y)) ∙ c .before .if3 .left,
+      sym (ne-self-is-nan (start .args .x))
+          ∙ c .if4 .taken,
+    )
 
 float-to-bits-result : tie.Need-float-to-bits-result
-float-to-bits-result c = number (c .before .before .before .before .args .y) (c .before .if3 .left)
+float-to-bits-result c =
+    let start : tie.Start = search in
+    number (start .args .y) (c .before .if3 .left)
 
 float-to-bits-result-2 : tie.Need-float-to-bits-result-2
-float-to-bits-result-2 c = number (c .before .before .before .before .args .x) (c .if4 .left)
+float-to-bits-result-2 c =
+    let start : tie.Start = search in
+    number (start .args .x) (c .if4 .left)
 
 returns-5 : tie.Need-returns-5
 unfolding totalOrder
 returns-5 c =
-    let x = c .before .before .before .before .args .x in
-    let y = c .before .before .before .before .args .y in
+    let (start, else1, else2) : tie.Start × tie.Else1 × tie.Else2 = search in
+    let x = start .args .x in
+    let y = start .args .y in
     let p : isNan x ≡ false = sym (ne-self-is-nan x) ∙ c .if4 .left in
     let q : isNan y ≡ false = sym (ne-self-is-nan y) ∙ c .before .if3 .left in
-    bits-order-is x y p q (c .before .before .before .if1 .left) (c .before .before .if2 .left)
-    ∙ simp (c .before .before .before .if1 .left, c .before .before .if2 .left, p, q)
+    bits-order-is x y p q (else1 .if1 .left) (else2 .if2 .left)
+    ∙ simp (else1 .if1 .left, else2 .if2 .left, p, q)
 
 pub total-order-spec : {M : Type 1} → statement M
 total-order-spec = tie.close (tie.spec returns returns-2 returns-3 returns-4 float-to-bits-result float-to-bits-result-2 returns-5)

@@ -14,15 +14,18 @@ truncating-f64-to-u64-requires c κs = small-in-range (c .args .a) (c .pre .0) (
 
 int-to-float-result : tie.Need-int-to-float-result
 int-to-float-result c =
-    let start = c .before .before in
+    let start : tie.Start = search in
+    let start = start in
     let small = cut-small (start .args .a) (start .pre .0) (start .pre .1) in
     let same = c .before .truncating-f64-to-u64 .ensures in
     small-in-float (c .before .truncating-f64-to-u64 .result) (omega arith)
 
 returns : tie.Need-returns
 returns c =
-    let start = c .before .before in
-    ap (λ (n : ℕ). ofInt binary64 (pos n)) (c .before .truncating-f64-to-u64 .ensures ∙ cut-is (start .args .a) (start .pre .0) (start .pre .1))
+    let start : tie.Start = search in
+    let start = start in
+    ap (λ (n : ℕ). ofInt binary64 (pos n)) (c .before .truncating-f64-to-u64 .ensures ∙ cut-is (start .args .a) (start .pre .0) (start .pre
+    .1))
 
 pub cut-spec : {M : Type 1} → statement M
 cut-spec = tie.close (tie.spec truncating-f64-to-u64-requires int-to-float-result returns)

@@ -1,4 +1,5 @@
--- `rounding::nearest` meets its contract: the doubled number is exact, and half of its whole part and one is the nearest whole number. Assumes nothing.
+-- `rounding::nearest` meets its contract: the doubled number is exact, and half of its whole part and one is the nearest whole number.
+-- Assumes nothing.
 use mathlib.Core.Path.{sym, ap, _∙_, subst}
 use Prim.Native.Nat.{ℕ, _+_, _/_}
 use native.Mathlib.Omega.{arith}
@@ -28,7 +29,8 @@ add-result c =
 int-to-float-result : tie.Need-int-to-float-result
 unfolding ofBits
 int-to-float-result c =
-    let start = c .before .before in
+    let start : tie.Start = search in
+    let start = start in
     let small = halves-small (start .args .a) (start .pre .0) (start .pre .1) (held start) in
     let same = c .before .truncating-f64-to-u64 .ensures in
     small-in-float ((c .before .truncating-f64-to-u64 .result + 1) / 2) (omega arith)
@@ -36,8 +38,10 @@ int-to-float-result c =
 returns : tie.Need-returns
 unfolding ofBits
 returns c =
-    let start = c .before .before in
-    ap (λ (n : ℕ). ofInt binary64 (pos n)) (ap (λ (n : ℕ). (n + 1) / 2) (c .before .truncating-f64-to-u64 .ensures) ∙ nearest-is (start .args .a) (start .pre .0) (start .pre .1) (held start))
+    let start : tie.Start = search in
+    let start = start in
+    ap (λ (n : ℕ). ofInt binary64 (pos n)) (ap (λ (n : ℕ). (n + 1) / 2) (c .before .truncating-f64-to-u64 .ensures) ∙ nearest-is (start
+    .args .a) (start .pre .0) (start .pre .1) (held start))
 
 pub nearest-spec : {M : Type 1} → statement M
 nearest-spec = tie.close (tie.spec truncating-f64-to-u64-requires add-result int-to-float-result returns)

@@ -15,45 +15,53 @@ truncating-f64-to-u64-requires c κs = small-in-range (c .args .a) (c .pre .0) (
 
 int-to-float-if1 : tie.Need-int-to-float-if1
 int-to-float-if1 c =
-    let start = c .before .before in
+    let start : tie.Start = search in
+    let start = start in
     let small = cut-small (start .args .a) (start .pre .0) (start .pre .1) in
     let same = c .before .truncating-f64-to-u64 .ensures in
     small-in-float (c .before .truncating-f64-to-u64 .result) (omega arith)
 
 add-result : tie.Need-add-result
 add-result c =
-    let start = c .before .before .before in
+    let (start, at-truncating-f64-to-u64) : tie.Start × tie.After-truncating-f64-to-u64 = search in
+    let start = start in
     let small = cut-small (start .args .a) (start .pre .0) (start .pre .1) in
-    let same = c .before .before .truncating-f64-to-u64 .ensures in
+    let same = at-truncating-f64-to-u64 .truncating-f64-to-u64 .ensures in
     omega arith
 
 int-to-float-result : tie.Need-int-to-float-result
 int-to-float-result c =
-    let start = c .before .before .before .before in
+    let (start, at-truncating-f64-to-u64) : tie.Start × tie.After-truncating-f64-to-u64 = search in
+    let start = start in
     let small = cut-small (start .args .a) (start .pre .0) (start .pre .1) in
-    let same = c .before .before .before .truncating-f64-to-u64 .ensures in
-    small-in-float (c .before .before .before .truncating-f64-to-u64 .result + 1) (omega arith)
+    let same = at-truncating-f64-to-u64 .truncating-f64-to-u64 .ensures in
+    small-in-float (at-truncating-f64-to-u64 .truncating-f64-to-u64 .result + 1) (omega arith)
 
 returns : tie.Need-returns
 returns c =
-    let start = c .before .before .before .before in
-    let whole = c .before .before .before .truncating-f64-to-u64 in
+    let (start, at-truncating-f64-to-u64) : tie.Start × tie.After-truncating-f64-to-u64 = search in
+    let start = start in
+    let whole = at-truncating-f64-to-u64 .truncating-f64-to-u64 in
     let test = subst (λ (n : ℕ). lt (ofInt binary64 (pos n)) (start .args .a) ≡ true) (whole .ensures) (c .before .if1 .taken) in
-    ap (λ (n : ℕ). ofInt binary64 (pos n)) (ap (λ (n : ℕ). n + 1) (whole .ensures) ∙ sym (raised-one (start .args .a) (start .pre .0) (start .pre .1) test))
+    ap (λ (n : ℕ). ofInt binary64 (pos n)) (ap (λ (n : ℕ). n + 1) (whole .ensures) ∙ sym (raised-one (start .args .a) (start .pre .0) (start
+    .pre .1) test))
 
 int-to-float-result-2 : tie.Need-int-to-float-result-2
 int-to-float-result-2 c =
-    let start = c .before .before .before .before in
+    let (start, at-truncating-f64-to-u64) : tie.Start × tie.After-truncating-f64-to-u64 = search in
+    let start = start in
     let small = cut-small (start .args .a) (start .pre .0) (start .pre .1) in
-    let same = c .before .before .before .truncating-f64-to-u64 .ensures in
-    small-in-float (c .before .before .before .truncating-f64-to-u64 .result) (omega arith)
+    let same = at-truncating-f64-to-u64 .truncating-f64-to-u64 .ensures in
+    small-in-float (at-truncating-f64-to-u64 .truncating-f64-to-u64 .result) (omega arith)
 
 returns-2 : tie.Need-returns-2
 returns-2 c =
-    let start = c .before .before .before .before in
-    let whole = c .before .before .before .truncating-f64-to-u64 in
+    let (start, at-truncating-f64-to-u64) : tie.Start × tie.After-truncating-f64-to-u64 = search in
+    let start = start in
+    let whole = at-truncating-f64-to-u64 .truncating-f64-to-u64 in
     let test = subst (λ (n : ℕ). lt (ofInt binary64 (pos n)) (start .args .a) ≡ false) (whole .ensures) (c .before .if1 .left) in
     ap (λ (n : ℕ). ofInt binary64 (pos n)) (whole .ensures ∙ sym (raised-none (start .args .a) (start .pre .0) (start .pre .1) test))
 
 pub raised-spec : {M : Type 1} → statement M
-raised-spec = tie.close (tie.spec truncating-f64-to-u64-requires int-to-float-if1 add-result int-to-float-result returns int-to-float-result-2 returns-2)
+raised-spec = tie.close (tie.spec truncating-f64-to-u64-requires int-to-float-if1 add-result int-to-float-result returns
+    int-to-float-result-2 returns-2)

@@ -7,14 +7,18 @@ use Rattle.arithmetic.proofs.rounding.to_u64.Tie as tie
 
 truncating-f64-to-u64-requires : tie.Need-truncating-f64-to-u64-requires
 unfolding ofBits
-truncating-f64-to-u64-requires c κs = cast-in-range (c .before .before .args .x) (c .before .if1 .taken) (c .if2 .taken)
+truncating-f64-to-u64-requires c κs =
+    let start : tie.Start = search in
+    cast-in-range (start .args .x) (c .before .if1 .taken) (c .if2 .taken)
 
 returns : tie.Need-returns
 returns c = c .truncating-f64-to-u64 .ensures
 
 returns-2 : tie.Need-returns-2
 unfolding ofBits
-returns-2 c = sym (cast-of-large (c .before .before .args .x) (c .before .if1 .taken) (c .if2 .left))
+returns-2 c =
+    let start : tie.Start = search in
+    sym (cast-of-large (start .args .x) (c .before .if1 .taken) (c .if2 .left))
 
 returns-3 : tie.Need-returns-3
 unfolding ofBits

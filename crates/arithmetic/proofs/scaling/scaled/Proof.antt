@@ -2,7 +2,8 @@
 use mathlib.Core.Path.{sym, subst}
 use lib.Dec.{T}
 use lib.Ieee.{binary64, fits}
-use Rattle.arithmetic.proofs.ScalingLaws.{Sized, sized, large-normal, large-scaled, lifted-normal, lifted-finite, lifted-above, small-scaled}
+use Rattle.arithmetic.proofs.ScalingLaws.{Sized, sized, large-normal, large-scaled, lifted-normal, lifted-finite, lifted-above}
+use Rattle.arithmetic.proofs.ScalingLaws.{small-scaled}
 use Rattle.arithmetic.proofs.scaling.scaled.Statement.{statement}
 use Rattle.arithmetic.proofs.scaling.scaled.Tie as tie
 

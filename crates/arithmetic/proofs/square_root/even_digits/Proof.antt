@@ -4,17 +4,11 @@ use Rattle.arithmetic.proofs.RootPatterns.{digits-once, digits-twice}
 use Rattle.arithmetic.proofs.square_root.even_digits.Statement.{statement}
 use Rattle.arithmetic.proofs.square_root.even_digits.Tie as tie
 
-add-result : tie.Need-add-result
-add-result c = search needs
-
 returns : tie.Need-returns
 returns c = digits-once (c .before .args .c) (c .if1 .taken)
-
-add-result-2 : tie.Need-add-result-2
-add-result-2 c = search needs
 
 returns-2 : tie.Need-returns-2
 returns-2 c = digits-twice (c .before .args .c) (c .if1 .left) (c .before .pre)
 
 pub even-digits-spec : {M : Type 1} → statement M
-even-digits-spec = tie.close (tie.spec add-result returns add-result-2 returns-2)
+even-digits-spec = tie.close (tie.spec (search needs) returns (search needs) returns-2)

@@ -8,14 +8,5 @@ use Rattle.arithmetic.proofs.square_root.guessed_root.Tie as tie
 float-from-bits-x : tie.Need-float-from-bits-x
 float-from-bits-x c = no-nan (c .args .b) (omega (arith, c .pre))
 
-sub-near-parabola : tie.Need-sub-near-parabola
-sub-near-parabola c = search needs
-
-near-parabola-requires : tie.Need-near-parabola-requires
-near-parabola-requires c κs = search needs
-
-returns : tie.Need-returns
-returns c = search needs
-
 pub guessed-root-spec : {M : Type 1} → statement M
-guessed-root-spec = tie.close (tie.spec float-from-bits-x sub-near-parabola near-parabola-requires returns)
+guessed-root-spec = tie.close (tie.spec float-from-bits-x (search needs) (search needs) (λ c. search needs))

@@ -15,43 +15,26 @@ abbrev μ-loop : tie.MeasureT-loop
 loop-holds : tie.Need-loop-holds Inv-loop μ-loop
 loop-holds c = between-at-first (c .args .m) (c .pre .0) (c .pre .1)
 
-sub-loop : tie.Need-sub-loop Inv-loop μ-loop
-sub-loop c = search needs
-
-sub-middle : tie.Need-sub-middle Inv-loop μ-loop
-sub-middle c = search needs
-
-add-middle : tie.Need-add-middle Inv-loop μ-loop
-add-middle c = search needs
-
-square-at-most-requires : tie.Need-square-at-most-requires Inv-loop μ-loop
-square-at-most-requires c κs = search needs
-
-loop-less : tie.Need-loop-less Inv-loop μ-loop
-loop-less c = search needs
-
 loop-again : tie.Need-loop-again Inv-loop μ-loop
 loop-again c =
-    between-raised (c .before .before .before .before .args .m) (c .before .before .before .loop .low) (c .before .before .before .loop .high)
-    (c .before .before .before .loop .inv)
-    (c .before .before .loop-test .taken)
+    let (start, at-loop, in-loop) : (tie.Start Inv-loop μ-loop) × (tie.At-loop Inv-loop μ-loop) × (tie.In-loop Inv-loop μ-loop) = search in
+    between-raised (start .args .m) (at-loop .loop .low) (at-loop .loop .high)
+    (at-loop .loop .inv)
+    (in-loop .loop-test .taken)
     (sym (c .before .square-at-most .ensures) ∙ c .if1 .taken)
-
-loop-less-2 : tie.Need-loop-less-2 Inv-loop μ-loop
-loop-less-2 c = search needs
 
 loop-again-2 : tie.Need-loop-again-2 Inv-loop μ-loop
 loop-again-2 c =
-    between-lowered (c .before .before .before .before .args .m) (c .before .before .before .loop .low) (c .before .before .before .loop .high)
-    (c .before .before .before .loop .inv)
-    (c .before .before .loop-test .taken)
+    let (start, at-loop, in-loop) : (tie.Start Inv-loop μ-loop) × (tie.At-loop Inv-loop μ-loop) × (tie.In-loop Inv-loop μ-loop) = search in
+    between-lowered (start .args .m) (at-loop .loop .low) (at-loop .loop .high)
+    (at-loop .loop .inv)
+    (in-loop .loop-test .taken)
     (sym (c .before .square-at-most .ensures) ∙ c .if1 .left)
 
-add-result : tie.Need-add-result Inv-loop μ-loop
-add-result c = search needs
-
 returns : tie.Need-returns Inv-loop μ-loop
-returns c = between-nearest (c .before .before .args .m) (c .before .loop .low) (c .before .loop .high) (c .before .loop .inv) (c .loop-test .left)
+returns c =
+    let start : tie.Start Inv-loop μ-loop = search in
+    between-nearest (start .args .m) (c .before .loop .low) (c .before .loop .high) (c .before .loop .inv) (c .loop-test .left)
 
 pub halved-root-spec : {M : Type 1} → statement M
 halved-root-spec =
@@ -60,13 +43,13 @@ halved-root-spec =
     Inv-loop
     μ-loop
     loop-holds
-    sub-loop
-    sub-middle
-    add-middle
-    square-at-most-requires
-    loop-less
+    (search needs)  -- sub-loop
+    (search needs)  -- sub-middle
+    (search needs)  -- add-middle
+    (search needs)  -- square-at-most-requires
+    (search needs)  -- loop-less
     loop-again
-    loop-less-2
+    (search needs)  -- loop-less-2
     loop-again-2
-    add-result
+    (search needs)  -- add-result
     returns)

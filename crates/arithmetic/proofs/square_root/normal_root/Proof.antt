@@ -11,15 +11,6 @@ use Rattle.arithmetic.proofs.RootScaled.{Assembled, assembled}
 use Rattle.arithmetic.proofs.square_root.normal_root.Statement.{statement}
 use Rattle.arithmetic.proofs.square_root.normal_root.Tie as tie
 
-add-raised : tie.Need-add-raised
-add-raised c = search needs
-
-even-digits-requires : tie.Need-even-digits-requires
-even-digits-requires c κs = search needs
-
-add-quick-root : tie.Need-add-quick-root
-add-quick-root c = search needs
-
 quick-root-requires : tie.Need-quick-root-requires
 quick-root-requires c κs =
     let low = (c .before .args .b + 1021 * 2 ^ 52) % 2 ^ 53 in
@@ -28,19 +19,26 @@ quick-root-requires c κs =
       omega (arith, d .most),
       omega arith,
       omega arith,
-      subst (λ (m : ℕ). HasValue (ofBits binary64 (low + 1023 * 2 ^ 52)) false m (2 ^ 52)) (sym (c .even-digits .ensures)) (from-one-value low (omega arith)),
+      subst (λ (m : ℕ). HasValue (ofBits binary64 (low + 1023 * 2 ^ 52)) false m (2 ^ 52)) (sym (c .even-digits .ensures))
+          (from-one-value low (omega arith)),
     )
 
-mul-result : tie.Need-mul-result
-mul-result c = search needs
+-- where the pattern is put together: the start, and the digits that it takes
+abbrev begun : tie.Then1 → tie.Start
+begun c = search
 
-pattern : (c : tie.Then1) → Assembled (c .before .before .even-digits .result) ((c .before .before .before .args .b + 1021 * 2 ^ 52) / 2 ^ 53) (c .before .quick-root .result)
+abbrev taken : tie.Then1 → tie.After-even-digits
+taken c = search
+
+pattern : (c : tie.Then1) → Assembled (taken c .even-digits .result)
+    ((begun c .args .b + 1021 * 2 ^ 52) / 2 ^ 53) (c .before .quick-root .result)
 pattern c =
-    let s = c .before .before .before in
+    let s = begun c in
     let r = s .args .b + 1021 * 2 ^ 52 in
-    let m = c .before .before .even-digits .result in
-    let d = even-digits (r % 2 ^ 53) m (omega arith) (c .before .before .even-digits .ensures) in
-    assembled m (r / 2 ^ 53) (c .before .quick-root .result) (d .least) (d .most) (omega (arith, s .pre)) (c .before .quick-root .ensures (c .if1 .taken))
+    let m = taken c .even-digits .result in
+    let d = even-digits (r % 2 ^ 53) m (omega arith) (taken c .even-digits .ensures) in
+    assembled m (r / 2 ^ 53) (c .before .quick-root .result) (d .least) (d .most) (omega (arith, s .pre))
+    (c .before .quick-root .ensures (c .if1 .taken))
 
 add-result : tie.Need-add-result
 add-result c = omega (arith, pattern c)
@@ -50,29 +48,25 @@ float-from-bits-result c = pattern c .number
 
 returns : tie.Need-returns
 returns c =
-    let s = c .before .before .before in
+    let (start, at-even-digits) : tie.Start × tie.After-even-digits = search in
+    let s = start in
     let r = s .args .b + 1021 * 2 ^ 52 in
     pattern c .is (ofBits binary64 (s .args .b))
-    (subst (λ (m : ℕ). HasValue (ofBits binary64 (s .args .b)) false (m * 2 ^ 52 * (2 ^ (r / 2 ^ 53) * 2 ^ (r / 2 ^ 53))) (2 ^ 2148)) (sym (c .before .before .even-digits .ensures))
+    (subst (λ (m : ℕ). HasValue (ofBits binary64 (s .args .b)) false (m * 2 ^ 52 * (2 ^ (r / 2 ^ 53) * 2 ^ (r / 2 ^ 53))) (2 ^ 2148))
+    (sym (at-even-digits .even-digits .ensures))
     (normal-scaled (s .args .b) r (s .pre .0) (s .pre .1) refl))
-
-careful-root-requires : tie.Need-careful-root-requires
-careful-root-requires c κs = search needs
-
-returns-2 : tie.Need-returns-2
-returns-2 c = search needs
 
 pub normal-root-spec : {M : Type 1} → statement M
 normal-root-spec =
     tie.close
     (tie.spec
-    add-raised
-    even-digits-requires
-    add-quick-root
+    (search needs)  -- add-raised
+    (search needs)  -- even-digits-requires
+    (search needs)  -- add-quick-root
     quick-root-requires
-    mul-result
+    (search needs)  -- mul-result
     add-result
     float-from-bits-result
     returns
-    careful-root-requires
-    returns-2)
+    (search needs)  -- careful-root-requires
+    (λ c. search needs))  -- returns-2

@@ -9,35 +9,30 @@ use Rattle.arithmetic.proofs.RootClose.{passed-number, passed-close}
 use Rattle.arithmetic.proofs.square_root.quick_root.Statement.{statement}
 use Rattle.arithmetic.proofs.square_root.quick_root.Tie as tie
 
-guessed-root-requires : tie.Need-guessed-root-requires
-guessed-root-requires c κs = search needs
-
 float-from-bits-off : tie.Need-float-from-bits-off
 float-from-bits-off c = no-nan (c .before .args .b) (omega (arith, c .before .pre))
 
 float-to-bits-close-root : tie.Need-float-to-bits-close-root
-float-to-bits-close-root c = passed-number (ofBits binary64 (c .before .before .args .b)) (c .before .guessed-root .result) (c .if1 .taken)
+float-to-bits-close-root c =
+    let start : tie.Start = search in
+    passed-number (ofBits binary64 (start .args .b)) (c .before .guessed-root .result) (c .if1 .taken)
 
 close-root-requires : tie.Need-close-root-requires
 close-root-requires c κs =
-    let s = c .before .before in (
+    let start : tie.Start = search in
+    let s = start in (
       omega (arith, s .pre .0),
-      λ q e l u. passed-close (ofBits binary64 (s .args .b)) (c .before .guessed-root .result) (s .args .m) q (s .pre .4) (s .pre .0) (s .pre .1) (subst T (sym (c .before .guessed-root .ok)) tt) (c .if1 .taken) e l u,
+      λ q e l u. passed-close (ofBits binary64 (s .args .b)) (c .before .guessed-root .result) (s .args .m) q (s .pre .4) (s .pre .0)
+          (s .pre .1) (subst T (sym (c .before .guessed-root .ok)) tt) (c .if1 .taken) e l u,
     )
-
-returns : tie.Need-returns
-returns c = search needs
-
-returns-2 : tie.Need-returns-2
-returns-2 c = search needs
 
 pub quick-root-spec : {M : Type 1} → statement M
 quick-root-spec =
     tie.close
     (tie.spec
-    guessed-root-requires
+    (search needs)  -- guessed-root-requires
     float-from-bits-off
     float-to-bits-close-root
     close-root-requires
-    returns
-    returns-2)
+    (λ c. search needs)  -- returns
+    (λ c. search needs))  -- returns-2

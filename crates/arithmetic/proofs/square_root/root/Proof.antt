@@ -17,25 +17,34 @@ float-to-bits-b : tie.Need-float-to-bits-b
 float-to-bits-b c = above-no-nan (c .before .args .x) (c .if1 .taken)
 
 careful-root-requires : tie.Need-careful-root-requires
-careful-root-requires c κs = (above-pattern (c .before .before .args .x) (argument-fits (c .before .before)) (c .before .if1 .taken), omega arith)
+careful-root-requires c κs =
+    let start : tie.Start = search in
+    (above-pattern (start .args .x) (argument-fits (start)) (c .before .if1 .taken), omega arith)
 
 returns : tie.Need-returns
-returns c = c .careful-root .ensures ∙ ap rootOf (ofBits-toBits binary64 (c .before .before .before .args .x) (argument-fits (c .before .before .before)))
-
-normal-root-requires : tie.Need-normal-root-requires
-normal-root-requires c κs = search needs
+returns c =
+    let start : tie.Start = search in
+    c .careful-root .ensures ∙ ap rootOf (ofBits-toBits binary64 (start .args .x) (argument-fits (start)))
 
 returns-2 : tie.Need-returns-2
-returns-2 c = c .normal-root .ensures ∙ ap rootOf (ofBits-toBits binary64 (c .before .before .before .before .args .x) (argument-fits (c .before .before .before .before)))
+returns-2 c =
+    let start : tie.Start = search in
+    c .normal-root .ensures ∙ ap rootOf (ofBits-toBits binary64 (start .args .x) (argument-fits (start)))
 
 returns-3 : tie.Need-returns-3
-returns-3 c = highest-is-root (c .before .before .before .args .x) (argument-fits (c .before .before .before)) (c .before .before .if1 .taken) (c .if3 .left)
+returns-3 c =
+    let (start, then1) : tie.Start × tie.Then1 = search in
+    highest-is-root (start .args .x) (argument-fits (start)) (then1 .if1 .taken) (c .if3 .left)
 
 returns-4 : tie.Need-returns-4
-returns-4 c = zero-is-root (c .before .before .args .x) (c .if4 .taken)
+returns-4 c =
+    let start : tie.Start = search in
+    zero-is-root (start .args .x) (c .if4 .taken)
 
 returns-5 : tie.Need-returns-5
-returns-5 c = quotient-is-root (c .before .before .args .x) (c .before .if1 .left) (c .if4 .left)
+returns-5 c =
+    let start : tie.Start = search in
+    quotient-is-root (start .args .x) (c .before .if1 .left) (c .if4 .left)
 
 pub root-spec : {M : Type 1} → statement M
 root-spec =
@@ -44,7 +53,7 @@ root-spec =
     float-to-bits-b
     careful-root-requires
     returns
-    normal-root-requires
+    (search needs)  -- normal-root-requires
     returns-2
     returns-3
     returns-4

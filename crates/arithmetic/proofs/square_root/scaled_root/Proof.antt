@@ -5,14 +5,9 @@ use Rattle.arithmetic.proofs.RootScaled.{Assembled, assembled}
 use Rattle.arithmetic.proofs.square_root.scaled_root.Statement.{statement}
 use Rattle.arithmetic.proofs.square_root.scaled_root.Tie as tie
 
-mul-result : tie.Need-mul-result
-mul-result c = search needs
-
-halved-root-requires : tie.Need-halved-root-requires
-halved-root-requires c κs = search needs
-
 pattern : (c : tie.After-halved-root) → Assembled (c .before .args .m) (c .before .args .k) (c .halved-root .result)
-pattern c = assembled (c .before .args .m) (c .before .args .k) (c .halved-root .result) (c .before .pre .0) (c .before .pre .1) (c .before .pre .2) (c .halved-root .ensures)
+pattern c = assembled (c .before .args .m) (c .before .args .k) (c .halved-root .result) (c .before .pre .0) (c .before .pre .1)
+    (c .before .pre .2) (c .halved-root .ensures)
 
 add-result : tie.Need-add-result
 add-result c = omega (arith, pattern c)
@@ -25,4 +20,4 @@ returns c = pattern c .is
 
 pub scaled-root-spec : {M : Type 1} → statement M
 scaled-root-spec =
-    tie.close (tie.spec mul-result halved-root-requires add-result float-from-bits-result returns)
+    tie.close (tie.spec (search needs) (search needs) add-result float-from-bits-result returns)

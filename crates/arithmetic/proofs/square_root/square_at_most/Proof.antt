@@ -9,9 +9,6 @@ use Rattle.arithmetic.proofs.square_root.square_at_most.Tie as tie
 mul-cross : tie.Need-mul-cross
 mul-cross c = omega (arith, parts-small (c .args .t) (c .pre))
 
-mul-low : tie.Need-mul-low
-mul-low c = search needs
-
 mul-low-2 : tie.Need-mul-low-2
 mul-low-2 c = omega (arith, parts-small (c .args .t) (c .pre))
 
@@ -33,14 +30,15 @@ add-units-3 c = omega (arith, parts-small (c .args .t) (c .pre))
 returns : tie.Need-returns
 returns c =
     let t = c .args .t in
-    cover-at-most (t * t) (c .args .m) (t / 2 ^ 27 * (t / 2 ^ 27)) (t / 2 ^ 27 * (t % 2 ^ 27)) (t % 2 ^ 27 * (t % 2 ^ 27)) (square-of-parts t)
+    cover-at-most (t * t) (c .args .m) (t / 2 ^ 27 * (t / 2 ^ 27)) (t / 2 ^ 27 * (t % 2 ^ 27)) (t % 2 ^ 27 * (t % 2 ^ 27))
+    (square-of-parts t)
 
 pub square-at-most-spec : {M : Type 1} → statement M
 square-at-most-spec =
     tie.close
     (tie.spec
     mul-cross
-    mul-low
+    (search needs)  -- mul-low
     mul-low-2
     add-low
     mul-units

@@ -15,27 +15,33 @@ abbrev μ-loop : tie.MeasureT-loop
 loop-holds : tie.Need-loop-holds Inv-loop μ-loop
 loop-holds c = lifted-at-first (c .args .b) (c .pre .1)
 
-mul-m : tie.Need-mul-m Inv-loop μ-loop
-mul-m c = search needs
-
 sub-k : tie.Need-sub-k Inv-loop μ-loop
-sub-k c = lifted-left (c .before .before .args .b) (c .before .loop .m) (c .before .loop .k) (c .before .before .pre .0) (c .before .loop .inv) (c .loop-test .taken)
+sub-k c =
+    let start : tie.Start Inv-loop μ-loop = search in
+    lifted-left (start .args .b) (c .before .loop .m) (c .before .loop .k) (start .pre .0) (c .before .loop .inv) (c .loop-test .taken)
 
 loop-less : tie.Need-loop-less Inv-loop μ-loop
-loop-less c = omega (arith, lifted-left (c .before .before .args .b) (c .before .loop .m) (c .before .loop .k) (c .before .before .pre .0) (c .before .loop .inv) (c .loop-test .taken))
+loop-less c =
+    let start : tie.Start Inv-loop μ-loop = search in
+    omega (
+      arith,
+      lifted-left (start .args .b) (c .before .loop .m) (c .before .loop .k) (start .pre .0) (c .before .loop .inv)
+          (c .loop-test .taken),
+    )
 
 loop-again : tie.Need-loop-again Inv-loop μ-loop
 loop-again c =
-    lifted-again (c .before .before .args .b) (c .before .loop .m) (c .before .loop .k)
-    (lifted-left (c .before .before .args .b) (c .before .loop .m) (c .before .loop .k) (c .before .before .pre .0) (c .before .loop .inv) (c .loop-test .taken))
+    let start : tie.Start Inv-loop μ-loop = search in
+    lifted-again (start .args .b) (c .before .loop .m) (c .before .loop .k)
+    (lifted-left (start .args .b) (c .before .loop .m) (c .before .loop .k) (start .pre .0) (c .before .loop .inv) (c .loop-test .taken))
     (c .before .loop .inv)
     (c .loop-test .taken)
 
-scaled-root-requires : tie.Need-scaled-root-requires Inv-loop μ-loop
-scaled-root-requires c κs = search needs
-
 returns : tie.Need-returns Inv-loop μ-loop
-returns c = c .scaled-root .ensures (ofBits binary64 (c .before .before .before .args .b)) (lifted-scaled (c .before .before .before .args .b) (c .before .before .loop .m) (c .before .before .loop .k) (c .before .before .before .pre .1) (c .before .before .loop .inv))
+returns c =
+    let (start, at-loop) : (tie.Start Inv-loop μ-loop) × (tie.At-loop Inv-loop μ-loop) = search in
+    c .scaled-root .ensures (ofBits binary64 (start .args .b))
+    (lifted-scaled (start .args .b) (at-loop .loop .m) (at-loop .loop .k) (start .pre .1) (at-loop .loop .inv))
 
 pub subnormal-root-spec : {M : Type 1} → statement M
 subnormal-root-spec =
@@ -44,9 +50,9 @@ subnormal-root-spec =
     Inv-loop
     μ-loop
     loop-holds
-    mul-m
+    (search needs)  -- mul-m
     sub-k
     loop-less
     loop-again
-    scaled-root-requires
+    (search needs)  -- scaled-root-requires
     returns)
