@@ -1,4 +1,5 @@
--- The edges' scale by comparisons alone: the largest of 1 and of each component and its negative is as large as the definition's. Assumes nothing.
+-- The edges' scale by comparisons alone: the largest of 1 and of each component and its negative is as large as the definition's. Assumes
+-- nothing.
 use mathlib.Core.Path.{_≡_, refl, sym, ap, _∙_, subst}
 use mathlib.Core.Logic.{⊎-elim}
 use mathlib.Core.Bool.{Bool, true, false, cond, _&&_, _||_, Bool·beq, true≢false, false≢true}
@@ -163,11 +164,13 @@ module _ (v : Vec3) where
 
   largest-x : AtMost (maxElement (absOf v)) (absolute (v .x))
   unfolding maxElement absOf
-  largest-x p = climb (absolute (v .x)) (maximumOf (absolute (v .x)) (absolute (v .y))) (absolute (v .z)) (up-first (absolute (v .x)) (absolute (v .y)) p)
+  largest-x p = climb (absolute (v .x)) (maximumOf (absolute (v .x)) (absolute (v .y))) (absolute (v .z))
+      (up-first (absolute (v .x)) (absolute (v .y)) p)
 
   largest-y : AtMost (maxElement (absOf v)) (absolute (v .y))
   unfolding maxElement absOf
-  largest-y p = climb (absolute (v .y)) (maximumOf (absolute (v .x)) (absolute (v .y))) (absolute (v .z)) (up-second (absolute (v .x)) (absolute (v .y)) p)
+  largest-y p = climb (absolute (v .y)) (maximumOf (absolute (v .x)) (absolute (v .y))) (absolute (v .z))
+      (up-second (absolute (v .x)) (absolute (v .y)) p)
 
   largest-z : AtMost (maxElement (absOf v)) (absolute (v .z))
   unfolding maxElement absOf
@@ -220,9 +223,11 @@ module _ (a b : Vec3) where
       one-of (AtMost ours) edges oneᶠ
       (one-of (AtMost ours) (maxElement (absOf a)) (maxElement (absOf b))
       (largest-one a (AtMost ours)
-      (in-ours-first (absolute (a .x)) (size-x a)) (in-ours-first (absolute (a .y)) (size-y a)) (in-ours-first (absolute (a .z)) (size-z a)))
+      (in-ours-first (absolute (a .x)) (size-x a)) (in-ours-first (absolute (a .y)) (size-y a))
+      (in-ours-first (absolute (a .z)) (size-z a)))
       (largest-one b (AtMost ours)
-      (in-ours-second (absolute (b .x)) (size-x b)) (in-ours-second (absolute (b .y)) (size-y b)) (in-ours-second (absolute (b .z)) (size-z b))))
+      (in-ours-second (absolute (b .x)) (size-x b)) (in-ours-second (absolute (b .y)) (size-y b))
+      (in-ours-second (absolute (b .z)) (size-z b))))
       (λ p. ours-from-one)
       (le-right-number oneᶠ scale scale-from-one)
 
@@ -230,9 +235,11 @@ module _ (a b : Vec3) where
   ours-in-scale =
       one-of (AtMost scale) (sizeFromOne a) (sizeFromOne b)
       (sizes-one a (AtMost scale) (λ p. scale-from-one) (both-below scale)
-      (in-scale-first (absolute (a .x)) (largest-x a)) (in-scale-first (absolute (a .y)) (largest-y a)) (in-scale-first (absolute (a .z)) (largest-z a)))
+      (in-scale-first (absolute (a .x)) (largest-x a)) (in-scale-first (absolute (a .y)) (largest-y a))
+      (in-scale-first (absolute (a .z)) (largest-z a)))
       (sizes-one b (AtMost scale) (λ p. scale-from-one) (both-below scale)
-      (in-scale-second (absolute (b .x)) (largest-x b)) (in-scale-second (absolute (b .y)) (largest-y b)) (in-scale-second (absolute (b .z)) (largest-z b)))
+      (in-scale-second (absolute (b .x)) (largest-x b)) (in-scale-second (absolute (b .y)) (largest-y b))
+      (in-scale-second (absolute (b .z)) (largest-z b)))
       (le-right-number oneᶠ ours ours-from-one)
 
 -- ---- equal numbers have one product
@@ -252,7 +259,8 @@ same-product (fin s m e) (fin t n d) p q h =
     let same = eqb-true (m * up e * down d) (n * up d * down e)
     (and-first (eqb (m * up e * down d) (n * up d * down e)) (Bool·beq s t || eqb (m * up e * down d) 0) h) in
     mul-values (fin s m e) epsilon false false (m * up e) (down e) 1 (2 ^ 52) (down-pos e) (pow-pos 52) (p .0, refl) epsilon-value
-    ∙ sym (mul-values (fin t n d) epsilon false false (m * up e) (down e) 1 (2 ^ 52) (down-pos e) (pow-pos 52) (q .0, sym same) epsilon-value)
+    ∙ sym (mul-values (fin t n d) epsilon false false (m * up e) (down e) 1 (2 ^ 52) (down-pos e) (pow-pos 52) (q .0, sym same)
+    epsilon-value)
 
 abbrev thirtyTwo : Float
 thirtyTwo = ofBits binary64 0x4040_0000_0000_0000

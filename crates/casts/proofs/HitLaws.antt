@@ -1,4 +1,5 @@
--- A hit of the casts at a plane and a triangle has a distance that is a number and in the ray's range, and so has the nearest of many. Assumes nothing.
+-- A hit of the casts at a plane and a triangle has a distance that is a number and in the ray's range, and so has the nearest of many.
+-- Assumes nothing.
 use Prim.Native.Nat.{ℕ}
 use mathlib.Core.Path.{_≡_, refl, sym, ap, subst, _∙_}
 use mathlib.Core.Bool.{Bool, true, false, _||_, cond, true≢false}
@@ -84,19 +85,22 @@ module _ (r : Ray) where
       let kept = hit (facing (plane .normal) denominator) distance in
       of-cond (Measured r) (isFinite distance) (cond (outOfRange r distance) none kept) (refused overflow) (λ finite.
       of-cond (Measured r) (outOfRange r distance) none kept (λ _. of-none (Measured r)) (λ inside.
-      of-hit (Measured r) (facing (plane .normal) denominator) distance (record { number = finite-number distance finite; in-range = inside })))
+      of-hit (Measured r) (facing (plane .normal) denominator) distance
+      (record { number = finite-number distance finite; in-range = inside })))
       (λ _. of-refused (Measured r) overflow)
 
   plane-cast-measured : (plane : Plane) → OfHit (Measured r) (planeCast plane r)
   unfolding planeCast
   plane-cast-measured plane =
-      let at : Float → Float → Answer = λ (denominator height : Float). planeAt plane r denominator ((plane .distance -ᶠ height) /ᶠ denominator) in
+      let at : Float → Float → Answer = λ (denominator height : Float). planeAt plane r denominator
+      ((plane .distance -ᶠ height) /ᶠ denominator) in
       let from : Float → Answer = λ (denominator : Float). withValue (checkedDot (r .origin) (plane .normal)) (at denominator) in
       of-value (Measured r) (checkedDot (r .direction) (plane .normal))
       (λ (denominator : Float). cond (le (absolute denominator) parallel) none (from denominator))
       (λ (denominator : Float).
       of-cond (Measured r) (le (absolute denominator) parallel) none (from denominator) (λ _. of-none (Measured r)) (λ _.
-      of-value (Measured r) (checkedDot (r .origin) (plane .normal)) (at denominator) (λ (height : Float). plane-at-measured plane denominator _)))
+      of-value (Measured r) (checkedDot (r .origin) (plane .normal)) (at denominator)
+      (λ (height : Float). plane-at-measured plane denominator _)))
 
   pub ray-plane-hit-measured : (plane : Plane) → OfHit (Measured r) (rayPlane plane r)
   unfolding rayPlane
@@ -123,7 +127,8 @@ module _ (r : Ray) where
       of-cond (Measured r) (lt v zeroᶠ) none (cond (lt oneᶠ (u +ᶠ v)) none in-range) (λ _. of-none (Measured r)) (λ _.
       of-cond (Measured r) (lt oneᶠ (u +ᶠ v)) none in-range (λ _. of-none (Measured r)) (λ _.
       of-cond (Measured r) (outOfRange r distance) none number (λ _. of-none (Measured r)) (λ inside.
-      of-cond (Measured r) (isNan distance) (refused overflow) (triangleNormal r a b distance) (λ _. of-refused (Measured r) overflow) (λ real.
+      of-cond (Measured r) (isNan distance) (refused overflow) (triangleNormal r a b distance) (λ _. of-refused (Measured r) overflow)
+      (λ real.
       of-normal a b distance (record { number = real; in-range = inside })))))
 
   of-at : (offset a b p : Vec3) (determinant : Float) → OfHit (Measured r) (triangleAt r offset a b p determinant)
@@ -143,7 +148,8 @@ module _ (r : Ray) where
       let b = subOf u v in
       let p = crossOf (r .direction) b in
       let offset = subOf (r .origin) v in
-      of-value (Measured r) (checkedDot a p) (λ (determinant : Float). cond (flat determinant a b) none (triangleAt r offset a b p determinant))
+      of-value (Measured r) (checkedDot a p) (λ (determinant : Float). cond (flat determinant a b) none (triangleAt r offset a b p
+      determinant))
       (λ (determinant : Float).
       of-cond (Measured r) (flat determinant a b) none (triangleAt r offset a b p determinant) (λ _. of-none (Measured r))
       (λ _. of-at offset a b p determinant))
@@ -189,7 +195,8 @@ module _ (P : Float → Type 0) where
   next-such (hitAt m e i) index none p q = p
   next-such (hitAt m e i) index (refused number) p q = stopped-such number
 
-  fold-such : (answer : ℕ → Answer) (best : Indexed) (l : List ℕ) → OfIndexedHit P best → ((j : ℕ) → HitSuch P answer j) → OfIndexedHit P (foldFrom answer best l)
+  fold-such : (answer : ℕ → Answer) (best : Indexed) (l : List ℕ) → OfIndexedHit P best → ((j : ℕ) → HitSuch P answer j) → OfIndexedHit P
+      (foldFrom answer best l)
   unfolding foldFrom
   fold-such answer best [] p q = p
   fold-such answer best (x ∷ xs) p q = fold-such answer (nextOf best x (answer x)) xs (next-such best x (answer x) p (q x)) q

@@ -1,4 +1,5 @@
--- Of two that come, it does not matter which comes first: the one that goes before the other is kept. Assumes that the test is asymmetric and transitive and tells any two apart that are not the same.
+-- Of two that come, it does not matter which comes first: the one that goes before the other is kept. Assumes that the test is asymmetric
+-- and transitive and tells any two apart that are not the same.
 use Prim.Native.Nat.{ℕ, _<_, _≤_}
 use mathlib.Core.Path.{_≡_, refl, sym, ap, _∙_}
 use mathlib.Core.Logic.{_⊎_, inl, inr}
@@ -70,7 +71,8 @@ unfolding lower
 lower-apart i j d e same = record { same = λ h k. found-same i j d e (ltb-apart i j .same h k) same }
 
 -- ---- the nearest, the lowest of equals
-nearer-cases : (a b : Found Float) → nearer a b ≡ true → (lt (a .value) (b .value) ≡ true) ⊎ ((le (a .value) (b .value) ≡ true) × (ltb (a .index) (b .index) ≡ true))
+nearer-cases : (a b : Found Float) → nearer a b ≡ true → (lt (a .value) (b .value) ≡ true) ⊎
+    ((le (a .value) (b .value) ≡ true) × (ltb (a .index) (b .index) ≡ true))
 unfolding nearer
 nearer-cases a b = go (lt (a .value) (b .value)) (le (a .value) (b .value)) (ltb (a .index) (b .index))
   where
@@ -78,7 +80,8 @@ nearer-cases a b = go (lt (a .value) (b .value)) (le (a .value) (b .value)) (ltb
     go true q r h = inl refl
     go false q r h = inr (and-first q r h, and-second q r h)
 
-not-nearer : (a b : Found Float) → nearer a b ≡ false → (lt (a .value) (b .value) ≡ false) × (le (a .value) (b .value) ≡ true → ltb (a .index) (b .index) ≡ false)
+not-nearer : (a b : Found Float) → nearer a b ≡ false → (lt (a .value) (b .value) ≡ false) ×
+    (le (a .value) (b .value) ≡ true → ltb (a .index) (b .index) ≡ false)
 unfolding nearer
 not-nearer a b = go (lt (a .value) (b .value)) (le (a .value) (b .value)) (ltb (a .index) (b .index))
   where
@@ -131,7 +134,8 @@ nearer-on a b c h k = go (nearer-cases a b h) (nearer-cases b c k)
     go (inl p) (inr q) = nearer-by-distance a c (lt-of-lt-le (a .value) (b .value) (c .value) p (q .0))
     go (inr p) (inl q) = nearer-by-distance a c (lt-of-le-lt (a .value) (b .value) (c .value) (p .0) q)
     go (inr p) (inr q) =
-        nearer-by-index a c (le-transitive (a .value) (b .value) (c .value) (p .0) (q .0)) (ltb-goes .on (a .index) (b .index) (c .index) (p .1) (q .1))
+        nearer-by-index a c (le-transitive (a .value) (b .value) (c .value) (p .0) (q .0))
+        (ltb-goes .on (a .index) (b .index) (c .index) (p .1) (q .1))
 
 pub nearer-goes : Goes nearer
 nearer-goes = record { one-way = one-nearer; on = nearer-on }

@@ -23,7 +23,8 @@ pub record FirstNearest (answer : ℕ → Answer) (l : List ℕ) (normal : Vec3)
   pub later : Each (HitSuch (AtLeast distance) answer) after
 
 module _ (answer : ℕ → Answer) where
-  nearest-later : (x : ℕ) (xs : List ℕ) (normal : Vec3) (distance : Float) (index : ℕ) → HitSuch (Farther distance) answer x → FirstNearest answer xs normal distance index
+  nearest-later : (x : ℕ) (xs : List ℕ) (normal : Vec3) (distance : Float) (index : ℕ) → HitSuch (Farther distance) answer x → FirstNearest
+      answer xs normal distance index
       → FirstNearest answer (x ∷ xs) normal distance index
   nearest-later x xs normal distance index far f = record {
     before = x ∷ f .before;
@@ -53,19 +54,26 @@ module _ (answer : ℕ → Answer) where
       first : FirstNearest answer l normal distance index
 
     abbrev Rest : List ℕ → Type 0
-    Rest l = (n : Vec3) (d : Float) (i : ℕ) → IsNumber d → foldFrom answer (hitAt n d i) l ≡ hitAt normal distance index → Kept l n d i ⊎ Replaced l d
+    Rest l = (n : Vec3) (d : Float) (i : ℕ) → IsNumber d → foldFrom answer (hitAt n d i) l ≡ hitAt normal distance index → Kept l n d i ⊎
+        Replaced l d
 
     -- the next one is none
-    over-none : (x : ℕ) (xs : List ℕ) (n : Vec3) (d : Float) (i : ℕ) → answer x ≡ none → Kept xs n d i ⊎ Replaced xs d → Kept (x ∷ xs) n d i ⊎ Replaced (x ∷ xs) d
+    over-none : (x : ℕ) (xs : List ℕ) (n : Vec3) (d : Float) (i : ℕ) → answer x ≡ none → Kept xs n d i ⊎ Replaced xs d → Kept (x ∷ xs) n d i
+        ⊎ Replaced (x ∷ xs) d
     over-none x xs n d i e (inl k) =
         inl record {
           same = k .same;
           none-nearer = each-cons (HitSuch (AtLeast d) answer) x xs (λ j f. none-such (AtLeast d) j (ap answer f ∙ e)) (k .none-nearer);
         }
-    over-none x xs n d i e (inr k) = inr record { nearer = k .nearer; first = nearest-later x xs normal distance index (none-such (Farther distance) x e) (k .first) }
+    over-none x xs n d i e (inr k) = inr record {
+      nearer = k .nearer;
+      first = nearest-later x xs normal distance index (none-such (Farther
+          distance) x e) (k .first);
+    }
 
     -- the next one is nearer
-    here-nearest : (x : ℕ) (xs : List ℕ) (n : Vec3) (d : Float) → answer x ≡ hit n d → Kept xs n d x → FirstNearest answer (x ∷ xs) normal distance index
+    here-nearest : (x : ℕ) (xs : List ℕ) (n : Vec3) (d : Float) → answer x ≡ hit n d → Kept xs n d x → FirstNearest answer (x ∷ xs) normal
+        distance index
     here-nearest x xs n d e k =
         let same-index : x ≡ index = cc (k .same) in
         let same-hit : hit n d ≡ hit normal distance = cc (k .same) in
@@ -79,7 +87,8 @@ module _ (answer : ℕ → Answer) where
           later = subst (λ (z : Float). Each (HitSuch (AtLeast z) answer) xs) same-reach (k .none-nearer);
         }
 
-    over-nearer : (x : ℕ) (xs : List ℕ) (n : Vec3) (d : Float) (d₀ : Float) → answer x ≡ hit n d → lt d d₀ ≡ true → Kept xs n d x ⊎ Replaced xs d → Replaced (x ∷ xs) d₀
+    over-nearer : (x : ℕ) (xs : List ℕ) (n : Vec3) (d : Float) (d₀ : Float) → answer x ≡ hit n d → lt d d₀ ≡ true → Kept xs n d x ⊎ Replaced
+        xs d → Replaced (x ∷ xs) d₀
     over-nearer x xs n d d₀ e g (inl k) =
         let same-reach : d ≡ distance = cc (k .same) in
         record { nearer = subst (λ (z : Float). lt z d₀ ≡ true) same-reach g; first = here-nearest x xs n d e k }
@@ -89,17 +98,20 @@ module _ (answer : ℕ → Answer) where
     }
 
     -- the next one is hit and not nearer
-    over-farther : (x : ℕ) (xs : List ℕ) (n' : Vec3) (d' : Float) (n : Vec3) (d : Float) (i : ℕ) → answer x ≡ hit n' d' → le d d' ≡ true → Kept xs n d i ⊎ Replaced xs d
+    over-farther : (x : ℕ) (xs : List ℕ) (n' : Vec3) (d' : Float) (n : Vec3) (d : Float) (i : ℕ) → answer x ≡ hit n' d' → le d d' ≡ true →
+        Kept xs n d i ⊎ Replaced xs d
         → Kept (x ∷ xs) n d i ⊎ Replaced (x ∷ xs) d
     over-farther x xs n' d' n d i e g (inl k) =
         inl record {
           same = k .same;
-          none-nearer = each-cons (HitSuch (AtLeast d) answer) x xs (λ j f. hit-such (AtLeast d) j n' d' (ap answer f ∙ e) g) (k .none-nearer);
+          none-nearer = each-cons (HitSuch (AtLeast d) answer) x xs (λ j f. hit-such (AtLeast d) j n' d' (ap answer f ∙ e) g)
+              (k .none-nearer);
         }
     over-farther x xs n' d' n d i e g (inr k) =
         inr record {
           nearer = k .nearer;
-          first = nearest-later x xs normal distance index (hit-such (Farther distance) x n' d' e (lt-of-lt-le distance d d' (k .nearer) g)) (k .first);
+          first = nearest-later x xs normal distance index (hit-such (Farther distance) x n' d' e (lt-of-lt-le distance d d' (k .nearer) g))
+              (k .first);
         }
 
     over-hit : (l : List ℕ) → Each (HitSuch IsNumber answer) l → Rest l
@@ -110,7 +122,8 @@ module _ (answer : ℕ → Answer) where
         next : (a : Answer) → answer x ≡ a → foldFrom answer (nextOf (hitAt n d i) x a) xs ≡ hitAt normal distance index
         next a e = ap (λ (a : Answer). foldFrom answer (nextOf (hitAt n d i) x a) xs) (sym e) ∙ h
 
-        either : Rest xs → (n' : Vec3) (d' : Float) → answer x ≡ hit n' d' → (b : Bool) → lt d' d ≡ b → Kept (x ∷ xs) n d i ⊎ Replaced (x ∷ xs) d
+        either : Rest xs → (n' : Vec3) (d' : Float) → answer x ≡ hit n' d' → (b : Bool) → lt d' d ≡ b → Kept (x ∷ xs) n d i ⊎ Replaced
+            (x ∷ xs) d
         either rest n' d' e true g =
             let f : foldFrom answer (hitAt n' d' x) xs ≡ hitAt normal distance index =
             ap (λ (b : Bool). foldFrom answer (cond b (hitAt n' d' x) (hitAt n d i)) xs) (sym g) ∙ next (hit n' d') e in
@@ -125,21 +138,26 @@ module _ (answer : ℕ → Answer) where
         go rest none e = over-none x xs n d i e (rest n d i p (next none e))
         go rest (refused k) e = absurd (hit-not-stopped normal distance index k (sym (next (refused k) e) ∙ fold-stays-stopped answer k xs))
 
-    pub hit-of-first-nearest : (l : List ℕ) → Each (HitSuch IsNumber answer) l → nearestOf answer l ≡ hitAt normal distance index → FirstNearest answer l normal distance index
+    pub hit-of-first-nearest : (l : List ℕ) → Each (HitSuch IsNumber answer) l → nearestOf answer l ≡ hitAt normal distance index →
+        FirstNearest answer l normal distance index
     unfolding foldFrom nextOf
     hit-of-first-nearest [] numbers h = absurd (hit-not-none normal distance index (sym h))
-    hit-of-first-nearest (x ∷ xs) numbers h = go (hit-of-first-nearest xs (each-rest (HitSuch IsNumber answer) x xs numbers)) (answer x) refl
+    hit-of-first-nearest (x ∷ xs) numbers h = go (hit-of-first-nearest xs (each-rest (HitSuch IsNumber answer) x xs numbers)) (answer x)
+        refl
       where
         next : (a : Answer) → answer x ≡ a → foldFrom answer (nextOf noHit x a) xs ≡ hitAt normal distance index
         next a e = ap (λ (a : Answer). foldFrom answer (nextOf noHit x a) xs) (sym e) ∙ h
 
-        among : (n : Vec3) (d : Float) → answer x ≡ hit n d → Kept xs n d x ⊎ Replaced xs d → FirstNearest answer (x ∷ xs) normal distance index
+        among : (n : Vec3) (d : Float) → answer x ≡ hit n d → Kept xs n d x ⊎ Replaced xs d → FirstNearest answer (x ∷ xs) normal distance
+            index
         among n d e (inl k) = here-nearest x xs n d e k
         among n d e (inr k) = nearest-later x xs normal distance index (hit-such (Farther distance) x n d e (k .nearer)) (k .first)
 
-        go : (nearestOf answer xs ≡ hitAt normal distance index → FirstNearest answer xs normal distance index) → (a : Answer) → answer x ≡ a
+        go : (nearestOf answer xs ≡ hitAt normal distance index → FirstNearest answer xs normal distance index) → (a : Answer) → answer x ≡
+            a
             → FirstNearest answer (x ∷ xs) normal distance index
         go rest (hit n d) e =
-            among n d e (over-hit xs (each-rest (HitSuch IsNumber answer) x xs numbers) n d x (numbers x (List·Memᴰ·head refl) n d e) (next (hit n d) e))
+            among n d e (over-hit xs (each-rest (HitSuch IsNumber answer) x xs numbers) n d x (numbers x (List·Memᴰ·head refl) n d e) (next
+            (hit n d) e))
         go rest none e = nearest-later x xs normal distance index (none-such (Farther distance) x e) (rest (next none e))
         go rest (refused k) e = absurd (hit-not-stopped normal distance index k (sym (next (refused k) e) ∙ fold-stays-stopped answer k xs))

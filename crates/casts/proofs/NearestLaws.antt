@@ -1,4 +1,5 @@
--- In an ascending list the first is the lowest: the fold of triangle answers stops with the lowest one's refusal, and finds the lowest of the nearest hits. Assumes nothing.
+-- In an ascending list the first is the lowest: the fold of triangle answers stops with the lowest one's refusal, and finds the lowest of
+-- the nearest hits. Assumes nothing.
 use Prim.Native.Nat.{ℕ, _<_, _≤_}
 use mathlib.Core.Path.{_≡_, refl, sym, ap, _∙_, subst}
 use mathlib.Core.Logic.{_⊎_, inl, inr}
@@ -47,7 +48,13 @@ member-at l before index after split = subst (List·Memᴰ index) (sym split) (M
 
 module _ (answer : ℕ → Answer) (l : List ℕ) (ascending : Ascending l) where
   pub stopped-by-lowest-refusal : (number : ℕ) → nearestOf answer l ≡ stopped number → LowestRefusal answer l number
-  stopped-by-lowest-refusal number h = record { index = f .index; member = member-at l (f .before) (f .index) (f .after) (f .split); refuses = f .refuses; lowest = lowest }
+  stopped-by-lowest-refusal number h = record {
+    index = f .index;
+    member = member-at l (f .before) (f .index) (f .after) (f .split);
+    refuses
+        = f .refuses;
+    lowest = lowest;
+  }
     where
       f : FirstRefusal answer l number
       f = stopped-by-first-refusal answer noHit l number (λ (k : ℕ) (e : noHit ≡ stopped k). stopped-not-none k (sym e)) h
@@ -63,9 +70,11 @@ module _ (answer : ℕ → Answer) (l : List ℕ) (ascending : Ascending l) wher
           go (inr (inl s)) = omega arith
           go (inr (inr a)) = omega (arith, ascending-after (f .before) (f .index) (f .after) parts j a)
 
-  pub hit-of-lowest-nearest : (normal : Vec3) (distance : Float) (index : ℕ) → Each (HitSuch IsNumber answer) l → nearestOf answer l ≡ hitAt normal distance index
+  pub hit-of-lowest-nearest : (normal : Vec3) (distance : Float) (index : ℕ) → Each (HitSuch IsNumber answer) l → nearestOf answer l ≡ hitAt
+      normal distance index
       → LowestNearest answer l normal distance index
-  hit-of-lowest-nearest normal distance index numbers h = record { member = member-at l (f .before) index (f .after) (f .split); answers = f .answers; nearest = nearest; farther-below = below }
+  hit-of-lowest-nearest normal distance index numbers h = record
+      { member = member-at l (f .before) index (f .after) (f .split); answers = f .answers; nearest = nearest; farther-below = below }
     where
       f : FirstNearest answer l normal distance index
       f = hit-of-first-nearest answer normal distance index l numbers h

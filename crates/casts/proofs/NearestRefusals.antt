@@ -1,4 +1,5 @@
--- The fold of triangle answers over any list stops exactly where one refuses, with the first one's number, and finds none exactly where all answer none. Assumes nothing.
+-- The fold of triangle answers over any list stops exactly where one refuses, with the first one's number, and finds none exactly where all
+-- answer none. Assumes nothing.
 use Prim.Native.Nat.{ℕ}
 use mathlib.Core.Path.{_≡_, refl, sym, ap, _∙_}
 use mathlib.Core.Logic.{⊎-elim}
@@ -9,7 +10,8 @@ use Rattle.geometry.specs.declared.vec3.Vec3.{Vec3}
 use Rattle.casts.specs.Answer.{Answer, hit, none, refused}
 use Rattle.casts.specs.Nearest.{Indexed, hitAt, noHit, stopped, nextOf, foldFrom, nearestOf}
 use Rattle.lists.proofs.Members.{Each, each-cons, each-rest}
-use Rattle.casts.proofs.AnswerLists.{AnswersNone, NotRefused, stopped-not-none, hit-not-none, hit-not-stopped, none-not-refused, hit-not-refused, same-number}
+use Rattle.casts.proofs.AnswerLists.{AnswersNone, NotRefused, stopped-not-none, hit-not-none, hit-not-stopped, none-not-refused}
+use Rattle.casts.proofs.AnswerLists.{hit-not-refused, same-number}
 
 -- the first of a list that refuses
 pub record FirstRefusal (answer : ℕ → Answer) (l : List ℕ) (number : ℕ) : Type 0 where
@@ -56,7 +58,8 @@ module _ (answer : ℕ → Answer) where
   next-goes (hitAt n d i) x none going fine = going
   next-goes (hitAt n d i) x (refused k) going fine = absurd (fine k refl)
 
-  pub refusal-stops : (best : Indexed) (l : List ℕ) (i number : ℕ) → List·Memᴰ i l → answer i ≡ refused number → (k : ℕ) × (foldFrom answer best l ≡ stopped k)
+  pub refusal-stops : (best : Indexed) (l : List ℕ) (i number : ℕ) → List·Memᴰ i l → answer i ≡ refused number → (k : ℕ) ×
+      (foldFrom answer best l ≡ stopped k)
   unfolding foldFrom
   refusal-stops best [] i number m h = absurd (List·Memᴰ·not-nil m)
   refusal-stops best (x ∷ xs) i number m h =
@@ -68,7 +71,8 @@ module _ (answer : ℕ → Answer) where
       (λ (n : List·Memᴰ i xs). refusal-stops (nextOf best x (answer x)) xs i number n h)
       (List·Memᴰ·cases-cons m)
 
-  refusal-later : (x : ℕ) (xs : List ℕ) (number : ℕ) → NotRefused answer x → FirstRefusal answer xs number → FirstRefusal answer (x ∷ xs) number
+  refusal-later : (x : ℕ) (xs : List ℕ) (number : ℕ) → NotRefused answer x → FirstRefusal answer xs number → FirstRefusal answer (x ∷ xs)
+      number
   refusal-later x xs number fine f = record {
     before = x ∷ f .before;
     index = f .index;
@@ -78,7 +82,8 @@ module _ (answer : ℕ → Answer) where
     earlier = each-cons (NotRefused answer) x (f .before) (λ j e k h. fine k (ap answer (sym e) ∙ h)) (f .earlier);
   }
 
-  pub stopped-by-first-refusal : (best : Indexed) (l : List ℕ) (number : ℕ) → Going best → foldFrom answer best l ≡ stopped number → FirstRefusal answer l number
+  pub stopped-by-first-refusal : (best : Indexed) (l : List ℕ) (number : ℕ) → Going best → foldFrom answer best l ≡ stopped number →
+      FirstRefusal answer l number
   unfolding foldFrom
   stopped-by-first-refusal best [] number going h = absurd (going number h)
   stopped-by-first-refusal best (x ∷ xs) number going h =
@@ -87,7 +92,8 @@ module _ (answer : ℕ → Answer) where
       goes : (Going (nextOf best x (answer x)) → FirstRefusal answer xs number) → NotRefused answer x → FirstRefusal answer (x ∷ xs) number
       goes rest fine = refusal-later x xs number fine (rest (next-goes best x (answer x) going fine))
 
-      go : (Going (nextOf best x (answer x)) → FirstRefusal answer xs number) → (a : Answer) → answer x ≡ a → FirstRefusal answer (x ∷ xs) number
+      go : (Going (nextOf best x (answer x)) → FirstRefusal answer xs number) → (a : Answer) → answer x ≡ a → FirstRefusal answer (x ∷ xs)
+          number
       go rest (hit n d) e = goes rest (λ (k : ℕ). hit-not-refused (answer x) n d k e)
       go rest none e = goes rest (λ (k : ℕ). none-not-refused (answer x) k e)
       go rest (refused k) e =
@@ -107,14 +113,16 @@ module _ (answer : ℕ → Answer) where
   unfolding foldFrom nextOf
   none-of-nones [] h = refl
   none-of-nones (x ∷ xs) h =
-      ap (λ (a : Answer). foldFrom answer (nextOf noHit x a) xs) (h x (List·Memᴰ·head refl)) ∙ none-of-nones xs (each-rest (AnswersNone answer) x xs h)
+      ap (λ (a : Answer). foldFrom answer (nextOf noHit x a) xs) (h x (List·Memᴰ·head refl)) ∙ none-of-nones xs
+      (each-rest (AnswersNone answer) x xs h)
 
   fold-keeps-hit : (n : Vec3) (d : Float) (i : ℕ) (l : List ℕ) → foldFrom answer (hitAt n d i) l ≡ noHit → ⊥
   unfolding foldFrom nextOf
   fold-keeps-hit n d i [] h = hit-not-none n d i h
   fold-keeps-hit n d i (x ∷ xs) h = go (λ n' d' i'. fold-keeps-hit n' d' i' xs) (answer x) h
     where
-      go : ((n' : Vec3) (d' : Float) (i' : ℕ) → foldFrom answer (hitAt n' d' i') xs ≡ noHit → ⊥) → (a : Answer) → foldFrom answer (nextOf (hitAt n d i) x a) xs ≡ noHit → ⊥
+      go : ((n' : Vec3) (d' : Float) (i' : ℕ) → foldFrom answer (hitAt n' d' i') xs ≡ noHit → ⊥) → (a : Answer) → foldFrom answer
+          (nextOf (hitAt n d i) x a) xs ≡ noHit → ⊥
       go rest (hit n' d') f = either (lt d' d) f
         where
           either : (b : Bool) → foldFrom answer (cond b (hitAt n' d' x) (hitAt n d i)) xs ≡ noHit → ⊥
@@ -131,6 +139,8 @@ module _ (answer : ℕ → Answer) where
       go : (nearestOf answer xs ≡ noHit → Each (AnswersNone answer) xs) → (a : Answer) → answer x ≡ a → Each (AnswersNone answer) (x ∷ xs)
       go rest (hit n d) e = absurd (fold-keeps-hit n d x xs (ap (λ (a : Answer). foldFrom answer (nextOf noHit x a) xs) (sym e) ∙ h))
       go rest none e =
-          each-cons (AnswersNone answer) x xs (λ j f. ap answer f ∙ e) (rest (ap (λ (a : Answer). foldFrom answer (nextOf noHit x a) xs) (sym e) ∙ h))
+          each-cons (AnswersNone answer) x xs (λ j f. ap answer f ∙ e)
+          (rest (ap (λ (a : Answer). foldFrom answer (nextOf noHit x a) xs) (sym e) ∙ h))
       go rest (refused k) e =
-          absurd (stopped-not-none k (sym (fold-stays-stopped k xs) ∙ ap (λ (a : Answer). foldFrom answer (nextOf noHit x a) xs) (sym e) ∙ h))
+          absurd (stopped-not-none k (sym (fold-stays-stopped k xs) ∙ ap (λ (a : Answer). foldFrom answer (nextOf noHit x a) xs) (sym e) ∙
+          h))

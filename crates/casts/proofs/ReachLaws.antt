@@ -1,4 +1,5 @@
--- Whether a hit's normal can be told is decided by the edges' cross alone, without the root; and a miss is a miss, whether flat or not. Assumes nothing.
+-- Whether a hit's normal can be told is decided by the edges' cross alone, without the root; and a miss is a miss, whether flat or not.
+-- Assumes nothing.
 use Prim.Native.Nat.{ℕ}
 use mathlib.Core.Path.{_≡_, refl, sym, ap, _∙_}
 use mathlib.Core.Bool.{Bool, true, false, cond, true≢false}
@@ -22,7 +23,8 @@ use Rattle.casts.specs.declared.answer.Distance.the-variants.{At as AtDi
 use Rattle.casts.specs.declared.answer.Reach.{Reach}
 use Rattle.casts.specs.declared.answer.Reach.the-variants.{At, Miss, Refused}
 
-pub reach-by-normal : (r : Ray) (a b : Vec3) (distance : Float) → reachOf (triangleNormal r a b distance) ≡ cond (hasNormal a b) (At distance) (Refused noNormal)
+pub reach-by-normal : (r : Ray) (a b : Vec3) (distance : Float) → reachOf (triangleNormal r a b distance) ≡ cond (hasNormal a b)
+    (At distance) (Refused noNormal)
 unfolding reachOf triangleNormal hasNormal tryNormalize
 reach-by-normal r a b distance = go (normalizable (crossOf a b)) _
   where
@@ -71,7 +73,8 @@ module _ (r : Ray) (offset a b : Vec3) (determinant inverse u : Float) where
 
   pub no-distance : distanceWithin r offset a b inverse u ≡ NoDistance → none ≡ crossingAnswer r (Within offset a b determinant inverse u)
   unfolding distanceWithin triangleAbove isDistance
-  no-distance h = sym (ap (cond (flat determinant a b) none) (sym (go (lt v-part zeroᶠ) (lt oneᶠ (u +ᶠ v-part)) (outOfRange r along) along h)) ∙ none-either-way (flat determinant a b))
+  no-distance h = sym (ap (cond (flat determinant a b) none) (sym (go (lt v-part zeroᶠ) (lt oneᶠ (u +ᶠ v-part)) (outOfRange r along) along
+      h)) ∙ none-either-way (flat determinant a b))
     where
       go : (p q s : Bool) (e : Float)
           → cond p NoDistance (cond q NoDistance (cond s NoDistance (AtDistance e))) ≡ NoDistance
@@ -139,7 +142,8 @@ told-cond : (r : Ray) (a b : Vec3) (test : Bool) (x y : Answer) → Told r a b x
 told-cond r a b true x y p q = p
 told-cond r a b false x y p q = q
 
-told-value : (r : Ray) (a b : Vec3) (c : Checked) (next : Float → Answer) → ((x : Float) → Told r a b (next x)) → Told r a b (withValue c next)
+told-value : (r : Ray) (a b : Vec3) (c : Checked) (next : Float → Answer) → ((x : Float) → Told r a b (next x)) → Told r a b
+    (withValue c next)
 told-value r a b (Value x) next p = p x
 told-value r a b Overflow next p = told-refused r a b _
 
@@ -166,11 +170,14 @@ told-at r offset a b p determinant =
     (told-cond r a b (le u oneᶠ) above none (told-above r offset a b inverse u) (told-none r a b))
     (told-none r a b)
 
-told-unless-flat : (r : Ray) (offset a b p : Vec3) (determinant : Float) → Told r a b (cond (flat determinant a b) none (triangleAt r offset a b p determinant))
+told-unless-flat : (r : Ray) (offset a b p : Vec3) (determinant : Float) → Told r a b
+    (cond (flat determinant a b) none (triangleAt r offset a b p determinant))
 told-unless-flat r offset a b p determinant =
-    told-cond r a b (flat determinant a b) none (triangleAt r offset a b p determinant) (told-none r a b) (told-at r offset a b p determinant)
+    told-cond r a b (flat determinant a b) none (triangleAt r offset a b p determinant) (told-none r a b)
+    (told-at r offset a b p determinant)
 
-pub told-by-distance : (r : Ray) (v w u : Vec3) (d : Float) → reachOf (triangleOf r v w u) ≡ At d → triangleNormal r (subOf w v) (subOf u v) d ≡ triangleOf r v w u
+pub told-by-distance : (r : Ray) (v w u : Vec3) (d : Float) → reachOf (triangleOf r v w u) ≡ At d → triangleNormal r (subOf w v) (subOf u v)
+    d ≡ triangleOf r v w u
 unfolding triangleOf Told
 told-by-distance r v w u =
     let a = subOf w v in
@@ -180,7 +187,8 @@ told-by-distance r v w u =
     told-value r a b (checkedDot a p) (λ (determinant : Float). cond (flat determinant a b) none (triangleAt r offset a b p determinant))
     (λ (determinant : Float). told-unless-flat r offset a b p determinant)
 
-pub settled-by-distance : (r : Ray) (a b : Vec3) (determinant distance d : Float) → reachOf (settledAnswer r determinant a b distance) ≡ At d
+pub settled-by-distance : (r : Ray) (a b : Vec3) (determinant distance d : Float) → reachOf (settledAnswer r determinant a b distance) ≡ At
+    d
     → triangleNormal r a b d ≡ settledAnswer r determinant a b distance
 unfolding Told
 settled-by-distance r a b determinant distance =
@@ -200,7 +208,8 @@ next-none (stopped number) index = refl
 pub next-missed : (best : Indexed) (index : ℕ) (x : Answer) → reachOf x ≡ Miss → best ≡ nextOf best index x
 next-missed best index x h = next-none best index ∙ ap (nextOf best index) (missed x h)
 
-pub next-farther : (best : Indexed) (index : ℕ) (x : Answer) (d : Float) → reachOf x ≡ At d → givesWay best d ≡ false → best ≡ nextOf best index x
+pub next-farther : (best : Indexed) (index : ℕ) (x : Answer) (d : Float) → reachOf x ≡ At d → givesWay best d ≡ false → best ≡ nextOf best
+    index x
 unfolding nextOf givesWay reachOf isAt distanceOf
 next-farther best index none d h f = absurd (true≢false (sym (ap isAt h)))
 next-farther best index (refused number) d h f = absurd (true≢false (sym (ap isAt h)))

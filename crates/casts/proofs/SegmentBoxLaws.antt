@@ -20,7 +20,8 @@ module _ {A : Type 0} (refuse : ℕ → A) (r : Ray) (next : Aabb → A) where
   segment-overflow h = simp h
 
   -- what holds of every refusal and of what follows with a box holds of the whole
-  pub segment-such : (Q : A → Type 0) → ((number : ℕ) → Q (refuse number)) → ((box : Aabb) → Q (next box)) → Q (withSegmentBox refuse r next)
+  pub segment-such : (Q : A → Type 0) → ((number : ℕ) → Q (refuse number)) → ((box : Aabb) → Q (next box)) → Q
+      (withSegmentBox refuse r next)
   segment-such Q p q = go (finiteVec (segmentEnd r)) (validBox (segmentBox r))
     where
       go : (finite valid : Bool) → Q (cond finite (cond valid (next (segmentBox r)) (refuse outOfBounds)) (refuse overflow))

@@ -55,7 +55,8 @@ pub times-side : (x : Float) → T (fits binary64 x) → (b : Bool) → x *ᶠ c
 times-side x f true = times-minus-one x f
 times-side x f false = times-one x f
 
-pub turned-each : (v : Vec3) (b : Bool) → vector (cond b (neg (v .x)) (v .x)) (cond b (neg (v .y)) (v .y)) (cond b (neg (v .z)) (v .z)) ≡ cond b (negOf v) v
+pub turned-each : (v : Vec3) (b : Bool) → vector (cond b (neg (v .x)) (v .x)) (cond b (neg (v .y)) (v .y)) (cond b (neg (v .z)) (v .z)) ≡
+    cond b (negOf v) v
 unfolding negOf
 turned-each v true = refl
 turned-each v false = refl

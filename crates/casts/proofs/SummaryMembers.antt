@@ -1,4 +1,5 @@
--- What a summary keeps is true and of the list: what holds of every triangle of a list with its reach holds of the winner with what was found of it. Assumes nothing.
+-- What a summary keeps is true and of the list: what holds of every triangle of a list with its reach holds of the winner with what was
+-- found of it. Assumes nothing.
 use Prim.Native.Nat.{ℕ}
 use mathlib.Core.Path.{refl}
 use mathlib.Core.Bool.{Bool, true, false, cond}
@@ -6,7 +7,8 @@ use mathlib.Core.List.{List, [], _∷_, List·Memᴰ·head}
 use lib.Ieee.{Float}
 use Rattle.casts.specs.Answer.{Answer}
 use Rattle.casts.specs.Reach.{reachOf}
-use Rattle.casts.specs.Summary.{Kept, nobody, kept, keepOf, Found, found, lower, nearer, Summary, nothing, noteOf, summaryFrom, struckOf, winnerOf, winner}
+use Rattle.casts.specs.Summary.{Kept, nobody, kept, keepOf, Found, found, lower, nearer, Summary, nothing, noteOf, summaryFrom}
+use Rattle.casts.specs.Summary.{struckOf, winnerOf, winner}
 use Rattle.casts.specs.declared.answer.Reach.{Reach}
 use Rattle.casts.specs.declared.answer.Reach.the-variants.{At, Miss, Refused}
 use Rattle.casts.specs.declared.summary.Outcome.{Outcome}
@@ -75,7 +77,8 @@ module _ (P : ℕ → Reach → Type 0) where
     unfolding summaryFrom
     summary-of s [] each h = h
     summary-of s (x ∷ xs) each h =
-        summary-of (noteOf s x (reachOf (answer x))) xs (each-rest OfAnswer x xs each) (note-of s x (reachOf (answer x)) (each x (List·Memᴰ·head refl)) h)
+        summary-of (noteOf s x (reachOf (answer x))) xs (each-rest OfAnswer x xs each)
+        (note-of s x (reachOf (answer x)) (each x (List·Memᴰ·head refl)) h)
 
     pub winner-of-list : (l : List ℕ) → Each OfAnswer l → OfOutcome (winner (summaryFrom answer nothing l))
     winner-of-list l each =

@@ -65,6 +65,7 @@ module _ (answer : ℕ → Answer) (numbers : HitsAreNumbers answer) where
   summary-order-free unchanged s = refl
   summary-order-free (exchanged x y rest) s =
       ap (λ (t : Summary). summaryFrom answer t rest)
-      (note-commutes s x y (reachOf (answer x)) (reachOf (answer y)) (at-number x) (at-number y) (λ h. ap (λ (i : ℕ). reachOf (answer i)) h))
+      (note-commutes s x y (reachOf (answer x)) (reachOf (answer y)) (at-number x) (at-number y)
+      (λ h. ap (λ (i : ℕ). reachOf (answer i)) h))
   summary-order-free (behind x r) s = summary-order-free r (noteOf s x (reachOf (answer x)))
   summary-order-free (through a b) s = summary-order-free a s ∙ summary-order-free b s

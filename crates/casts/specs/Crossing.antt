@@ -1,4 +1,5 @@
--- What the triangle cast answers, once the first of its tests is made, and once its distance is known. Definitions only. Assumes nothing.
+-- Inner contracts only: what the triangle cast answers, once the first of its tests is made, and once its distance is known. Definitions
+-- only. Assumes nothing.
 use mathlib.Core.Bool.{cond}
 use lib.Ieee.{Float, lt, isNan}
 use Rattle.geometry.specs.Numbers.{_+ᶠ_, _*ᶠ_, zeroᶠ, oneᶠ}

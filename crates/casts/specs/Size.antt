@@ -1,4 +1,6 @@
--- The size of a vector as the code computes it, from 1 on, by comparisons with each component and its negative. Definitions only. Assumes nothing.
+-- Inner contracts only: the size of a vector as the code computes it, from 1 on, by comparisons with each component and its negative.
+-- Definitions only. Assumes
+-- nothing.
 use lib.Ieee.{Float, neg}
 use Rattle.arithmetic.specs.Extremes.{maximumOf}
 use Rattle.geometry.specs.Numbers.{oneᶠ}

@@ -1,4 +1,4 @@
--- What of a list of triangles decides its nearest hit, whatever their order. Definitions only. Assumes nothing.
+-- Inner contracts only: what of a list of triangles decides its nearest hit, whatever their order. Definitions only. Assumes nothing.
 use Prim.Native.Nat.{ℕ}
 use mathlib.Core.Bool.{Bool, _&&_, _||_, cond}
 use mathlib.Core.List.{List, [], _∷_}

@@ -16,7 +16,8 @@ use Rattle.casts.specs.Surface.{outOfRange, facing}
 abbrev thirtyTwo : Float
 thirtyTwo = ofBits binary64 0x4040_0000_0000_0000
 
--- "Scale is the largest of 1 and the edges' absolute components; miss if the absolute determinant is at most scale·EPS·32, grouped as in the Rust"
+-- "Scale is the largest of 1 and the edges' absolute components; miss if the absolute determinant is at most scale·EPS·32, grouped as in
+-- the Rust"
 unfoldable pub flat : Float → Vec3 → Vec3 → Bool
 flat determinant a b =
     le (absolute determinant) (maximumOf (maximumOf (maxElement (absOf a)) (maxElement (absOf b))) oneᶠ *ᶠ epsilon *ᶠ thirtyTwo)

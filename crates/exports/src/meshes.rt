@@ -34,9 +34,23 @@ fn short_cast(ray: Ray, vertices: usize, triangles: usize, pose: usize, nodes: u
     answer::NO_ROOM
 }
 
-// The mesh cast with its answer in the result slices. The list and the stack are unchanged until these and refusals 1 to 4 have let the call pass.
+// The mesh cast with its answer in the result slices. The list and the stack are unchanged until these and refusals 1 to 4 have let the
+// call pass.
+// One function for both calls: the ray by its numbers and each slice as a part of itself, so that all of them come in registers and on the
+// stack as C hands them over.
+// The number of places for the index stands where C has the address of the mesh's own vertices, which the cast does not read; so nothing
+// moves, and either call is a jump.
+// Callers show that it is their number of places.
 fn told_mesh(
-    ray: Ray,
+    places: usize,
+    origin_x: f64,
+    origin_y: f64,
+    origin_z: f64,
+    direction_x: f64,
+    direction_y: f64,
+    direction_z: f64,
+    max_distance: f64,
+    near_distance: f64,
     vertices: &[f64],
     triangles: &[u32],
     pose: &[f64],
@@ -50,32 +64,44 @@ fn told_mesh(
     hit: &mut [f64],
     index: &mut [u32],
 ) -> u32
-    ensures { λ r. ⌜ record { number = r; hit = now (hit .exit); index = now (index .exit) } ≡ answeredMesh ray (mesh (now (vertices .entry)) (now (triangles .entry))) (now (pose .entry)) (treeOf nodes (now («node_boxes» .entry)) (now («triangle_boxes» .entry)) (now («node_words» .entry)) (now (order .entry))) (length (now (list .entry))) (length (now (stack .entry))) (now (hit .entry)) (now (index .entry)) ⌝ }
-    ensures { λ r. ⌜ ((resultsFit (now (hit .entry)) (now (index .entry)) && testsPass ray (mesh (now (vertices .entry)) (now (triangles .entry))) (now (pose .entry)) (treeOf nodes (now («node_boxes» .entry)) (now («triangle_boxes» .entry)) (now («node_words» .entry)) (now (order .entry))) (length (now (list .entry))) (length (now (stack .entry)))) ≡ false → (now (list .exit) ≡ now (list .entry)) × (now (stack .exit) ≡ now (stack .entry))) ⌝ }
+    requires { ⌜ places ≡ length (now index) ⌝ }
+    ensures { λ r. ⌜ record { number = r; hit = now (hit .exit); index = now (index .exit) } ≡ answeredMesh (rayFrom «origin_x» «origin_y» «origin_z» «direction_x» «direction_y» «direction_z» «max_distance» «near_distance») (mesh (now (vertices .entry)) (now (triangles .entry))) (now (pose .entry)) (treeOf nodes (now («node_boxes» .entry)) (now («triangle_boxes» .entry)) (now («node_words» .entry)) (now (order .entry))) (length (now (list .entry))) (length (now (stack .entry))) (now (hit .entry)) (now (index .entry)) ⌝ }
+    ensures { λ r. ⌜ ((resultsFit (now (hit .entry)) (now (index .entry)) && testsPass (rayFrom «origin_x» «origin_y» «origin_z» «direction_x» «direction_y» «direction_z» «max_distance» «near_distance») (mesh (now (vertices .entry)) (now (triangles .entry))) (now (pose .entry)) (treeOf nodes (now («node_boxes» .entry)) (now («triangle_boxes» .entry)) (now («node_words» .entry)) (now (order .entry))) (length (now (list .entry))) (length (now (stack .entry)))) ≡ false → (now (list .exit) ≡ now (list .entry)) × (now (stack .exit) ≡ now (stack .entry))) ⌝ }
 {
+    let ray = results::ray_from(
+        origin_x,
+        origin_y,
+        origin_z,
+        direction_x,
+        direction_y,
+        direction_z,
+        max_distance,
+        near_distance,
+    );
     if hit.len() < 4 {
         return short_cast(ray, vertices.len(), triangles.len(), pose.len(), nodes);
     }
-    if index.len() < 1 {
+    if places < 1 {
         return short_cast(ray, vertices.len(), triangles.len(), pose.len(), nodes);
     }
     let found = cast::ray_mesh(
         ray,
-        vertices,
-        triangles,
-        pose,
+        &vertices[0..],
+        &triangles[0..],
+        &pose[0..],
         nodes,
-        node_boxes,
-        triangle_boxes,
-        node_words,
-        order,
+        &node_boxes[0..],
+        &triangle_boxes[0..],
+        &node_words[0..],
+        &order[0..],
         list,
         stack,
     );
     results::put_indexed(found, hit, index)
 }
 
-// The mesh cast. The list and the stack are work areas: unchanged until the result slices and refusals 1 to 4 have let the call pass, and then they may hold anything.
+// The mesh cast. The list and the stack are work areas: unchanged until the result slices and refusals 1 to 4 have let the call pass, and
+// then they may hold anything.
 // Demand 3 holds of what is told: `MeshCallMeetsDemand` (specs/Demands.antt).
 #[no_mangle]
 pub extern "C" fn probe_ray_mesh(
@@ -102,7 +128,8 @@ pub extern "C" fn probe_ray_mesh(
     ensures { λ r. ⌜ record { number = r; hit = now (hit .exit); index = now (index .exit) } ≡ answeredMesh (rayOf «origin_x» «origin_y» «origin_z» «direction_x» «direction_y» «direction_z» «max_distance») (mesh (now (vertices .entry)) (now (triangles .entry))) (now (pose .entry)) (treeOf nodes (now («node_boxes» .entry)) (now («triangle_boxes» .entry)) (now («node_words» .entry)) (now (order .entry))) (length (now (list .entry))) (length (now (stack .entry))) (now (hit .entry)) (now (index .entry)) ⌝ }
     ensures { λ r. ⌜ ((resultsFit (now (hit .entry)) (now (index .entry)) && testsPass (rayOf «origin_x» «origin_y» «origin_z» «direction_x» «direction_y» «direction_z» «max_distance») (mesh (now (vertices .entry)) (now (triangles .entry))) (now (pose .entry)) (treeOf nodes (now («node_boxes» .entry)) (now («triangle_boxes» .entry)) (now («node_words» .entry)) (now (order .entry))) (length (now (list .entry))) (length (now (stack .entry)))) ≡ false → (now (list .exit) ≡ now (list .entry)) × (now (stack .exit) ≡ now (stack .entry))) ⌝ }
 {
-    let ray = results::ray_from(
+    told_mesh(
+        index.len(),
         origin_x,
         origin_y,
         origin_z,
@@ -111,9 +138,6 @@ pub extern "C" fn probe_ray_mesh(
         direction_z,
         max_distance,
         0.0,
-    );
-    told_mesh(
-        ray,
         vertices,
         triangles,
         pose,
@@ -156,7 +180,8 @@ pub extern "C" fn probe_ray_mesh_near(
     ensures { λ r. ⌜ record { number = r; hit = now (hit .exit); index = now (index .exit) } ≡ answeredMesh (rayFrom «origin_x» «origin_y» «origin_z» «direction_x» «direction_y» «direction_z» «max_distance» «near_distance») (mesh (now (vertices .entry)) (now (triangles .entry))) (now (pose .entry)) (treeOf nodes (now («node_boxes» .entry)) (now («triangle_boxes» .entry)) (now («node_words» .entry)) (now (order .entry))) (length (now (list .entry))) (length (now (stack .entry))) (now (hit .entry)) (now (index .entry)) ⌝ }
     ensures { λ r. ⌜ ((resultsFit (now (hit .entry)) (now (index .entry)) && testsPass (rayFrom «origin_x» «origin_y» «origin_z» «direction_x» «direction_y» «direction_z» «max_distance» «near_distance») (mesh (now (vertices .entry)) (now (triangles .entry))) (now (pose .entry)) (treeOf nodes (now («node_boxes» .entry)) (now («triangle_boxes» .entry)) (now («node_words» .entry)) (now (order .entry))) (length (now (list .entry))) (length (now (stack .entry)))) ≡ false → (now (list .exit) ≡ now (list .entry)) × (now (stack .exit) ≡ now (stack .entry))) ⌝ }
 {
-    let ray = results::ray_from(
+    told_mesh(
+        index.len(),
         origin_x,
         origin_y,
         origin_z,
@@ -165,9 +190,6 @@ pub extern "C" fn probe_ray_mesh_near(
         direction_z,
         max_distance,
         near_distance,
-    );
-    told_mesh(
-        ray,
         vertices,
         triangles,
         pose,
@@ -183,7 +205,8 @@ pub extern "C" fn probe_ray_mesh_near(
     )
 }
 
-// Builds a mesh's tree into the result areas and writes its node count. The work area is unchanged after refusals 2 and 3; past their tests nothing is promised of it.
+// Builds a mesh's tree into the result areas and writes its node count. The work area is unchanged after refusals 2 and 3; past their
+// tests nothing is promised of it.
 // What it writes without refusing passes the check: `BuildCallPasses` (specs/Demands.antt).
 #[no_mangle]
 pub extern "C" fn probe_build(

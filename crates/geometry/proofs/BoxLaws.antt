@@ -1,4 +1,6 @@
--- A box that encloses a touching box touches; boxes that are equal under IEEE 754 touch alike; the box around two has the least and the greatest corners; and the boxes of finite corners and of a segment with finite ends are valid. Each is shown on one side and then on all. Assumes nothing.
+-- A box that encloses a touching box touches; boxes that are equal under IEEE 754 touch alike; the box around two has the least and the
+-- greatest corners; and the boxes of finite corners and of a segment with finite ends are valid. Each is shown on one side and then on all.
+-- Assumes nothing.
 use mathlib.Core.Path.{_≡_, refl, sym, ap, _∙_}
 use mathlib.Core.Bool.{Bool, true, false, _&&_, _||_, Bool·beq, not, false≢true}
 use mathlib.Core.List.{List}
@@ -13,7 +15,8 @@ use Rattle.arithmetic.proofs.Order.{le-of-eq, le-transitive}
 use Rattle.arithmetic.proofs.ExtremesOrder.{minimum-finite, maximum-finite, minimum-below-second, maximum-above-second}
 use Rattle.geometry.specs.Numbers.{zeroᶠ}
 use Rattle.geometry.specs.Vector.{finiteVec, minOf, maxOf}
-use Rattle.geometry.specs.Box.{everySides, validSide, validBox, touchSide, touches, withinSide, encloses, sameSide, sameBox, unionOf, corner, cornersBox}
+use Rattle.geometry.specs.Box.{everySides, validSide, validBox, touchSide, touches, withinSide, encloses, sameSide, sameBox, unionOf}
+use Rattle.geometry.specs.Box.{corner, cornersBox}
 use Rattle.geometry.specs.Segment.{rayAdmitted, rangeAdmitted, unitLength, segmentEnd, segmentBox}
 use Rattle.geometry.specs.declared.vec3.Vec3.{Vec3}
 use Rattle.geometry.specs.declared.aabb.Aabb.{Aabb}
@@ -75,7 +78,8 @@ within-of-same-reversed low high low' high' h =
 
 -- ---- every side
 -- three tests, each from two of its own
-each-of-two : (p p' p'' q q' q'' r r' r'' : Bool) → (p ≡ true → q ≡ true → r ≡ true) → (p' ≡ true → q' ≡ true → r' ≡ true) → (p'' ≡ true → q'' ≡ true → r'' ≡ true)
+each-of-two : (p p' p'' q q' q'' r r' r'' : Bool) → (p ≡ true → q ≡ true → r ≡ true) → (p' ≡ true → q' ≡ true → r' ≡ true) →
+    (p'' ≡ true → q'' ≡ true → r'' ≡ true)
     → (p && (p' && p'')) ≡ true → (q && (q' && q'')) ≡ true → (r && (r' && r'')) ≡ true
 each-of-two p p' p'' q q' q'' r r' r'' f g k h l =
     and-both r (r' && r'') (f (and-first p (p' && p'') h) (and-first q (q' && q'') l))
@@ -136,7 +140,8 @@ union-is low high next v w b e p q = rw (p, q, e)
 
 -- ---- the boxes of finite corners
 -- the second operand lies between its minimum with one number and its maximum with another
-around-second : (x w y : Float) → isFinite x ≡ true → isFinite w ≡ true → isFinite y ≡ true → validSide (minimumOf x y) (maximumOf w y) ≡ true
+around-second : (x w y : Float) → isFinite x ≡ true → isFinite w ≡ true → isFinite y ≡ true → validSide (minimumOf x y) (maximumOf w y) ≡
+    true
 unfolding validSide
 around-second x w y p q r =
     and-three (isFinite (minimumOf x y)) (isFinite (maximumOf w y)) (le (minimumOf x y) (maximumOf w y))
@@ -146,7 +151,8 @@ around-second x w y p q r =
     (minimum-below-second x y (finite-number x p) (finite-number y r))
     (maximum-above-second w y (finite-number w q) (finite-number y r)))
 
-around-second-valid : (v w u : Vec3) → finiteVec v ≡ true → finiteVec w ≡ true → finiteVec u ≡ true → validBox record { min = minOf v u; max = maxOf w u } ≡ true
+around-second-valid : (v w u : Vec3) → finiteVec v ≡ true → finiteVec w ≡ true → finiteVec u ≡ true → validBox record
+    { min = minOf v u; max = maxOf w u } ≡ true
 unfolding validBox minOf maxOf
 around-second-valid v w u p q r =
     and-three
@@ -157,7 +163,8 @@ around-second-valid v w u p q r =
     (around-second (v .y) (w .y) (u .y) (finite-y v p) (finite-y w q) (finite-y u r))
     (around-second (v .z) (w .z) (u .z) (finite-z v p) (finite-z w q) (finite-z u r))
 
-pub corners-box-valid : (vs : List Vec3) → finiteVec (corner vs 0) ≡ true → finiteVec (corner vs 1) ≡ true → finiteVec (corner vs 2) ≡ true → validBox (cornersBox vs) ≡ true
+pub corners-box-valid : (vs : List Vec3) → finiteVec (corner vs 0) ≡ true → finiteVec (corner vs 1) ≡ true → finiteVec (corner vs 2) ≡ true
+    → validBox (cornersBox vs) ≡ true
 unfolding cornersBox
 corners-box-valid vs p q r =
     around-second-valid (minOf (corner vs 0) (corner vs 1)) (maxOf (corner vs 0) (corner vs 1)) (corner vs 2)

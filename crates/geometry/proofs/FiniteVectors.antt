@@ -23,7 +23,12 @@ module _ (v : Vec3) (h : finiteVec v ≡ true) where
   finite-z = and-second (isFinite (v .y)) (isFinite (v .z)) (and-second (isFinite (v .x)) (isFinite (v .y) && isFinite (v .z)) h)
 
   pub finite-numbers : Numbers v
-  finite-numbers = record { first = finite-number (v .x) finite-x; second = finite-number (v .y) finite-y; third = finite-number (v .z) finite-z }
+  finite-numbers = record {
+    first = finite-number (v .x) finite-x;
+    second = finite-number (v .y) finite-y;
+    third = finite-number (v .z)
+        finite-z;
+  }
 
 module _ (v w : Vec3) (p : finiteVec v ≡ true) (q : finiteVec w ≡ true) where
   pub min-finite : finiteVec (minOf v w) ≡ true

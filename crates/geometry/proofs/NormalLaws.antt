@@ -1,4 +1,5 @@
--- What can be normalised, and that scaling lets nothing fail: the largest component is then from 1 to below 2, the dot finite and at least 1. Assumes nothing.
+-- What can be normalised, and that scaling lets nothing fail: the largest component is then from 1 to below 2, the dot finite and at least
+-- 1. Assumes nothing.
 use mathlib.Core.Path.{_≡_, refl, sym, ap, _∙_, subst}
 use mathlib.Core.Logic.{_⊎_, inl, inr, ⊎-elim}
 use mathlib.Core.Bool.{Bool, true, false, not, _&&_, cond, true≢false, false≢true, and-false}
@@ -17,11 +18,14 @@ use Rattle.arithmetic.proofs.ExtremesOrder.{maximum-one, maximum-finite, maximu
 use Rattle.arithmetic.proofs.RoundedNumbers.{Unbounded, no-number, infinite, square-number, positive-sum-number}
 use Rattle.arithmetic.proofs.ValueOrder.{lt-values}
 use Rattle.arithmetic.proofs.WholeValues.{Is, add-is, mul-is, zero-is, zero-value}
-use Rattle.arithmetic.proofs.Bounds.{Within, within-finite, wider, sum-within, product-within, FromOne, from-one, above-one, square-from-one, sum-from-one, sum-from-one-second}
-use Rattle.arithmetic.proofs.ScalingLaws.{Sized, sized, scaled-within, scaled-below-two, absolute-scaled, largest-from-one-to-two, digits-above, size-above-zero}
+use Rattle.arithmetic.proofs.Bounds.{Within, within-finite, wider, sum-within, product-within, FromOne, from-one, above-one}
+use Rattle.arithmetic.proofs.Bounds.{square-from-one, sum-from-one, sum-from-one-second}
+use Rattle.arithmetic.proofs.ScalingLaws.{Sized, sized, scaled-within, scaled-below-two, absolute-scaled, largest-from-one-to-two}
+use Rattle.arithmetic.proofs.ScalingLaws.{digits-above, size-above-zero}
 use Rattle.arithmetic.proofs.SignBit.{absolute-fits}
 use Rattle.geometry.specs.Numbers.{_+ᶠ_, _*ᶠ_, _/ᶠ_, zeroᶠ, oneᶠ, minPositive}
-use Rattle.geometry.specs.Vector.{finiteVec, zeroVec, normalizable, dotTells, scaledToOne, overLength, tryNormalize, dotOf, lengthOf, absOf, maxElement, each, vector}
+use Rattle.geometry.specs.Vector.{finiteVec, zeroVec, normalizable, dotTells, scaledToOne, overLength, tryNormalize, dotOf, lengthOf}
+use Rattle.geometry.specs.Vector.{absOf, maxElement, each, vector}
 use Rattle.geometry.specs.declared.vec3.Vec3.{Vec3}
 use Rattle.geometry.specs.declared.vec3.Normalized.{Normalized}
 use Rattle.geometry.specs.declared.vec3.Normalized.the-variants.{Unit as UnitOf, Degenerate}

@@ -1,4 +1,5 @@
--- Whether a length is more than 1e-12 from 1 is told by its square: the root grows with the square, and its distance from 1 grows on either side of 1.
+-- Whether a length is more than 1e-12 from 1 is told by its square: the root grows with the square, and its distance from 1 grows on either
+-- side of 1.
 -- So two squares decide, 1 - 2e-12 and 1 + 2e-12 as floats. Their roots and those of the next floats outside are computed. Assumes nothing.
 use mathlib.Core.Path.{_≡_, refl, sym, ap, _∙_, subst}
 use mathlib.Core.Bool.{Bool, true, false, not, _&&_, true≢false, and-assoc, and-false}
@@ -14,12 +15,14 @@ use Rattle.arithmetic.specs.Basic.{isFinite, absolute, negative}
 use Rattle.arithmetic.specs.Root.{rootDigits, wholeRoot, rootRound, rootOf}
 use Rattle.arithmetic.proofs.DistanceFromOne.{one, fromOne, nearer-below-one, farther-above-one}
 use Rattle.arithmetic.proofs.Neighbours.{Neighbours, below-upper, above-lower}
-use Rattle.arithmetic.proofs.Order.{le-nan-false, nan-le-false, le-left-number, le-right-number, le-of-lt, le-is-not-lt, le-of-not-lt, lt-of-not-le, not-lt-of-le, le-transitive, lt-of-lt-le}
+use Rattle.arithmetic.proofs.Order.{le-nan-false, nan-le-false, le-left-number, le-right-number, le-of-lt, le-is-not-lt, le-of-not-lt}
+use Rattle.arithmetic.proofs.Order.{lt-of-not-le, not-lt-of-le, le-transitive, lt-of-lt-le}
 use Rattle.arithmetic.proofs.RootLaws.{root-positive, root-grows, positive-unsigned, zero-below}
 use Rattle.arithmetic.proofs.RoundedSigns.{square-not-negative, sum-not-negative}
 use Rattle.arithmetic.proofs.Signs.{zero-exp}
 use Rattle.geometry.specs.Numbers.{_+ᶠ_, _-ᶠ_, _*ᶠ_, zeroᶠ, oneᶠ, tolerance}
-use Rattle.arithmetic.proofs.RoundedNumbers.{Unbounded, no-number, infinite, square-unbounded, unbounded-sum, sum-unbounded, square-number, positive-sum-number}
+use Rattle.arithmetic.proofs.RoundedNumbers.{Unbounded, no-number, infinite, square-unbounded, unbounded-sum, sum-unbounded, square-number}
+use Rattle.arithmetic.proofs.RoundedNumbers.{positive-sum-number}
 use Rattle.geometry.specs.Vector.{dotOf, lengthOf, finiteVec}
 use Rattle.geometry.specs.Segment.{unitLength, closeToUnitLength, rangeAdmitted, rayAdmitted}
 use Rattle.geometry.proofs.FiniteVectors.{finite-x, finite-y, finite-z}
@@ -94,15 +97,21 @@ grown x y p f g h = root-grows x y f g (zero-below false (pos 0) x p) h
 module _ (x : Float) (p : T (positive x)) (f : T (fits binary64 x)) where
   too-short : lt x leastSquare ≡ true → lt tolerance (fromOne (rootOf x)) ≡ true
   too-short h =
-      let g = grown x short p f (ofBits-fits binary64 _) (below-upper short leastSquare x _ _ short-beside-least (positive-unsigned x p) f (of-true (lt x leastSquare) h)) in
-      let n = nearer-below-one (rootOf x) (rootOf short) (root-positive x p f) (root-positive short (short-above .0) (ofBits-fits binary64 _)) g (of-true (le (rootOf short) one) (short-root .0)) in
-      lt-of-lt-le tolerance (fromOne (rootOf short)) (fromOne (rootOf x)) (short-root .1) (is-true (le (fromOne (rootOf short)) (fromOne (rootOf x))) n)
+      let g = grown x short p f (ofBits-fits binary64 _)
+      (below-upper short leastSquare x _ _ short-beside-least (positive-unsigned x p) f (of-true (lt x leastSquare) h)) in
+      let n = nearer-below-one (rootOf x) (rootOf short) (root-positive x p f)
+      (root-positive short (short-above .0) (ofBits-fits binary64 _)) g (of-true (le (rootOf short) one) (short-root .0)) in
+      lt-of-lt-le tolerance (fromOne (rootOf short)) (fromOne (rootOf x)) (short-root .1)
+      (is-true (le (fromOne (rootOf short)) (fromOne (rootOf x))) n)
 
   too-long : lt greatestSquare x ≡ true → lt tolerance (fromOne (rootOf x)) ≡ true
   too-long h =
-      let g = grown long x (most-above .1) (ofBits-fits binary64 _) f (above-lower greatestSquare long x _ _ most-beside-long (positive-unsigned x p) f (of-true (lt greatestSquare x) h)) in
-      let n = farther-above-one (rootOf long) (rootOf x) (root-positive long (most-above .1) (ofBits-fits binary64 _)) (root-positive x p f) g (of-true (le one (rootOf long)) (long-root .0)) in
-      lt-of-lt-le tolerance (fromOne (rootOf long)) (fromOne (rootOf x)) (long-root .1) (is-true (le (fromOne (rootOf long)) (fromOne (rootOf x))) n)
+      let g = grown long x (most-above .1) (ofBits-fits binary64 _) f
+      (above-lower greatestSquare long x _ _ most-beside-long (positive-unsigned x p) f (of-true (lt greatestSquare x) h)) in
+      let n = farther-above-one (rootOf long) (rootOf x) (root-positive long (most-above .1) (ofBits-fits binary64 _)) (root-positive x p f)
+      g (of-true (le one (rootOf long)) (long-root .0)) in
+      lt-of-lt-le tolerance (fromOne (rootOf long)) (fromOne (rootOf x)) (long-root .1)
+      (is-true (le (fromOne (rootOf long)) (fromOne (rootOf x))) n)
 
   near-enough : le leastSquare x ≡ true → le x greatestSquare ≡ true → le (fromOne (rootOf x)) tolerance ≡ true
   near-enough h k = go (le (rootOf x) one) refl
@@ -115,12 +124,18 @@ module _ (x : Float) (p : T (positive x)) (f : T (fits binary64 x)) where
 
       go : (b : Bool) → le (rootOf x) one ≡ b → le (fromOne (rootOf x)) tolerance ≡ true
       go true e =
-          let n = nearer-below-one (rootOf leastSquare) (rootOf x) (root-positive leastSquare (short-above .1) (ofBits-fits binary64 _)) (root-positive x p f) low (of-true (le (rootOf x) one) e) in
-          le-transitive (fromOne (rootOf x)) (fromOne (rootOf leastSquare)) tolerance (is-true (le (fromOne (rootOf x)) (fromOne (rootOf leastSquare))) n) least-root
+          let n = nearer-below-one (rootOf leastSquare) (rootOf x) (root-positive leastSquare (short-above .1) (ofBits-fits binary64 _))
+          (root-positive x p f) low (of-true (le (rootOf x) one) e) in
+          le-transitive (fromOne (rootOf x)) (fromOne (rootOf leastSquare)) tolerance
+          (is-true (le (fromOne (rootOf x)) (fromOne (rootOf leastSquare))) n) least-root
       go false e =
-          let a = lt-of-not-le one (rootOf x) (unfold isNan in refl) (le-right-number (rootOf leastSquare) (rootOf x) (is-true (le (rootOf leastSquare) (rootOf x)) low)) e in
-          let n = farther-above-one (rootOf x) (rootOf greatestSquare) (root-positive x p f) (root-positive greatestSquare (most-above .0) (ofBits-fits binary64 _)) high (of-true (le one (rootOf x)) (le-of-lt one (rootOf x) a)) in
-          le-transitive (fromOne (rootOf x)) (fromOne (rootOf greatestSquare)) tolerance (is-true (le (fromOne (rootOf x)) (fromOne (rootOf greatestSquare))) n) most-root
+          let a = lt-of-not-le one (rootOf x) (unfold isNan in refl)
+          (le-right-number (rootOf leastSquare) (rootOf x) (is-true (le (rootOf leastSquare) (rootOf x)) low)) e in
+          let n = farther-above-one (rootOf x) (rootOf greatestSquare) (root-positive x p f)
+          (root-positive greatestSquare (most-above .0) (ofBits-fits binary64 _)) high
+          (of-true (le one (rootOf x)) (le-of-lt one (rootOf x) a)) in
+          le-transitive (fromOne (rootOf x)) (fromOne (rootOf greatestSquare)) tolerance
+          (is-true (le (fromOne (rootOf x)) (fromOne (rootOf greatestSquare))) n) most-root
 
   positive-place : isNan x ≡ false → Place x (fromOne (rootOf x))
   positive-place n = go (lt x leastSquare) (lt greatestSquare x) refl refl
@@ -146,7 +161,8 @@ place nan f n = neither refl (unfold rootOf absolute sub in refl)
 place (inf true) f n = absurd (true≢false (unfold negative in n))
 place (inf false) f n = infinite-place
 place (fin true m e) f n = absurd (true≢false (unfold negative in n))
-place (fin false zero e) f n = subst (λ (k : ℤ). Place (fin false zero k) (fromOne (rootOf (fin false zero k)))) (sym (zero-exp false e f)) zero-place
+place (fin false zero e) f n = subst (λ (k : ℤ). Place (fin false zero k) (fromOne (rootOf (fin false zero k)))) (sym (zero-exp false e f))
+    zero-place
 place (fin false (suc m) e) f n = positive-place (fin false (suc m) e) (lt→ltb 0 (suc m) (zero-lt-suc m)) f (unfold isNan in refl)
 
 -- ---- the two tests
@@ -158,7 +174,8 @@ above-not-le x y h =
 close : (x d : Float) → Place x d → le d tolerance ≡ (le leastSquare x && le x greatestSquare)
 close x d (below h k) = above-not-le d tolerance k ∙ ap (λ (b : Bool). b && le x greatestSquare) (sym (above-not-le leastSquare x h))
 close x d (within l u k) = k ∙ sym (ap (λ (b : Bool). b && le x greatestSquare) l ∙ u)
-close x d (above h k) = above-not-le d tolerance k ∙ sym (and-false (le leastSquare x)) ∙ ap (λ (b : Bool). le leastSquare x && b) (sym (above-not-le x greatestSquare h))
+close x d (above h k) = above-not-le d tolerance k ∙ sym (and-false (le leastSquare x)) ∙ ap (λ (b : Bool). le leastSquare x && b)
+    (sym (above-not-le x greatestSquare h))
 close x d (neither p q) =
     ap (λ (z : Float). le z tolerance) q
     ∙ nan-le-false tolerance
@@ -179,7 +196,8 @@ square-place v =
     (sum-not-negative binary64 _ _ (square-not-negative binary64 (v .x)) (square-not-negative binary64 (v .y)))
     (square-not-negative binary64 (v .z))))
 
-pub close-by-square : (v : Vec3) → le (absolute (lengthOf v -ᶠ oneᶠ)) tolerance ≡ (le leastSquare (dotOf v v) && le (dotOf v v) greatestSquare)
+pub close-by-square : (v : Vec3) → le (absolute (lengthOf v -ᶠ oneᶠ)) tolerance ≡
+    (le leastSquare (dotOf v v) && le (dotOf v v) greatestSquare)
 close-by-square v = close (dotOf v v) (absolute (lengthOf v -ᶠ oneᶠ)) (square-place v)
 
 -- ---- a length that is close to 1 tells that the components are finite
@@ -203,9 +221,14 @@ module _ (v : Vec3) where
   unfolding finiteVec dotOf
   square-of-infinite h = go (isFinite (v .x)) (isFinite (v .y)) (isFinite (v .z)) refl refl refl h
     where
-      go : (a b c : Bool) → isFinite (v .x) ≡ a → isFinite (v .y) ≡ b → isFinite (v .z) ≡ c → (a && (b && c)) ≡ false → Unbounded (first-sum +ᶠ (v .z *ᶠ v .z))
-      go false b c p q r h = unbounded-sum binary64 first-sum (v .z *ᶠ v .z) (unbounded-sum binary64 (v .x *ᶠ v .x) (v .y *ᶠ v .y) (square-unbounded binary64 (v .x) p) (square-sign (v .y))) (square-sign (v .z))
-      go true false c p q r h = unbounded-sum binary64 first-sum (v .z *ᶠ v .z) (sum-unbounded binary64 (v .x *ᶠ v .x) (v .y *ᶠ v .y) (square-sign (v .x)) (square-unbounded binary64 (v .y) q)) (square-sign (v .z))
+      go : (a b c : Bool) → isFinite (v .x) ≡ a → isFinite (v .y) ≡ b → isFinite (v .z) ≡ c → (a && (b && c)) ≡ false → Unbounded
+          (first-sum +ᶠ (v .z *ᶠ v .z))
+      go false b c p q r h = unbounded-sum binary64 first-sum (v .z *ᶠ v .z)
+          (unbounded-sum binary64 (v .x *ᶠ v .x) (v .y *ᶠ v .y) (square-unbounded binary64 (v .x) p) (square-sign (v .y)))
+          (square-sign (v .z))
+      go true false c p q r h = unbounded-sum binary64 first-sum (v .z *ᶠ v .z)
+          (sum-unbounded binary64 (v .x *ᶠ v .x) (v .y *ᶠ v .y) (square-sign (v .x)) (square-unbounded binary64 (v .y) q))
+          (square-sign (v .z))
       go true true false p q r h = sum-unbounded binary64 first-sum (v .z *ᶠ v .z) first-sign (square-unbounded binary64 (v .z) r)
       go true true true p q r h = absurd (true≢false h)
 
@@ -214,7 +237,8 @@ module _ (v : Vec3) where
   unfolding dotOf
   square-of-finite h =
       positive-sum-number binary64 first-sum (v .z *ᶠ v .z) first-sign (square-sign (v .z))
-      (positive-sum-number binary64 (v .x *ᶠ v .x) (v .y *ᶠ v .y) (square-sign (v .x)) (square-sign (v .y)) (square-number binary64 (v .x) (finite-x v h)) (square-number binary64 (v .y) (finite-y v h)))
+      (positive-sum-number binary64 (v .x *ᶠ v .x) (v .y *ᶠ v .y) (square-sign (v .x)) (square-sign (v .y))
+      (square-number binary64 (v .x) (finite-x v h)) (square-number binary64 (v .y) (finite-y v h)))
       (square-number binary64 (v .z) (finite-z v h))
 
 -- where the square is a number, "not more than" and "within" are one
@@ -229,7 +253,8 @@ finite-and-unit : (v : Vec3) → (finiteVec v && unitLength v) ≡ closeToUnitLe
 unfolding unitLength
 finite-and-unit v = go (finiteVec v) refl
   where
-    go : (b : Bool) → finiteVec v ≡ b → (b && not (lt tolerance (absolute (lengthOf v -ᶠ oneᶠ)))) ≡ le (absolute (lengthOf v -ᶠ oneᶠ)) tolerance
+    go : (b : Bool) → finiteVec v ≡ b → (b && not (lt tolerance (absolute (lengthOf v -ᶠ oneᶠ)))) ≡ le (absolute (lengthOf v -ᶠ oneᶠ))
+        tolerance
     go true h = same-at-number (dotOf v v) (absolute (lengthOf v -ᶠ oneᶠ)) (square-place v) (square-of-finite v h)
     go false h =
         sym

@@ -1,4 +1,5 @@
--- Boxes: each rule is one on a side, the interval of one axis, and holds of a box where it holds on every axis. Definitions only. Assumes nothing.
+-- Boxes: each rule is one on a side, the interval of one axis, and holds of a box where it holds on every axis. Definitions only. Assumes
+-- nothing.
 use Prim.Native.Nat.{ℕ}
 use mathlib.Core.Bool.{Bool, _&&_}
 use mathlib.Core.List.{List}

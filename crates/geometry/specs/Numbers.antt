@@ -1,4 +1,5 @@
--- The float constants of the geometry, each with its bits, and the binary64 operations under short names. Definitions only. Assumes nothing.
+-- The float constants of the geometry, each with its bits, and the binary64 operations under short names. Definitions only. Assumes
+-- nothing.
 use lib.Ieee.{Float, binary64, ofBits}
 use lib.Ieee as Ieee
 

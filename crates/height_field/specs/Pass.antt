@@ -1,4 +1,5 @@
--- What the code has found part way through the cells: the cast of the listing, cell by cell. Definitions only. Assumes nothing.
+-- Inner contracts only: what the code has found part way through the cells: the cast of the listing, cell by cell. Definitions only.
+-- Assumes nothing.
 use Prim.Native.Nat.{ℕ, zero, suc, _+_}
 use mathlib.Core.Path.{_≡_}
 use mathlib.Core.Bool.{true, cond}

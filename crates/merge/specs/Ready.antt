@@ -1,4 +1,5 @@
--- What the tests of the merge let pass, as the copying asks it: room for each part, and words that stay small when they are moved up.
+-- Inner contracts only: what the tests of the merge let pass, as the copying asks it: room for each part, and words that stay small when
+-- they are moved up.
 -- Definitions only. Assumes nothing.
 use Prim.Native.Nat.{ℕ, _+_, _*_, _≤_}
 use mathlib.Core.Path.{_≡_}

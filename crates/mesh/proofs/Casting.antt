@@ -132,4 +132,5 @@ module _ (r : Ray) (m : Mesh) (pose : List Float) (t : Tree) (list stack : ℕ) 
         -- and the areas may change
         pub tests-passed : length pose ≡ length (m .vertices) → testsPass r m pose t list stack ≡ false → ⊥
         unfolding testsPass shapeAdmitted roomFor walkFits
-        tests-passed h = Refusals.tests-passed (meshTests r m pose t list stack) (v, (s, (f, eq-eqb (length pose) (length (m .vertices)) h)))
+        tests-passed h = Refusals.tests-passed (meshTests r m pose t list stack)
+            (v, (s, (f, eq-eqb (length pose) (length (m .vertices)) h)))

@@ -12,7 +12,8 @@ use borrow.Author.Tests.{ltb-true, ltb-false}
 use Rattle.lists.specs.Lists.{range, count, gather}
 use Rattle.tree.specs.Layout.{Tree, wordAt, firstAt, secondAt}
 use Rattle.tree.specs.Mesh.{Mesh}
-use Rattle.lists.proofs.CountLaws.{one-same, one-other, same-or-other, count-cons, count-nil, length-range, count-range-inside, range-bounds}
+use Rattle.lists.proofs.CountLaws.{one-same, one-other, same-or-other, count-cons, count-nil, length-range, count-range-inside}
+use Rattle.lists.proofs.CountLaws.{range-bounds}
 use Rattle.lists.proofs.CountLaws.{From, gathered-from, gathers, gather-gather, gather-words}
 use Rattle.lists.proofs.WithinLaws.{Within, within-through, within-length, within-gather, within-of-full}
 use Rattle.tree_check.specs.Check.{triangleCount, nodes, isLeaf, childrenOf, placesOf}

@@ -28,10 +28,12 @@ module _ (m : Mesh) (all : AllFinite (m .vertices)) where
   finite-at : (place : ℕ) → place + 3 ≤ length (m .vertices) → finiteVec (vectorAt (m .vertices) place) ≡ true
   unfolding finiteVec vectorAt
   finite-at place h =
-      and-three (isFinite (numberAt (m .vertices) place)) (isFinite (numberAt (m .vertices) (place + 1))) (isFinite (numberAt (m .vertices) (place + 2)))
+      and-three (isFinite (numberAt (m .vertices) place)) (isFinite (numberAt (m .vertices) (place + 1)))
+      (isFinite (numberAt (m .vertices) (place + 2)))
       (all .each place (omega arith)) (all .each (place + 1) (omega arith)) (all .each (place + 2) (omega arith))
 
-  corner-finite : (i k : ℕ) → 3 * cornerIndex (m .triangles) i k + 3 ≤ length (m .vertices) → finiteVec (cornerAt (m .vertices) (m .triangles) i k) ≡ true
+  corner-finite : (i k : ℕ) → 3 * cornerIndex (m .triangles) i k + 3 ≤ length (m .vertices) → finiteVec
+      (cornerAt (m .vertices) (m .triangles) i k) ≡ true
   unfolding cornerAt
   corner-finite i k h = finite-at (3 * cornerIndex (m .triangles) i k) h
 
@@ -57,7 +59,8 @@ pub front-begins : (xs : List Float) (finite : Bool) → Front xs finite 0
 front-begins xs finite = record { within = omega arith; each = λ h j k. absurd (omega (arith, k)) }
 
 module _ (xs : List Float) (finite : Bool) (i : ℕ) (f : Front xs finite i) where
-  pub front-goes : i < length xs → (next : Bool) → (next ≡ true → (finite ≡ true) × (isFinite (numberAt xs i) ≡ true)) → Front xs next (i + 1)
+  pub front-goes : i < length xs → (next : Bool) → (next ≡ true → (finite ≡ true) × (isFinite (numberAt xs i) ≡ true)) → Front xs next
+      (i + 1)
   front-goes h next e = record { within = omega arith; each = λ y j k. go j (le-or-equal j i k) y }
     where
       le-or-equal : (j k : ℕ) → j < k + 1 → (j < k) ⊎ (j ≡ k)

@@ -1,4 +1,5 @@
--- The passes over the triangles: what is left of them gives the whole, the first without a valid box decides, and the notes tell whose answer it is. Assumes nothing.
+-- The passes over the triangles: what is left of them gives the whole, the first without a valid box decides, and the notes tell whose
+-- answer it is. Assumes nothing.
 use Prim.Native.Nat.{ℕ, zero, suc, _+_, _-_, _<_, _≤_}
 use mathlib.Core.Path.{_≡_, refl, sym, ap, _∙_}
 use mathlib.Core.Bool.{Bool, true, false, _&&_, cond, false≢true}
@@ -25,7 +26,8 @@ use Rattle.tree.specs.Mesh.{Mesh, thirds, cornersInside, cornersOf, triangleBox
 use Rattle.lists.proofs.JoinedTests.{and-first, and-second}
 use Rattle.tree.proofs.Corners.{corners-box, corners-answer}
 use Rattle.mesh_plain.specs.Boxes.{BoxesHold}
-use Rattle.mesh_plain.specs.PlainCast.{triangleFits, trianglesFit, outcomeOver}
+use Rattle.mesh_plain.specs.Noted.{outcomeOver}
+use Rattle.mesh_plain.specs.PlainCast.{triangleFits, trianglesFit}
 
 -- a range that is not empty
 range-next : (i n : ℕ) → i < n → range i (n - i) ≡ i ∷ range (i + 1) (n - (i + 1))

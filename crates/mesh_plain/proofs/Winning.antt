@@ -24,7 +24,8 @@ use Rattle.lists.specs.Lists.{range, keep}
 use Rattle.tree.specs.Mesh.{Mesh, thirds, triangleBox, triangleAnswer, candidates}
 use Rattle.lists.proofs.CountLaws.{count-of-member, range-bounds}
 use Rattle.lists.proofs.SortLaws.{ascending-rises, range-ascends, member-of-keep, keep-ascends}
-use Rattle.mesh_plain.specs.PlainCast.{trianglesFit, outcomeOver, overTriangles}
+use Rattle.mesh_plain.specs.Noted.{outcomeOver}
+use Rattle.mesh_plain.specs.PlainCast.{trianglesFit, overTriangles}
 
 module _ (r : Ray) (box : Aabb) (m : Mesh) where
   abbrev count : ℕ
@@ -72,12 +73,13 @@ module _ (r : Ray) (box : Aabb) (m : Mesh) where
   noted-reached : OfOutcome Reached noted
   noted-reached = winner-of-list Reached answer (candidates m box) each-reached
 
-  module _ (index : ℕ) (distance : Float) (outcome : Outcome) (o : outcome ≡ outcomeOver r box m) (e : outcome ≡ Struck index distance) where
-    -- the one that is struck is a triangle of the mesh, reached at its distance
-    pub struck-reached : Reached index (At distance)
-    unfolding outcomeOver
-    struck-reached = go (trianglesFit m) (sym e ∙ o)
-      where
-        go : (b : Bool) → Struck index distance ≡ cond b noted (RefusedBy outOfBounds) → Reached index (At distance)
-        go true h = subst (OfOutcome Reached) (sym h) noted-reached
-        go false h = let z : _≡_ {A = ℕ} 0 1 = cc in absurd (omega (arith, z))
+  module _ (index : ℕ) (distance : Float) (outcome : Outcome) (o : outcome ≡ outcomeOver r box m) (e : outcome ≡ Struck index distance)
+    where
+      -- the one that is struck is a triangle of the mesh, reached at its distance
+      pub struck-reached : Reached index (At distance)
+      unfolding outcomeOver
+      struck-reached = go (trianglesFit m) (sym e ∙ o)
+        where
+          go : (b : Bool) → Struck index distance ≡ cond b noted (RefusedBy outOfBounds) → Reached index (At distance)
+          go true h = subst (OfOutcome Reached) (sym h) noted-reached
+          go false h = let z : _≡_ {A = ℕ} 0 1 = cc in absurd (omega (arith, z))

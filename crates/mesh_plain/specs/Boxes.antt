@@ -1,4 +1,6 @@
--- What the tests of the boxes tell: finite numbers, boxes that hold, and a box that touches by comparisons with its corners. Definitions only. Assumes nothing.
+-- Inner contracts only: what the tests of the boxes tell: finite numbers, boxes that hold, and a box that touches by comparisons with its
+-- corners. Definitions
+-- only. Assumes nothing.
 use Prim.Native.Nat.{ℕ, _<_}
 use mathlib.Core.Path.{_≡_}
 use mathlib.Core.Bool.{Bool, true, _&&_, _||_}

@@ -9,9 +9,6 @@ use Rattle.geometry.specs.declared.ray.Ray.{Ray}
 use Rattle.casts.specs.Answer.{invalidInput, badShape, outOfBounds}
 use Rattle.casts.specs.SegmentBox.{withSegmentBox}
 use Rattle.casts.specs.Nearest.{Indexed, stopped, nearestOf}
-use Rattle.casts.specs.Summary.{nothing, summaryFrom, winner}
-use Rattle.casts.specs.declared.summary.Outcome.{Outcome}
-use Rattle.casts.specs.declared.summary.Outcome.the-variants.{Refused as RefusedBy}
 use Rattle.tree.specs.Layout.{Tree}
 use Rattle.tree.specs.Mesh.{Mesh, lengthsAdmitted, triangleAnswer, candidates}
 -- "A triangle without a valid box": its box is not valid, or an index of it is past the vertices
@@ -24,12 +21,6 @@ use Rattle.mesh.specs.Demand3.{PassesCheck}
 unfoldable pub overTriangles : Ray → Aabb → Mesh → Indexed
 overTriangles r box m =
     cond (trianglesFit m) (nearestOf (triangleAnswer r (m .vertices) (m .triangles)) (candidates m box)) (stopped outOfBounds)
-
--- whose answer that is, by the notes of the candidates
-unfoldable pub outcomeOver : Ray → Aabb → Mesh → Outcome
-outcomeOver r box m =
-    cond (trianglesFit m) (winner (summaryFrom (triangleAnswer r (m .vertices) (m .triangles)) nothing (candidates m box)))
-    (RefusedBy outOfBounds)
 
 -- ".. after the segment end's 6": the tree cast's order, segment end 6, its box 5
 unfoldable pub plainCast : Ray → Mesh → Indexed

@@ -26,7 +26,8 @@ ghost use Rattle.casts.specs.Triangle.{triangleNormal, triangleCast};
 ghost use Rattle.casts.specs.declared.answer.Reach.the-variants.{Miss};
 ghost use Rattle.tree.specs.Mesh.{lengthsAdmitted, mesh};
 ghost use Rattle.mesh_plain.specs.Boxes.{BoxesHold};
-ghost use Rattle.mesh_plain.specs.PlainCast.{outcomeOver, overTriangles, plainCast, rayMeshPlain, AgreesWithTrees};
+ghost use Rattle.mesh_plain.specs.Noted.{outcomeOver};
+ghost use Rattle.mesh_plain.specs.PlainCast.{overTriangles, plainCast, rayMeshPlain, AgreesWithTrees};
 
 // What a triangle is reached at, without its normal, where its box touches the segment's box; else a miss.
 fn reach_near(ray: Ray, bounds: Aabb, corners: [Vec3; 3]) -> Reach

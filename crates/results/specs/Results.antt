@@ -54,7 +54,11 @@ abbrev pub fieldOf : ℕ → ℕ → Float → Float → Field
 fieldOf rows columns x y = record { rows = rows; columns = columns; «spacing_x» = x; «spacing_y» = y }
 
 abbrev pub gridOf : ℕ → ℕ → ℕ → Float → Float → Float → Float → Float → Float → Grid
-gridOf nx ny nz ox oy oz sx sy sz = record { sides = record { x = nx; y = ny; z = nz }; origin = vector ox oy oz; spacing = vector sx sy sz }
+gridOf nx ny nz ox oy oz sx sy sz = record {
+  sides = record { x = nx; y = ny; z = nz };
+  origin = vector ox oy oz;
+  spacing = vector sx sy sz;
+}
 
 abbrev pub boxOf : Float → Float → Float → Float → Float → Float → Aabb
 boxOf x y z x' y' z' = record { min = vector x y z; max = vector x' y' z' }
@@ -115,7 +119,12 @@ pub record ToldIndexed : Type 0 where
   pub index : List ℕ
 
 unfoldable pub toldIndexed : Indexed → List Float → List ℕ → ToldIndexed
-toldIndexed (hitAt n d i) area place = record { number = hitCode; hit = sets area 0 (n .x ∷ n .y ∷ n .z ∷ d ∷ []); index = sets place 0 (i ∷ []) }
+toldIndexed (hitAt n d i) area place = record {
+  number = hitCode;
+  hit = sets area 0 (n .x ∷ n .y ∷ n .z ∷ d ∷ []);
+  index = sets place 0 (i ∷
+      []);
+}
 toldIndexed noHit area place = record { number = noneCode; hit = area; index = place }
 toldIndexed (stopped number) area place = record { number = number; hit = area; index = place }
 

@@ -1,4 +1,4 @@
--- What one call of the recursion asks and gives. Definitions only. Assumes nothing.
+-- Inner contracts only: what one call of the recursion asks and gives. Definitions only. Assumes nothing.
 use Prim.Native.Nat.{ℕ, _+_, _*_, _<_, _≤_}
 use mathlib.Core.Path.{_≡_}
 use mathlib.Core.Bool.{true, cond}

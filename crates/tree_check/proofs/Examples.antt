@@ -28,21 +28,21 @@ infinityᶠ = ofBits binary64 0x7ff0_0000_0000_0000
 abbrev corners : List Float
 corners = zeroᶠ ∷ (zeroᶠ ∷ (zeroᶠ ∷ (oneᶠ ∷ (zeroᶠ ∷ (zeroᶠ ∷ (zeroᶠ ∷ (oneᶠ ∷ (zeroᶠ ∷ []))))))))
 
-abbrev thrice : Mesh
+abbrev pub thrice : Mesh
 thrice = record { vertices = corners; triangles = 0 ∷ (1 ∷ (2 ∷ (0 ∷ (1 ∷ (2 ∷ (0 ∷ (1 ∷ (2 ∷ [])))))))) }
 
 -- the same, the last index past the vertices
-abbrev past : Mesh
+abbrev pub past : Mesh
 past = record { vertices = corners; triangles = 0 ∷ (1 ∷ (2 ∷ (0 ∷ (1 ∷ (2 ∷ (0 ∷ (1 ∷ (9 ∷ [])))))))) }
 
 -- boxes: the triangle's, that of its first two corners, and wide ones
-abbrev tight : List Float
+abbrev pub tight : List Float
 tight = zeroᶠ ∷ (zeroᶠ ∷ (zeroᶠ ∷ (oneᶠ ∷ (oneᶠ ∷ (zeroᶠ ∷ [])))))
 
-abbrev edge : List Float
+abbrev pub edge : List Float
 edge = zeroᶠ ∷ (zeroᶠ ∷ (zeroᶠ ∷ (oneᶠ ∷ (zeroᶠ ∷ (zeroᶠ ∷ [])))))
 
-abbrev wide : List Float
+abbrev pub wide : List Float
 wide = zeroᶠ ∷ (zeroᶠ ∷ (zeroᶠ ∷ (twoᶠ ∷ (twoᶠ ∷ (twoᶠ ∷ [])))))
 
 abbrev endless : List Float
@@ -55,22 +55,22 @@ abbrev boxes : List Float
 boxes = wide ++ (wide ++ (wide ++ wide))
 
 -- three words a node
-abbrev leaf : ℕ → ℕ → List ℕ
+abbrev pub leaf : ℕ → ℕ → List ℕ
 leaf start size = 0 ∷ (start ∷ (size ∷ []))
 
-abbrev branch : ℕ → ℕ → List ℕ
+abbrev pub branch : ℕ → ℕ → List ℕ
 branch left right = 1 ∷ (left ∷ (right ∷ []))
 
-abbrev inOrder : List ℕ
+abbrev pub inOrder : List ℕ
 inOrder = 0 ∷ (1 ∷ (2 ∷ []))
 
 -- a tree over the three triangles, in wide boxes but for the first node's
-abbrev treeOf : ℕ → List Float → List ℕ → List ℕ → Tree
+abbrev pub treeOf : ℕ → List Float → List ℕ → List ℕ → Tree
 treeOf count first words order =
     record { nodeCount = count; nodeBoxes = first ++ boxes; triangleBoxes = tight ++ (tight ++ tight); nodeWords = words; order = order }
 
 -- one leaf, and triangle boxes of its own
-abbrev leafOver : List Float → Tree
+abbrev pub leafOver : List Float → Tree
 leafOver triangleBoxes = record { nodeCount = 1; nodeBoxes = wide; triangleBoxes = triangleBoxes; nodeWords = leaf 0 3; order = inOrder }
 
 -- whether a tree passes, and the clauses that it fails, by their number in the definition's order
@@ -98,13 +98,13 @@ outcome m t =
     }
 
 -- leaves of one triangle, right children before left ones, an order of its own
-abbrev foreign : Tree
+abbrev pub foreign : Tree
 foreign = treeOf 5 wide (branch 2 1 ++ (leaf 2 1 ++ (branch 4 3 ++ (leaf 0 1 ++ leaf 1 1)))) (2 ∷ (0 ∷ (1 ∷ [])))
 
 -- one fault each: an unknown kind, a child that is not above, a leaf past n, a node not named, a place in two leaves, a triangle twice in
 -- the order,
 -- an empty leaf, a triangle's box too wide, a box that is not finite, a child and a triangle that are not enclosed
-abbrev faulty : List Tree
+abbrev pub faulty : List Tree
 faulty =
     treeOf 3 wide (branch 1 2 ++ (leaf 0 3 ++ (2 ∷ (0 ∷ (0 ∷ []))))) inOrder
     ∷ (treeOf 4 wide (branch 1 2 ++ (branch 3 0 ++ (leaf 0 1 ++ leaf 1 2))) inOrder

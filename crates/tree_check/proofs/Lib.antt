@@ -4,3 +4,4 @@ pub mod Clauses
 pub mod Examples
 pub mod Holds
 pub mod Passes
+pub mod CheckExamples

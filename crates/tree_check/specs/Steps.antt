@@ -1,4 +1,5 @@
--- What the check asks of one triangle or of a node's box, in the order in which the code tests it. Definitions only. Assumes nothing.
+-- Inner contracts only: what the check asks of one triangle or of a node's box, in the order in which the code tests it. Definitions only.
+-- Assumes nothing.
 use Prim.Native.Nat.{ℕ, _+_, _-_, _*_, _<_, _≤_}
 use mathlib.Core.Path.{_≡_}
 use mathlib.Core.Bool.{Bool, true, _&&_, cond}

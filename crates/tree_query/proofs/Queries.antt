@@ -16,7 +16,8 @@ use Rattle.lists.proofs.JoinedTests.{and-first, and-second}
 use Rattle.tree_walk.specs.Walk.{Walking, walking, broken, walkOf}
 use Rattle.tree_walk.specs.Areas.{listed, Grown, GrownTo, WalkRoom}
 use Rattle.lists.proofs.RefusalLaws as Refusals
-use Rattle.tree_query.specs.Query.{Queried, count, refused, countsAdmitted, treeFits, walkFits, queryTests, testsPass, afterWalk, queryOf}
+use Rattle.tree_query.specs.Query.{Queried, count, refused, countsAdmitted, treeFits, walkFits, queryTests, testsPass, afterWalk}
+use Rattle.tree_query.specs.Query.{queryOf}
 use Rattle.tree_walk.specs.declared.step.Filled.{Filled}
 use Rattle.tree_walk.specs.declared.step.Filled.the-variants.{Count, Broken}
 

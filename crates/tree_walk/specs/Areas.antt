@@ -1,4 +1,5 @@
--- What the list and the stack hold while the walk goes on, as the walk's functions promise it. Definitions only. Assumes nothing.
+-- Inner contracts only: what the list and the stack hold while the walk goes on, as the walk's functions promise it. Definitions only.
+-- Assumes nothing.
 use Prim.Native.Nat.{ℕ, zero, suc, _+_, _*_, _<_, _≤_}
 use mathlib.Core.Path.{_≡_}
 use mathlib.Core.Bool.{true}

@@ -1,4 +1,4 @@
--- What the list holds when the walk under a limit has ended. Definitions only. Assumes nothing.
+-- Inner contracts only: what the list holds when the walk under a limit has ended. Definitions only. Assumes nothing.
 use Prim.Native.Nat.{ℕ}
 use mathlib.Core.List.{List, []}
 use lib.ListN.{take}

@@ -1,4 +1,4 @@
--- The mark area: how often a number is named, counted up. Definitions only. Assumes nothing.
+-- Inner contracts only: the mark area: how often a number is named, counted up. Definitions only. Assumes nothing.
 use Prim.Native.Nat.{ℕ, zero, suc, _+_, _-_, _*_, _<_}
 use mathlib.Core.Path.{_≡_}
 use mathlib.Core.Bool.{Bool, cond}

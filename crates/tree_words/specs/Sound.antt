@@ -1,4 +1,5 @@
--- What the check asks of one node's words, in the order in which the code tests it. Definitions only. Assumes nothing.
+-- Inner contracts only: what the check asks of one node's words, in the order in which the code tests it. Definitions only. Assumes
+-- nothing.
 use Prim.Native.Nat.{ℕ, _+_}
 use mathlib.Core.Bool.{Bool, false, not, _&&_, cond}
 use mathlib.Core.List.{List}

@@ -26,21 +26,27 @@ same-length c = search needs
 
 returns-2 : tie.Need-returns-2
 unfolding answered told
-returns-2 c = simp (le-leb _ _ (c .before .before .before .before .before .before .before .if1 .left), c .before .before .before .before .before .answer .given .1, c .before .before .put-hit .ensures)
+returns-2 c =
+    let (e, k, p) : tie.Else1 × tie.After-answer × tie.After-put-hit = search in
+    simp (le-leb _ _ (e .if1 .left), k .answer .given .1, p .put-hit .ensures)
 
 enum-told : tie.Need-enum-told
 enum-told c = search needs
 
 returns-3 : tie.Need-returns-3
 unfolding answered told
-returns-3 c = simp (le-leb _ _ (c .before .before .if1 .left), c .enum-told .given .1)
+returns-3 c =
+    let e : tie.Else1 = search in
+    simp (le-leb _ _ (e .if1 .left), c .enum-told .given .1)
 
 enum-known-answer-2 : tie.Need-enum-known-answer-2
 enum-known-answer-2 c = search needs
 
 returns-4 : tie.Need-returns-4
 unfolding answered told
-returns-4 c = simp (le-leb _ _ (c .before .before .before .if1 .left), c .before .answer2 .given .1)
+returns-4 c =
+    let e : tie.Else1 = search in
+    simp (le-leb _ _ (e .if1 .left), c .before .answer2 .given .1)
 
 pub put-answer-spec : {M : Type 1} → statement M
 put-answer-spec =

@@ -21,7 +21,9 @@ same-length-2 c = search needs
 
 returns : tie.Need-returns
 unfolding toldIndexed
-returns c = simp (c .before .before .before .before .before .answer .given .1, c .before .before .put-hit .ensures)
+returns c =
+    let (k, p) : tie.After-answer × tie.After-put-hit = search in
+    simp (k .answer .given .1, p .put-hit .ensures)
 
 enum-told : tie.Need-enum-told
 enum-told c = search needs

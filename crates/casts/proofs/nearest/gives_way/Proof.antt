@@ -4,22 +4,13 @@ use borrow.Author.Needs.{needs}
 use Rattle.casts.proofs.nearest.gives_way.Statement.{statement}
 use Rattle.casts.proofs.nearest.gives_way.Tie as tie
 
-enum-known-best : tie.Need-enum-known-best
-enum-known-best c = search needs
-
 returns : tie.Need-returns
 unfolding givesWay
 returns c = simp (c .before .best .given .1)
 
-enum-told : tie.Need-enum-told
-enum-told c = search needs
-
 returns-2 : tie.Need-returns-2
 unfolding givesWay
 returns-2 c = simp (c .enum-told .given .1)
-
-enum-told-2 : tie.Need-enum-told-2
-enum-told-2 c = search needs
 
 returns-3 : tie.Need-returns-3
 unfolding givesWay
@@ -27,4 +18,4 @@ returns-3 c = simp (c .enum-told2 .given .1)
 
 pub gives-way-spec : {M : Type 1} → statement M
 gives-way-spec =
-    tie.close (tie.spec enum-known-best returns enum-told returns-2 enum-told-2 returns-3)
+    tie.close (tie.spec (search needs) returns (search needs) returns-2 (search needs) returns-3)

@@ -13,7 +13,9 @@ returns c =
 
 -- it misses
 returns-2 : tie.Need-returns-2
-returns-2 c = simp (sym (c .before .before .crossing .ensures), c .enum-told .given .1, ← next-none)
+returns-2 c =
+    let at-crossing : tie.After-crossing = search in
+    simp (sym (at-crossing .crossing .ensures), c .enum-told .given .1, ← next-none)
 
 -- it refuses
 returns-3 : tie.Need-returns-3

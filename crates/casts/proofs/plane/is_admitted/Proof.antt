@@ -5,15 +5,11 @@ use borrow.Author.Needs.{needs}
 use Rattle.casts.proofs.plane.is_admitted.Statement.{statement}
 use Rattle.casts.proofs.plane.is_admitted.Tie as tie
 
-close-to-unit-length-requires : tie.Need-close-to-unit-length-requires
-close-to-unit-length-requires c κs = search needs
-
-is-finite-requires : tie.Need-is-finite-requires
-is-finite-requires c κs = search needs
-
 returns : tie.Need-returns
 unfolding planeAdmitted
-returns c = simp (sym (c .before .before .close-to-unit-length .ensures), c .before .if1 .taken, sym (c .is-finite .ensures))
+returns c =
+    let at-close-to-unit-length : tie.After-close-to-unit-length = search in
+    simp (sym (at-close-to-unit-length .close-to-unit-length .ensures), c .before .if1 .taken, sym (c .is-finite .ensures))
 
 returns-2 : tie.Need-returns-2
 unfolding planeAdmitted
@@ -21,4 +17,4 @@ returns-2 c = simp (sym (c .before .close-to-unit-length .ensures), c .if1 .left
 
 pub is-admitted-spec : {M : Type 1} → statement M
 is-admitted-spec =
-    tie.close (tie.spec close-to-unit-length-requires is-finite-requires returns returns-2)
+    tie.close (tie.spec (search needs) (search needs) returns returns-2)

@@ -5,59 +5,62 @@ use borrow.Author.Needs.{needs}
 use Rattle.casts.proofs.plane.plane_cast.Statement.{statement}
 use Rattle.casts.proofs.plane.plane_cast.Tie as tie
 
-checked-dot-requires : tie.Need-checked-dot-requires
-checked-dot-requires c κs = search needs
-
-enum-known-along : tie.Need-enum-known-along
-enum-known-along c = search needs
-
-enum-told : tie.Need-enum-told
-enum-told c = search needs
-
 returns : tie.Need-returns
 unfolding planeCast
-returns c = simp (sym (c .before .before .checked-dot .ensures), c .enum-told .given .1)
-
-abs-requires : tie.Need-abs-requires
-abs-requires c κs = search needs
+returns c =
+    let at-checked-dot : tie.After-checked-dot = search in
+    simp (sym (at-checked-dot .checked-dot .ensures), c .enum-told .given .1)
 
 returns-2 : tie.Need-returns-2
 unfolding planeCast
-returns-2 c = simp (sym (c .before .before .before .before .before .checked-dot .ensures), c .before .before .before .along .given .1, sym (c .before .abs .ensures), c .if1 .taken)
-
-checked-dot-requires-2 : tie.Need-checked-dot-requires-2
-checked-dot-requires-2 c κs = search needs
-
-enum-known-above : tie.Need-enum-known-above
-enum-known-above c = search needs
-
-enum-told-2 : tie.Need-enum-told-2
-enum-told-2 c = search needs
+returns-2 c =
+    let (at-checked-dot, at-along) : tie.After-checked-dot × tie.After-along = search in
+    simp (sym (at-checked-dot .checked-dot .ensures), at-along .along .given .1, sym (c .before .abs .ensures), c .if1 .taken)
 
 returns-3 : tie.Need-returns-3
 unfolding planeCast
-returns-3 c = simp (sym (c .before .before .before .before .before .before .before .before .checked-dot .ensures), c .before .before .before .before .before .before .along .given .1, sym (c .before .before .before .before .abs .ensures), c .before .before .before .if1 .left, sym (c .before .before .checked-dot2 .ensures), c .enum-told2 .given .1)
-
-plane-at-requires : tie.Need-plane-at-requires
-plane-at-requires c κs = search needs
+returns-3 c =
+    let (at-checked-dot, at-along, at-abs, else1, at-checked-dot2) :
+    tie.After-checked-dot × tie.After-along × tie.After-abs × tie.Else1 × tie.After-checked-dot2 = search in
+    simp (
+      sym (at-checked-dot .checked-dot .ensures),
+      at-along .along .given .1,
+      sym (at-abs .abs .ensures),
+      else1 .if1 .left,
+      sym
+          (at-checked-dot2 .checked-dot2 .ensures),
+      c .enum-told2 .given .1,
+    )
 
 returns-4 : tie.Need-returns-4
 unfolding planeCast
-returns-4 c = simp (sym (c .before .before .before .before .before .before .before .before .before .before .before .checked-dot .ensures), c .before .before .before .before .before .before .before .before .before .along .given .1, sym (c .before .before .before .before .before .before .before .abs .ensures), c .before .before .before .before .before .before .if1 .left, sym (c .before .before .before .before .before .checked-dot2 .ensures), c .before .before .before .above .given .1, sym (c .plane-at .ensures))
+returns-4 c =
+    let (at-checked-dot, at-along, at-abs, else1, at-checked-dot2, at-above) :
+    tie.After-checked-dot × tie.After-along × tie.After-abs × tie.Else1 × tie.After-checked-dot2 × tie.After-above = search in
+    simp (
+      sym (at-checked-dot .checked-dot .ensures),
+      at-along .along .given .1,
+      sym (at-abs .abs .ensures),
+      else1 .if1 .left,
+      sym
+          (at-checked-dot2 .checked-dot2 .ensures),
+      at-above .above .given .1,
+      sym (c .plane-at .ensures),
+    )
 
 pub plane-cast-spec : {M : Type 1} → statement M
 plane-cast-spec =
     tie.close
     (tie.spec
-    checked-dot-requires
-    enum-known-along
-    enum-told
+    (search needs)  -- checked-dot-requires
+    (search needs)  -- enum-known-along
+    (search needs)  -- enum-told
     returns
-    abs-requires
+    (search needs)  -- abs-requires
     returns-2
-    checked-dot-requires-2
-    enum-known-above
-    enum-told-2
+    (search needs)  -- checked-dot-requires-2
+    (search needs)  -- enum-known-above
+    (search needs)  -- enum-told-2
     returns-3
-    plane-at-requires
+    (search needs)  -- plane-at-requires
     returns-4)

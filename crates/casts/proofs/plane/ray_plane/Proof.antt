@@ -6,34 +6,43 @@ use borrow.Author.Needs.{needs}
 use Rattle.casts.proofs.plane.ray_plane.Statement.{statement}
 use Rattle.casts.proofs.plane.ray_plane.Tie as tie
 
-validate-requires : tie.Need-validate-requires
-validate-requires c κs = search needs
-
 returns : tie.Need-returns
 unfolding rayPlane
 returns c = simp (sym (c .before .validate .ensures), not-true (c .before .validate .result) (c .if1 .taken))
 
-is-admitted-requires : tie.Need-is-admitted-requires
-is-admitted-requires c κs = search needs
-
 returns-2 : tie.Need-returns-2
 unfolding rayPlane
-returns-2 c = simp (sym (c .before .before .before .validate .ensures), not-false (c .before .before .before .validate .result) (c .before .before .if1 .left), sym (c .before .is-admitted .ensures), not-true (c .before .is-admitted .result) (c .if2 .taken))
-
-plane-cast-requires : tie.Need-plane-cast-requires
-plane-cast-requires c κs = search needs
+returns-2 c =
+    let (at-validate, else1) : tie.After-validate × tie.Else1 = search in
+    simp (
+      sym (at-validate .validate .ensures),
+      not-false (at-validate .validate .result) (else1 .if1 .left),
+      sym
+          (c .before .is-admitted .ensures),
+      not-true (c .before .is-admitted .result) (c .if2 .taken),
+    )
 
 returns-3 : tie.Need-returns-3
 unfolding rayPlane
-returns-3 c = simp (sym (c .before .before .before .before .validate .ensures), not-false (c .before .before .before .before .validate .result) (c .before .before .before .if1 .left), sym (c .before .before .is-admitted .ensures), not-false (c .before .before .is-admitted .result) (c .before .if2 .left), sym (c .plane-cast .ensures))
+returns-3 c =
+    let (at-validate, else1, at-is-admitted) : tie.After-validate × tie.Else1 × tie.After-is-admitted = search in
+    simp (
+      sym (at-validate .validate .ensures),
+      not-false (at-validate .validate .result) (else1 .if1 .left),
+      sym
+          (at-is-admitted .is-admitted .ensures),
+      not-false (at-is-admitted .is-admitted .result) (c .before .if2 .left),
+      sym
+          (c .plane-cast .ensures),
+    )
 
 pub ray-plane-spec : {M : Type 1} → statement M
 ray-plane-spec =
     tie.close
     (tie.spec
-    validate-requires
+    (search needs)  -- validate-requires
     returns
-    is-admitted-requires
+    (search needs)  -- is-admitted-requires
     returns-2
-    plane-cast-requires
+    (search needs)  -- plane-cast-requires
     returns-3)

@@ -5,19 +5,10 @@ use borrow.Author.Needs.{needs}
 use Rattle.casts.proofs.summary.nearer_hit.Statement.{statement}
 use Rattle.casts.proofs.summary.nearer_hit.Tie as tie
 
-enum-told : tie.Need-enum-told
-enum-told c = search needs
-
 -- nobody yet
 returns : tie.Need-returns
 unfolding keepOf
 returns c = simp (c .enum-told .given .1)
-
-enum-known-chosen : tie.Need-enum-known-chosen
-enum-known-chosen c = search needs
-
-is-nearer-requires : tie.Need-is-nearer-requires
-is-nearer-requires c κs = search needs
 
 -- the new one is nearer
 returns-2 : tie.Need-returns-2
@@ -34,4 +25,4 @@ returns-3 c =
     simp (chosen .chosen .given .1, sym (c .before .is-nearer .ensures), c .if1 .left)
 
 pub nearer-hit-spec : {M : Type 1} → statement M
-nearer-hit-spec = tie.close (tie.spec enum-told returns enum-known-chosen is-nearer-requires returns-2 returns-3)
+nearer-hit-spec = tie.close (tie.spec (search needs) returns (search needs) (search needs) returns-2 returns-3)

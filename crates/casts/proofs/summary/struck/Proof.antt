@@ -3,17 +3,11 @@ use borrow.Author.Needs.{needs}
 use Rattle.casts.proofs.summary.struck.Statement.{statement}
 use Rattle.casts.proofs.summary.struck.Tie as tie
 
-enum-told : tie.Need-enum-told
-enum-told c = search needs
-
 returns : tie.Need-returns
 returns c = simp (c .enum-told .given .1)
-
-enum-known-chosen : tie.Need-enum-known-chosen
-enum-known-chosen c = search needs
 
 returns-2 : tie.Need-returns-2
 returns-2 c = simp (c .before .chosen .given .1)
 
 pub struck-spec : {M : Type 1} → statement M
-struck-spec = tie.close (tie.spec enum-told returns enum-known-chosen returns-2)
+struck-spec = tie.close (tie.spec (search needs) returns (search needs) returns-2)

@@ -15,7 +15,8 @@ returns c =
     let (s, a, b) : tie.Start × tie.After-at-least-size × tie.After-at-least-size2 = search in
     let v = s .args .v in (
       c .at-least-size3 .ensures .0
-          ∙ ap (λ (m : Float). orSize m (v .z)) (b .at-least-size2 .ensures .0 ∙ ap (λ (m : Float). orSize m (v .y)) (a .at-least-size .ensures .0)),
+          ∙ ap (λ (m : Float). orSize m (v .z)) (b .at-least-size2 .ensures .0 ∙ ap (λ (m : Float). orSize m (v .y)) (a .at-least-size
+          .ensures .0)),
       c .at-least-size3 .ensures .1,
     )
 

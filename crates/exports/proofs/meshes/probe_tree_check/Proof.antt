@@ -15,7 +15,11 @@ same-length : tie.Need-same-length
 same-length c = search needs
 
 returns : tie.Need-returns
-returns c = (simp (c .verdict-number .ensures, c .before .before .before .check .ensures .0), simp (sym (c .before .before .before .check .ensures .0)) (c .before .before .before .check .ensures .1))
+returns c =
+    let k : tie.After-check = search in (
+      simp (c .verdict-number .ensures, k .check .ensures .0),
+      simp (sym (k .check .ensures .0)) (k .check .ensures .1),
+    )
 
 pub probe-tree-check-spec : {M : Type 1} → statement M
 probe-tree-check-spec =

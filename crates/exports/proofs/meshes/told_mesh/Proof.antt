@@ -1,7 +1,15 @@
 -- `exports::meshes::told_mesh` meets its contract. Assumes nothing.
-use mathlib.Core.Path.{refl}
+use Prim.Native.Nat.{ℕ, _-_, _<_, _≤_}
+use mathlib.Core.Path.{_≡_, refl}
+use mathlib.Core.Bool.{true}
+use mathlib.Core.List.{List}
+use native.Mathlib.Omega.{arith}
+use lib.Ieee.{Float}
+use lib.ListN.{length, take}
+use lib.Seq.{take-length}
 use Rattle.tree.specs.Layout.{Tree, treeOf}
 use Rattle.tree.specs.Mesh.{Mesh, mesh}
+use Rattle.results.specs.Results.{resultsFit}
 use Rattle.exports.proofs.Kept.{results-fit, hit-short, index-short, second-failed}
 use Rattle.exports.proofs.MeshTold.{mesh-short, mesh-told}
 use borrow.Author.Needs.{needs}
@@ -19,45 +27,147 @@ own s = mesh (s .args .vertices .now) (s .args .triangles .now)
 -- the hit slice is too short
 returns : tie.Need-returns
 returns c =
-    let (s, e) : tie.Start × tie.Then1 = search in
+    let (s, f, e) : tie.Start × tie.After-ray-from × tie.Then1 = search in
     let a = s .args in (
-      mesh-short (a .hit .now) (a .index .now) (a .ray) (own s) (a .pose .now) (tree s) _ _ _ (hit-short (a .hit .now) (a .index .now) (e .if1 .taken))
-          (c .short-cast .ensures),
+      mesh-short (a .hit .now) (a .index .now) _ (own s) (a .pose .now) (tree s) _ _ _
+          (hit-short (a .hit .now) (a .index .now) (e .if1 .taken)) (rw (f .ray-from .ensures) at (c .short-cast .ensures)),
       λ _. (refl, refl),
     )
 
 -- the index slice is
 returns-2 : tie.Need-returns-2
 returns-2 c =
-    let (s, e1, e2) : tie.Start × tie.Else1 × tie.Then2 = search in
-    let a = s .args in (
-      mesh-short (a .hit .now) (a .index .now) (a .ray) (own s) (a .pose .now) (tree s) _ _ _
-          (index-short (a .hit .now) (a .index .now) (e1 .if1 .left) (e2 .if2 .taken)) (c .short-cast2 .ensures),
+    let (s, f, e1, e2) : tie.Start × tie.After-ray-from × tie.Else1 × tie.Then2 = search in
+    let a = s .args in
+    let few : length (a .index .now) < 1 = omega (arith, s .pre, e2 .if2 .taken) in (
+      mesh-short (a .hit .now) (a .index .now) _ (own s) (a .pose .now) (tree s) _ _ _
+          (index-short (a .hit .now) (a .index .now) (e1 .if1 .left) few) (rw (f .ray-from .ensures) at (c .short-cast2 .ensures)),
       λ _. (refl, refl),
     )
 
+-- a part that is all of a slice
+whole-floats : (xs : List Float) → take (length xs - 0) xs ≡ xs
+whole-floats xs =
+    let e : length xs - 0 ≡ length xs = omega arith in
+    rw e (take-length xs)
+
+whole-words : (xs : List ℕ) → take (length xs - 0) xs ≡ xs
+whole-words xs =
+    let e : length xs - 0 ≡ length xs = omega arith in
+    rw e (take-length xs)
+
+-- past both tests: the result slices are long enough, and the ray is that of the numbers
+start : tie.Else2 → tie.Start
+start e = search
+
+first : tie.Else2 → tie.Else1
+first e = search
+
+made : tie.Else2 → tie.After-ray-from
+made e = search
+
+there : (e : tie.Else2) → 1 ≤ length (start e .args .index .now)
+unfolding start
+there e =
+    let s : tie.Start = search in
+    omega (arith, s .pre, e .if2 .left)
+
+fits : (e : tie.Else2) → resultsFit (start e .args .hit .now) (start e .args .index .now) ≡ true
+unfolding start first
+fits e = results-fit (start e .args .hit .now) (start e .args .index .now) (first e .if1 .left) (there e)
+
+put-indexed-requires : tie.Need-put-indexed-requires
+unfolding start first
+put-indexed-requires c κs =
+    let e : tie.Else2 = search in
+    (first e .if1 .left, there e)
+
 -- the cast's answer
 returns-3 : tie.Need-returns-3
+unfolding start made
 returns-3 c =
-    let (s, e1, e2, k, p) : tie.Start × tie.Else1 × tie.Else2 × tie.After-ray-mesh × tie.After-put-indexed = search in
+    let (e, k, p) : tie.Else2 × tie.After-ray-mesh × tie.After-put-indexed = search in
+    let s = start e in
     let a = s .args in
-    let fits = results-fit (a .hit .now) (a .index .now) (e1 .if1 .left) (e2 .if2 .left) in (
-      mesh-told (a .hit .now) (a .index .now) (a .ray) (own s) (a .pose .now) (tree s) _ _ _ _ fits (k .ray-mesh .ensures .0) (p .put-indexed .ensures),
-      λ failed. k .ray-mesh .ensures .1 .0 (second-failed _ _ fits failed),
+    let told = rw (
+      made e .ray-from .ensures,
+      whole-floats (a .vertices .now),
+      whole-words (a .triangles .now),
+      whole-floats (a .pose .now),
+      whole-floats (a .node-boxes .now),
+      whole-floats (a .triangle-boxes .now),
+      whole-words (a .node-words .now),
+      whole-words (a .order .now),
+    ) at (k .ray-mesh .ensures .0) in
+    let kept = rw (
+      made e .ray-from .ensures,
+      whole-floats (a .vertices .now),
+      whole-words (a .triangles .now),
+      whole-floats (a .pose .now),
+      whole-floats (a .node-boxes .now),
+      whole-floats (a .triangle-boxes .now),
+      whole-words (a .node-words .now),
+      whole-words (a .order .now),
+    ) at (k .ray-mesh .ensures .1 .0) in (
+      mesh-told (a .hit .now) (a .index .now) _ (own s) (a .pose .now) (tree s) _ _ _ _ (fits e) told (p .put-indexed .ensures),
+      λ failed. kept (second-failed _ _ (fits e) failed),
     )
+
+-- the lengths that the calls below keep
+same-length : tie.Need-same-length
+same-length c =
+    let k : tie.After-ray-mesh = search in
+    k .ray-mesh .kept .1 .1 .1 .1 .1 .1 .1 .1 .1 .0
+
+same-length-2 : tie.Need-same-length-2
+same-length-2 c =
+    let k : tie.After-ray-mesh = search in
+    k .ray-mesh .kept .1 .1 .1 .1 .1 .1 .1 .1 .1 .1 .0
+
+same-length-3 : tie.Need-same-length-3
+same-length-3 c =
+    let p : tie.After-put-indexed = search in
+    p .put-indexed .kept .1 .0
+
+same-length-4 : tie.Need-same-length-4
+same-length-4 c =
+    let p : tie.After-put-indexed = search in
+    p .put-indexed .kept .1 .1 .0
 
 pub told-mesh-spec : {M : Type 1} → statement M
 told-mesh-spec =
     tie.close
     (tie.spec
+    (λ c κs. search needs)  -- ray-from-requires
     (λ c κs. search needs)  -- short-cast-requires
     returns
     (λ c κs. search needs)  -- short-cast-requires-2
     returns-2
+    (search needs)  -- sub-ray-mesh
+    (search needs)  -- part-ray-mesh-start
+    (search needs)  -- part-ray-mesh-end
+    (search needs)  -- sub-ray-mesh-2
+    (search needs)  -- part-ray-mesh-start-2
+    (search needs)  -- part-ray-mesh-end-2
+    (search needs)  -- sub-ray-mesh-3
+    (search needs)  -- part-ray-mesh-start-3
+    (search needs)  -- part-ray-mesh-end-3
+    (search needs)  -- sub-ray-mesh-4
+    (search needs)  -- part-ray-mesh-start-4
+    (search needs)  -- part-ray-mesh-end-4
+    (search needs)  -- sub-ray-mesh-5
+    (search needs)  -- part-ray-mesh-start-5
+    (search needs)  -- part-ray-mesh-end-5
+    (search needs)  -- sub-ray-mesh-6
+    (search needs)  -- part-ray-mesh-start-6
+    (search needs)  -- part-ray-mesh-end-6
+    (search needs)  -- sub-ray-mesh-7
+    (search needs)  -- part-ray-mesh-start-7
+    (search needs)  -- part-ray-mesh-end-7
     (λ c κs. search needs)  -- ray-mesh-requires
-    (λ c κs. search needs)  -- put-indexed-requires
-    (search needs)  -- same-length
-    (search needs)  -- same-length-2
-    (search needs)  -- same-length-3
-    (search needs)  -- same-length-4
+    put-indexed-requires
+    same-length
+    same-length-2
+    same-length-3
+    same-length-4
     returns-3)

@@ -19,7 +19,9 @@ same-length : tie.Need-same-length
 same-length c = search needs
 
 returns : tie.Need-returns
-returns c = simp (c .before .before .put-answer .ensures, c .before .before .before .before .ray-height-field .ensures, c .before .before .before .before .before .ray-from .ensures)
+returns c =
+    let (f, k, a) : tie.After-ray-from × tie.After-ray-height-field × tie.After-put-answer = search in
+    simp (a .put-answer .ensures, k .ray-height-field .ensures, f .ray-from .ensures)
 
 pub told-height-field-spec : {M : Type 1} → statement M
 told-height-field-spec =

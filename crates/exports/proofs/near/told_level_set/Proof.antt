@@ -19,7 +19,9 @@ same-length : tie.Need-same-length
 same-length c = search needs
 
 returns : tie.Need-returns
-returns c = simp (c .before .before .put-answer .ensures, c .before .before .before .before .ray-level-set .ensures, c .before .before .before .before .before .ray-from .ensures)
+returns c =
+    let (f, k, a) : tie.After-ray-from × tie.After-ray-level-set × tie.After-put-answer = search in
+    simp (a .put-answer .ensures, k .ray-level-set .ensures, f .ray-from .ensures)
 
 pub told-level-set-spec : {M : Type 1} → statement M
 told-level-set-spec =

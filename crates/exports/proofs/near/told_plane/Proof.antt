@@ -19,7 +19,9 @@ same-length : tie.Need-same-length
 same-length c = search needs
 
 returns : tie.Need-returns
-returns c = simp (c .before .before .put-answer .ensures, c .before .before .before .before .ray-plane .ensures, c .before .before .before .before .before .ray-from .ensures)
+returns c =
+    let (f, k, a) : tie.After-ray-from × tie.After-ray-plane × tie.After-put-answer = search in
+    simp (a .put-answer .ensures, k .ray-plane .ensures, f .ray-from .ensures)
 
 pub told-plane-spec : {M : Type 1} → statement M
 told-plane-spec =

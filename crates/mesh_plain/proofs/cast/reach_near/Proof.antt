@@ -14,7 +14,13 @@ returns c = simp (test-failed (c .before .corners-touch .ensures) (c .if1 .taken
 returns-2 : tie.Need-returns-2
 returns-2 c =
     let (t, e, k, w) : tie.After-corners-touch × tie.Else1 × tie.After-crossing × tie.After-start = search in
-    simp (test-passed (t .corners-touch .ensures) (e .if1 .left), sym (k .crossing .ensures), w .start .given .1, sym (c .reach-within .ensures))
+    simp (
+      test-passed (t .corners-touch .ensures) (e .if1 .left),
+      sym (k .crossing .ensures),
+      w .start .given .1,
+      sym
+          (c .reach-within .ensures),
+    )
 
 -- it misses
 returns-3 : tie.Need-returns-3

@@ -7,24 +7,25 @@ use Rattle.tree.proofs.mesh.corners_of.Statement.{statement}
 use Rattle.tree.proofs.mesh.corners_of.Tie as tie
 
 corner-at-requires : tie.Need-corner-at-requires
-corner-at-requires c κs = (c .before .before .pre .0, (omega arith, first-fits _ _ _ (c .before .before .pre .1)))
+corner-at-requires c κs =
+    let s : tie.Start = search in
+    (s .pre .0, (omega arith, first-fits _ _ _ (s .pre .1)))
 
 corner-at-requires-2 : tie.Need-corner-at-requires-2
-corner-at-requires-2 c κs = (c .before .before .before .pre .0, (omega arith, second-fits _ _ _ (c .before .before .before .pre .1)))
+corner-at-requires-2 c κs =
+    let s : tie.Start = search in
+    (s .pre .0, (omega arith, second-fits _ _ _ (s .pre .1)))
 
 corner-at-requires-3 : tie.Need-corner-at-requires-3
-corner-at-requires-3 c κs = (
-  c .before .before .before .before .pre .0,
-  (
-    omega arith,
-    third-fits _ _ _ (c .before .before .before .before
-        .pre .1),
-  ),
-)
+corner-at-requires-3 c κs =
+    let s : tie.Start = search in
+    (s .pre .0, (omega arith, third-fits _ _ _ (s .pre .1)))
 
 returns : tie.Need-returns
 unfolding cornersOf
-returns c = simp (sym (c .before .before .corner-at .ensures), sym (c .before .corner-at2 .ensures), sym (c .corner-at3 .ensures))
+returns c =
+    let first : tie.After-corner-at = search in
+    simp (sym (first .corner-at .ensures), sym (c .before .corner-at2 .ensures), sym (c .corner-at3 .ensures))
 
 pub corners-of-spec : {M : Type 1} → statement M
 corners-of-spec =

@@ -15,11 +15,15 @@ returns-2 c = simp (eq-eqb _ _ (c .before .if1 .left), lt-leb _ _ (c .if2 .taken
 
 returns-3 : tie.Need-returns-3
 unfolding lengthsAdmitted
-returns-3 c = simp (eq-eqb _ _ (c .before .before .if1 .left), le-leb _ _ (c .before .if2 .left), ne-eqb _ _ (c .if3 .taken))
+returns-3 c =
+    let e : tie.Else1 = search in
+    simp (eq-eqb _ _ (e .if1 .left), le-leb _ _ (c .before .if2 .left), ne-eqb _ _ (c .if3 .taken))
 
 returns-4 : tie.Need-returns-4
 unfolding lengthsAdmitted
-returns-4 c = simp (eq-eqb _ _ (c .before .before .if1 .left), le-leb _ _ (c .before .if2 .left), eq-eqb _ _ (c .if3 .left))
+returns-4 c =
+    let e : tie.Else1 = search in
+    simp (eq-eqb _ _ (e .if1 .left), le-leb _ _ (c .before .if2 .left), eq-eqb _ _ (c .if3 .left))
 
 pub lengths-admitted-spec : {M : Type 1} → statement M
 lengths-admitted-spec = tie.close (tie.spec returns returns-2 returns-3 returns-4)

@@ -1,151 +1,160 @@
 -- `tree_build::build::grow` meets its contract. Assumes nothing.
 use mathlib.Core.Path.{_≡_, refl, sym, ap, _∙_}
-use mathlib.Core.Bool.{false≢true}
 use mathlib.Core.List.{List, _++_}
-use Prim.Native.Nat.{ℕ, _/_, _<_, _≤_}
+use Prim.Native.Nat.{ℕ, _/_, _≤_}
 use native.Mathlib.Nat.{pos-of-ne-zero}
 use native.Mathlib.Omega.{arith}
 use lib.ListN.{length, take, drop}
 use lib.Seq.{length-take-le, length-front}
-use borrow.Author.Tests.{not-true, not-false}
-use Rattle.tree.specs.Layout.{areas}
-use Rattle.tree.specs.Mesh.{mesh, boxesWritten}
-use Rattle.tree_build.specs.Build.{treeWritten}
+use borrow.Author.Tests.{not-false}
+use Rattle.lists.proofs.JoinedTests.{test-failed}
+use Rattle.tree.specs.Layout.{Areas, areas}
+use Rattle.tree.specs.Mesh.{Mesh, mesh}
 use Rattle.lists.proofs.CountLaws.{length-range}
-use Rattle.tree_build.proofs.Outcomes.{count-admitted, room-left, first-room, numbered-long, numbered, numbered-rest, none-refused, unfit-refused, grown-said, grown-written}
+use Rattle.tree_build.proofs.Outcomes.{Room, count-admitted, room-left, first-room, numbered, numbered-rest, none-refused}
+use Rattle.tree_build.proofs.Outcomes.{unfit-refused, grown-said, grown-written}
 use borrow.Author.Needs.{needs}
 use Rattle.tree_build.proofs.build.grow.Statement.{statement}
 use Rattle.tree_build.proofs.build.grow.Tie as tie
 
-positive : (n : ℕ) → (n ≡ 0 → ⊥) → 0 < n
-positive n h = pos-of-ne-zero h
+-- the mesh, its triangles, and the areas as the call begins
+abbrev given : tie.Start → Mesh
+given s = mesh (s .args .vertices .now) (s .args .triangles .now)
 
+abbrev count : tie.Start → ℕ
+count s = length (s .args .triangles .now) / 3
+
+abbrev lent : tie.Start → Areas
+lent s = areas (s .args .node-boxes .now) (s .args .triangle-boxes .now) (s .args .node-words .now) (s .args .order .now)
+
+-- the order when its front is numbered
+abbrev numbers : tie.After-number → List ℕ
+numbers k = k .number .last .0
+
+abbrev ordered : tie.Start → tie.After-number → List ℕ
+ordered s k = numbers k ++ drop (count s) (s .args .order .now)
+
+roomy : (s : tie.Start) → Room (count s) (length (s .args .node-boxes .now)) (length (s .args .triangle-boxes .now))
+    (length (s .args .node-words .now)) (length (s .args .order .now)) (length (s .args .work .now))
+roomy s = room-left (count s) (lent s) (length (s .args .work .now)) (s .pre .1)
+
+few : (s : tie.Start) → count s ≤ 65536
+few s = count-admitted (length (s .args .vertices .now)) (length (s .args .triangles .now)) (s .pre .0)
+
+-- no triangle
 returns : tie.Need-returns
 returns c =
-    let start : tie.Start = search in
-    let s = start in
-    (none-refused (mesh (s .args .vertices .now) (s .args .triangles .now)) (areas (s .args .node-boxes .now) (s .args .triangle-boxes .now) (s .args .node-words .now) (s .args .order .now)) (c .if1 .taken), λ k e. let z : _≡_ {A = ℕ} 0 1 = cc in absurd (omega arith))
+    let s : tie.Start = search in (
+      none-refused (given s) (lent s) (c .if1 .taken),
+      λ k e. let z : _≡_ {A = ℕ} 0 1 = cc in absurd (omega arith),
+    )
 
 put-triangle-boxes-requires : tie.Need-put-triangle-boxes-requires
 put-triangle-boxes-requires c κs =
-    let start : tie.Start = search in
-    let s = start in
-    let n = length (s .args .triangles .now) / 3 in
-    let room = room-left n (areas (s .args .node-boxes .now) (s .args .triangle-boxes .now) (s .args .node-words .now) (s .args .order .now)) (length (s .args .work .now)) (s .pre .1) in room .forTriangleBoxes
+    let s : tie.Start = search in
+    roomy s .forTriangleBoxes
 
 same-length : tie.Need-same-length
 same-length c =
-    let at-put-triangle-boxes : tie.After-put-triangle-boxes = search in
-    at-put-triangle-boxes .put-triangle-boxes .kept .1 .1 .0
+    let b : tie.After-put-triangle-boxes = search in
+    b .put-triangle-boxes .kept .1 .1 .0
 
+-- a triangle does not fit
 returns-2 : tie.Need-returns-2
 returns-2 c =
-    let (start, else1, at-put-triangle-boxes) : tie.Start × tie.Else1 × tie.After-put-triangle-boxes = search in
-    let s = start in
-    let one = at-put-triangle-boxes .put-triangle-boxes in
-    (unfit-refused (mesh (s .args .vertices .now) (s .args .triangles .now)) (areas (s .args .node-boxes .now) (s .args .triangle-boxes .now) (s .args .node-words .now) (s .args .order .now)) (else1 .if1 .left) (sym (one .ensures .0) ∙ not-true (one .result) (c .if2 .taken)), λ k e. let z : _≡_ {A = ℕ} 0 1 = cc in absurd (omega arith))
+    let (s, some, b) : tie.Start × tie.Else1 × tie.After-put-triangle-boxes = search in (
+      unfit-refused (given s) (lent s) (some .if1 .left) (test-failed (b .put-triangle-boxes .ensures .0) (c .if2 .taken)),
+      λ k e. let z : _≡_ {A = ℕ} 0 1 = cc in absurd (omega arith),
+    )
 
 slice-relend-prefix-number : tie.Need-slice-relend-prefix-number
 slice-relend-prefix-number c =
-    let start : tie.Start = search in
-    let s = start in
-    let n = length (s .args .triangles .now) / 3 in
-    let room = room-left n (areas (s .args .node-boxes .now) (s .args .triangle-boxes .now) (s .args .node-words .now) (s .args .order .now)) (length (s .args .work .now)) (s .pre .1) in room .forOrder
+    let s : tie.Start = search in
+    roomy s .forOrder
 
 slice-aggregate-number : tie.Need-slice-aggregate-number
 slice-aggregate-number c =
-    let start : tie.Start = search in
-    let s = start in
-    let n = length (s .args .triangles .now) / 3 in
-    let room = room-left n (areas (s .args .node-boxes .now) (s .args .triangle-boxes .now) (s .args .node-words .now) (s .args .order .now)) (length (s .args .work .now)) (s .pre .1) in sym (length-take-le n (s .args .order .now) (room .forOrder))
+    let s : tie.Start = search in
+    sym (length-take-le (count s) (s .args .order .now) (roomy s .forOrder))
 
 number-requires : tie.Need-number-requires
 number-requires c κs =
-    let start : tie.Start = search in
-    let s = start in
-    let n = length (s .args .triangles .now) / 3 in
-    let room = room-left n (areas (s .args .node-boxes .now) (s .args .triangle-boxes .now) (s .args .node-words .now) (s .args .order .now)) (length (s .args .work .now)) (s .pre .1) in omega (arith, length-take-le n (s .args .order .now) (room .forOrder), count-admitted (length (s .args .vertices .now)) (length (s .args .triangles .now)) (s .pre .0))
+    let s : tie.Start = search in
+    omega (arith, length-take-le (count s) (s .args .order .now) (roomy s .forOrder), few s)
 
 slice-relend-prefix-build-node : tie.Need-slice-relend-prefix-build-node
 slice-relend-prefix-build-node c =
-    let (start, at-number) : tie.Start × tie.After-number = search in
-    let s = start in
-    let n = length (s .args .triangles .now) / 3 in
-    let room = room-left n (areas (s .args .node-boxes .now) (s .args .triangle-boxes .now) (s .args .node-words .now) (s .args .order .now)) (length (s .args .work .now)) (s .pre .1) in
-    let long = length-front (s .args .order .now) (at-number .number .last .0) n (at-number .number .kept .0) in
-    omega (arith, room .forOrder)
+    let (s, k) : tie.Start × tie.After-number = search in
+    omega (arith, length-front (s .args .order .now) (numbers k) (count s) (k .number .kept .0), roomy s .forOrder)
 
 slice-aggregate-build-node : tie.Need-slice-aggregate-build-node
 slice-aggregate-build-node c =
-    let (start, at-number) : tie.Start × tie.After-number = search in
-    let s = start in
-    let n = length (s .args .triangles .now) / 3 in
-    let room = room-left n (areas (s .args .node-boxes .now) (s .args .triangle-boxes .now) (s .args .node-words .now) (s .args .order .now)) (length (s .args .work .now)) (s .pre .1) in
-    let part : List ℕ = at-number .number .last .0 in
-    let long = length-front (s .args .order .now) part n (at-number .number .kept .0) in
-    sym (length-take-le n (part ++ drop n (s .args .order .now)) (omega (arith, room .forOrder)))
+    let (s, k) : tie.Start × tie.After-number = search in
+    let long = length-front (s .args .order .now) (numbers k) (count s) (k .number .kept .0) in
+    sym (length-take-le (count s) (ordered s k) (omega (arith, long, roomy s .forOrder)))
 
 build-node-requires : tie.Need-build-node-requires
 build-node-requires c κs =
-    let (start, else1, at-number) : tie.Start × tie.Else1 × tie.After-number = search in
-    let s = start in
-    let n = length (s .args .triangles .now) / 3 in
-    let room = room-left n (areas (s .args .node-boxes .now) (s .args .triangle-boxes .now) (s .args .node-words .now) (s .args .order .now)) (length (s .args .work .now)) (s .pre .1) in
-    let part : List ℕ = at-number .number .last .0 in
-    let some = else1 .if1 .left in
-    let is = numbered n (s .args .order .now) part (room .forOrder) (at-number .number .ensures) in
-    let long : length (take n (part ++ drop n (s .args .order .now))) ≡ n = ap length is ∙ length-range 0 n in
-    first-room n (length (take n (part ++ drop n (s .args .order .now)))) (length (s .args .node-boxes .now)) (length (s .args .node-words .now)) (length (s .args .work .now)) long (positive n some)
-    (count-admitted (length (s .args .vertices .now)) (length (s .args .triangles .now)) (s .pre .0)) (room .forNodeBoxes) (room .forNodeWords) (room .forWork)
+    let (s, some, k) : tie.Start × tie.Else1 × tie.After-number = search in
+    let a = s .args in
+    let room = roomy s in
+    let is = numbered (count s) (a .order .now) (numbers k) (room .forOrder) (k .number .ensures) in
+    let long : length (take (count s) (ordered s k)) ≡ count s = ap length is ∙ length-range 0 (count s) in
+    first-room (count s) (length (take (count s) (ordered s k))) (length (a .node-boxes .now)) (length (a .node-words .now))
+    (length (a .work .now)) long (pos-of-ne-zero (some .if1 .left)) (few s) (room .forNodeBoxes) (room .forNodeWords) (room .forWork)
 
+-- each area is as long as it was
 same-length-2 : tie.Need-same-length-2
 same-length-2 c =
-    let at-build-node : tie.After-build-node = search in
-    at-build-node .build-node .kept .1 .1 .1 .1 .0
+    let w : tie.After-build-node = search in
+    w .build-node .kept .1 .1 .1 .1 .0
 
 same-length-3 : tie.Need-same-length-3
 same-length-3 c =
-    let at-put-triangle-boxes : tie.After-put-triangle-boxes = search in
-    at-put-triangle-boxes .put-triangle-boxes .kept .1 .1 .0
+    let b : tie.After-put-triangle-boxes = search in
+    b .put-triangle-boxes .kept .1 .1 .0
 
 same-length-4 : tie.Need-same-length-4
 same-length-4 c =
-    let at-build-node : tie.After-build-node = search in
-    at-build-node .build-node .kept .1 .1 .1 .1 .1 .0
+    let w : tie.After-build-node = search in
+    w .build-node .kept .1 .1 .1 .1 .1 .0
 
 same-length-5 : tie.Need-same-length-5
 same-length-5 c =
-    let (start, at-number, at-build-node) : tie.Start × tie.After-number × tie.After-build-node = search in
-    let s = start in
-    let n = length (s .args .triangles .now) / 3 in
-    let part : List ℕ = at-number .number .last .0 in
-    length-front (part ++ drop n (s .args .order .now)) (at-build-node .build-node .last .1 .0) n (at-build-node .build-node .kept .1 .0) ∙ length-front (s .args .order .now) part n (at-number .number .kept .0)
+    let (s, k, w) : tie.Start × tie.After-number × tie.After-build-node = search in
+    length-front (ordered s k) (w .build-node .last .1 .0) (count s) (w .build-node .kept .1 .0)
+    ∙ length-front (s .args .order .now) (numbers k) (count s) (k .number .kept .0)
 
 same-length-6 : tie.Need-same-length-6
 same-length-6 c =
-    let at-build-node : tie.After-build-node = search in
-    at-build-node .build-node .kept .1 .1 .1 .1 .1 .1 .0
+    let w : tie.After-build-node = search in
+    w .build-node .kept .1 .1 .1 .1 .1 .1 .0
 
+-- what the recursion answers and leaves
 returns-3 : tie.Need-returns-3
 returns-3 c =
-    let (start, else1, at-put-triangle-boxes, else2, at-number, at-build-node) :
+    let (s, some, b, fits, k, w) :
     tie.Start × tie.Else1 × tie.After-put-triangle-boxes × tie.Else2 × tie.After-number × tie.After-build-node = search in
-    let s = start in
-    let n = length (s .args .triangles .now) / 3 in
-    let room = room-left n (areas (s .args .node-boxes .now) (s .args .triangle-boxes .now) (s .args .node-words .now) (s .args .order .now)) (length (s .args .work .now)) (s .pre .1) in
-    let one = at-put-triangle-boxes .put-triangle-boxes in
-    let fit = not-false (one .result) (else2 .if2 .left) in
-    let some = else1 .if1 .left in
-    let part : List ℕ = at-number .number .last .0 in
-    let lent = take n (part ++ drop n (s .args .order .now)) in
-    let is = numbered n (s .args .order .now) part (room .forOrder) (at-number .number .ensures) in
-    let went = at-build-node .build-node in
-    let m = (mesh (s .args .vertices .now) (s .args .triangles .now)) in
-    let a = (areas (s .args .node-boxes .now) (s .args .triangle-boxes .now) (s .args .node-words .now) (s .args .order .now)) in (
-      grown-said m a (went .result) lent (went .last .1 .0) (one .last .1 .1 .0) (went .last .1 .1 .1 .1 .0) (went .last .1 .1 .1 .1 .1 .0) n refl (positive n some) (length (s .args .work .now)) room (one .ensures .1 fit) is (went .kept .1 .0) (went .ensures) some
-          (sym (one .ensures .0) ∙ fit),
-      λ k e. ap (λ (z : List ℕ). areas (went .last .1 .1 .1 .1 .0) (one .last .1 .1 .0) (went .last .1 .1 .1 .1 .1 .0) (went .last .1 .0 ++ z)) (numbered-rest n (s .args .order .now) part (room .forOrder) (at-number .number .ensures))
-          ∙ grown-written m a (went .result) lent (went .last .1 .0) (one .last .1 .1 .0) (went .last .1 .1 .1 .1 .0) (went .last .1 .1 .1 .1 .1 .0) n refl (positive n some) (length (s .args .work .now)) room (one .ensures .1 fit) is (went .kept .1 .0) (went .ensures) k e,
+    let n = count s in
+    let boxes = b .put-triangle-boxes in
+    let fit = not-false (boxes .result) (fits .if2 .left) in
+    let room = roomy s in
+    let part = take n (ordered s k) in
+    let is = numbered n (s .args .order .now) (numbers k) (room .forOrder) (k .number .ensures) in
+    let went = w .build-node in
+    let work = length (s .args .work .now) in
+    let order = went .last .1 .0 in
+    let nodeBoxes = went .last .1 .1 .1 .1 .0 in
+    let nodeWords = went .last .1 .1 .1 .1 .1 .0 in
+    let written = boxes .ensures .1 fit in
+    let positive = pos-of-ne-zero (some .if1 .left) in (
+      grown-said (given s) (lent s) (went .result) part order (boxes .last .1 .1 .0) nodeBoxes nodeWords n refl positive work room written
+          is
+          (went .kept .1 .0) (went .ensures) (some .if1 .left) (sym (boxes .ensures .0) ∙ fit),
+      λ j e. ap (λ (z : List ℕ). areas nodeBoxes (boxes .last .1 .1 .0) nodeWords (order ++ z))
+          (numbered-rest n (s .args .order .now) (numbers k) (room .forOrder) (k .number .ensures))
+          ∙ grown-written (given s) (lent s) (went .result) part order (boxes .last .1 .1 .0) nodeBoxes nodeWords n refl positive work room
+          written is (went .kept .1 .0) (went .ensures) j e,
     )
 
 pub grow-spec : {M : Type 1} → statement M

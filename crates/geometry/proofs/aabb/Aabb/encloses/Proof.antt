@@ -6,34 +6,43 @@ use borrow.Author.Needs.{needs}
 use Rattle.geometry.proofs.aabb.Aabb.encloses.Statement.{statement}
 use Rattle.geometry.proofs.aabb.Aabb.encloses.Tie as tie
 
-within-side-requires : tie.Need-within-side-requires
-within-side-requires c κs = search needs
-
 returns : tie.Need-returns
 unfolding encloses
 returns c = simp (sym (c .before .within-side .ensures), not-true (c .before .within-side .result) (c .if1 .taken))
 
-within-side-requires-2 : tie.Need-within-side-requires-2
-within-side-requires-2 c κs = search needs
-
 returns-2 : tie.Need-returns-2
 unfolding encloses
-returns-2 c = simp (sym (c .before .before .before .within-side .ensures), not-false (c .before .before .before .within-side .result) (c .before .before .if1 .left), sym (c .before .within-side2 .ensures), not-true (c .before .within-side2 .result) (c .if2 .taken))
-
-within-side-requires-3 : tie.Need-within-side-requires-3
-within-side-requires-3 c κs = search needs
+returns-2 c =
+    let (at-within-side, else1) : tie.After-within-side × tie.Else1 = search in
+    simp (
+      sym (at-within-side .within-side .ensures),
+      not-false (at-within-side .within-side .result) (else1 .if1 .left),
+      sym
+          (c .before .within-side2 .ensures),
+      not-true (c .before .within-side2 .result) (c .if2 .taken),
+    )
 
 returns-3 : tie.Need-returns-3
 unfolding encloses
-returns-3 c = simp (sym (c .before .before .before .before .within-side .ensures), not-false (c .before .before .before .before .within-side .result) (c .before .before .before .if1 .left), sym (c .before .before .within-side2 .ensures), not-false (c .before .before .within-side2 .result) (c .before .if2 .left), sym (c .within-side3 .ensures))
+returns-3 c =
+    let (at-within-side, else1, at-within-side2) : tie.After-within-side × tie.Else1 × tie.After-within-side2 = search in
+    simp (
+      sym (at-within-side .within-side .ensures),
+      not-false (at-within-side .within-side .result) (else1 .if1 .left),
+      sym
+          (at-within-side2 .within-side2 .ensures),
+      not-false (at-within-side2 .within-side2 .result) (c .before .if2 .left),
+      sym
+          (c .within-side3 .ensures),
+    )
 
 pub encloses-spec : {M : Type 1} → statement M
 encloses-spec =
     tie.close
     (tie.spec
-    within-side-requires
+    (search needs)  -- within-side-requires
     returns
-    within-side-requires-2
+    (search needs)  -- within-side-requires-2
     returns-2
-    within-side-requires-3
+    (search needs)  -- within-side-requires-3
     returns-3)

@@ -5,15 +5,9 @@ use borrow.Author.Needs.{needs}
 use Rattle.geometry.proofs.aabb.Aabb.union.Statement.{statement}
 use Rattle.geometry.proofs.aabb.Aabb.union.Tie as tie
 
-min-requires : tie.Need-min-requires
-min-requires c κs = search needs
-
-max-requires : tie.Need-max-requires
-max-requires c κs = search needs
-
 returns : tie.Need-returns
 unfolding unionOf
 returns c = simp (sym (c .before .min .ensures), sym (c .max .ensures))
 
 pub union-spec : {M : Type 1} → statement M
-union-spec = tie.close (tie.spec min-requires max-requires returns)
+union-spec = tie.close (tie.spec (search needs) (search needs) returns)

@@ -13,7 +13,9 @@ greatest-requires c κs = finite-numbers _ (c .before .pre .0)
 
 returns : tie.Need-returns
 unfolding segmentBox
-returns c = simp (sym (c .before .before .pre .1), sym (c .before .least .ensures .0), sym (c .greatest .ensures .0))
+returns c =
+    let start : tie.Start = search in
+    simp (sym (start .pre .1), sym (c .before .least .ensures .0), sym (c .greatest .ensures .0))
 
 pub segment-box-spec : {M : Type 1} → statement M
 segment-box-spec = tie.close (tie.spec least-requires greatest-requires returns)

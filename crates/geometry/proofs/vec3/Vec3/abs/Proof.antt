@@ -4,18 +4,9 @@ use borrow.Author.Needs.{needs}
 use Rattle.geometry.proofs.vec3.Vec3.abs.Statement.{statement}
 use Rattle.geometry.proofs.vec3.Vec3.abs.Tie as tie
 
-abs-requires : tie.Need-abs-requires
-abs-requires c κs = search needs
-
-abs-requires-2 : tie.Need-abs-requires-2
-abs-requires-2 c κs = search needs
-
-abs-requires-3 : tie.Need-abs-requires-3
-abs-requires-3 c κs = search needs
-
 returns : tie.Need-returns
 unfolding absOf
 returns c = cc
 
 pub abs-spec : {M : Type 1} → statement M
-abs-spec = tie.close (tie.spec abs-requires abs-requires-2 abs-requires-3 returns)
+abs-spec = tie.close (tie.spec (search needs) (search needs) (search needs) returns)

@@ -19,12 +19,16 @@ is-finite-requires c κs = search needs
 -- src/vec3.rt:139:13
 returns : tie.Need-returns
 unfolding checkedDot
-returns c = simp (sym (c .before .before .dot .ensures), sym (c .before .is-finite .ensures), c .if1 .taken)
+returns c =
+    let at-dot : tie.After-dot = search in
+    simp (sym (at-dot .dot .ensures), sym (c .before .is-finite .ensures), c .if1 .taken)
 
 -- src/vec3.rt:134:5
 returns-2 : tie.Need-returns-2
 unfolding checkedDot
-returns-2 c = simp (sym (c .before .before .dot .ensures), sym (c .before .is-finite .ensures), c .if1 .left)
+returns-2 c =
+    let at-dot : tie.After-dot = search in
+    simp (sym (at-dot .dot .ensures), sym (c .before .is-finite .ensures), c .if1 .left)
 
 pub checked-dot-spec : {M : Type 1} → statement M
 checked-dot-spec = tie.close (tie.spec dot-requires is-finite-requires returns returns-2)

@@ -10,12 +10,15 @@ greater-requires-2 : tie.Need-greater-requires-2
 greater-requires-2 c κs = c .before .pre .second
 
 greater-requires-3 : tie.Need-greater-requires-3
-greater-requires-3 c κs = c .before .before .pre .third
+greater-requires-3 c κs =
+    let start : tie.Start = search in
+    start .pre .third
 
 returns : tie.Need-returns
 unfolding maxOf
 returns c =
-    let p = c .before .before .greater .ensures in
+    let at-greater : tie.After-greater = search in
+    let p = at-greater .greater .ensures in
     let q = c .before .greater2 .ensures in
     let r = c .greater3 .ensures in
     (rw (p .0, q .0, r .0), record { first = p .1; second = q .1; third = r .1 })

@@ -16,10 +16,11 @@ returns-3 c = λ e. absurd (false≢true e)
 
 returns-4 : tie.Need-returns-4
 returns-4 c =
-    let v = c .before .before .before .before .before .before .args .self in
+    let (start, else1, else2) : tie.Start × tie.Else1 × tie.Else2 = search in
+    let v = start .args .self in
     λ _. record {
-      first = sym (ne-self-is-nan (v .x)) ∙ c .before .before .before .before .if1 .left;
-      second = sym (ne-self-is-nan (v .y)) ∙ c .before .before .if2 .left;
+      first = sym (ne-self-is-nan (v .x)) ∙ else1 .if1 .left;
+      second = sym (ne-self-is-nan (v .y)) ∙ else2 .if2 .left;
       third = sym (ne-self-is-nan (v .z)) ∙ c .if3 .left;
     }
 

@@ -6,34 +6,37 @@ use borrow.Author.Needs.{needs}
 use Rattle.geometry.proofs.vec3.Vec3.is_finite.Statement.{statement}
 use Rattle.geometry.proofs.vec3.Vec3.is_finite.Tie as tie
 
-is-finite-requires : tie.Need-is-finite-requires
-is-finite-requires c κs = search needs
-
 returns : tie.Need-returns
 unfolding finiteVec
 returns c = simp (sym (c .before .is-finite .ensures) ∙ not-true _ (c .if1 .taken))
 
-is-finite-requires-2 : tie.Need-is-finite-requires-2
-is-finite-requires-2 c κs = search needs
-
 returns-2 : tie.Need-returns-2
 unfolding finiteVec
-returns-2 c = simp (sym (c .before .before .before .is-finite .ensures) ∙ not-false _ (c .before .before .if1 .left), sym (c .before .is-finite2 .ensures) ∙ not-true _ (c .if2 .taken))
-
-is-finite-requires-3 : tie.Need-is-finite-requires-3
-is-finite-requires-3 c κs = search needs
+returns-2 c =
+    let (at-is-finite, else1) : tie.After-is-finite × tie.Else1 = search in
+    simp (
+      sym (at-is-finite .is-finite .ensures) ∙ not-false _ (else1 .if1 .left),
+      sym (c .before .is-finite2 .ensures) ∙ not-true _
+          (c .if2 .taken),
+    )
 
 returns-3 : tie.Need-returns-3
 unfolding finiteVec
-returns-3 c = simp (sym (c .before .before .before .before .is-finite .ensures) ∙ not-false _ (c .before .before .before .if1 .left), sym (c .before .before .is-finite2 .ensures) ∙ not-false _ (c .before .if2 .left)) (c .is-finite3 .ensures)
+returns-3 c =
+    let (at-is-finite, else1, at-is-finite2) : tie.After-is-finite × tie.Else1 × tie.After-is-finite2 = search in
+    simp (
+      sym (at-is-finite .is-finite .ensures) ∙ not-false _ (else1 .if1 .left),
+      sym (at-is-finite2 .is-finite2 .ensures) ∙ not-false _
+          (c .before .if2 .left),
+    ) (c .is-finite3 .ensures)
 
 pub is-finite-spec : {M : Type 1} → statement M
 is-finite-spec =
     tie.close
     (tie.spec
-    is-finite-requires
+    (search needs)  -- is-finite-requires
     returns
-    is-finite-requires-2
+    (search needs)  -- is-finite-requires-2
     returns-2
-    is-finite-requires-3
+    (search needs)  -- is-finite-requires-3
     returns-3)

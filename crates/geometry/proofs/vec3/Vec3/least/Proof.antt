@@ -10,12 +10,15 @@ lesser-requires-2 : tie.Need-lesser-requires-2
 lesser-requires-2 c κs = c .before .pre .second
 
 lesser-requires-3 : tie.Need-lesser-requires-3
-lesser-requires-3 c κs = c .before .before .pre .third
+lesser-requires-3 c κs =
+    let start : tie.Start = search in
+    start .pre .third
 
 returns : tie.Need-returns
 unfolding minOf
 returns c =
-    let p = c .before .before .lesser .ensures in
+    let at-lesser : tie.After-lesser = search in
+    let p = at-lesser .lesser .ensures in
     let q = c .before .lesser2 .ensures in
     let r = c .lesser3 .ensures in
     (rw (p .0, q .0, r .0), record { first = p .1; second = q .1; third = r .1 })

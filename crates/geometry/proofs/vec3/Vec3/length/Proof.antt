@@ -4,15 +4,9 @@ use borrow.Author.Needs.{needs}
 use Rattle.geometry.proofs.vec3.Vec3.length.Statement.{statement}
 use Rattle.geometry.proofs.vec3.Vec3.length.Tie as tie
 
-dot-requires : tie.Need-dot-requires
-dot-requires c κs = search needs
-
-root-requires : tie.Need-root-requires
-root-requires c κs = search needs
-
 returns : tie.Need-returns
 unfolding lengthOf
 returns c = cc
 
 pub length-spec : {M : Type 1} → statement M
-length-spec = tie.close (tie.spec dot-requires root-requires returns)
+length-spec = tie.close (tie.spec (search needs) (search needs) returns)

@@ -4,18 +4,9 @@ use borrow.Author.Needs.{needs}
 use Rattle.geometry.proofs.vec3.Vec3.min.Statement.{statement}
 use Rattle.geometry.proofs.vec3.Vec3.min.Tie as tie
 
-minimum-requires : tie.Need-minimum-requires
-minimum-requires c κs = search needs
-
-minimum-requires-2 : tie.Need-minimum-requires-2
-minimum-requires-2 c κs = search needs
-
-minimum-requires-3 : tie.Need-minimum-requires-3
-minimum-requires-3 c κs = search needs
-
 returns : tie.Need-returns
 unfolding minOf
 returns c = cc
 
 pub min-spec : {M : Type 1} → statement M
-min-spec = tie.close (tie.spec minimum-requires minimum-requires-2 minimum-requires-3 returns)
+min-spec = tie.close (tie.spec (search needs) (search needs) (search needs) returns)
