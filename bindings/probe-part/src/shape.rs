@@ -2,7 +2,8 @@
 use crate::kinds::kind_of;
 use probe_rays::stl::{self, Corners};
 use probe_rays::{
-    careful, Batch, Cabinet, Cast, Mesh, MeshHit, PartHit, Ray, Refusal, Scratch, HAIR, MAX_COUNT,
+    careful, Batch, Cabinet, Cast, Mesh, MeshHit, PartHit, PlainMesh, Ray, Refusal, Scratch, HAIR,
+    MAX_COUNT,
 };
 use std::fs;
 
@@ -13,6 +14,19 @@ pub struct Shape {
     triangles: Vec<[u32; 3]>,
     meshes: Vec<Piece>,
     cabinet: Cabinet,
+    whole: Option<PlainMesh>,
+}
+
+/// The exact cast has no tree, and looks at every triangle: it is for parts of at most so many.
+pub const FEW: usize = 256;
+
+/// An answer, and whether it was decided in whole numbers.
+#[derive(Clone, Debug, PartialEq)]
+pub struct Answer {
+    /// The answer.
+    pub cast: Cast<MeshHit>,
+    /// Whether it is that of the exact cast.
+    pub exact: bool,
 }
 
 /// A mesh of some of the triangles, with the number of each in the whole.
@@ -57,11 +71,14 @@ impl Shape {
             return Err("no triangles".into());
         }
         let (vertices, triangles) = stl::merged(facets);
+        let few = (triangles.len() <= FEW)
+            .then(|| PlainMesh::new(vertices.as_slice(), triangles.as_slice()));
         let mut shape = Shape {
             vertices,
             triangles,
             meshes: Vec::new(),
             cabinet: Cabinet::new(),
+            whole: few.filter(PlainMesh::is_whole),
         };
         let all = (0..facets.len() as u32).collect();
         shape
@@ -192,6 +209,15 @@ impl Shape {
         careful(ray, HAIR, |ray| self.cast(ray, scratch))
     }
 
+    /// The exact cast, where the part has at most [`FEW`] triangles, all on whole millimetres, and the ray is one that
+    /// [`PlainMesh::cast_exact`] admits; else nothing.
+    pub fn cast_exact(&self, ray: &Ray) -> Option<Cast<MeshHit>> {
+        match self.whole.as_ref()?.cast_exact(ray) {
+            Cast::Refused(_) => None,
+            answer => Some(answer),
+        }
+    }
+
     /// Every triangle that a ray hits, in order of depth, then of number.
     pub fn cast_all(&self, ray: &Ray, scratch: &mut Scratch) -> Result<Vec<MeshHit>, Refusal> {
         if let [piece] = self.meshes.as_slice() {
@@ -215,14 +241,18 @@ impl Shape {
         Ok(all)
     }
 
-    /// The answer of each ray, in their order, over the machine's threads.
-    pub fn cast_many(&self, rays: &[Ray], with_care: bool) -> Vec<Cast<MeshHit>> {
-        Batch::new().run(rays, |ray, scratch| {
-            if with_care {
-                self.cast_careful(ray, scratch)
-            } else {
-                self.cast(ray, scratch)
-            }
+    /// The answer of each ray, in their order, over the machine's threads: that of the exact cast where there is one.
+    pub fn cast_many(&self, rays: &[Ray], with_care: bool) -> Vec<Answer> {
+        Batch::new().run(rays, |ray, scratch| match self.cast_exact(ray) {
+            Some(cast) => Answer { cast, exact: true },
+            None if with_care => Answer {
+                cast: self.cast_careful(ray, scratch),
+                exact: false,
+            },
+            None => Answer {
+                cast: self.cast(ray, scratch),
+                exact: false,
+            },
         })
     }
 

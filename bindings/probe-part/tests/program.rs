@@ -272,6 +272,83 @@ fn rays_from_words_a_file_and_standard_input() {
     assert_eq!((status, out.as_str()), (1, hits.as_str()));
 }
 
+/// docs/DIFFERENCES.md, 'Found in the Rust', 2: the diagonal of a square of 31 is the side opposite the first corner of both
+/// its triangles, and from (1, 30) the rounded cast passes there. (1, 2, 4) + 5 · (0.6, 0, -0.8) is (4, 2, 0).
+#[test]
+fn whole_millimetres_are_exact() {
+    let folder = Folder::new("whole");
+    let square = |side: f64| {
+        let (near, far) = ([side, 0.0, 0.0], [0.0, side, 0.0]);
+        [[[0.0; 3], near, far], [[side, side, 0.0], far, near]]
+    };
+    let rays = b"1 30 1  0 0 -1  10\n1 30 1  0 0 -4  1\n-5 0 0  1 0 0  10\n40 30 1  0 0 -1  10\n1 30 2  0 0 -1  1\n\
+        0.5 30 1  0 0 -1  10\n1 2 4  3 0 -4  10\n1 2 4  0 0 -1  4.5\n1 30 1  0 0 -1  -1\n";
+    let at = |place: &str, triangle: u32| {
+        format!("hit at {place}, normal (0.000, 0.000, 1.000), triangle {triangle}")
+    };
+    let told = [
+        at("1.000 mm, point (1.000, 30.000, 0.000)", 0) + ", exact",
+        at("1.000 mm, point (1.000, 30.000, 0.000)", 0) + ", exact",
+        // along the outline, from 5 before it
+        at("5.000 mm, point (0.000, 0.000, 0.000)", 0) + ", exact",
+        "none, exact".into(),
+        "none, exact".into(),
+        // the origin, the direction and the maximum that are not whole, and a maximum below 0
+        at("1.000 mm, point (0.500, 30.000, 0.000)", 0),
+        at("5.000 mm, point (4.000, 2.000, 0.000)", 0),
+        at("4.000 mm, point (1.000, 2.000, 0.000)", 0),
+        "refused 1, invalid input: a ray or a query's box that is not admitted".into(),
+    ];
+    let lines = |facets: &[_], switches: &[&str], rays: &[u8]| -> Vec<String> {
+        let file = folder.file("square.stl", &binary(facets));
+        let (_, out, err) = said(&[&["cast", &file, "--rays", "-"], switches].concat(), rays);
+        assert_eq!(err, "");
+        let after = |line: &str| line.split_once(": ").map_or(line, |two| two.1).to_string();
+        out.lines().skip(1).map(after).collect()
+    };
+    assert_eq!(lines(&square(31.0), &[], rays), told);
+    assert_eq!(lines(&square(31.0), &["--careful"], rays), told);
+    // every depth is not told exactly, nor is a part that has a corner elsewhere
+    let first = b"1 2 4  0 0 -1  10\n".as_slice();
+    assert_eq!(
+        lines(&square(31.0), &[], first),
+        [at("4.000 mm, point (1.000, 2.000, 0.000)", 0) + ", exact"]
+    );
+    assert_eq!(lines(&square(31.0), &["--all"], first)[0], "1 hit");
+    for other in [31.5, 4097.0] {
+        assert_eq!(
+            lines(&square(other), &[], first),
+            [at("4.000 mm, point (1.000, 2.000, 0.000)", 0)]
+        );
+    }
+    // of 128 triangles and of 512, all on whole millimetres
+    for (times, exact) in [(3, true), (4, false)] {
+        let of = lines(&finer(&square(32.0), times), &[], first);
+        assert!(
+            of[0].starts_with("hit at 4.000 mm") && of[0].ends_with(", exact") == exact,
+            "{of:?}"
+        );
+    }
+}
+
+/// A ray from outside into a closed board hits it, also over its outline and over the edges between its triangles.
+#[test]
+fn every_exact_ray_into_a_board_hits() {
+    let folder = Folder::new("closed");
+    let file = folder.file("board.stl", &binary(&made([60.0, 40.0, 18.0], &[])));
+    let rays: String = (0..61 * 41)
+        .map(|n| format!("{} {} 30  0 0 -1  100\n", n % 61, n / 61))
+        .collect();
+    let (status, out, _) = said(&["cast", &file, "--rays", "-"], rays.as_bytes());
+    assert_eq!((status, out.lines().count()), (0, 2502));
+    for line in out.lines().skip(1) {
+        assert!(
+            line.contains(": hit at 12.000 mm") && line.ends_with(", exact"),
+            "{line}"
+        );
+    }
+}
+
 /// 250,000 rays, more than a command line holds and than one block: over the panel's top, at 32 mm.
 #[test]
 fn a_quarter_of_a_million_rays() {

@@ -118,6 +118,17 @@ class PlainMesh:
         answer = library.probe_ray_mesh_plain(*ray.numbers(), *self._fixed, *place.lent)
         return settled(answer, place.met)
 
+    def cast_exact(self, ray):
+        """The first MeshHit of a ray along an axis at a mesh on whole millimetres, decided in whole numbers, or None. A ray down a
+        side, through a corner or along a face is a hit.
+
+        The origin is whole from -4,096 to 4,096, the direction one of the six axis directions, near and maximum whole from 0 to
+        16,384, and so are the corners of every triangle whose box touches the segment's, from -4,096 to 4,096. Else it raises
+        Refused with 12; with 1, 2 or 5 as `cast` does."""
+        place = _Place()
+        answer = library.probe_ray_mesh_exact_plain(*ray.numbers(), *self._fixed, *place.lent)
+        return settled(answer, place.met)
+
     def build(self):
         """The same mesh with a tree."""
         return Mesh(self._vertices, self._triangles)

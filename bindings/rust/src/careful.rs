@@ -39,7 +39,7 @@ impl AtDistance for PartHit {
 /// most one runs close to such an edge. That all four miss a surface that is there is not excluded: a triangle without
 /// a hair's room beside the ray, or a gap in the mesh itself. And within a hair of a rim the nearer surface is told,
 /// whichever the ray itself meets; on a slanted surface the distance is up to a hair times the slope less.
-/// docs/STEP.md of the repository has figures.
+/// docs/TOOL.md of the repository has figures.
 ///
 /// ```
 /// use probe_rays::{careful, Cast, PlainMesh, Ray, HAIR};

@@ -55,6 +55,54 @@ impl PlainMesh {
         )
     }
 
+    /// The first point of a ray along an axis in a closed triangle of a mesh on whole millimetres, decided in whole
+    /// numbers: a none is certain, and a ray down a side, through a corner or along a face is a hit.
+    ///
+    /// The origin is whole from -4,096 to 4,096, the direction one of the six axis directions, near and maximum whole
+    /// from 0 to 16,384, else 12; then 2 and 5 as [`PlainMesh::cast`] has them, and 12 where a triangle whose box touches
+    /// the segment's has a corner that is not whole from -4,096 to 4,096.
+    ///
+    /// ```
+    /// use probe_rays::{Cast, PlainMesh, Ray, Refusal};
+    ///
+    /// // a square of 31 in two triangles, bored on the side between them, where the rounded cast passes
+    /// let square = [[0.0, 0.0, 0.0], [31.0, 0.0, 0.0], [0.0, 31.0, 0.0], [31.0, 31.0, 0.0]];
+    /// let part = PlainMesh::new(square, [[0, 1, 2], [3, 2, 1]]);
+    /// let down = Ray::new([1.0, 30.0, 1.0], [0.0, 0.0, -1.0], 2.0);
+    /// assert_eq!(part.cast(&down), Cast::None);
+    /// let Cast::Hit(hit) = part.cast_exact(&down) else { panic!() };
+    /// assert_eq!((hit.distance, hit.triangle), (1.0, 0));
+    ///
+    /// // along the square's outline, and half a millimetre beside the grid
+    /// let along = Ray::new([-5.0, 0.0, 0.0], [1.0, 0.0, 0.0], 10.0);
+    /// let Cast::Hit(hit) = part.cast_exact(&along) else { panic!() };
+    /// assert_eq!(hit.distance, 5.0);
+    /// let beside = Ray::new([0.5, 30.0, 1.0], [0.0, 0.0, -1.0], 2.0);
+    /// assert_eq!(part.cast_exact(&beside), Cast::Refused(Refusal::NotWhole));
+    /// ```
+    pub fn cast_exact(&self, ray: &Ray) -> Cast<MeshHit> {
+        lent::ray_mesh_exact_plain(
+            ray,
+            self.vertices.as_flattened(),
+            self.triangles.as_flattened(),
+        )
+    }
+
+    /// Whether every vertex is whole from -4,096 to 4,096: [`PlainMesh::cast_exact`] refuses with 12 for the ray alone then.
+    ///
+    /// ```
+    /// use probe_rays::PlainMesh;
+    ///
+    /// let corners = |x| [[-0.0, 0.0, 0.0], [x, 0.0, 0.0], [0.0, -4096.0, 0.0]];
+    /// assert!([31.0, 4096.0].iter().all(|&x| PlainMesh::new(corners(x), [[0, 1, 2]]).is_whole()));
+    /// let others = [0.5, 4097.0, f64::INFINITY, f64::NAN];
+    /// assert!(!others.iter().any(|&x| PlainMesh::new(corners(x), [[0, 1, 2]]).is_whole()));
+    /// ```
+    pub fn is_whole(&self) -> bool {
+        let whole = |part: &f64| part.abs() <= 4096.0 && part.fract() == 0.0;
+        self.vertices.as_flattened().iter().all(whole)
+    }
+
     /// The same mesh with a tree, as [`Mesh::build`] builds it.
     pub fn build(self) -> Result<Mesh, Refusal> {
         Mesh::build(self.vertices, self.triangles)

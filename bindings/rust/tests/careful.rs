@@ -1,5 +1,5 @@
-//! The careful cast. Expected answers come from the geometry, and the counts of misses from running the casts: they are
-//! held here so that the figures of docs/STEP.md stay true.
+//! The careful cast. Expected answers come from the geometry. That rays pass an edge at all is seen by running the casts
+//! (docs/TOOL.md has the figures); how many do is not held here.
 use probe_rays::{careful, Cast, Hit, Mesh, MeshHit, PlainMesh, Ray, Refusal, Scratch, HAIR};
 
 fn down(x: f64, y: f64) -> Ray {

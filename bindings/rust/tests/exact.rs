@@ -1,0 +1,216 @@
+//! The cast on whole millimetres beside a judge that decides every triangle in fractions, by its plane and its sides in
+//! space: random boards, rays at sides and corners, and rays along faces.
+use probe_rays::{Cast, PlainMesh, Ray};
+
+type Point = [i128; 3];
+
+fn minus(p: Point, q: Point) -> Point {
+    [p[0] - q[0], p[1] - q[1], p[2] - q[2]]
+}
+
+fn cross(p: Point, q: Point) -> Point {
+    [
+        p[1] * q[2] - p[2] * q[1],
+        p[2] * q[0] - p[0] * q[2],
+        p[0] * q[1] - p[1] * q[0],
+    ]
+}
+
+fn dot(p: Point, q: Point) -> i128 {
+    p[0] * q[0] + p[1] * q[1] + p[2] * q[2]
+}
+
+/// A depth as a fraction with a divisor above 0.
+type Depth = (i128, i128);
+
+fn fraction(over: i128, under: i128) -> Depth {
+    if under < 0 {
+        (-over, -under)
+    } else {
+        (over, under)
+    }
+}
+
+fn deeper(d: Depth, e: Depth) -> bool {
+    d.0 * e.1 > e.0 * d.1
+}
+
+/// The depths d where first + d · slope is not below 0, within those from low to high.
+fn clip(low: &mut Depth, high: &mut Depth, first: i128, slope: i128) -> bool {
+    if slope == 0 {
+        return first >= 0;
+    }
+    let at = fraction(-first, slope);
+    if slope > 0 && deeper(at, *low) {
+        *low = at;
+    }
+    if slope < 0 && deeper(*high, at) {
+        *high = at;
+    }
+    !deeper(*low, *high)
+}
+
+/// The first depth from near to far at which the line is in the closed triangle.
+fn first_depth(o: Point, d: Point, near: i128, far: i128, t: [Point; 3]) -> Option<Depth> {
+    let n = cross(minus(t[1], t[0]), minus(t[2], t[0]));
+    if n == [0, 0, 0] {
+        return None;
+    }
+    let (mut low, mut high) = ((near, 1), (far, 1));
+    // in the plane: not above it, and not below it
+    let (above, rise) = (dot(n, minus(o, t[0])), dot(n, d));
+    if !clip(&mut low, &mut high, above, rise) || !clip(&mut low, &mut high, -above, -rise) {
+        return None;
+    }
+    for k in 0..3 {
+        let (p, q) = (t[k], t[(k + 1) % 3]);
+        let side = minus(q, p);
+        if !clip(
+            &mut low,
+            &mut high,
+            dot(n, cross(side, minus(o, p))),
+            dot(n, cross(side, d)),
+        ) {
+            return None;
+        }
+    }
+    Some(low)
+}
+
+fn divisor(a: i128, b: i128) -> i128 {
+    if b == 0 {
+        a.abs()
+    } else {
+        divisor(b, a % b)
+    }
+}
+
+/// The float nearest to a depth: both numbers are exact once the fraction is reduced.
+fn nearest(d: Depth) -> f64 {
+    let k = divisor(d.0, d.1).max(1);
+    let (over, under) = (d.0 / k, d.1 / k);
+    assert!(over.abs() < 1 << 53 && under < 1 << 53);
+    over as f64 / under as f64
+}
+
+/// xorshift, so that a run can be had again.
+struct Random(u64);
+
+impl Random {
+    fn below(&mut self, n: u64) -> u64 {
+        self.0 ^= self.0 << 13;
+        self.0 ^= self.0 >> 7;
+        self.0 ^= self.0 << 17;
+        self.0 % n
+    }
+
+    fn within(&mut self, size: i128) -> i128 {
+        self.below(2 * size as u64 + 1) as i128 - size
+    }
+
+    fn point(&mut self, size: i128) -> Point {
+        [self.within(size), self.within(size), self.within(size)]
+    }
+}
+
+fn floats(p: Point) -> [f64; 3] {
+    [p[0] as f64, p[1] as f64, p[2] as f64]
+}
+
+#[test]
+fn as_a_judge_in_fractions_has_it() {
+    let random = &mut Random(0x9e37_79b9_7f4a_7c15);
+    // hits, misses, hits at near or far, and hits of triangles whose plane the line lies in
+    let mut seen = [0_u32; 4];
+    for board in 0..60_000 {
+        // small boards meet their rays at sides and corners; large ones have large numbers
+        let size = if board % 4 == 0 { 4096 } else { 4 };
+        let count = 1 + random.below(6) as usize;
+        let triangles: Vec<[Point; 3]> = (0..count)
+            .map(|_| [random.point(size), random.point(size), random.point(size)])
+            .collect();
+        let axis = random.below(3) as usize;
+        let mut direction = [0; 3];
+        direction[axis] = if random.below(2) == 0 { 1 } else { -1 };
+        let mut origin = random.point(size);
+        if random.below(2) == 0 {
+            // at a corner's own place across the axis
+            let corner = triangles[random.below(count as u64) as usize][random.below(3) as usize];
+            let along = origin[axis];
+            origin = corner;
+            origin[axis] = along;
+        }
+        let near = random.below(size as u64 + 1) as i128;
+        let far = near + random.below(2 * size as u64) as i128;
+
+        let mut expected: Option<(f64, u32, Depth, bool)> = None;
+        for (index, t) in triangles.iter().enumerate() {
+            if let Some(depth) = first_depth(origin, direction, near, far, *t) {
+                let distance = nearest(depth);
+                let flat = dot(cross(minus(t[1], t[0]), minus(t[2], t[0])), direction) == 0;
+                if expected.map_or(true, |least| distance < least.0) {
+                    expected = Some((distance, index as u32, depth, flat));
+                }
+            }
+        }
+        let vertices: Vec<[f64; 3]> = triangles.iter().flatten().map(|&p| floats(p)).collect();
+        let indices: Vec<[u32; 3]> = (0..count as u32)
+            .map(|k| [3 * k, 3 * k + 1, 3 * k + 2])
+            .collect();
+        let ray = Ray::new(floats(origin), floats(direction), far as f64).with_near(near as f64);
+        let answer = PlainMesh::new(vertices, indices).cast_exact(&ray);
+        match (expected, &answer) {
+            (None, Cast::None) => seen[1] += 1,
+            (Some((distance, index, depth, flat)), Cast::Hit(hit)) => {
+                assert_eq!(
+                    (hit.distance, hit.triangle),
+                    (distance, index),
+                    "board {board}"
+                );
+                let toward: f64 = (0..3).map(|k| hit.normal[k] * direction[k] as f64).sum();
+                assert!(toward <= 0.0, "board {board}: the normal faces the ray");
+                seen[0] += 1;
+                seen[2] += u32::from(depth.0 == near * depth.1 || depth.0 == far * depth.1);
+                seen[3] += u32::from(flat);
+            }
+            _ => panic!("board {board}: {answer:?} where the judge has {expected:?}"),
+        }
+    }
+    assert!(seen.iter().all(|&count| count > 500), "{seen:?}");
+}
+
+#[test]
+fn every_ray_into_a_closed_board_hits() {
+    // a cube of 8, and each way in from outside over every place of its face, the outline and the diagonals too
+    let corner = |k: u32| [0, 1, 2].map(|axis| if k >> axis & 1 == 1 { 8.0 } else { 0.0 });
+    let vertices: Vec<[f64; 3]> = (0..8).map(corner).collect();
+    let faces = [
+        [0, 1, 3, 2],
+        [4, 5, 7, 6],
+        [0, 1, 5, 4],
+        [2, 3, 7, 6],
+        [0, 2, 6, 4],
+        [1, 3, 7, 5],
+    ];
+    let triangles: Vec<[u32; 3]> = faces
+        .iter()
+        .flat_map(|f| [[f[0], f[1], f[2]], [f[0], f[2], f[3]]])
+        .collect();
+    let cube = PlainMesh::new(vertices, triangles);
+    for axis in 0..3 {
+        for side in [-1.0, 1.0] {
+            for place in 0..81 {
+                let mut origin = [0.0; 3];
+                origin[axis] = if side > 0.0 { -3.0 } else { 11.0 };
+                origin[(axis + 1) % 3] = f64::from(place % 9);
+                origin[(axis + 2) % 3] = f64::from(place / 9);
+                let mut direction = [0.0; 3];
+                direction[axis] = side;
+                let Cast::Hit(hit) = cube.cast_exact(&Ray::new(origin, direction, 20.0)) else {
+                    panic!("from {origin:?}")
+                };
+                assert_eq!(hit.distance, 3.0);
+            }
+        }
+    }
+}

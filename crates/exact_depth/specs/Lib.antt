@@ -1,0 +1,4 @@
+-- The first point of a segment in a closed triangle, over the whole numbers. Definitions only. Assumes nothing.
+pub mod Sizes
+pub mod FirstPoint
+pub mod Meeting

@@ -1,0 +1,7 @@
+-- Whole numbers from floats, the ray as a line, the corners as it sees them. Assumes nothing.
+pub mod WholeLaws
+pub mod LineLaws
+pub mod SeenLaws
+pub mod Certainty
+pub mod Distances
+pub mod Examples

@@ -1,0 +1,122 @@
+-- A float that is told to be a whole number is one, within its range. Assumes nothing.
+use mathlib.Core.Path.{_≡_, refl, sym, ap, _∙_, subst}
+use mathlib.Core.Bool.{Bool, true, false, cond, true≢false, false≢true}
+use Prim.Native.Nat.{ℕ, suc, _≤_}
+use native.Mathlib.Omega.{arith}
+use lib.IntN.{ℤ, pos, negsuc, natAbs}
+use lib.Signed.{ltZ}
+use lib.Ieee.{Float, binary64, ofInt, toSigned, le, lt, ne}
+use borrow.Author.Tests.{ltb-false}
+use Rattle.geometry.specs.declared.vec3.Vec3.{Vec3}
+use Rattle.exact_depth.specs.Sizes.{Sized}
+use Rattle.exact_triangle.specs.declared.whole.Whole.{Whole}
+use Rattle.exact_triangle.specs.declared.whole.Whole.the-variants.{Is, Not}
+use Rattle.exact_triangle.specs.declared.whole.Point.{Point}
+use Rattle.exact_triangle.specs.declared.whole.Placed.{Placed}
+use Rattle.exact_triangle.specs.declared.whole.Placed.the-variants.{At, Off}
+use Rattle.exact_triangle.specs.Whole.{within, least, past, wholeIn, withWhole, coordinate, pointOf}
+use Rattle.exact_triangle.specs.Exact.{Near}
+
+-- ---- the definition's arms
+pub off-least : (x : Float) (low high : ℤ) → le least x ≡ false → Not ≡ wholeIn x low high
+unfolding wholeIn
+off-least x low high h = simp h
+
+pub off-past : (x : Float) (low high : ℤ) → le least x ≡ true → lt x past ≡ false → Not ≡ wholeIn x low high
+unfolding wholeIn
+off-past x low high h g = simp (h, g)
+
+pub off-part : (x : Float) (low high : ℤ) → le least x ≡ true → lt x past ≡ true → ne x (ofInt binary64 (toSigned 63 x)) ≡ true
+    → Not ≡ wholeIn x low high
+unfolding wholeIn
+off-part x low high h g k = simp (h, g, k)
+
+pub in-range : (x : Float) (low high : ℤ) (r : Whole) → le least x ≡ true → lt x past ≡ true
+    → ne x (ofInt binary64 (toSigned 63 x)) ≡ false → r ≡ within (toSigned 63 x) low high → r ≡ wholeIn x low high
+unfolding wholeIn
+in-range x low high r h g k e = e ∙ (simp (h, g, k))
+
+pub off-x : (v : Vec3) → coordinate (v .x) ≡ Not → Off ≡ pointOf v
+unfolding pointOf
+off-x v h = simp h
+
+pub off-y : (v : Vec3) (x : ℤ) → coordinate (v .x) ≡ Is x → coordinate (v .y) ≡ Not → Off ≡ pointOf v
+unfolding pointOf
+off-y v x h g = simp (h, g)
+
+pub off-z : (v : Vec3) (x y : ℤ) → coordinate (v .x) ≡ Is x → coordinate (v .y) ≡ Is y → coordinate (v .z) ≡ Not → Off ≡ pointOf v
+unfolding pointOf
+off-z v x y h g k = simp (h, g, k)
+
+pub at-point : (v : Vec3) (x y z : ℤ) → coordinate (v .x) ≡ Is x → coordinate (v .y) ≡ Is y → coordinate (v .z) ≡ Is z
+    → At (record { x = x; y = y; z = z }) ≡ pointOf v
+unfolding pointOf
+at-point v x y z h g k = simp (h, g, k)
+
+-- ---- what is told
+abbrev isWhole : Whole → Bool
+isWhole (Is n) = true
+isWhole Not = false
+
+abbrev numberOf : Whole → ℤ
+numberOf (Is n) = n
+numberOf Not = pos 0
+
+pub record Between (low high x : ℤ) : Type 0 where
+  pub least : ltZ x low ≡ false
+  pub most : ltZ high x ≡ false
+
+within-told : (n low high x : ℤ) → within n low high ≡ Is x → Between low high x
+unfolding within
+within-told n low high x h = go (ltZ n low) (ltZ high n) refl refl h
+  where
+    go : (p q : Bool) → ltZ n low ≡ p → ltZ high n ≡ q → cond p Not (cond q Not (Is n)) ≡ Is x → Between low high x
+    go true q p' q' h = absurd (false≢true (ap isWhole h))
+    go false true p' q' h = absurd (false≢true (ap isWhole h))
+    go false false p' q' h =
+        let e : n ≡ x = ap numberOf h in
+        record { least = ap (λ (z : ℤ). ltZ z low) (sym e) ∙ p'; most = ap (λ (z : ℤ). ltZ high z) (sym e) ∙ q' }
+
+pub whole-told : (y : Float) (low high x : ℤ) → wholeIn y low high ≡ Is x → Between low high x
+unfolding wholeIn
+whole-told y low high x h = go (le least y) (lt y past) (ne y (ofInt binary64 (toSigned 63 y))) h
+  where
+    go : (p q r : Bool) → cond p (cond q (cond r Not (within (toSigned 63 y) low high)) Not) Not ≡ Is x → Between low high x
+    go false q r h = absurd (false≢true (ap isWhole h))
+    go true false r h = absurd (false≢true (ap isWhole h))
+    go true true true h = absurd (false≢true (ap isWhole h))
+    go true true false h = within-told (toSigned 63 y) low high x h
+
+near-of : (x : ℤ) → Between (negsuc 4095) (pos 4096) x → Sized 4096 x
+near-of (pos n) b = let m = ltb-false 4096 n (b .most) in record { size = m }
+near-of (negsuc n) b = let m = ltb-false 4095 n (b .least) in record { size = omega (arith, m) }
+
+pub coordinate-near : (y : Float) (x : ℤ) → coordinate y ≡ Is x → Sized 4096 x
+coordinate-near y x h = near-of x (whole-told y (negsuc 4095) (pos 4096) x h)
+
+pub range-of : (x : ℤ) → Between (pos 0) (pos 16384) x → Sized 16384 x
+range-of (pos n) b = let m = ltb-false 16384 n (b .most) in record { size = m }
+range-of (negsuc n) b = absurd (true≢false (b .least))
+
+-- ---- a point that is told has small coordinates
+abbrev isAt : Placed → Bool
+isAt (At p) = true
+isAt Off = false
+
+abbrev placeOf : Placed → Point
+placeOf (At p) = p
+placeOf Off = record { x = pos 0; y = pos 0; z = pos 0 }
+
+pub point-near : (v : Vec3) (p : Point) → pointOf v ≡ At p → Near p
+unfolding pointOf
+point-near v p h = go (coordinate (v .x)) (coordinate (v .y)) (coordinate (v .z)) refl refl refl h
+  where
+    go : (a b c : Whole) → coordinate (v .x) ≡ a → coordinate (v .y) ≡ b → coordinate (v .z) ≡ c
+        → withWhole a Off (λ (x : ℤ). withWhole b Off (λ (y : ℤ). withWhole c Off (λ (z : ℤ). At (record { x = x; y = y; z = z })))) ≡ At p
+        → Near p
+    go Not b c a' b' c' h = absurd (false≢true (ap isAt h))
+    go (Is x) Not c a' b' c' h = absurd (false≢true (ap isAt h))
+    go (Is x) (Is y) Not a' b' c' h = absurd (false≢true (ap isAt h))
+    go (Is x) (Is y) (Is z) a' b' c' h =
+        subst Near (ap placeOf h)
+        (record { x = coordinate-near (v .x) x a'; y = coordinate-near (v .y) y b'; z = coordinate-near (v .z) z c' })

@@ -1,0 +1,58 @@
+use casts::answer;
+use exact_triangle::cast as triangle;
+use exact_triangle::line;
+use exact_triangle::line::Ruled;
+use mesh_exact::cast;
+use tree::mesh as triangle_mesh;
+ghost use mathlib.Core.Path.{_≡_};
+ghost use Rattle.tree.specs.Mesh.{mesh};
+ghost use Rattle.results.specs.Results.{rayFrom};
+ghost use Rattle.exports.specs.ExactResults.{exactTold};
+
+// The cast of an axis ray at a mesh on whole millimetres, without a tree, and without a work area.
+#[no_mangle]
+pub extern "C" fn probe_ray_mesh_exact_plain(
+    origin_x: f64,
+    origin_y: f64,
+    origin_z: f64,
+    direction_x: f64,
+    direction_y: f64,
+    direction_z: f64,
+    max_distance: f64,
+    near_distance: f64,
+    vertices: &[f64],
+    triangles: &[u32],
+    hit: &mut [f64],
+    index: &mut [u32],
+) -> u32
+    ensures { λ r. ⌜ record { number = r; hit = now (hit .exit); index = now (index .exit) } ≡ exactTold (rayFrom «origin_x» «origin_y» «origin_z» «direction_x» «direction_y» «direction_z» «max_distance» «near_distance») (mesh (now (vertices .entry)) (now (triangles .entry))) (now (hit .entry)) (now (index .entry)) ⌝ }
+{
+    let ray = results::ray_from(
+        origin_x,
+        origin_y,
+        origin_z,
+        direction_x,
+        direction_y,
+        direction_z,
+        max_distance,
+        near_distance,
+    );
+    if !ray.validate() {
+        return answer::INVALID_INPUT;
+    }
+    let ruled = line::line_of(ray);
+    let Ruled::On(line) = ruled else {
+        return triangle::NOT_WHOLE;
+    };
+    if !triangle_mesh::lengths_admitted(vertices.len(), triangles.len()) {
+        return answer::BAD_SHAPE;
+    }
+    if hit.len() < 4 {
+        return answer::NO_ROOM;
+    }
+    if index.len() < 1 {
+        return answer::NO_ROOM;
+    }
+    let found = cast::exact_cast(ray, line, vertices, triangles);
+    results::put_indexed(found, hit, index)
+}

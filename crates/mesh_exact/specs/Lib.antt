@@ -1,0 +1,2 @@
+-- The cast at a mesh on whole millimetres. Definitions only. Assumes nothing.
+pub mod ExactCast
