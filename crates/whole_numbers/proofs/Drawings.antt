@@ -18,7 +18,7 @@ use Rattle.arithmetic.proofs.WholeValues.{Is, signed}
 use Rattle.whole_numbers.proofs.Whole.{Stands, Whole, WholeVec}
 use Rattle.whole_numbers.specs.Points.{Point}
 use Rattle.lists.proofs.JoinedTests.{and-first, and-second}
-use Rattle.whole_numbers.proofs.Integers.{no-factor}
+use Rattle.exact_depth.proofs.Integers.{no-factor}
 use Rattle.whole_numbers.specs.Board.{Drawn, DrawnAt}
 
 either : (p q : Bool) → (p || q) ≡ true → (p ≡ true) ⊎ (q ≡ true)

@@ -1,5 +1,4 @@
 -- The triangle cast on whole millimetres, from exact floats up to the promise. Assumes nothing.
-pub mod Integers
 pub mod Whole
 pub mod Vectors
 pub mod Quotients

@@ -5,7 +5,7 @@ use lib.Ieee.{Float}
 use Rattle.arithmetic.proofs.WholeValues.{Is}
 use Rattle.geometry.specs.declared.vec3.Vec3.{Vec3}
 use Rattle.whole_numbers.specs.Points.{Point}
-use Rattle.whole_numbers.proofs.Integers.{pp, np}
+use Rattle.exact_depth.proofs.Integers.{pp, np}
 
 -- x is the whole number z
 abbrev pub Stands : Float → ℤ → Type 0
