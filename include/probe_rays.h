@@ -45,10 +45,12 @@
  *                        the gradient at its hit is zero or not finite
  *   9    bad range       a range of a visited cell is out of order or not finite       unchanged
  *   10   limit reached   the next node of a cabinet's walks would exceed the limit     unchanged but for spent
+ *   11   not held        a float of a record is NaN, or no f32 is exactly that number  unchanged
+ *   12   not whole       on whole millimetres: the ray or a candidate's corner is not   unchanged
  *
  * Or one of the codes PROBE_HIT, PROBE_NONE, PROBE_YES, PROBE_NO, PROBE_DONE, PROBE_CLEAR and PROBE_POSSIBLE, which no
  * refusal has.
- * Numbers from 11 on may be added to the refusals; all stay below 256.
+ * Numbers from 12 on may be added to the refusals; all stay below 256.
  *
  * Tested are 1, 2, 3 and 4 in this order, then the others as the cast meets them. The result slices hit, index, nodes
  * (of probe_build), found and cell are lent slices like the others: one that is too short is 3, after 1 and 2.
@@ -104,6 +106,8 @@ extern "C" {
 #define PROBE_REFUSED_NOT_CONVERGENT 8u
 #define PROBE_REFUSED_BAD_RANGE 9u
 #define PROBE_REFUSED_LIMIT_REACHED 10u
+#define PROBE_REFUSED_NOT_HELD 11u
+#define PROBE_REFUSED_NOT_WHOLE 12u
 
 /* Whether an answer is a refusal. */
 #define PROBE_IS_REFUSAL(answer) ((answer) < 256u)
@@ -130,6 +134,7 @@ extern "C" {
  *   index           uint32_t  1               the index of the triangle hit
  *   nodes, found    size_t    1               the build's node count; how many triangles the query listed
  *   part, spent     size_t    1               the part hit, from 0; the nodes spent on a cabinet
+ *   written         size_t    1               how many bytes a converted record has
  *
  * Node 0 is the root. A node count is at most 2n (more is 2), so a stack of 2n + 1 does for every tree.
  */
@@ -146,6 +151,9 @@ extern "C" {
 #define PROBE_HIT_LENGTH 4
 #define PROBE_INDEX_LENGTH 1
 #define PROBE_COUNT_LENGTH 1
+
+/* No record of version 2 or 3 is longer, its four length bytes included. */
+#define PROBE_MAX_RECORD 8196u
 
 /* The version of the library that is linked: PROBE_VERSION, if this header is its own. */
 uint32_t probe_version(void);
@@ -474,6 +482,35 @@ uint32_t probe_ray_mesh_plain(
     size_t index_length
 );
 
+/* Casts a ray along an axis at a mesh on whole millimetres, without a tree: the answer is decided in whole numbers, so
+ * that a none is certain. A hit is the first point of the segment from near_distance to max_distance, both included,
+ * that lies in any closed triangle of the mesh, its sides and corners included; so does a triangle whose plane the line
+ * lies in, and a triangle without area does not count. The distance is the quotient of two whole numbers, rounded once.
+ *
+ * Answers PROBE_HIT, PROBE_NONE, or refuses with 1, 12, 2, 3 or 5, tested in this order. 12, for the ray: the origin is
+ * whole from -4,096 to 4,096, the direction one of the six axis directions, near_distance and max_distance whole from 0
+ * to 16,384. Then 2, 3 (hit, index) and 5 as probe_ray_mesh_plain has them, and 12 where a triangle whose box touches
+ * the segment's box has a corner that is not whole from -4,096 to 4,096.
+ */
+uint32_t probe_ray_mesh_exact_plain(
+    double origin_x,
+    double origin_y,
+    double origin_z,
+    double direction_x,
+    double direction_y,
+    double direction_z,
+    double max_distance,
+    double near_distance,
+    const double *vertices,
+    size_t vertices_length,
+    const uint32_t *triangles,
+    size_t triangles_length,
+    double *hit,
+    size_t hit_length,
+    uint32_t *index,
+    size_t index_length
+);
+
 /* Lists every triangle of a mesh that a ray hits, of those that the tree lists for the box of the ray's segment, and
  * writes how many to found[0]. The arguments are the mesh cast's, with a near distance after the maximum: a hit nearer
  * than that is no hit. It is finite, from 0 to the maximum, else 1.
@@ -745,6 +782,40 @@ uint32_t probe_ray_cabinet(
     size_t part_length,
     size_t *spent,
     size_t spent_length
+);
+
+/* Writes a record of version 2, with floats of eight bytes, as one of version 3, with floats of four, and back.
+ *
+ * The bytes are exactly one record as the program `probe` reads it, its four length bytes included. The whole record
+ * is written at the front of out, and how many bytes it has at the front of written; the places past them are unchanged.
+ * An out of PROBE_MAX_RECORD bytes is long enough for every record. The calls do not ask whether `probe` would answer the
+ * record: numbers may be any, and the u32 are copied.
+ *
+ * Answers PROBE_DONE, or refuses with 2 (not one record of the version, well formed; one of version 3 whose version 2
+ * would be longer than PROBE_MAX_RECORD), then 3 (out is shorter than the record to be written, or written has no place),
+ * then 11: a float is NaN, or (to version 3) no f32 is exactly that number. Infinities, both zeros and subnormal numbers
+ * are held. Nothing is written then.
+ *
+ * A direction must have a length within 1e-12 of 1, which three f32 seldom have: version 3 is for directions along an
+ * axis, and 11 says so early. It is proved that coming back gives the same bytes, that to version 2 succeeds for every
+ * well-formed record without NaN, and that `probe` prints the same line for both records.
+ */
+uint32_t probe_record_to_short(
+    const uint8_t *bytes,
+    size_t bytes_length,
+    uint8_t *out,
+    size_t out_length,
+    size_t *written,
+    size_t written_length
+);
+
+uint32_t probe_record_to_long(
+    const uint8_t *bytes,
+    size_t bytes_length,
+    uint8_t *out,
+    size_t out_length,
+    size_t *written,
+    size_t written_length
 );
 
 #ifdef __cplusplus

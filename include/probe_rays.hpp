@@ -798,6 +798,19 @@ public:
         return detail::cast_of(answer, places.of_mesh());
     }
 
+    /* Along an axis and on whole millimetres, decided in whole numbers: the first point of the segment that lies in a closed
+     * triangle, sides, corners and triangles along the ray included. probe_rays.h says which rays and corners are admitted.
+     * Refuses with 1, 12 (the ray, or a corner of a triangle whose box touches the segment's), 2 or 5. */
+    Cast<MeshHit> cast_exact(const Ray &ray) const
+    {
+        detail::Places places;
+        const std::uint32_t answer = probe_ray_mesh_exact_plain(
+            ray.origin.x, ray.origin.y, ray.origin.z, ray.direction.x, ray.direction.y, ray.direction.z, ray.max_distance,
+            ray.near_distance, detail::from(shape_.vertices), shape_.vertices.size(), detail::from(shape_.triangles),
+            shape_.triangles.size(), places.hit.data(), places.hit.size(), places.index.data(), places.index.size());
+        return detail::cast_of(answer, places.of_mesh());
+    }
+
     /* The same mesh with a tree. */
     Result<Mesh> build() const { return Mesh::build(shape_); }
 
@@ -900,6 +913,38 @@ private:
     std::size_t most_nodes_ = 0;
     Scratch scratch_;
 };
+
+/* ---- records of `probe` ---- */
+
+namespace detail {
+
+template <class Call>
+Result<std::vector<std::uint8_t>> converted(Call *call, const std::vector<std::uint8_t> &record)
+{
+    std::vector<std::uint8_t> out(PROBE_MAX_RECORD);
+    std::size_t written = 0;
+    const std::uint32_t answer =
+        call(from(record), record.size(), into(out), out.size(), &written, PROBE_COUNT_LENGTH);
+    if (answer != PROBE_DONE)
+        return Result<std::vector<std::uint8_t>>(static_cast<Refusal>(answer));
+    out.resize(written);
+    return Result<std::vector<std::uint8_t>>(std::move(out));
+}
+
+} // namespace detail
+
+/* One record of version 2, with its four length bytes, as one of version 3, whose floats have four bytes. Refuses with 2, or
+ * with 11 where a float is NaN or no f32 is exactly that number. */
+inline Result<std::vector<std::uint8_t>> record_to_short(const std::vector<std::uint8_t> &record)
+{
+    return detail::converted(probe_record_to_short, record);
+}
+
+/* One record of version 3 as one of version 2. Refuses with 2, or with 11 where a float is NaN. */
+inline Result<std::vector<std::uint8_t>> record_to_long(const std::vector<std::uint8_t> &record)
+{
+    return detail::converted(probe_record_to_long, record);
+}
 
 } // namespace probe_rays
 

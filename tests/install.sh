@@ -129,10 +129,10 @@ done
 echo "CMake: C and C++, shared and static"
 
 # the C++ header: every call of the C header is called by it, but those without a near distance, of which the header says that
-# they are the others with 0, and those that are called as they are: records, and exact casts
-by_themselves='^probe_ray_(plane|triangle|height_field|level_set|mesh)$|^probe_record_|_exact'
+# they are the others with 0
+by_themselves='^probe_ray_(plane|triangle|height_field|level_set|mesh)$'
 while read -r call; do
-  [[ $call =~ $by_themselves ]] || grep -qE "\b$call\(" include/probe_rays.hpp || fail "probe_rays.hpp has no call of $call"
+  [[ $call =~ $by_themselves ]] || grep -qE "\b$call[(,]" include/probe_rays.hpp || fail "probe_rays.hpp has no call of $call"
   ran=$((ran + 1))
 done < "$work/declared"
 

@@ -9,6 +9,7 @@ import ctypes
 import math
 import pathlib
 import random
+import struct
 import subprocess
 import sys
 import unittest
@@ -280,6 +281,33 @@ def exact(mesh, numbers):
     return least
 
 
+def first_point(board, ray):
+    """The least depth at which a ray on whole numbers is in a closed triangle that has area, as a fraction, and the first
+    triangle that has it; None where there is none. A triangle is what lies on both sides of its plane and within each side:
+    each of these keeps the depths d where first + d * slope is not below 0."""
+    vertices, triangles = board
+    origin, direction, most, near = ray.origin, ray.direction, ray.max_distance, ray.near_distance
+    sub = lambda a, b: [Fraction(p) - Fraction(q) for p, q in zip(a, b)]
+    cross = lambda a, b: [a[1] * b[2] - a[2] * b[1], a[2] * b[0] - a[0] * b[2], a[0] * b[1] - a[1] * b[0]]
+    dot = lambda a, b: sum(p * q for p, q in zip(a, b))
+    least = None
+    for index, corners in enumerate(triangles):
+        a, b, c = (vertices[corner] for corner in corners)
+        normal = cross(sub(b, a), sub(c, a))
+        if not any(normal):
+            continue
+        above, rise = dot(normal, sub(origin, a)), dot(normal, direction)
+        tests = [(above, rise), (-above, -rise)]
+        for p, q in ((a, b), (b, c), (c, a)):
+            side = sub(q, p)
+            tests.append((dot(normal, cross(side, sub(origin, p))), dot(normal, cross(side, direction))))
+        low = max([Fraction(near)] + [-first / slope for first, slope in tests if slope > 0])
+        high = min([Fraction(most)] + [-first / slope for first, slope in tests if slope < 0])
+        if low <= high and all(first >= 0 for first, slope in tests if slope == 0) and (least is None or low < least[0]):
+            least = low, index
+    return least
+
+
 class Batches(Case):
     def soup(self, seed, count):
         """Triangles anywhere in a cube of 20, and rays about it."""
@@ -475,6 +503,80 @@ class Stl(Case):
             self.assertEqual(f"stl: {caught.exception}\n", file.with_suffix(".says").read_text())
 
 
+class WholeMillimetres(Case):
+    """The exact cast: where the rounded one passes, along outlines and faces, small boards of chance, and what is not whole."""
+
+    def as_in_fractions(self, board, ray):
+        """Compares an answer with that in fractions, divided once; whether it is a hit."""
+        hit, expected = PlainMesh(*board).cast_exact(ray), first_point(board, ray)
+        if expected is None:
+            self.assertIsNone(hit)
+            return False
+        # a fraction is turned into the float nearest to it
+        self.assertEqual((hit.distance, hit.triangle), (float(expected[0]), expected[1]))
+        return True
+
+    def test_where_the_rounded_cast_passes(self):
+        # docs/DIFFERENCES.md, 'Found in the Rust', 2
+        square = [(0, 0, 0), (31, 0, 0), (0, 31, 0), (31, 31, 0)], [(0, 1, 2), (3, 2, 1)]
+        # document 02's M-112, its open side: the crossing lies on the side opposite the first corner, u = 6/91 and v = 85/91
+        narrow = [(0, 0, 0), (1, 0, 0), (92, 91, 0)], [(0, 1, 2)]
+        for board, ray, distance in ((square, down(1, 30, 1, 2), 1), (narrow, down(86, 85, 5, 10), 5)):
+            self.assertIsNone(PlainMesh(*board).cast(ray))
+            self.assertTrue(self.as_in_fractions(board, ray))
+            self.hits(PlainMesh(*board).cast_exact(ray), distance)
+
+    def test_outlines_and_ends(self):
+        board = [(0, 0, 0), (4, 0, 0), (0, 4, 0)], [(0, 1, 2)]
+        along = lambda y, z, most, near=0: self.as_in_fractions(board, Ray((-3, y, z), (1, 0, 0), most, near))
+        self.assertEqual(PlainMesh(*board).cast_exact(Ray((-3, 0, 0), (1, 0, 0), 10)).distance, 3)
+        # down a side, in the plane, to the one corner of it; and above the plane, beside it, and ending before it
+        self.assertTrue(along(0, 0, 10) and along(1, 0, 10) and along(4, 0, 10) and along(0, 0, 3) and along(0, 0, 9, near=7))
+        self.assertFalse(along(0, 1, 10) or along(5, 0, 10) or along(-1, 0, 10) or along(0, 0, 2) or along(0, 0, 9, near=8))
+
+    def test_boards_of_chance(self):
+        pick = random.Random(13)
+        told = [0, 0]
+        for number in range(1500):
+            size, count = (4096, 5, 3)[number % 3], pick.randint(1, 4)
+            point = lambda: tuple(pick.randint(-size, size) for _ in range(3))
+            vertices = [point() for _ in range(3 * count)]
+            axis, origin = pick.randrange(3), list(pick.choice(vertices) if pick.random() < 0.5 else point())
+            origin[axis] = pick.randint(-size, size)
+            direction = [0, 0, 0]
+            direction[axis] = pick.choice((-1, 1))
+            near = pick.randint(0, size)
+            ray = Ray(tuple(origin), tuple(direction), near + pick.randint(0, 2 * size), near)
+            told[self.as_in_fractions((vertices, [(k, k + 1, k + 2) for k in range(0, 3 * count, 3)]), ray)] += 1
+        self.assertGreater(min(told), 200)
+
+    def test_every_ray_into_a_closed_board_hits(self):
+        board = PlainMesh(*box((0, 0, 0), (6, 5, 4)))
+        for x in range(7):
+            for y in range(6):
+                self.hits(board.cast_exact(down(x, y, 9, 20)), 5)
+        self.assertIsNone(board.cast_exact(down(7, 5, 9, 20)))
+
+    def test_not_whole(self):
+        vertices, triangles = SQUARE
+        square = PlainMesh(vertices, triangles)
+        for ray in (
+            down(0.5, 1, 1, 2), down(1, 1, 4097, 9), down(1, 1, 1, 2.5), down(1, 1, 1, 16385), down(1, 1, 1, 2, near=0.5),
+            Ray((1, 1, 1), (0, 0.6, -0.8), 2),
+        ):
+            self.refuses(12, lambda: square.cast_exact(ray))
+        for corner in ((4, 0, 0.5), (4097, 0, 0)):
+            moved = [vertices[0], corner, *vertices[2:]]
+            self.refuses(12, lambda: PlainMesh(moved, triangles).cast_exact(down(1, 1, 1, 2)))
+        self.hits(PlainMesh([vertices[0], (4096, 0, 0), *vertices[2:]], triangles).cast_exact(down(1, 1, 1, 2)), 1)
+        # it comes after 1, and of the ray before 2 and 5
+        self.refuses(1, lambda: square.cast_exact(down(0.5, 1, 1, -1)))
+        wrong = PlainMesh(vertices, [(0, 1, 4)])
+        self.refuses(12, lambda: wrong.cast_exact(down(0.5, 1, 1, 2)))
+        self.assertIn("not whole", str(self.refuses(12, lambda: wrong.cast_exact(down(0.5, 1, 1, 2)))))
+        self.refuses(5, lambda: wrong.cast_exact(down(1, 1, 1, 2)))
+
+
 class Careful(Case):
     def test_a_mesh_that_leaks(self):
         # docs/DIFFERENCES.md, 'Found in the Rust', 2: the ray runs on the square's diagonal, and passes
@@ -509,6 +611,18 @@ class Careful(Case):
             return probe_rays.Hit(1.0, UP)
 
         self.refuses(6, lambda: probe_rays.careful(down(0, 0, 0, 5), fourth))
+
+
+class Records(Case):
+    def test_both_ways(self):
+        # a plane's record: the length, the version, the kind, and twelve floats, which struct writes in both sizes
+        numbers = (0, 0, 2, 0, 0, -1, 5, 0, 0, 0, 1, 0)
+        two, three = struct.pack(">IBB12d", 98, 2, 1, *numbers), struct.pack(">IBB12f", 50, 3, 1, *numbers)
+        self.assertEqual((probe_rays.record_to_short(two), probe_rays.record_to_long(three)), (three, two))
+        self.refuses(2, lambda: probe_rays.record_to_short(three))
+        self.refuses(2, lambda: probe_rays.record_to_long(b""))
+        self.refuses(11, lambda: probe_rays.record_to_short(struct.pack(">IBB12d", 98, 2, 1, 0.1, *numbers[1:])))
+        self.refuses(11, lambda: probe_rays.record_to_long(struct.pack(">IBB12f", 50, 3, 1, math.nan, *numbers[1:])))
 
 
 class Library(Case):

@@ -10,7 +10,8 @@ pointer its size, and its fields' names, types and offsets. The proved source de
 
   crates/exports/src/*.rt       the calls, the version, and the codes
   crates/casts/src/answer.rt    the refusals, and that of the ranges in crates/height_ranges/src/answer.rt,
-                                and of a limit in crates/cabinet/src/cast.rt
+                                of a limit in crates/cabinet/src/cast.rt, of a float that is not held in
+                                crates/conversion/src/forms.rt, and of what is not whole in crates/exact_triangle/src/cast.rt
   crates/cabinet/src/part.rt    the structs; crates/geometry/src/vec3.rt has the vector in them
   crates/tree/src/lib.rt        the table of areas
   include/probe_rays.h          for C and C++
@@ -24,7 +25,13 @@ import tempfile
 
 RATTLE = "crates/exports/src"
 CODES = "crates/results/src/lib.rt"
-REFUSALS = ["crates/casts/src/answer.rt", "crates/height_ranges/src/answer.rt", "crates/cabinet/src/cast.rt"]
+REFUSALS = [
+    "crates/casts/src/answer.rt",
+    "crates/height_ranges/src/answer.rt",
+    "crates/conversion/src/forms.rt",
+    "crates/exact_triangle/src/cast.rt",
+    "crates/cabinet/src/cast.rt",
+]
 STRUCTS = ["crates/cabinet/src/part.rt", "crates/geometry/src/vec3.rt"]
 AREAS = "crates/tree/src/lib.rt"
 HEADER = "include/probe_rays.h"
@@ -34,8 +41,8 @@ LENGTHS = "bindings/rust/src/lent.rs"
 # the areas whose lengths have a macro and a function; the table of the source has more rows
 SIZED = ["node_boxes", "triangle_boxes", "node_words", "order", "work", "list", "stack", "marks"]
 
-NUMBERS = {"f64": "f64", "u32": "u32", "usize": "usize", "Part": "Part"}
-C_TYPES = {"double": "f64", "uint32_t": "u32", "size_t": "usize", "probe_part": "Part"}
+NUMBERS = {"f64": "f64", "u32": "u32", "u8": "u8", "usize": "usize", "Part": "Part"}
+C_TYPES = {"double": "f64", "uint32_t": "u32", "uint8_t": "u8", "size_t": "usize", "probe_part": "Part"}
 
 # the structs that calls read, and what stands in them, by the header's names
 C_STRUCTS = {"probe_part": "Part", "probe_span": "Span", "probe_vec3": "Vec3"}
@@ -347,6 +354,10 @@ FAULTS = [
     (STRUCTS[0], "    pub node_boxes: Span,\n    pub triangle_boxes: Span,", "    pub triangle_boxes: Span,\n    pub node_boxes: Span,"),
     (STRUCTS[1], "#[repr(C)]\n", ""),
     (REFUSALS[-1], "pub const LIMIT_REACHED: u32 = 10;", "pub const LIMIT_REACHED: u32 = 11;"),
+    (REFUSALS[3], "pub const NOT_WHOLE: u32 = 12;", "pub const NOT_WHOLE: u32 = 13;"),
+    (REFUSALS[2], "pub const NOT_HELD: u32 = 11;", "pub const NOT_HELD: u32 = 10;"),
+    (HEADER, "    const uint8_t *bytes,", "    const uint32_t *bytes,"),
+    (RUST, "        out: *mut u8,", "        out: *const u8,"),
 ]
 
 

@@ -1,7 +1,7 @@
 //! The program `probe` beside `oracle-probe` on one stored stream of records.
 
 use crate::{clock, timing::Row};
-use oracle::{agree, generate};
+use oracle::{agree, generate, record::Record};
 use std::{
     fs::{self, File},
     path::{Path, PathBuf},
@@ -19,12 +19,11 @@ fn programs() -> [PathBuf; 2] {
     [ours.into(), rust.with_file_name("oracle-probe")]
 }
 
-fn stream() -> Vec<u8> {
-    let marked = generate::marked();
-    let others =
-        (marked.len() as u64..).map(|number| generate::record(9, number, &[1, 2, 3, 4, 5]));
+/// Some records, and then those of a generator.
+fn stream(first: Vec<Record>, generate: fn(u64, u64, &[u8]) -> Record) -> Vec<u8> {
+    let others = (first.len() as u64..).map(|number| generate(9, number, &[1, 2, 3, 4, 5]));
     // those that no request of document 02 leaves out of runs against the Rust
-    let compared = marked
+    let compared = first
         .into_iter()
         .chain(others)
         .filter(|record| record.left_out().is_none());
@@ -72,10 +71,21 @@ fn compare(name: &str, programs: &[PathBuf; 2], file: &Path) {
     }
 }
 
+/// Records of version 1.
 pub fn row(name: &str) -> Row {
-    let file = std::env::temp_dir().join(format!("bench-{}.records", std::process::id()));
+    row_of(name, stream(generate::marked(), generate::record))
+}
+
+/// Records of version 3, which our program widens.
+pub fn short_row(name: &str) -> Row {
+    row_of(name, stream(Vec::new(), generate::short))
+}
+
+fn row_of(name: &str, stream: Vec<u8>) -> Row {
+    let process = std::process::id();
+    let file = std::env::temp_dir().join(format!("bench-{process}-{}.records", stream.len()));
     let programs = programs();
-    fs::write(&file, stream().repeat(REPEATED)).expect("a file for the records");
+    fs::write(&file, stream.repeat(REPEATED)).expect("a file for the records");
     compare(name, &programs, &file);
     let [ours, rust] = programs;
     let kept = Kept(file.clone());

@@ -529,7 +529,10 @@ fn grids() -> Vec<Planned> {
 }
 
 pub fn all() -> Vec<Planned> {
-    let stream = plan("probe, a record", records::row);
+    let streams = vec![
+        plan("probe, a record", records::row),
+        plan("probe, a record of version 3", records::short_row),
+    ];
     let parts = [
         shapes(),
         meshes(),
@@ -537,7 +540,7 @@ pub fn all() -> Vec<Planned> {
         merge::rows(),
         grids(),
         ranges::rows(),
-        vec![stream],
+        streams,
     ];
     parts.into_iter().flatten().collect()
 }

@@ -2,6 +2,7 @@
 
 use crate::{
     answer::{Answer, Ray},
+    plain,
     random::Random,
     record::{Record, Shape},
 };
@@ -876,6 +877,55 @@ pub fn with_near(seed: u64, number: u64, kinds: &[u8]) -> Record {
     }
 }
 
+/// A record of version 3: every float of one of version 2 is taken as the nearest f32. Three f32 are seldom a direction, so that
+/// most rays go along an axis, through the point that was hit.
+pub fn short(seed: u64, number: u64, kinds: &[u8]) -> Record {
+    let random = &mut Random::of_record(seed ^ 0x7368_6f72, number);
+    let mut record = with_near(seed, number, kinds);
+    if random.once_in(2) {
+        record.ray.near = 0.0;
+    }
+    if !random.once_in(8) {
+        along_an_axis(&mut record);
+    }
+    for float in record.floats_mut() {
+        *float = f64::from(*float as f32);
+    }
+    record.version = 3;
+    record
+}
+
+/// The same record in version 2.
+pub fn widened(seed: u64, number: u64, kinds: &[u8]) -> Record {
+    Record {
+        version: 2,
+        ..short(seed, number, kinds)
+    }
+}
+
+fn along_an_axis(record: &mut Record) {
+    let found = plain::answer(record);
+    let Ray {
+        origin, direction, ..
+    } = &mut record.ray;
+    let largest = (0..3).fold(0, |best, k| {
+        if direction[k].abs() > direction[best].abs() {
+            k
+        } else {
+            best
+        }
+    });
+    let sign = if direction[largest] < 0.0 { -1.0 } else { 1.0 };
+    if let Answer::Hit { distance, .. } = found {
+        for k in 0..3 {
+            origin[k] += direction[k] * distance;
+        }
+        origin[largest] -= sign * distance;
+    }
+    *direction = [0.0; 3];
+    direction[largest] = sign;
+}
+
 /// Malformed streams, one damage each, with a name for each.
 pub fn bad_streams() -> Vec<(String, Vec<u8>)> {
     let good: Vec<Record> = marked();
@@ -897,8 +947,14 @@ pub fn bad_streams() -> Vec<(String, Vec<u8>)> {
         );
     }
     let kinds = [(1, 0), (2, 3), (3, 8), (4, 12), (5, 13)];
-    for ((kind, place), version) in kinds.into_iter().flat_map(|kind| [(kind, 1), (kind, 2)]) {
-        let prefix = if version == 2 { "version-2-" } else { "" };
+    for ((kind, place), version) in kinds
+        .into_iter()
+        .flat_map(|kind| [(kind, 1), (kind, 2), (kind, 3)])
+    {
+        let prefix = match version {
+            1 => String::new(),
+            _ => format!("version-{version}-"),
+        };
         let whole = Record {
             version,
             ..good[place].clone()
@@ -926,7 +982,11 @@ pub fn bad_streams() -> Vec<(String, Vec<u8>)> {
             put(&format!("{prefix}kind-{kind}-long-by-{less}"), longer);
         }
         for (what, place, values) in [
-            ("version", 4, [0, 3 - whole[4], 4, 255]),
+            (
+                "version",
+                4,
+                [0, if version == 3 { 2 } else { 3 - version }, 4, 255],
+            ),
             ("kind", 5, [0, 6, 7, 255]),
         ] {
             for value in values {
@@ -937,12 +997,32 @@ pub fn bad_streams() -> Vec<(String, Vec<u8>)> {
             }
         }
     }
+    // the most values that version 2 has room for, before a record that is cut short, and one value more
+    for (heights, name) in [(1_012, "longest"), (1_013, "too-long")] {
+        let shape = Shape::HeightField {
+            rows: 1,
+            columns: heights,
+            spacing: [1.0; 2],
+            heights: vec![0.5; heights as usize],
+        };
+        let ray = good[0].ray.clone();
+        let record = Record {
+            version: 3,
+            ray,
+            shape,
+        };
+        put(
+            &format!("version-3-heights-{name}"),
+            [&first[..], &record.write(), &first[..9]].concat(),
+        );
+    }
     let counts = wrong_counts().into_iter();
-    for ((name, place, words), version) in counts.flat_map(|wrong| [(wrong.clone(), 1), (wrong, 2)])
-    {
+    let counts = counts.flat_map(|wrong| [(wrong.clone(), 1), (wrong.clone(), 2), (wrong, 3)]);
+    for ((name, place, words), version) in counts {
         let (name, counts) = match version {
+            1 => (name, 62),
             2 => (format!("version-2-{name}"), 70),
-            _ => (name, 62),
+            _ => (format!("version-3-{name}"), 38),
         };
         let mut whole = Record {
             version,
@@ -955,10 +1035,11 @@ pub fn bad_streams() -> Vec<(String, Vec<u8>)> {
         }
         put(&name, [&first[..], &whole, &first].concat());
         // The same counts with no value after them, as if the product had wrapped to 0.
+        let size = if version == 3 { 4 } else { 8 };
         let before_values = match good[place].shape.kind() {
             3 => 8,
-            4 => 24,
-            _ => 60,
+            4 => 8 + 2 * size,
+            _ => 12 + 6 * size,
         };
         let empty = &whole[4..counts + before_values];
         let length = (empty.len() as u32).to_be_bytes();

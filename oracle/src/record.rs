@@ -36,7 +36,7 @@ pub enum Shape {
 
 #[derive(Clone, Debug, PartialEq)]
 pub struct Record {
-    /// 2 carries the near distance, 1 means 0.
+    /// 2 carries the near distance, 1 means 0; 3 is 2 with every float as an f32.
     pub version: u8,
     pub ray: Ray,
     pub shape: Shape,
@@ -50,12 +50,16 @@ pub enum Next<'a> {
 }
 
 /// Takes fields from the front of a record; none if it is cut short.
-struct Fields<'a>(&'a [u8]);
+struct Fields<'a> {
+    rest: &'a [u8],
+    /// Every float is an f32.
+    short: bool,
+}
 
 impl Fields<'_> {
     fn bytes<const N: usize>(&mut self) -> Option<[u8; N]> {
-        let (head, rest) = self.0.split_first_chunk::<N>()?;
-        self.0 = rest;
+        let (head, rest) = self.rest.split_first_chunk::<N>()?;
+        self.rest = rest;
         Some(*head)
     }
 
@@ -64,7 +68,10 @@ impl Fields<'_> {
     }
 
     fn float(&mut self) -> Option<f64> {
-        self.bytes().map(f64::from_be_bytes)
+        match self.short {
+            true => self.bytes().map(|four| f64::from(f32::from_be_bytes(four))),
+            false => self.bytes().map(f64::from_be_bytes),
+        }
     }
 
     fn array<const N: usize>(&mut self) -> Option<[f64; N]> {
@@ -75,6 +82,11 @@ impl Fields<'_> {
         Some(array)
     }
 
+    /// `count` floats.
+    fn floats(&mut self, count: u128) -> Option<Vec<f64>> {
+        self.list(count, if self.short { 4 } else { 8 }, Fields::float)
+    }
+
     /// `count` values of `size` bytes, which must not pass the end of the record.
     fn list<T>(
         &mut self,
@@ -82,7 +94,7 @@ impl Fields<'_> {
         size: u128,
         take: fn(&mut Self) -> Option<T>,
     ) -> Option<Vec<T>> {
-        if count.checked_mul(size)? > self.0.len() as u128 {
+        if count.checked_mul(size)? > self.rest.len() as u128 {
             return None;
         }
         (0..count).map(|_| take(self)).collect()
@@ -95,44 +107,56 @@ pub const NORMAL: &str = "the Rust refuses with 7 or 8, where normalising may no
 impl Record {
     /// The record in a body without its length bytes; none if it is malformed.
     pub fn parse(body: &[u8]) -> Option<Self> {
-        let mut fields = Fields(body);
+        let mut fields = Fields {
+            rest: body,
+            short: false,
+        };
         let [version, kind] = fields.bytes()?;
-        if version != 1 && version != 2 {
+        if !(1..=3).contains(&version) {
             return None;
         }
+        fields.short = version == 3;
         let ray = Ray {
             origin: fields.array()?,
             direction: fields.array()?,
             maximum: fields.float()?,
-            near: if version == 2 { fields.float()? } else { 0.0 },
+            near: if version == 1 { 0.0 } else { fields.float()? },
         };
         let shape = parse_shape(kind, &mut fields)?;
-        let whole = fields.0.is_empty();
-        whole.then_some(Self {
+        let whole = fields.rest.is_empty();
+        let record = Self {
             version,
             ray,
             shape,
-        })
+        };
+        (whole && record.fits()).then_some(record)
     }
 
     /// The record with its length bytes.
     pub fn write(&self) -> Vec<u8> {
-        let mut body = vec![self.version, self.shape.kind()];
+        let mut body = Body {
+            bytes: vec![self.version, self.shape.kind()],
+            short: self.version == 3,
+        };
         let ray = &self.ray;
-        write_floats(&mut body, &ray.origin);
-        write_floats(&mut body, &ray.direction);
-        write_floats(&mut body, &[ray.maximum]);
-        if self.version == 2 {
-            write_floats(&mut body, &[ray.near]);
+        body.floats(&ray.origin);
+        body.floats(&ray.direction);
+        body.floats(&[ray.maximum]);
+        if self.version > 1 {
+            body.floats(&[ray.near]);
         }
         self.shape.write(&mut body);
-        let mut record = (body.len() as u32).to_be_bytes().to_vec();
-        record.append(&mut body);
+        let mut record = (body.bytes.len() as u32).to_be_bytes().to_vec();
+        record.append(&mut body.bytes);
         record
     }
 
+    /// A record is at most 8,192 bytes long, and one of version 3 is so in version 2.
     pub fn fits(&self) -> bool {
-        self.write().len() <= LONGEST + 4
+        let long = self.version.min(2);
+        let mut wide = self.clone();
+        wide.version = long;
+        wide.write().len() <= LONGEST + 4
     }
 
     /// Why a request of document 02 leaves the record out of runs against the Rust, if one does.
@@ -174,7 +198,7 @@ impl Record {
         let mut all: Vec<&mut f64> = ray.origin.iter_mut().collect();
         all.extend(&mut ray.direction);
         all.push(&mut ray.maximum);
-        if self.version == 2 {
+        if self.version > 1 {
             all.push(&mut ray.near);
         }
         all.extend(self.shape.floats_mut());
@@ -233,18 +257,18 @@ impl Shape {
         }
     }
 
-    fn write(&self, body: &mut Vec<u8>) {
+    fn write(&self, body: &mut Body) {
         match self {
             Shape::Plane { normal, distance } => {
-                write_floats(body, normal);
-                write_floats(body, &[*distance]);
+                body.floats(normal);
+                body.floats(&[*distance]);
             }
-            Shape::Triangle { corners } => write_floats(body, corners.as_flattened()),
+            Shape::Triangle { corners } => body.floats(corners.as_flattened()),
             Shape::Mesh { vertices, indices } => {
                 let counts = [vertices.len() as u32 / 3, indices.len() as u32 / 3];
-                write_words(body, &counts);
-                write_floats(body, vertices);
-                write_words(body, indices);
+                body.words(&counts);
+                body.floats(vertices);
+                body.words(indices);
             }
             Shape::HeightField {
                 rows,
@@ -252,9 +276,9 @@ impl Shape {
                 spacing,
                 heights,
             } => {
-                write_words(body, &[*rows, *columns]);
-                write_floats(body, spacing);
-                write_floats(body, heights);
+                body.words(&[*rows, *columns]);
+                body.floats(spacing);
+                body.floats(heights);
             }
             Shape::LevelSet {
                 sides,
@@ -262,10 +286,10 @@ impl Shape {
                 spacing,
                 values,
             } => {
-                write_words(body, sides);
-                write_floats(body, origin);
-                write_floats(body, spacing);
-                write_floats(body, values);
+                body.words(sides);
+                body.floats(origin);
+                body.floats(spacing);
+                body.floats(values);
             }
         }
     }
@@ -283,7 +307,7 @@ fn parse_shape(kind: u8, fields: &mut Fields) -> Option<Shape> {
         3 => {
             let counts = [fields.word()?, fields.word()?].map(u128::from);
             Some(Shape::Mesh {
-                vertices: fields.list(3 * counts[0], 8, Fields::float)?,
+                vertices: fields.floats(3 * counts[0])?,
                 indices: fields.list(3 * counts[1], 4, Fields::word)?,
             })
         }
@@ -293,7 +317,7 @@ fn parse_shape(kind: u8, fields: &mut Fields) -> Option<Shape> {
                 rows,
                 columns,
                 spacing: fields.array()?,
-                heights: fields.list(product(&[rows, columns]), 8, Fields::float)?,
+                heights: fields.floats(product(&[rows, columns]))?,
             })
         }
         5 => {
@@ -302,7 +326,7 @@ fn parse_shape(kind: u8, fields: &mut Fields) -> Option<Shape> {
                 sides,
                 origin: fields.array()?,
                 spacing: fields.array()?,
-                values: fields.list(product(&sides), 8, Fields::float)?,
+                values: fields.floats(product(&sides))?,
             })
         }
         _ => None,
@@ -314,12 +338,28 @@ fn product(sides: &[u32]) -> u128 {
     sides.iter().map(|&side| u128::from(side)).product()
 }
 
-fn write_floats(body: &mut Vec<u8>, floats: &[f64]) {
-    floats.iter().for_each(|f| body.extend(f.to_be_bytes()));
+/// A body as it is written.
+struct Body {
+    bytes: Vec<u8>,
+    /// Every float is an f32.
+    short: bool,
 }
 
-fn write_words(body: &mut Vec<u8>, words: &[u32]) {
-    words.iter().for_each(|w| body.extend(w.to_be_bytes()));
+impl Body {
+    fn floats(&mut self, floats: &[f64]) {
+        for float in floats {
+            match self.short {
+                true => self.bytes.extend((*float as f32).to_be_bytes()),
+                false => self.bytes.extend(float.to_be_bytes()),
+            }
+        }
+    }
+
+    fn words(&mut self, words: &[u32]) {
+        words
+            .iter()
+            .for_each(|w| self.bytes.extend(w.to_be_bytes()));
+    }
 }
 
 /// Takes the next record from the front of a stream.

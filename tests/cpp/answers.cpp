@@ -1,10 +1,14 @@
-// The C++ header against document 01's marked answers K1 to K13, document 02's requests, and boards whose measures tell the
-// answer. K14 and K15 are of functions that the library does not offer. Directions are (0,0,-1) unless given, and T is the
-// triangle (0,0,0), (1,0,0), (0,1,0). It prints how many checks held; the first that fails ends it with status 1.
+// The C++ header against document 01's marked answers K1 to K13, document 02's requests, boards whose measures tell the
+// answer, and fractions computed here. K14 and K15 are of functions that the library does not offer. Directions are (0,0,-1)
+// unless given, and T is the triangle (0,0,0), (1,0,0), (0,1,0). It prints how many checks held; the first that fails ends it
+// with status 1.
+#include <array>
 #include <cmath>
+#include <cstdint>
 #include <cstdio>
 #include <cstdlib>
 #include <limits>
+#include <optional>
 #include <string>
 #include <thread>
 #include <vector>
@@ -292,6 +296,160 @@ void cabinets()
     CHECK(throws<std::out_of_range>([&] { cabinet.place_again(2, {0, 0, 0}); }));
 }
 
+/* A plane's record of version 2: two bytes and twelve floats, eight bytes each with the highest first; in version 3 four. The
+ * bits of 1, 2, 5 and -1 as a double and as a float are IEEE 754's. */
+void records()
+{
+    using Bytes = std::vector<std::uint8_t>;
+    // origin (0,0,2), direction (0,0,-1), maximum 5, near 0, normal (0,0,1), distance 0, by their two highest bytes
+    const std::vector<std::array<std::uint8_t, 2>> doubles{{0, 0},       {0, 0},       {0x40, 0}, {0, 0}, {0, 0}, {0xbf, 0xf0},
+                                                           {0x40, 0x14}, {0, 0},       {0, 0},    {0, 0}, {0x3f, 0xf0}, {0, 0}};
+    const std::vector<std::array<std::uint8_t, 2>> floats{{0, 0},       {0, 0},       {0x40, 0}, {0, 0}, {0, 0}, {0xbf, 0x80},
+                                                          {0x40, 0xa0}, {0, 0},       {0, 0},    {0, 0}, {0x3f, 0x80}, {0, 0}};
+    const auto record = [](std::uint8_t version, std::size_t size, const std::vector<std::array<std::uint8_t, 2>> &numbers) {
+        Bytes bytes{0, 0, 0, static_cast<std::uint8_t>(2 + size * numbers.size()), version, 1};
+        for (const auto &two : numbers) {
+            bytes.insert(bytes.end(), two.begin(), two.end());
+            bytes.insert(bytes.end(), size - 2, 0);
+        }
+        return bytes;
+    };
+    const Bytes two = record(2, 8, doubles), three = record(3, 4, floats);
+    CHECK(two.size() == 102 && three.size() == 54);
+    CHECK(record_to_short(two).value() == three && record_to_long(three).value() == two);
+    CHECK(refuses(record_to_short(three), 2) && refuses(record_to_long(two), 2) && refuses(record_to_short(Bytes()), 2));
+    Bytes fine = two;
+    fine[6 + 7] = 1; // the least double above 0 is no float
+    CHECK(refuses(record_to_short(fine), 11));
+    Bytes nan = three;
+    nan[6] = 0x7f, nan[7] = 0xc0;
+    CHECK(refuses(record_to_long(nan), 11));
+}
+
+/* A point on whole millimetres, and what the first depth in a closed triangle asks of such: all in whole numbers. */
+using Whole = std::array<std::int64_t, 3>;
+
+Whole minus(const Whole &p, const Whole &q) { return {p[0] - q[0], p[1] - q[1], p[2] - q[2]}; }
+
+Whole cross(const Whole &p, const Whole &q)
+{
+    return {p[1] * q[2] - p[2] * q[1], p[2] * q[0] - p[0] * q[2], p[0] * q[1] - p[1] * q[0]};
+}
+
+std::int64_t dot(const Whole &p, const Whole &q) { return p[0] * q[0] + p[1] * q[1] + p[2] * q[2]; }
+
+/* A fraction whose divisor is above 0. */
+struct Fraction {
+    std::int64_t over, under;
+};
+
+bool operator<(const Fraction &a, const Fraction &b) { return a.over * b.under < b.over * a.under; }
+
+/* The depths at which a line is on one side or on the other of more and more planes. */
+struct Depths {
+    Fraction low, high;
+
+    /* keeps those depths d where first + d * slope is not below 0, and says whether any are left */
+    bool keep(std::int64_t first, std::int64_t slope)
+    {
+        if (slope == 0)
+            return first >= 0;
+        const Fraction at = slope > 0 ? Fraction{-first, slope} : Fraction{first, -slope};
+        if (slope > 0 && low < at)
+            low = at;
+        if (slope < 0 && at < high)
+            high = at;
+        return !(high < low);
+    }
+};
+
+/* The first depth up to `most` at which the line is in the closed triangle: on both sides of its plane, within each side. */
+std::optional<Fraction> first_depth(const Whole &o, const Whole &d, std::int64_t most, const std::array<Whole, 3> &t)
+{
+    const Whole n = cross(minus(t[1], t[0]), minus(t[2], t[0]));
+    if (n == Whole{0, 0, 0})
+        return std::nullopt;
+    Depths depths{{0, 1}, {most, 1}};
+    const std::int64_t above = dot(n, minus(o, t[0])), rise = dot(n, d);
+    bool left = depths.keep(above, rise) && depths.keep(-above, -rise);
+    for (std::size_t k = 0; k < 3 && left; k++) {
+        const Whole side = minus(t[(k + 1) % 3], t[k]);
+        left = depths.keep(dot(n, cross(side, minus(o, t[k]))), dot(n, cross(side, d)));
+    }
+    return left ? std::optional<Fraction>(depths.low) : std::nullopt;
+}
+
+Vec3 floats(const Whole &p) { return Vec3{double(p[0]), double(p[1]), double(p[2])}; }
+
+/* Whether the exact cast answers the first depth of all triangles, divided once, and the first triangle that has it. Three
+ * corners each, none shared; it counts hits and nones. */
+bool as_in_fractions(const Whole &o, const Whole &d, std::int64_t most, const std::vector<std::array<Whole, 3>> &board, int met[2])
+{
+    std::vector<Vec3> corners;
+    std::vector<Triangle> triangles;
+    std::optional<Fraction> least;
+    std::uint32_t first = 0;
+    for (const auto &t : board) {
+        const std::uint32_t at = static_cast<std::uint32_t>(corners.size());
+        const std::optional<Fraction> depth = first_depth(o, d, most, t);
+        if (depth && (!least || *depth < *least))
+            least = depth, first = at / 3;
+        triangles.push_back({at, at + 1, at + 2});
+        for (const Whole &corner : t)
+            corners.push_back(floats(corner));
+    }
+    const Cast<MeshHit> cast = PlainMesh(corners, triangles).cast_exact(Ray{floats(o), floats(d), double(most)});
+    met[least ? 0 : 1]++;
+    if (cast.is_none() || !least)
+        return cast.is_none() && !least;
+    return cast.hit().triangle == first && cast.hit().distance == double(least->over) / double(least->under);
+}
+
+/* On whole millimetres: where the rounded cast passes, along an outline, small boards of chance, and what is not whole. */
+void whole_millimetres()
+{
+    // docs/DIFFERENCES.md, 'Found in the Rust', 2
+    const PlainMesh square({{0, 0, 0}, {31, 0, 0}, {0, 31, 0}, {31, 31, 0}}, {{0, 1, 2}, {3, 2, 1}});
+    CHECK(square.cast(from(1, 30, 1, 2)).is_none() && hits_at(square.cast_exact(from(1, 30, 1, 2)), 1));
+    CHECK(square.cast_exact(from(1, 30, 1, 2)).hit().triangle == 0);
+    CHECK(hits_at(square.cast_exact(from(1, 30, 1, 1)), 1) && hits_at(square.cast_exact(from(1, 30, 1, 2).with_near(1)), 1));
+    CHECK(square.cast_exact(from(1, 30, 2, 1)).is_none() && square.cast_exact(from(1, 30, 1, 3).with_near(2)).is_none());
+    CHECK(square.cast_exact(from(32, 0, 1, 2)).is_none());
+    int met[2] = {0, 0};
+    // document 02's M-112, its open side: the crossing lies on the side opposite the first corner, u = 6/91 and v = 85/91
+    CHECK(PlainMesh({{0, 0, 0}, {1, 0, 0}, {92, 91, 0}}, {{0, 1, 2}}).cast(from(86, 85, 5, 10)).is_none());
+    CHECK(as_in_fractions({86, 85, 5}, {0, 0, -1}, 10, {{{{0, 0, 0}, {1, 0, 0}, {92, 91, 0}}}}, met) && met[0] == 1);
+    // down an outline, from 3 before it, and one above it
+    CHECK(as_in_fractions({-3, 0, 0}, {1, 0, 0}, 10, {{{{0, 0, 0}, {4, 0, 0}, {0, 4, 0}}}}, met) && met[0] == 2);
+    CHECK(as_in_fractions({-3, 0, 1}, {1, 0, 0}, 10, {{{{0, 0, 0}, {4, 0, 0}, {0, 4, 0}}}}, met) && met[1] == 1);
+    std::uint64_t state = 88172645463325252u; // xorshift
+    const auto below = [&state](std::uint64_t n) {
+        state ^= state << 13, state ^= state >> 7, state ^= state << 17;
+        return static_cast<std::int64_t>(state % n);
+    };
+    for (int board = 0; board < 3000; board++) {
+        const std::uint64_t size = board % 3 == 0 ? 40 : 6;
+        const auto point = [&] { return Whole{below(size), below(size), below(size)}; };
+        std::vector<std::array<Whole, 3>> triangles(static_cast<std::size_t>(1 + below(4)));
+        for (auto &t : triangles)
+            t = {point(), point(), point()};
+        Whole origin = point(), direction{0, 0, 0};
+        direction[static_cast<std::size_t>(below(3))] = below(2) ? 1 : -1;
+        CHECK(as_in_fractions(origin, direction, below(2 * size), triangles, met));
+    }
+    CHECK(met[0] > 300 && met[1] > 300);
+    // not whole, and what is refused before and after it
+    CHECK(refuses(square.cast_exact(from(0.5, 30, 1, 2)), 12) && refuses(square.cast_exact(from(1, 30, 4097, 9)), 12));
+    CHECK(refuses(square.cast_exact(from(1, 30, 1, 2.5)), 12) && refuses(square.cast_exact(from(1, 30, 1, 16385)), 12));
+    CHECK(refuses(square.cast_exact(from(1, 30, 1, 2).with_near(0.5)), 12));
+    CHECK(refuses(square.cast_exact(Ray{{1, 30, 1}, {0, 0.6, -0.8}, 2}), 12));
+    CHECK(refuses(PlainMesh({{0, 0, 0}, {31, 0, 0.5}, {0, 31, 0}}, {{0, 1, 2}}).cast_exact(from(1, 1, 1, 2)), 12));
+    CHECK(refuses(PlainMesh({{0, 0, 0}, {4097, 0, 0}, {0, 31, 0}}, {{0, 1, 2}}).cast_exact(from(1, 1, 1, 2)), 12));
+    CHECK(hits_at(PlainMesh({{0, 0, 0}, {4096, 0, 0}, {0, 31, 0}}, {{0, 1, 2}}).cast_exact(from(1, 1, 1, 2)), 1));
+    CHECK(refuses(square.cast_exact(from(1, 30, 1, -1)), 1) && refuses(PlainMesh(T, {{0, 1, 3}}).cast_exact(from(0, 0, 1, 2)), 5));
+    CHECK(told(Refusal::not_whole).find("refused 12, not whole") == 0);
+}
+
 } // namespace
 
 int main()
@@ -308,6 +466,8 @@ int main()
     boards();
     ranges();
     cabinets();
+    records();
+    whole_millimetres();
     std::printf("%d checks\n", checks);
     return 0;
 }

@@ -98,6 +98,10 @@ pub enum Refusal {
     BadRange,
     /// 10: the next node of a cabinet's walks would exceed the limit.
     LimitReached,
+    /// 11: a float of a record is NaN, or no f32 is exactly that number.
+    NotHeld,
+    /// 12: on whole millimetres, the ray or a candidate's corner is not whole in its range.
+    NotWhole,
     /// A number that this crate has no name for: a library newer than it.
     Other(u32),
 }
@@ -123,6 +127,8 @@ impl Refusal {
             sys::REFUSED_NOT_CONVERGENT => Refusal::NotConvergent,
             sys::REFUSED_BAD_RANGE => Refusal::BadRange,
             sys::REFUSED_LIMIT_REACHED => Refusal::LimitReached,
+            sys::REFUSED_NOT_HELD => Refusal::NotHeld,
+            sys::REFUSED_NOT_WHOLE => Refusal::NotWhole,
             other => Refusal::Other(other),
         }
     }
@@ -140,6 +146,8 @@ impl Refusal {
             Refusal::NotConvergent => sys::REFUSED_NOT_CONVERGENT,
             Refusal::BadRange => sys::REFUSED_BAD_RANGE,
             Refusal::LimitReached => sys::REFUSED_LIMIT_REACHED,
+            Refusal::NotHeld => sys::REFUSED_NOT_HELD,
+            Refusal::NotWhole => sys::REFUSED_NOT_WHOLE,
             Refusal::Other(number) => number,
         }
     }
@@ -158,6 +166,8 @@ impl fmt::Display for Refusal {
             Refusal::NotConvergent => "not convergent: the walk through the grid has no answer",
             Refusal::BadRange => "bad range: a range of heights is out of order or not finite",
             Refusal::LimitReached => "limit reached: the cast would look at more nodes than admitted",
+            Refusal::NotHeld => "not held: a record's float is NaN, or is no f32 exactly",
+            Refusal::NotWhole => "not whole: the ray or a corner is not on whole millimetres in its range",
             Refusal::Other(_) => "a refusal that this version does not know",
         };
         write!(out, "refused {}, {words}", self.number())

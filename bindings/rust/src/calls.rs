@@ -240,6 +240,38 @@ pub fn ray_mesh_plain(
     }
 }
 
+/// The mesh cast on whole millimetres, without a tree; `index` has one place.
+#[inline]
+pub fn ray_mesh_exact_plain(
+    ray: &Ray,
+    vertices: &[f64],
+    triangles: &[u32],
+    hit: &mut [f64],
+    index: &mut [u32],
+) -> u32 {
+    // SAFETY: every pointer and length is a slice's, and Rust lets no mutable one overlap another.
+    unsafe {
+        sys::probe_ray_mesh_exact_plain(
+            ray.origin[0],
+            ray.origin[1],
+            ray.origin[2],
+            ray.direction[0],
+            ray.direction[1],
+            ray.direction[2],
+            ray.max_distance,
+            ray.near_distance,
+            vertices.as_ptr(),
+            vertices.len(),
+            triangles.as_ptr(),
+            triangles.len(),
+            hit.as_mut_ptr(),
+            hit.len(),
+            index.as_mut_ptr(),
+            index.len(),
+        )
+    }
+}
+
 /// The build; `nodes` has one place, the node count.
 #[inline]
 pub fn build(
@@ -453,6 +485,38 @@ pub fn ray_mesh_all(
             numbers.len(),
             found.as_mut_ptr(),
             found.len(),
+        )
+    }
+}
+
+/// The record of version 2 as version 3, at the front of `out`; `written` has one place, for its length.
+#[inline]
+pub fn record_to_short(bytes: &[u8], out: &mut [u8], written: &mut [usize]) -> u32 {
+    // SAFETY: every pointer and length is a slice's, and Rust lets no mutable one overlap another.
+    unsafe {
+        sys::probe_record_to_short(
+            bytes.as_ptr(),
+            bytes.len(),
+            out.as_mut_ptr(),
+            out.len(),
+            written.as_mut_ptr(),
+            written.len(),
+        )
+    }
+}
+
+/// The record of version 3 as version 2, in the same way.
+#[inline]
+pub fn record_to_long(bytes: &[u8], out: &mut [u8], written: &mut [usize]) -> u32 {
+    // SAFETY: every pointer and length is a slice's, and Rust lets no mutable one overlap another.
+    unsafe {
+        sys::probe_record_to_long(
+            bytes.as_ptr(),
+            bytes.len(),
+            out.as_mut_ptr(),
+            out.len(),
+            written.as_mut_ptr(),
+            written.len(),
         )
     }
 }

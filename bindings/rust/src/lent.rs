@@ -246,6 +246,18 @@ pub fn ray_mesh_plain(ray: &Ray, vertices: &[f64], triangles: &[u32]) -> Cast<Me
     Cast::of(answer, || mesh_hit(&places, &index))
 }
 
+/// Casts a ray along an axis at a mesh on whole millimetres, without a tree, decided in whole numbers: a none is certain.
+///
+/// A hit is the first point of the segment that lies in any closed triangle, sides and corners included, also where the
+/// line lies in the triangle's plane. Refuses with 1, 12 (the ray is not whole), 2, 5, and 12 where a corner of a triangle
+/// whose box touches the segment's is not a whole number from -4,096 to 4,096.
+pub fn ray_mesh_exact_plain(ray: &Ray, vertices: &[f64], triangles: &[u32]) -> Cast<MeshHit> {
+    let mut places: Places = [0.0; 4];
+    let mut index = [0_u32];
+    let answer = calls::ray_mesh_exact_plain(ray, vertices, triangles, &mut places, &mut index);
+    Cast::of(answer, || mesh_hit(&places, &index))
+}
+
 /// Glues two boards into one and gives its node count: the first's vertices, triangles, nodes, triangle boxes and order,
 /// then the second's moved up, and a new root over both trees unless one has no triangles. Places past the result are
 /// unchanged. The areas are as long as for a mesh of both together, and `marks` is [`marks_length`] of its triangles.

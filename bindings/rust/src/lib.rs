@@ -49,6 +49,7 @@ mod mesh;
 mod plain;
 mod ranges;
 mod ray;
+mod records;
 mod shapes;
 pub mod stl;
 pub mod sys;
@@ -61,6 +62,7 @@ pub use mesh::{Mesh, Scratch, Tree, TreeError};
 pub use plain::PlainMesh;
 pub use ranges::{ray_height_ranges, Clearance, HeightRanges};
 pub use ray::Ray;
+pub use records::{record_to_long, record_to_short, MAX_RECORD};
 pub use shapes::{
     ray_height_field, ray_level_set, ray_plane, ray_triangle, HeightField, LevelSet, Plane,
 };

@@ -166,6 +166,26 @@ extern "C" {
         index_length: usize,
     ) -> u32;
 
+    /// Casts a ray along an axis at a mesh on whole millimetres, without a tree.
+    pub fn probe_ray_mesh_exact_plain(
+        origin_x: f64,
+        origin_y: f64,
+        origin_z: f64,
+        direction_x: f64,
+        direction_y: f64,
+        direction_z: f64,
+        max_distance: f64,
+        near_distance: f64,
+        vertices: *const f64,
+        vertices_length: usize,
+        triangles: *const u32,
+        triangles_length: usize,
+        hit: *mut f64,
+        hit_length: usize,
+        index: *mut u32,
+        index_length: usize,
+    ) -> u32;
+
     /// Lists every triangle of a mesh that a ray hits.
     pub fn probe_ray_mesh_all(
         origin_x: f64,
@@ -473,6 +493,26 @@ extern "C" {
         spent: *mut usize,
         spent_length: usize,
     ) -> u32;
+
+    /// Writes a record of version 2 as version 3.
+    pub fn probe_record_to_short(
+        bytes: *const u8,
+        bytes_length: usize,
+        out: *mut u8,
+        out_length: usize,
+        written: *mut usize,
+        written_length: usize,
+    ) -> u32;
+
+    /// Writes a record of version 3 as version 2.
+    pub fn probe_record_to_long(
+        bytes: *const u8,
+        bytes_length: usize,
+        out: *mut u8,
+        out_length: usize,
+        written: *mut usize,
+        written_length: usize,
+    ) -> u32;
 }
 
 /// A range of an area: its first element and how many.
@@ -558,3 +598,7 @@ pub const REFUSED_NOT_CONVERGENT: u32 = 8;
 pub const REFUSED_BAD_RANGE: u32 = 9;
 /// Refusal 10.
 pub const REFUSED_LIMIT_REACHED: u32 = 10;
+/// A float of a record is NaN, or no f32 is exactly that number.
+pub const REFUSED_NOT_HELD: u32 = 11;
+/// Refusal 12.
+pub const REFUSED_NOT_WHOLE: u32 = 12;

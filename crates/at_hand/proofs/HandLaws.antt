@@ -5,16 +5,18 @@ use mathlib.Core.Bool.{Bool, true, false, not, cond, _&&_, _||_}
 use mathlib.Core.List.{List, [], _∷_, _++_, append-assoc, append-nil}
 use native.Mathlib.Omega.{arith}
 use native.Mathlib.Numerals.{add-one}
-use lib.ListN.{length, take, drop, length-append, length-drop}
-use lib.Seq.{length-take-le, take-at, take-all, sets, sets-eq, length-sets, drop-drop}
-use Rattle.records.specs.Parse.{wellFormed, parse}
-use Rattle.records.specs.Text.{Put, Written}
+use lib.Dec.{eqb}
+use lib.ListN.{length, getD, take, drop, length-append, length-drop}
+use lib.Seq.{length-take-le, take-at, take-add, take-all, drop-at, sets, sets-eq, length-sets, drop-drop}
+use Rattle.conversion.specs.Convert.{widened}
+use Rattle.record_bytes.specs.Parse.{wellFormed, parse}
+use Rattle.record_bytes.specs.Text.{Put, Written}
 use Rattle.records.specs.Lines.{lineOf, badLine, parsedText, recordText}
-use Rattle.records.specs.Stream.{nextOf, bodyOf}
-use Rattle.records.specs.declared.stream.Found.{Found}
-use Rattle.records.specs.declared.stream.Found.the-variants.{Record, Cut, End}
+use Rattle.record_bytes.specs.Stream.{nextOf, longBody, bodyOf}
+use Rattle.record_bytes.specs.declared.stream.Found.{Found}
+use Rattle.record_bytes.specs.declared.stream.Found.the-variants.{Record, Cut, End}
 use Rattle.at_hand.specs.declared.answers.AtHand.{AtHand}
-use Rattle.at_hand.specs.AtHand.{outputFrom, outputAfter, MayCome, Turn, turnOf, Turned}
+use Rattle.at_hand.specs.AtHand.{outputFrom, outputAfter, MayCome, Turn, turnBy, turnOf, Turned}
 use Rattle.at_hand.proofs.StreamLaws.{Enough, hand-end, hand-cut, hand-good, hand-bad}
 
 -- ---- a line that was written at the front of an area
@@ -38,16 +40,31 @@ put-front {text} {area} {after} {out} {last} {count} {at} {next} w p = subst (λ
 
 -- ---- the turns
 
-pub record-turned : (s : AtHand) (rest body out last : List ℕ) (end filled : ℕ) (formed : Bool) → body ≡ bodyOf end rest
+pub body-turned : (s : AtHand) (body out last : List ℕ) (end filled : ℕ) (formed : Bool)
     → Put out (s .filled) (lineOf (s .next) body) last filled → formed ≡ wellFormed body
-    → Turned (turnOf (s .next) rest (Record end)) s record { used = s .used + end; filled = filled; next = s .next + 1; over = not formed } out last
-unfolding turnOf
-record-turned s rest body out last end filled formed e p w = record {
-  put = subst (λ (z : List ℕ). Put out (s .filled) (lineOf (s .next) z) last filled) e p;
-  used = refl;
-  next = refl;
-  over = ap not (w ∙ ap wellFormed e);
-}
+    → Turned (turnBy (s .next) end body) s record { used = s .used + end; filled = filled; next = s .next + 1; over = not formed } out last
+unfolding turnBy
+body-turned s body out last end filled formed p w = record { put = p; used = refl; next = refl; over = ap not w }
+
+-- the body's turn is the record's, whichever version it has
+module _ (s r : AtHand) (rest body out last : List ℕ) (end : ℕ) (t : Turned (turnBy (s .next) end body) s r out last) where
+  body-is : body ≡ bodyOf end rest → Turned (turnOf (s .next) rest (Record end)) s r out last
+  unfolding turnOf
+  body-is e = subst (λ (z : List ℕ). Turned (turnBy (s .next) end z) s r out last) e t
+
+  pub short-turned : eqb (getD (take end rest) 4 0) 3 ≡ true → body ≡ drop 4 (widened (take end rest))
+      → Turned (turnOf (s .next) rest (Record end)) s r out last
+  unfolding longBody
+  short-turned v e =
+      let l = take end rest in
+      body-is (e ∙ sym (ap (λ (b : Bool). drop 4 (cond b (widened l) l)) v))
+
+  pub long-turned : eqb (getD (take end rest) 4 0) 3 ≡ false → body ≡ drop 4 (take end rest)
+      → Turned (turnOf (s .next) rest (Record end)) s r out last
+  unfolding longBody
+  long-turned v e =
+      let l = take end rest in
+      body-is (e ∙ sym (ap (λ (b : Bool). drop 4 (cond b (widened l) l)) v))
 
 pub cut-turned : (s : AtHand) (rest out last : List ℕ) (filled : ℕ) → Put out (s .filled) (badLine (s .next)) last filled
     → Turned (turnOf (s .next) rest Cut) s record { used = s .used; filled = filled; next = s .next; over = true } out last
@@ -71,18 +88,24 @@ turn-record : (number : ℕ) (hand more : List ℕ) (ended : Bool) (end : ℕ) �
 unfolding outputAfter
 turn-record number hand more ended end n m e true w = hand-good number hand more ended n m end e w ∙ (rw (add-one number))
 turn-record number hand more ended end n m e false w =
-    hand-bad number hand more ended n m end e w ∙ (sym (bad-is number (bodyOf end hand) w) ∙ sym (append-nil (lineOf number (bodyOf end hand))))
+    hand-bad number hand more ended n m end e w ∙ (sym (bad-is number (bodyOf end hand) w) ∙ sym (append-nil (lineOf number (bodyOf end
+    hand))))
 
 pub turn-output : (number : ℕ) (hand more : List ℕ) (ended : Bool) (found : Found) → Enough ended hand → MayCome ended more
     → nextOf hand ≡ found
     → outputFrom number (hand ++ more)
-    ≡ turnOf number hand found .line ++ outputAfter (turnOf number hand found .last) (turnOf number hand found .number) (drop (turnOf number hand found .taken) hand ++ more)
-unfolding turnOf outputAfter
+    ≡ turnOf number hand found .line ++ outputAfter (turnOf number hand found .last) (turnOf number hand found .number)
+    (drop (turnOf number hand found .taken) hand ++ more)
+unfolding turnOf turnBy outputAfter
 turn-output number hand more ended End n m e = hand-end number hand more ended n m e
 turn-output number hand more ended Cut n m e = hand-cut number hand more ended n m e ∙ sym (append-nil (badLine number))
 turn-output number hand more ended (Record end) n m e = turn-record number hand more ended end n m e (wellFormed (bodyOf end hand)) refl
 
 -- ---- what is left of the bytes at hand
+
+-- the front of an area without its first four places
+pub part-is : (l : List ℕ) (n : ℕ) → 4 ≤ length l → drop 4 (take (4 + n) l) ≡ take n (drop 4 l)
+part-is l n h = ap (drop 4) (take-add 4 n l) ∙ drop-at (take 4 l) (take n (drop 4 l)) 4 (length-take-le 4 l h)
 
 pub rest-is : (l : List ℕ) (k : ℕ) → take (length l - k) (drop k l) ≡ drop k l
 rest-is l k = take-all (length l - k) (drop k l) (omega (arith, length-drop k l))
@@ -94,6 +117,11 @@ pub turned-by : (s r : AtHand) (l out last : List ℕ) (found : Found) → nextO
     → Turned (turnOf (s .next) (drop (s .used) l) found) s r out last
     → Turned (turnOf (s .next) (drop (s .used) l) (nextOf (drop (s .used) l))) s r out last
 turned-by s r l out last found e t = rw e t
+
+-- the turn of a record's body
+pub turned-body : (s r : AtHand) (l out last : List ℕ) (end : ℕ)
+    → Turned (turnBy (s .next) end (take (length l - 4) (drop 4 l))) s r out last → Turned (turnBy (s .next) end (drop 4 l)) s r out last
+turned-body s r l out last end t = subst (λ (z : List ℕ). Turned (turnBy (s .next) end z) s r out last) (rest-is l 4) t
 
 pub turned-rest : (s r : AtHand) (l out last : List ℕ) (found : Found)
     → Turned (turnOf (s .next) (take (length l - s .used) (drop (s .used) l)) found) s r out last

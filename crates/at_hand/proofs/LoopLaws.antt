@@ -8,14 +8,14 @@ use borrow.Author.Tests.{leb-true, leb-false, lt-leb, le-leb}
 use lib.Dec.{leb}
 use lib.ListN.{length, take, drop, length-append, length-drop}
 use lib.Seq.{length-take-le, take-at, sets, sets-eq, length-sets, drop-drop}
-use Rattle.records.specs.Text.{Put}
-use Rattle.records.specs.Stream.{nextOf}
-use Rattle.records.specs.declared.stream.Found.{Found}
-use Rattle.records.specs.declared.stream.Found.the-variants.{Record, Cut, End}
-use Rattle.records.proofs.Frames.{next-within}
+use Rattle.record_bytes.specs.Text.{Put}
+use Rattle.record_bytes.specs.Stream.{nextOf}
+use Rattle.record_bytes.specs.declared.stream.Found.{Found}
+use Rattle.record_bytes.specs.declared.stream.Found.the-variants.{Record, Cut, End}
+use Rattle.record_bytes.proofs.Frames.{next-within}
 use Rattle.records.proofs.Lengths.{length-line, length-bad-line}
 use Rattle.at_hand.specs.declared.answers.AtHand.{AtHand}
-use Rattle.at_hand.specs.AtHand.{outputFrom, outputAfter, MayCome, Turn, turnOf, Turned, goesOn, Answered}
+use Rattle.at_hand.specs.AtHand.{outputFrom, outputAfter, MayCome, Turn, turnBy, turnOf, Turned, goesOn, Answered}
 use Rattle.at_hand.proofs.StreamLaws.{Enough, all, long}
 use Rattle.at_hand.proofs.HandLaws.{turn-output}
 
@@ -27,7 +27,7 @@ pub record Fair (number : ℕ) (hand : List ℕ) (t : Turn) : Type 0 where
   pub grows : t .last ≡ false → (4 ≤ t .taken) × (t .number ≡ number + 1)
 
 pub turn-fair : (number : ℕ) (hand : List ℕ) (found : Found) → nextOf hand ≡ found → Fair number hand (turnOf number hand found)
-unfolding turnOf
+unfolding turnOf turnBy
 turn-fair number hand End e = record { short = omega arith; inside = omega arith; grows = λ h. absurd (true≢false h) }
 turn-fair number hand Cut e = record { short = length-bad-line number; inside = omega arith; grows = λ h. absurd (true≢false h) }
 turn-fair number hand (Record end) e =
@@ -45,7 +45,8 @@ pub goes : (s : AtHand) (ended : Bool) (hand : List ℕ) (room : ℕ) → s .use
     → Goes s ended hand room
 unfolding goesOn
 goes s ended hand room w h =
-    go (s .over) refl (leb (s .filled + 114) room) (leb-true (s .filled + 114) room) ended refl (leb (s .used + 8196) (length hand)) (leb-true (s .used + 8196) (length hand)) h
+    go (s .over) refl (leb (s .filled + 114) room) (leb-true (s .filled + 114) room) ended refl (leb (s .used + 8196) (length hand))
+    (leb-true (s .used + 8196) (length hand)) h
   where
     go : (o : Bool) → s .over ≡ o → (b : Bool) → (b ≡ true → s .filled + 114 ≤ room) → (e : Bool) → ended ≡ e → (d : Bool)
         → (d ≡ true → s .used + 8196 ≤ length hand)
@@ -53,7 +54,16 @@ goes s ended hand room w h =
     go true oe b p e ee d q h = absurd (false≢true h)
     go false oe false p e ee d q h = absurd (false≢true h)
     go false oe true p true ee d q h = record { untold = oe; roomy = p refl; enough = all ee }
-    go false oe true p false ee true q h = record { untold = oe; roomy = p refl; enough = long (omega (arith, q refl, length-drop (s .used) hand)) }
+    go false oe true p false ee true q h = record {
+      untold = oe;
+      roomy = p refl;
+      enough = long (omega (
+        arith,
+        q refl,
+        length-drop (s .used)
+            hand,
+      ));
+    }
     go false oe true p false ee false q h = absurd (false≢true h)
 
 pub over-stops : (s : AtHand) (ended : Bool) (length room : ℕ) → s .over ≡ true → false ≡ goesOn s ended length room
@@ -122,17 +132,22 @@ module _ (hand : List ℕ) (ended : Bool) (number size : ℕ) (out last : List �
       let e : last ≡ (take (s .filled) out ++ taken .line) ++ drop (s .filled + length (taken .line)) out
       = t .put .stored ∙ sets-eq (taken .line) out (s .filled) room in
       let n : length (take (s .filled) out ++ taken .line) ≡ r .filled
-      = length-append (take (s .filled) out) (taken .line) ∙ (ap (λ (k : ℕ). k + length (taken .line)) (length-take-le (s .filled) out (g .fits)) ∙ sym (t .put .behind)) in
+      = length-append (take (s .filled) out) (taken .line) ∙
+      (ap (λ (k : ℕ). k + length (taken .line)) (length-take-le (s .filled) out (g .fits)) ∙ sym (t .put .behind)) in
       ap (take (r .filled)) e ∙ take-at (take (s .filled) out ++ taken .line) (drop (s .filled + length (taken .line)) out) (r .filled) n
 
   output-next : (more : List ℕ) → MayCome ended more
       → outputFrom number (hand ++ more) ≡ take (r .filled) last ++ outputAfter (r .over) (r .next) (drop (r .used) hand ++ more)
   output-next more m =
       let before : outputFrom number (hand ++ more) ≡ take (s .filled) out ++ outputAfter false (s .next) (drop (s .used) hand ++ more)
-      = subst (λ (b : Bool). outputFrom number (hand ++ more) ≡ take (s .filled) out ++ outputAfter b (s .next) (drop (s .used) hand ++ more)) (open-still .untold) (g .output more m) in
-      let now' : outputAfter false (s .next) (drop (s .used) hand ++ more) ≡ taken .line ++ outputAfter (taken .last) (taken .number) (drop (taken .taken) (drop (s .used) hand) ++ more)
-      = not-over (s .next) (drop (s .used) hand ++ more) ∙ turn-output (s .next) (drop (s .used) hand) more ended (nextOf (drop (s .used) hand)) (open-still .enough) m refl in
-      let after : drop (taken .taken) (drop (s .used) hand) ≡ drop (r .used) hand = drop-drop (taken .taken) (s .used) hand ∙ ap (λ (k : ℕ). drop k hand) (sym (t .used)) in
+      = subst (λ (b : Bool). outputFrom number (hand ++ more) ≡ take (s .filled) out ++ outputAfter b (s .next)
+      (drop (s .used) hand ++ more)) (open-still .untold) (g .output more m) in
+      let now' : outputAfter false (s .next) (drop (s .used) hand ++ more) ≡ taken .line ++ outputAfter (taken .last) (taken .number)
+      (drop (taken .taken) (drop (s .used) hand) ++ more)
+      = not-over (s .next) (drop (s .used) hand ++ more) ∙ turn-output (s .next) (drop (s .used) hand) more ended
+      (nextOf (drop (s .used) hand)) (open-still .enough) m refl in
+      let after : drop (taken .taken) (drop (s .used) hand) ≡ drop (r .used) hand = drop-drop (taken .taken) (s .used) hand ∙ ap
+      (λ (k : ℕ). drop k hand) (sym (t .used)) in
       before
       ∙ (ap (λ (z : List ℕ). take (s .filled) out ++ z) now'
       ∙ (sym (append-assoc (take (s .filled) out) (taken .line) _)
@@ -143,7 +158,15 @@ module _ (hand : List ℕ) (ended : Bool) (number size : ℕ) (out last : List �
     within = omega (arith, t .used, fair .inside, length-drop (s .used) hand, g .within);
     fits = omega (arith, k, t .put .behind, fair .short, open-still .roomy);
     kept = k ∙ g .kept;
-    counted = λ o. omega (arith, t .used, t .next, fair .grows (sym (t .over) ∙ o) .0, fair .grows (sym (t .over) ∙ o) .1, g .counted (open-still .untold));
+    counted = λ o. omega (
+      arith,
+      t .used,
+      t .next,
+      fair .grows (sym (t .over) ∙ o) .0,
+      fair .grows (sym (t .over) ∙ o) .1,
+      g .counted
+          (open-still .untold),
+    );
     output = output-next;
   }
 

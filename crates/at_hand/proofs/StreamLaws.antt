@@ -8,12 +8,13 @@ use borrow.Author.Tests.{eq-eqb}
 use lib.Dec.{eqb}
 use lib.ListN.{length, take, drop, length-drop, length-append}
 use lib.Seq.{take-append-le, drop-append-le, drop-drop}
-use Rattle.records.specs.Parse.{wellFormed}
+use Rattle.record_bytes.specs.Parse.{wellFormed}
 use Rattle.records.specs.Lines.{lineOf, badLine}
-use Rattle.records.specs.Stream.{nextOf, bodyOf, linesFrom, outputOf}
-use Rattle.records.specs.declared.stream.Found.{Found}
-use Rattle.records.specs.declared.stream.Found.the-variants.{Record, Cut, End}
-use Rattle.records.proofs.Frames.{next-within, next-stays}
+use Rattle.record_bytes.specs.Stream.{nextOf, longBody, bodyOf}
+use Rattle.records.specs.Output.{linesFrom, outputOf}
+use Rattle.record_bytes.specs.declared.stream.Found.{Found}
+use Rattle.record_bytes.specs.declared.stream.Found.the-variants.{Record, Cut, End}
+use Rattle.record_bytes.proofs.Frames.{next-within, next-stays}
 use Rattle.at_hand.specs.AtHand.{outputFrom, outputAfter, MayCome, Answered, Runs, stops, goes, takes, joined}
 
 -- ---- as many turns as there are bytes are enough
@@ -28,11 +29,13 @@ unfolding linesFrom
 turns zero zero number bytes h k = refl
 turns zero (suc g) number bytes h k = rw (next-empty bytes h)
 turns (suc f) zero number bytes h k = rw (next-empty bytes k)
-turns (suc f) (suc g) number bytes h k = go (nextOf bytes) (λ end e. next-within bytes end e) (λ end low p q. turns f g (suc number) (drop end bytes) p q)
+turns (suc f) (suc g) number bytes h k = go (nextOf bytes) (λ end e. next-within bytes end e)
+    (λ end low p q. turns f g (suc number) (drop end bytes) p q)
   where
     go : (found : Found) → ((end : ℕ) → found ≡ Record end → (4 ≤ end) × (end ≤ length bytes))
         → ((end : ℕ) → 4 ≤ end → length (drop end bytes) ≤ f → length (drop end bytes) ≤ g
-        → linesFrom f (suc number) (drop end bytes) (nextOf (drop end bytes)) ≡ linesFrom g (suc number) (drop end bytes) (nextOf (drop end bytes)))
+        → linesFrom f (suc number) (drop end bytes) (nextOf (drop end bytes)) ≡ linesFrom g (suc number) (drop end bytes)
+        (nextOf (drop end bytes)))
         → linesFrom (suc f) number bytes found ≡ linesFrom (suc g) number bytes found
     go End w ih = refl
     go Cut w ih = refl
@@ -41,7 +44,8 @@ turns (suc f) (suc g) number bytes h k = go (nextOf bytes) (λ end e. next-withi
         let high : end ≤ length bytes = w end refl .1 in
         let p : length (drop end bytes) ≤ f = omega (arith, low, high, h, length-drop end bytes) in
         let q : length (drop end bytes) ≤ g = omega (arith, low, high, k, length-drop end bytes) in
-        ap (λ (rest : List ℕ). cond (wellFormed (bodyOf end bytes)) (lineOf number (bodyOf end bytes) ++ rest) (badLine number)) (ih end low p q)
+        ap (λ (rest : List ℕ). cond (wellFormed (bodyOf end bytes)) (lineOf number (bodyOf end bytes) ++ rest) (badLine number))
+        (ih end low p q)
 
 -- ---- the output, by what stands at the front
 
@@ -66,7 +70,8 @@ unfolding outputFrom linesFrom
 output-cut number bytes e = turns (length bytes) (suc (length bytes)) number bytes (omega arith) (omega arith) ∙ (rw e)
 
 record-turn : (number : ℕ) (bytes : List ℕ) (end : ℕ) → nextOf bytes ≡ Record end
-    → outputFrom number bytes ≡ cond (wellFormed (bodyOf end bytes)) (lineOf number (bodyOf end bytes) ++ outputFrom (suc number) (drop end bytes)) (badLine number)
+    → outputFrom number bytes ≡ cond (wellFormed (bodyOf end bytes))
+    (lineOf number (bodyOf end bytes) ++ outputFrom (suc number) (drop end bytes)) (badLine number)
 unfolding outputFrom linesFrom
 record-turn number bytes end e =
     let w : (4 ≤ end) × (end ≤ length bytes) = next-within bytes end e in
@@ -99,9 +104,7 @@ next-kept hand more ended (all e) m = ap (λ (z : List ℕ). nextOf (hand ++ z))
 next-kept hand more ended (long h) m = next-stays hand more h
 
 body-kept : (hand more : List ℕ) (end : ℕ) → 4 ≤ end → end ≤ length hand → bodyOf end (hand ++ more) ≡ bodyOf end hand
-body-kept hand more end low high =
-    ap (take (end - 4)) (drop-append-le 4 hand more (omega (arith, low, high)))
-    ∙ take-append-le (end - 4) (drop 4 hand) more (omega (arith, length-drop 4 hand, high))
+body-kept hand more end low high = ap longBody (take-append-le end hand more high)
 
 -- ---- one record at hand, for each answer
 

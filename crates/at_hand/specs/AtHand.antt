@@ -5,12 +5,13 @@ use mathlib.Core.Bool.{Bool, true, false, not, _&&_, _||_}
 use lib.Dec.{leb}
 use mathlib.Core.List.{List, [], _∷_, _++_}
 use lib.ListN.{length, take, drop}
-use Rattle.records.specs.Parse.{wellFormed}
-use Rattle.records.specs.Text.{Put}
+use Rattle.record_bytes.specs.Parse.{wellFormed}
+use Rattle.record_bytes.specs.Text.{Put}
 use Rattle.records.specs.Lines.{lineOf, badLine}
-use Rattle.records.specs.Stream.{nextOf, bodyOf, linesFrom}
-use Rattle.records.specs.declared.stream.Found.{Found}
-use Rattle.records.specs.declared.stream.Found.the-variants.{Record, Cut, End}
+use Rattle.record_bytes.specs.Stream.{nextOf, bodyOf}
+use Rattle.records.specs.Output.{linesFrom}
+use Rattle.record_bytes.specs.declared.stream.Found.{Found}
+use Rattle.record_bytes.specs.declared.stream.Found.the-variants.{Record, Cut, End}
 use Rattle.at_hand.specs.declared.answers.AtHand.{AtHand}
 
 -- the whole output for a stream whose first record has that number; document 01's `outputOf` is the one from 1
@@ -40,15 +41,14 @@ pub record Turn : Type 0 where
   pub number : ℕ
   pub last : Bool
 
+-- by the record's body and how many bytes it takes
+unfoldable pub turnBy : ℕ → ℕ → List ℕ → Turn
+turnBy number end body = record { line = lineOf number body; taken = end; number = number + 1; last = not (wellFormed body) }
+
 unfoldable pub turnOf : ℕ → List ℕ → Found → Turn
 turnOf number hand End = record { line = []; taken = 0; number = number; last = true }
 turnOf number hand Cut = record { line = badLine number; taken = 0; number = number; last = true }
-turnOf number hand (Record end) = record {
-  line = lineOf number (bodyOf end hand);
-  taken = end;
-  number = number + 1;
-  last = not (wellFormed (bodyOf end hand));
-}
+turnOf number hand (Record end) = turnBy number end (bodyOf end hand)
 
 -- what a turn does to the state and to the output area
 pub record Turned (t : Turn) (before after : AtHand) (out last : List ℕ) : Type 0 where
@@ -57,7 +57,8 @@ pub record Turned (t : Turn) (before after : AtHand) (out last : List ℕ) : Typ
   pub next : after .next ≡ t .number
   pub over : after .over ≡ t .last
 
--- The bytes at hand, from a record number on, are answered: whatever comes, the output for all is the lines followed by the output for what is left.
+-- The bytes at hand, from a record number on, are answered: whatever comes, the output for all is the lines followed by the output for what
+-- is left.
 pub record Answered (hand : List ℕ) (ended : Bool) (number room : ℕ) (lines : List ℕ) (used next : ℕ) (over : Bool) : Type 0 where
   pub within : used ≤ length hand
   pub fits : length lines ≤ room

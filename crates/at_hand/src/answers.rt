@@ -1,16 +1,17 @@
+use conversion::convert;
+use record_bytes::parse;
+use record_bytes::stream;
+use record_bytes::stream::Found;
+use record_bytes::text;
 use records::lines;
-use records::parse;
-use records::stream;
-use records::stream::Found;
-use records::text;
 ghost use mathlib.Core.Path.{_≡_};
 ghost use mathlib.Core.Bool.{false};
 ghost use Prim.Native.Nat.{_+_, _<_, _≤_};
 ghost use lib.ListN.{length, take, drop};
-ghost use Rattle.records.specs.Text.{Put};
+ghost use Rattle.record_bytes.specs.Text.{Put};
 ghost use Rattle.records.specs.Lines.{lineOf, badLine};
-ghost use Rattle.records.specs.Stream.{nextOf};
-ghost use Rattle.at_hand.specs.AtHand.{turnOf, Turned, Answered, goesOn};
+ghost use Rattle.record_bytes.specs.Stream.{nextOf};
+ghost use Rattle.at_hand.specs.AtHand.{turnBy, turnOf, Turned, Answered, goesOn};
 
 // What is left to do, after some records were answered.
 pub struct AtHand {
@@ -69,10 +70,10 @@ fn put_bad(number: u64, output: &mut [u8], filled: usize) -> usize
     text::put_text(output, filled, &line[..count])
 }
 
-// After the record of that many bytes at the front of what is left.
-fn record_turn(
+// After a record of that many bytes at the front of what is left: itself, or what it is widened to.
+fn body_turn(
     s: AtHand,
-    rest: &[u8],
+    whole: &[u8],
     end: usize,
     work: &mut [f64; 1024],
     triangles: &mut [u32; 2031],
@@ -84,11 +85,11 @@ fn record_turn(
     stack: &mut [u32; 1355],
     output: &mut [u8],
 ) -> AtHand
-    requires { ⌜ (4 ≤ end) × ((end ≤ length (now rest)) × (s .filled + 114 ≤ length (now output))) ⌝ }
+    requires { ⌜ (4 ≤ length (now whole)) × (s .filled + 114 ≤ length (now output)) ⌝ }
     requires { ⌜ (s .next < 18446744073709551615) × (s .used + end < 18446744073709551616) ⌝ }
-    ensures { λ r. ⌜ Turned (turnOf (s .next) (now (rest .entry)) (Found.Record end)) s r (now (output .entry)) (now (output .exit)) ⌝ }
+    ensures { λ r. ⌜ Turned (turnBy (s .next) end (drop 4 (now (whole .entry)))) s r (now (output .entry)) (now (output .exit)) ⌝ }
 {
-    let body = &rest[4..end];
+    let body = &whole[4..];
     let filled = put_line(
         s.next,
         body,
@@ -111,10 +112,66 @@ fn record_turn(
     }
 }
 
+// After the record of that many bytes at the front of what is left. One of version 3 is read as version 2, in an area of its own.
+fn record_turn(
+    s: AtHand,
+    rest: &[u8],
+    end: usize,
+    wide: &mut [u8],
+    work: &mut [f64; 1024],
+    triangles: &mut [u32; 2031],
+    node_boxes: &mut [f64; 8124],
+    triangle_boxes: &mut [f64; 4062],
+    node_words: &mut [u32; 4062],
+    order: &mut [u32; 677],
+    list: &mut [u32; 677],
+    stack: &mut [u32; 1355],
+    output: &mut [u8],
+) -> AtHand
+    requires { ⌜ (4 ≤ end) × ((end ≤ length (now rest)) × (s .filled + 114 ≤ length (now output))) ⌝ }
+    requires { ⌜ 8196 ≤ length (now wide) ⌝ }
+    requires { ⌜ (s .next < 18446744073709551615) × (s .used + end < 18446744073709551616) ⌝ }
+    ensures { λ r. ⌜ Turned (turnOf (s .next) (now (rest .entry)) (Found.Record end)) s r (now (output .entry)) (now (output .exit)) ⌝ }
+{
+    let whole = &rest[..end];
+    if convert::is_short(whole) {
+        let stop = 4 + convert::widen(whole, wide);
+        return body_turn(
+            s,
+            &wide[..stop],
+            end,
+            work,
+            triangles,
+            node_boxes,
+            triangle_boxes,
+            node_words,
+            order,
+            list,
+            stack,
+            output,
+        );
+    }
+    body_turn(
+        s,
+        whole,
+        end,
+        work,
+        triangles,
+        node_boxes,
+        triangle_boxes,
+        node_words,
+        order,
+        list,
+        stack,
+        output,
+    )
+}
+
 // After the record at the front of what is left, whatever stands there.
 fn turn(
     s: AtHand,
     input: &[u8],
+    wide: &mut [u8; 8196],
     work: &mut [f64; 1024],
     triangles: &mut [u32; 2031],
     node_boxes: &mut [f64; 8124],
@@ -127,7 +184,8 @@ fn turn(
 ) -> AtHand
     requires { ⌜ (s .used ≤ length (now input)) × (s .filled + 114 ≤ length (now output)) ⌝ }
     requires { ⌜ s .next < 18446744073709551615 ⌝ }
-    ensures { λ r. ⌜ Turned (turnOf (s .next) (drop (s .used) (now (input .entry))) (nextOf (drop (s .used) (now (input .entry))))) s r (now (output .entry)) (now (output .exit)) ⌝ }
+    ensures { λ r. ⌜ Turned (turnOf (s .next) (drop (s .used) (now (input .entry))) (nextOf (drop (s .used) (now (input .entry))))) s r
+        (now (output .entry)) (now (output .exit)) ⌝ }
 {
     let used = s.used;
     let rest = &input[used..];
@@ -138,6 +196,7 @@ fn turn(
                 s,
                 rest,
                 end,
+                wide,
                 work,
                 triangles,
                 node_boxes,
@@ -185,11 +244,13 @@ fn goes_on(s: AtHand, ended: bool, length: usize, room: usize) -> bool
     length - s.used >= 8196
 }
 
-// The lines for the bytes at hand, of which more may come unless `ended`, at the front of the output area: as many as have room. All areas between are work areas, which may hold anything afterwards. No public call: the caller shows that record numbers do not run out.
+// The lines for the bytes at hand, of which more may come unless `ended`, at the front of the output area: as many as have room. All
+// areas between are work areas, which may hold anything afterwards. No public call: the caller shows that record numbers do not run out.
 pub fn answer_at_hand(
     number: u64,
     ended: bool,
     input: &[u8],
+    wide: &mut [u8; 8196],
     work: &mut [f64; 1024],
     triangles: &mut [u32; 2031],
     node_boxes: &mut [f64; 8124],
@@ -201,7 +262,8 @@ pub fn answer_at_hand(
     output: &mut [u8],
 ) -> AtHand
     requires { ⌜ number + length (now input) < 18446744073709551615 ⌝ }
-    ensures { λ r. ⌜ Answered (now (input .entry)) ended number (length (now (output .entry))) (take (r .filled) (now (output .exit))) (r .used) (r .next) (r .over) ⌝ }
+    ensures { λ r. ⌜ Answered (now (input .entry)) ended number (length (now (output .entry))) (take (r .filled) (now (output .exit)))
+        (r .used) (r .next) (r .over) ⌝ }
     ensures { λ r. ⌜ goesOn r ended (length (now (input .entry))) (length (now (output .entry))) ≡ false ⌝ }
     ensures { λ r. ⌜ r .filled ≤ length (now (output .entry)) ⌝ }
 {
@@ -215,6 +277,7 @@ pub fn answer_at_hand(
         s = turn(
             s,
             input,
+            wide,
             work,
             triangles,
             node_boxes,

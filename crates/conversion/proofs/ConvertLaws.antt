@@ -6,6 +6,7 @@ use mathlib.Core.List.{List, [], _∷_, _++_, append-assoc}
 use native.Mathlib.Omega.{arith}
 use borrow.Author.Tests.{lt-ltb, le-ltb, eqb-true, ne-eqb}
 use lib.Dec.{T, ltb, eqb}
+use lib.Ieee.{Float}
 use lib.ListN.{length, drop, length-append}
 use lib.Seq.{sets, sets-eq}
 use Rattle.conversion.specs.declared.forms.Form.{Form}
@@ -15,8 +16,9 @@ use Rattle.conversion.specs.declared.shape.Plan.{Plan}
 use Rattle.conversion.specs.declared.shape.Planned.the-variants.{Is, Malformed}
 use Rattle.conversion.specs.Forms.{sizeOf, versionOf}
 use Rattle.conversion.specs.Bytes.{wordBytes, numbersOf, numbersBytes, wordsOf, wordsBytes}
-use Rattle.conversion.specs.Records.{manyCounts, manyNumbers, manyIndices, bodyLength, kindOf, countsOf, numbersPlace, indicesPlace, saidOf, wellFormed, fieldsBytes, recordBytes}
-use Rattle.conversion.specs.Convert.{allHeld, saidHeld, Outcome, turned, converted}
+use Rattle.conversion.specs.Records.{manyCounts, manyNumbers, manyIndices, bodyLength, kindOf, countsOf, numbersPlace, indicesPlace}
+use Rattle.conversion.specs.Records.{saidOf, wellFormed, fieldsBytes, recordBytes}
+use Rattle.conversion.specs.Convert.{every, everySaid, held, saidHeld, Outcome, turned, converted}
 use Rattle.conversion.specs.Plans.{planOf, planned, Known, sizeFor}
 use Rattle.conversion.proofs.Numbers.{word-length}
 use Rattle.conversion.proofs.RunLaws.{numbers-count, words-count, numbers-length, words-length}
@@ -60,14 +62,15 @@ sizes form l plan k = rw (k .isPlan) (sizes-of form l (formed form l (subst T (s
 
 -- ---- the floats
 
-pub ray-unheld : (p q : Form) (l : List ℕ) → allHeld q (numbersOf p 8 (drop 6 l)) ≡ false → false ≡ saidHeld q (saidOf p l)
-unfolding saidHeld saidOf
+pub ray-unheld : (p q : Form) (l : List ℕ) → every (held q) (numbersOf p 8 (drop 6 l)) ≡ false → false ≡ saidHeld q (saidOf p l)
+unfolding everySaid saidOf
 ray-unheld p q l h = rw h
 
 pub numbers-decide : (p q : Form) (l : List ℕ) (plan : Plan) (place : ℕ) (r : Bool) → Sizes p l plan
     → place ≡ 6 + sizeOf p * 8 + 4 * plan .counts
-    → allHeld q (numbersOf p 8 (drop 6 l)) ≡ true → r ≡ allHeld q (numbersOf p (plan .numbers) (drop place l)) → r ≡ saidHeld q (saidOf p l)
-unfolding saidHeld saidOf
+    → every (held q) (numbersOf p 8 (drop 6 l)) ≡ true → r ≡ every (held q) (numbersOf p (plan .numbers) (drop place l))
+    → r ≡ saidHeld q (saidOf p l)
+unfolding everySaid saidOf
 numbers-decide p q l plan place r s e h f = rw h (f ∙ (rw (e, s .countsAre, s .numbersAre)))
 
 both-true : (a b : Bool) → (a && b) ≡ true → (a ≡ true) × (b ≡ true)
@@ -75,15 +78,19 @@ both-true true true e = (refl, refl)
 both-true true false e = absurd (false≢true e)
 both-true false b e = absurd (false≢true e)
 
-pub held-ray : (p q : Form) (l : List ℕ) → saidHeld q (saidOf p l) ≡ true → allHeld q (numbersOf p 8 (drop 6 l)) ≡ true
-unfolding saidHeld saidOf
-held-ray p q l h = both-true (allHeld q (numbersOf p 8 (drop 6 l))) (allHeld q (saidOf p l .numbers)) h .0
+-- what every float passes, the ray's eight do, and the shape's
+module _ (p : Form) (test : Float → Bool) (l : List ℕ) (h : everySaid test (saidOf p l) ≡ true) where
+  both-runs : (every test (numbersOf p 8 (drop 6 l)) ≡ true) × (every test (saidOf p l .numbers) ≡ true)
+  unfolding everySaid saidOf
+  both-runs = both-true (every test (numbersOf p 8 (drop 6 l))) (every test (saidOf p l .numbers)) h
 
-pub held-numbers : (p q : Form) (l : List ℕ) (plan : Plan) (place : ℕ) → Sizes p l plan → place ≡ 6 + sizeOf p * 8 + 4 * plan .counts
-    → saidHeld q (saidOf p l) ≡ true → allHeld q (numbersOf p (plan .numbers) (drop place l)) ≡ true
-unfolding saidHeld saidOf
-held-numbers p q l plan place s e h =
-    rw (e, s .countsAre, s .numbersAre) (both-true (allHeld q (numbersOf p 8 (drop 6 l))) (allHeld q (saidOf p l .numbers)) h .1)
+  pub ray-passes : every test (numbersOf p 8 (drop 6 l)) ≡ true
+  ray-passes = both-runs .0
+
+  pub numbers-pass : (plan : Plan) (place : ℕ) → Sizes p l plan → place ≡ 6 + sizeOf p * 8 + 4 * plan .counts
+      → every test (numbersOf p (plan .numbers) (drop place l)) ≡ true
+  unfolding saidOf
+  numbers-pass plan place s e = rw (e, s .countsAre, s .numbersAre) (both-runs .1)
 
 -- ---- lengths
 
@@ -138,15 +145,22 @@ module _ (p q : Form) (l out : List ℕ) (plan : Plan) (s : Sizes p l plan) wher
   middle-length =
       let ray = numbersBytes q (numbersOf p 8 (drop 6 l)) in
       let counts = wordsOf (plan .counts) (drop (6 + sizeOf p * 8) l) in
-      omega
-      (arith, length-append ray (wordsBytes counts), run-length p q 8 (drop 6 l), words-length counts, words-count (plan .counts) (drop (6 + sizeOf p * 8) l))
+      omega (
+        arith,
+        length-append ray (wordsBytes counts),
+        run-length p q 8 (drop 6 l),
+        words-length counts,
+        words-count (plan .counts)
+            (drop (6 + sizeOf p * 8) l),
+      )
 
   pub all-written : (o1 o2 o3 : List ℕ) (body from to : ℕ) → body ≡ sizeFor q plan → from ≡ 6 + sizeOf p * 8 + 4 * plan .counts
       → to ≡ 6 + sizeOf q * 8 + 4 * plan .counts
       → o1 ≡ sets out 0 (wordBytes body ++ (versionOf q ∷ (plan .kind ∷ [])))
       → o2 ≡ sets o1 6 (numbersBytes q (numbersOf p 8 (drop 6 l)) ++ wordsBytes (wordsOf (plan .counts) (drop (6 + sizeOf p * 8) l)))
       → o3 ≡ sets o2 to
-      (numbersBytes q (numbersOf p (plan .numbers) (drop from l)) ++ wordsBytes (wordsOf (plan .indices) (drop (from + sizeOf p * plan .numbers) l)))
+      (numbersBytes q (numbersOf p (plan .numbers) (drop from l)) ++ wordsBytes
+      (wordsOf (plan .indices) (drop (from + sizeOf p * plan .numbers) l)))
       → o3 ≡ sets out 0 (turned p q l)
   unfolding front middle rear
   all-written o1 o2 o3 body from to eb ef et e1 e2 e3 =
@@ -157,7 +171,8 @@ module _ (p q : Form) (l out : List ℕ) (plan : Plan) (s : Sizes p l plan) wher
       let after : 0 + length (f ++ middle) ≡ to = omega (arith, length-append f middle, lf, middle-length, et) in
       let all : o3 ≡ sets out 0 ((f ++ middle) ++ r) = two-parts out o2 o3 (f ++ middle) r 0 to joined e3 after in
       all ∙ ap (sets out 0)
-      (append-assoc f middle r ∙ (ap (λ (n : ℕ). front n ++ (middle ++ r)) eb ∙ (ap (λ (n : ℕ). front (sizeFor q plan) ++ (middle ++ rear n)) ef ∙ parts-are)))
+      (append-assoc f middle r ∙ (ap (λ (n : ℕ). front n ++ (middle ++ r)) eb ∙ (ap (λ (n : ℕ). front (sizeFor q plan) ++ (middle ++ rear
+      n)) ef ∙ parts-are)))
 
 -- ---- the answers
 
@@ -168,7 +183,11 @@ malformed p q l area e = go (wellFormed p l) e
     go : (b : Bool) → cond b (Is (planOf p l)) Malformed ≡ Malformed → _≡_ {A = Outcome} record { answer = Refused 2; area = area }
         (cond b
         (cond (ltb (length area) (length (turned p q l))) record { answer = Refused 3; area = area }
-        (cond (saidHeld q (saidOf p l)) record { answer = Written (length (turned p q l)); area = turned p q l ++ drop (length (turned p q l)) area }
+        (cond (saidHeld q (saidOf p l)) record {
+          answer = Written (length (turned p q l));
+          area = turned p q l ++ drop (length (turned p q
+              l)) area;
+        }
         record { answer = Refused 11; area = area }))
         record { answer = Refused 2; area = area })
     go true e = absurd (let z : _≡_ {A = ℕ} 0 1 = cc in omega arith)
@@ -208,7 +227,8 @@ module _ (p q : Form) (l area : List ℕ) (plan : Plan) (k : Known p l plan) whe
       let room : length (turned p q l) ≤ length area = omega (arith, e, h, size-known) in
       let n : 4 + body ≡ length (turned p q l) = ap (λ (z : ℕ). 4 + z) e ∙ size-known in
       let here : 0 + length (turned p q l) ≡ length (turned p q l) = omega arith in
-      let whole : after ≡ turned p q l ++ drop (length (turned p q l)) area = g ∙ (sets-eq (turned p q l) area 0 (omega (arith, room)) ∙ (rw here)) in
+      let whole : after ≡ turned p q l ++ drop (length (turned p q l)) area = g ∙
+      (sets-eq (turned p q l) area 0 (omega (arith, room)) ∙ (rw here)) in
       rw (k .wellFormed, le-ltb (length area) (length (turned p q l)) room, f, n, whole)
 
 -- ---- what each step of writing asks

@@ -1,10 +1,11 @@
 -- Which floats a form holds. Assumes nothing.
 use Prim.Native.Nat.{ℕ, zero, suc, _+_, _*_}
-use mathlib.Core.Path.{_≡_, refl}
-use mathlib.Core.Bool.{Bool, true, not, _&&_}
+use mathlib.Core.Bool.{Bool, true, false, not, _&&_}
 use mathlib.Core.List.{List, [], _∷_}
+use mathlib.Core.Path.{_≡_, sym, subst}
 use lib.Dec.{T}
 use lib.Ieee.{Float, isNan, fits}
+use lib.Ieee.Bits.{is-true}
 use lib.Ieee.Fits.{and-i, and-l, and-r, fits-widens}
 use lib.ListN.{drop}
 use Rattle.conversion.specs.declared.forms.Form.{Form}
@@ -12,62 +13,78 @@ use Rattle.conversion.specs.declared.forms.Form.the-variants.{Long, Shor
 use Rattle.conversion.specs.Forms.{sizeOf, formatOf}
 use Rattle.conversion.specs.Bytes.{numberOf, numbersOf}
 use Rattle.conversion.specs.Records.{Said, kindOf, countsOf, manyNumbers, numbersPlace, saidOf}
-use Rattle.conversion.specs.Convert.{held, allHeld, saidHeld, allNumbers, withoutNan}
+use Rattle.conversion.specs.Convert.{every, everySaid, isNumber, withoutNan, fitsIn, saidFits, held, saidHeld}
 use Rattle.conversion.proofs.Numbers.{number-fits}
-use Rattle.conversion.proofs.RunLaws.{number-held, first-held, rest-held}
-use Rattle.conversion.proofs.RoundTrip.{ray-held, numbers-held}
+use Rattle.conversion.proofs.RunLaws.{number-held, fits-held, first-of, rest-of}
+use Rattle.conversion.proofs.RoundTrip.{ray-of, numbers-of}
 
--- the long form holds every number of any form
-pub long-holds : (form : Form) (l : List ℕ) → T (not (isNan (numberOf form l))) → T (held Long (numberOf form l))
-unfolding held
-long-holds Long l n = and-i (not (isNan (numberOf Long l))) (fits (formatOf Long) (numberOf Long l)) n (number-fits Long l)
-long-holds Short l n =
-    and-i (not (isNan (numberOf Short l))) (fits (formatOf Long) (numberOf Short l)) n
-    (fits-widens (numberOf Short l) (number-fits Short l))
+-- ---- a test of each float
 
--- and every form its own
-pub own-held : (form : Form) (l : List ℕ) → T (not (isNan (numberOf form l))) → T (held form (numberOf form l))
-unfolding held
-own-held form l n = and-i (not (isNan (numberOf form l))) (fits (formatOf form) (numberOf form l)) n (number-fits form l)
+-- two tests that together are a third's
+module _ (t u v : Float → Bool) (one : (x : Float) → T (t x) → T (u x) → T (v x)) where
+  pub every-both : (xs : List Float) → T (every t xs) → T (every u xs) → T (every v xs)
+  unfolding every
+  every-both [] h k = tt
+  every-both (x ∷ xs) h k =
+      and-i (v x) (every v xs) (one x (first-of t x xs h) (first-of u x xs k))
+      (every-both xs (rest-of t x xs h) (rest-of u x xs k))
 
--- ---- lists
+  pub said-both : (s : Said) → T (everySaid t s) → T (everySaid u s) → T (everySaid v s)
+  unfolding everySaid
+  said-both s h k =
+      and-i (every v (s .ray)) (every v (s .numbers)) (every-both (s .ray) (ray-of t s h) (ray-of u s k))
+      (every-both (s .numbers) (numbers-of t s h) (numbers-of u s k))
 
-pub all-numbers : (form : Form) (xs : List Float) → T (allHeld form xs) → T (allNumbers xs)
-unfolding allNumbers
-all-numbers form [] h = tt
-all-numbers form (x ∷ xs) h =
-    and-i (not (isNan x)) (allNumbers xs) (number-held form x (first-held form x xs h)) (all-numbers form xs (rest-held form x xs h))
+-- what is true of each float that a form can write is true of all that a record of it says
+module _ (form : Form) (test : Float → Bool) (one : (l : List ℕ) → T (test (numberOf form l))) where
+  run-of : (n : ℕ) (l : List ℕ) → T (every test (numbersOf form n l))
+  unfolding numbersOf every
+  run-of zero l = tt
+  run-of (suc n) l =
+      and-i (test (numberOf form l)) (every test (numbersOf form n (drop (sizeOf form) l))) (one l) (run-of n (drop (sizeOf form) l))
 
--- what `other` holds of one number of `form`, it holds of a run
-module _ (form other : Form) (one : (l : List ℕ) → T (not (isNan (numberOf form l))) → T (held other (numberOf form l))) where
-  run-held : (n : ℕ) (l : List ℕ) → T (allNumbers (numbersOf form n l)) → T (allHeld other (numbersOf form n l))
-  unfolding numbersOf allNumbers allHeld
-  run-held zero l h = tt
-  run-held (suc n) l h =
-      let x = numberOf form l in
-      let xs = numbersOf form n (drop (sizeOf form) l) in
-      and-i (held other x) (allHeld other xs) (one l (and-l (not (isNan x)) (allNumbers xs) h))
-      (run-held n (drop (sizeOf form) l) (and-r (not (isNan x)) (allNumbers xs) h))
-
-  pub read-held : (l : List ℕ) → T (withoutNan (saidOf form l)) → T (saidHeld other (saidOf form l))
-  unfolding withoutNan saidHeld saidOf
-  read-held l h =
-      let ray = numbersOf form 8 (drop 6 l) in
+  pub read-of : (l : List ℕ) → T (everySaid test (saidOf form l))
+  unfolding everySaid saidOf
+  read-of l =
       let many = manyNumbers (kindOf l) (countsOf form l) in
       let place = numbersPlace form (kindOf l) in
-      let numbers = numbersOf form many (drop place l) in
-      and-i (allHeld other ray) (allHeld other numbers) (run-held 8 (drop 6 l) (and-l (allNumbers ray) (allNumbers numbers) h))
-      (run-held many (drop place l) (and-r (allNumbers ray) (allNumbers numbers) h))
+      and-i (every test (numbersOf form 8 (drop 6 l))) (every test (numbersOf form many (drop place l))) (run-of 8 (drop 6 l))
+      (run-of many (drop place l))
+
+-- ---- formats
+
+-- the long format has every float of any form
+long-fits : (form : Form) (l : List ℕ) → T (fitsIn Long (numberOf form l))
+long-fits Long l = number-fits Long l
+long-fits Short l = fits-widens (numberOf Short l) (number-fits Short l)
+
+pub long-fits-said : (form : Form) (l : List ℕ) → T (saidFits Long (saidOf form l))
+long-fits-said form = read-of form (fitsIn Long) (long-fits form)
+
+pub long-fits-read : (form : Form) (l : List ℕ) → saidFits Long (saidOf form l) ≡ true
+long-fits-read form l = is-true (saidFits Long (saidOf form l)) (long-fits-said form l)
+
+own-fits-said : (form : Form) (l : List ℕ) → T (saidFits form (saidOf form l))
+own-fits-said form = read-of form (fitsIn form) (number-fits form)
+
+-- ---- what is held
 
 pub without-nan : (form : Form) (s : Said) → T (saidHeld form s) → T (withoutNan s)
-unfolding withoutNan
-without-nan form s h =
-    and-i (allNumbers (s .ray)) (allNumbers (s .numbers)) (all-numbers form (s .ray) (ray-held form s h))
-    (all-numbers form (s .numbers) (numbers-held form s h))
+without-nan form s h = said-both (held form) (held form) isNumber (λ x k _. number-held form x k) s h h
+
+pub held-fits : (form : Form) (s : Said) → T (saidHeld form s) → T (saidFits form s)
+held-fits form s h = said-both (held form) (held form) (fitsIn form) (λ x k _. fits-held form x k) s h h
+
+pub held-fits-said : (form : Form) (s : Said) → saidHeld form s ≡ true → saidFits form s ≡ true
+held-fits-said form s h = is-true (saidFits form s) (held-fits form s (subst T (sym h) tt))
+
+number-holds : (form : Form) (x : Float) → T (isNumber x) → T (fitsIn form x) → T (held form x)
+unfolding held
+number-holds form x n f = and-i (not (isNan x)) (fits (formatOf form) x) n f
 
 -- the long form holds what any record without a NaN says; and so does the record's own
 pub long-holds-said : (form : Form) (l : List ℕ) → T (withoutNan (saidOf form l)) → T (saidHeld Long (saidOf form l))
-long-holds-said form = read-held form Long (long-holds form)
+long-holds-said form l h = said-both isNumber (fitsIn Long) (held Long) (number-holds Long) (saidOf form l) h (long-fits-said form l)
 
 pub own-holds-said : (form : Form) (l : List ℕ) → T (withoutNan (saidOf form l)) → T (saidHeld form (saidOf form l))
-own-holds-said form = read-held form form (own-held form)
+own-holds-said form l h = said-both isNumber (fitsIn form) (held form) (number-holds form) (saidOf form l) h (own-fits-said form l)

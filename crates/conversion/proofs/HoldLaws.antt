@@ -4,7 +4,7 @@ use mathlib.Core.Path.{_≡_, refl, sym, ap, subst, _∙_}
 use mathlib.Core.Bool.{Bool, true, false, not, _&&_, cond}
 use native.Mathlib.Omega.{arith}
 use lib.Dec.{T}
-use lib.Ieee.{Float, top, binary32, binary64, isNan, fits, ne, toBits}
+use lib.Ieee.{Float, nan, top, binary32, binary64, isNan, fits, ne, toBits}
 use lib.Ieee.Bits.{is-true, toBits-lt}
 use lib.Ieee.Fits.{and-i}
 use Rattle.short_floats.specs.declared.Short.the-variants as shorts
@@ -16,9 +16,10 @@ use Rattle.conversion.specs.declared.forms.Form.the-variants.{Long, Shor
 use Rattle.conversion.specs.declared.holding.Pattern.{Pattern}
 use Rattle.conversion.specs.declared.holding.Pattern.the-variants.{Bits, Unheld}
 use Rattle.conversion.specs.Forms.{formatOf}
-use Rattle.conversion.specs.Convert.{held}
+use Rattle.conversion.specs.Convert.{fitsIn, held}
 use Rattle.conversion.specs.Holding.{patternFor}
 use Rattle.conversion.proofs.RunLaws.{fits-held}
+use Rattle.conversion.proofs.PlaceLaws.{is-nan}
 
 -- ---- in eight bytes
 
@@ -76,14 +77,33 @@ pub held-pattern : (form : Form) (x : Float) → held form x ≡ true → patter
 unfolding patternFor
 held-pattern form x h = rw h
 
-pub held-bits : (form : Form) (x : Float) (bits : ℕ) → held form x ≡ true → patternFor form x ≡ Bits bits
+held-bits : (form : Form) (x : Float) (bits : ℕ) → held form x ≡ true → patternFor form x ≡ Bits bits
     → (bits ≡ toBits (formatOf form) x) × (bits < 2 * top (formatOf form))
 held-bits form x bits h e =
     let k : patternFor form x ≡ Bits (toBits (formatOf form) x) = held-pattern form x h in
     let same : bits ≡ toBits (formatOf form) x = cc in
     (same, rw same (toBits-lt (formatOf form) x (fits-held form x (subst T (sym h) tt))))
 
-pub never-unheld : (form : Form) (x : Float) → held form x ≡ true → patternFor form x ≡ Unheld → ⊥
+never-unheld : (form : Form) (x : Float) → held form x ≡ true → patternFor form x ≡ Unheld → ⊥
 never-unheld form x h e =
     let k : patternFor form x ≡ Bits (toBits (formatOf form) x) = held-pattern form x h in
     let z : _≡_ {A = ℕ} 0 1 = cc in omega arith
+
+-- ---- a float of the form's format: NaN, or held
+
+module _ (form : Form) (x : Float) (bits : ℕ) (f : fitsIn form x ≡ true) where
+  pub nan-stands : ne x x ≡ true → bits ≡ toBits (formatOf form) nan
+      → (bits ≡ toBits (formatOf form) x) × (bits < 2 * top (formatOf form))
+  nan-stands h e =
+      let same : bits ≡ toBits (formatOf form) x = e ∙ ap (toBits (formatOf form)) (sym (is-nan x (nan-number x h))) in
+      (same, rw same (toBits-lt (formatOf form) x (subst T (sym f) tt)))
+
+  number-fits-held : ne x x ≡ false → held form x ≡ true
+  unfolding held
+  number-fits-held h = rw (is-true (not (isNan x)) (number x h), f)
+
+  pub number-stands : ne x x ≡ false → patternFor form x ≡ Bits bits → (bits ≡ toBits (formatOf form) x) × (bits < 2 * top (formatOf form))
+  number-stands h e = held-bits form x bits (number-fits-held h) e
+
+  pub never-without : ne x x ≡ false → patternFor form x ≡ Unheld → ⊥
+  never-without h e = never-unheld form x (number-fits-held h) e

@@ -37,7 +37,7 @@ pub zero-over-zero : div binary64 (ofBits binary64 0) (ofBits binary64 0) ≡ na
 unfolding ofBits div
 zero-over-zero = refl
 
-is-nan : (x : Float) → isNan x ≡ true → x ≡ nan
+pub is-nan : (x : Float) → isNan x ≡ true → x ≡ nan
 unfolding isNan
 is-nan nan h = refl
 is-nan (inf s) h = absurd (false≢true h)

@@ -1,4 +1,5 @@
--- A record that is written in a form says what it was written from; and a record that is read and written again in its form is the same bytes. Assumes nothing.
+-- A record that is written in a form says what it was written from; and a record that is read and written again in its form is the same
+-- bytes. Assumes nothing.
 use Prim.Native.Nat.{ℕ, zero, suc, _+_, _-_, _*_, _<_, _≤_}
 use mathlib.Core.Path.{_≡_, refl, sym, ap, subst, _∙_}
 use mathlib.Core.Bool.{Bool, true, false, not, _&&_}
@@ -13,10 +14,12 @@ use Rattle.conversion.specs.declared.forms.Form.{Form}
 use Rattle.conversion.specs.declared.forms.Form.the-variants.{Long, Short}
 use Rattle.conversion.specs.Forms.{sizeOf, versionOf}
 use Rattle.conversion.specs.Bytes.{IsBytes, wordOf, wordBytes, numbersOf, numbersBytes, wordsOf, wordsBytes}
-use Rattle.conversion.specs.Records.{Said, manyCounts, manyNumbers, manyIndices, bodyLength, kindOf, countsOf, numbersPlace, indicesPlace, saidOf, isKind, wellFormed, fieldsBytes, recordBytes}
-use Rattle.conversion.specs.Convert.{allHeld, saidHeld}
+use Rattle.conversion.specs.Records.{Said, manyCounts, manyNumbers, manyIndices, bodyLength, kindOf, countsOf, numbersPlace}
+use Rattle.conversion.specs.Records.{indicesPlace, saidOf, isKind, wellFormed, fieldsBytes, recordBytes}
+use Rattle.conversion.specs.Convert.{every, everySaid, isNumber, withoutNan, fitsIn, saidFits}
 use Rattle.conversion.proofs.Numbers.{drop-bytes, word-back, word-length, word-bytes}
-use Rattle.conversion.proofs.RunLaws.{numbers-count, words-count, numbers-length, words-length, numbers-read, numbers-bytes, AllWords, words-below, words-read, words-bytes}
+use Rattle.conversion.proofs.RunLaws.{numbers-count, words-count, numbers-length, words-length, numbers-read, numbers-bytes}
+use Rattle.conversion.proofs.RunLaws.{AllWords, words-below, words-read, words-bytes}
 use Rattle.conversion.proofs.Parts.{Formed, formed, well-formed, behind, joined}
 
 -- as many numbers as the kind and the counts say
@@ -26,22 +29,23 @@ pub record Measured (s : Said) : Type 0 where
   pub numbered : length (s .numbers) ≡ manyNumbers (s .kind) (s .counts)
   pub indexed : length (s .indices) ≡ manyIndices (s .kind) (s .counts)
 
--- besides, each u32 is a u32, and each float is held
+-- besides, each u32 is a u32, and each float one of the form's format
 pub record Fitting (form : Form) (s : Said) : Type 0 where
   pub measured : Measured s
   pub countsFit : AllWords (s .counts)
   pub indicesFit : AllWords (s .indices)
-  pub floatsHeld : T (saidHeld form s)
+  pub floatsFit : T (saidFits form s)
   pub known : T (isKind (s .kind))
   pub small : bodyLength Long (s .kind) (s .counts) ≤ 8192
 
-pub ray-held : (form : Form) (s : Said) → T (saidHeld form s) → T (allHeld form (s .ray))
-unfolding saidHeld
-ray-held form s h = and-l (allHeld form (s .ray)) (allHeld form (s .numbers)) h
+module _ (test : Float → Bool) (s : Said) (h : T (everySaid test s)) where
+  pub ray-of : T (every test (s .ray))
+  unfolding everySaid
+  ray-of = and-l (every test (s .ray)) (every test (s .numbers)) h
 
-pub numbers-held : (form : Form) (s : Said) → T (saidHeld form s) → T (allHeld form (s .numbers))
-unfolding saidHeld
-numbers-held form s h = and-r (allHeld form (s .ray)) (allHeld form (s .numbers)) h
+  pub numbers-of : T (every test (s .numbers))
+  unfolding everySaid
+  numbers-of = and-r (every test (s .ray)) (every test (s .numbers)) h
 
 -- ---- the written record, from its front
 
@@ -59,7 +63,8 @@ unfolding recordBytes wordBytes
 written-kind form s = refl
 
 written-fields : (form : Form) (s : Said)
-    → drop 6 (recordBytes form s) ≡ numbersBytes form (s .ray) ++ (wordsBytes (s .counts) ++ (numbersBytes form (s .numbers) ++ wordsBytes (s .indices)))
+    → drop 6 (recordBytes form s) ≡ numbersBytes form (s .ray) ++
+    (wordsBytes (s .counts) ++ (numbersBytes form (s .numbers) ++ wordsBytes (s .indices)))
 unfolding recordBytes wordBytes fieldsBytes
 written-fields form s = refl
 
@@ -72,9 +77,11 @@ written-length form s f =
     let d = wordsBytes (s .indices) in
     let la : length a ≡ sizeOf form * 8 = numbers-length form (s .ray) ∙ ap (λ (n : ℕ). sizeOf form * n) (f .rayed) in
     let lb : length b ≡ 4 * manyCounts (s .kind) = words-length (s .counts) ∙ ap (λ (n : ℕ). 4 * n) (f .counted) in
-    let lc : length c ≡ sizeOf form * manyNumbers (s .kind) (s .counts) = numbers-length form (s .numbers) ∙ ap (λ (n : ℕ). sizeOf form * n) (f .numbered) in
+    let lc : length c ≡ sizeOf form * manyNumbers (s .kind) (s .counts) = numbers-length form (s .numbers) ∙ ap (λ (n : ℕ). sizeOf form * n)
+    (f .numbered) in
     let ld : length d ≡ 4 * manyIndices (s .kind) (s .counts) = words-length (s .indices) ∙ ap (λ (n : ℕ). 4 * n) (f .indexed) in
-    let n = 2 + sizeOf form * 8 + 4 * manyCounts (s .kind) + sizeOf form * manyNumbers (s .kind) (s .counts) + 4 * manyIndices (s .kind) (s .counts) in
+    let n = 2 + sizeOf form * 8 + 4 * manyCounts (s .kind) + sizeOf form * manyNumbers (s .kind) (s .counts) + 4 * manyIndices (s .kind)
+    (s .counts) in
     omega (
       arith,
       length-append (wordBytes n) (versionOf form ∷ (s .kind ∷ (a ++ (b ++ (c ++ d))))),
@@ -91,16 +98,19 @@ written-length form s f =
 -- ---- reading what was written
 
 said-of : {k k' : ℕ} {r r' n n' : List Float} {c c' i i' : List ℕ} → k ≡ k' → r ≡ r' → c ≡ c' → n ≡ n' → i ≡ i'
-    → _≡_ {A = Said} record { kind = k; ray = r; counts = c; numbers = n; indices = i } record { kind = k'; ray = r'; counts = c'; numbers = n'; indices = i' }
+    → _≡_ {A = Said} record { kind = k; ray = r; counts = c; numbers = n; indices = i } record
+    { kind = k'; ray = r'; counts = c'; numbers = n'; indices = i' }
 said-of p q r s t = cc
 
 module _ (form : Form) (s : Said) (f : Fitting form s) where
   back-ray : numbersOf form 8 (drop 6 (recordBytes form s)) ≡ s .ray
   back-ray =
-      numbers-read form (s .ray) (wordsBytes (s .counts) ++ (numbersBytes form (s .numbers) ++ wordsBytes (s .indices))) (drop 6 (recordBytes form s)) 8
-      (written-fields form s) (f .measured .rayed) (ray-held form s (f .floatsHeld))
+      numbers-read form (s .ray) (wordsBytes (s .counts) ++ (numbersBytes form (s .numbers) ++ wordsBytes (s .indices)))
+      (drop 6 (recordBytes form s)) 8
+      (written-fields form s) (f .measured .rayed) (ray-of (fitsIn form) s (f .floatsFit))
 
-  behind-ray : drop (6 + sizeOf form * 8) (recordBytes form s) ≡ wordsBytes (s .counts) ++ (numbersBytes form (s .numbers) ++ wordsBytes (s .indices))
+  behind-ray : drop (6 + sizeOf form * 8) (recordBytes form s) ≡ wordsBytes (s .counts) ++
+      (numbersBytes form (s .numbers) ++ wordsBytes (s .indices))
   behind-ray =
       behind (recordBytes form s) (numbersBytes form (s .ray)) _ 6 (sizeOf form * 8) (written-fields form s)
       (numbers-length form (s .ray) ∙ ap (λ (n : ℕ). sizeOf form * n) (f .measured .rayed))
@@ -109,7 +119,8 @@ module _ (form : Form) (s : Said) (f : Fitting form s) where
   unfolding countsOf
   back-counts =
       ap (λ (k : ℕ). wordsOf (manyCounts k) (drop (6 + sizeOf form * 8) (recordBytes form s))) (written-kind form s)
-      ∙ words-read (s .counts) (numbersBytes form (s .numbers) ++ wordsBytes (s .indices)) (drop (6 + sizeOf form * 8) (recordBytes form s)) (manyCounts (s .kind))
+      ∙ words-read (s .counts) (numbersBytes form (s .numbers) ++ wordsBytes (s .indices)) (drop (6 + sizeOf form * 8) (recordBytes form s))
+      (manyCounts (s .kind))
       behind-ray (f .measured .counted) (f .countsFit)
 
   behind-counts : drop (numbersPlace form (s .kind)) (recordBytes form s) ≡ numbersBytes form (s .numbers) ++ wordsBytes (s .indices)
@@ -119,15 +130,18 @@ module _ (form : Form) (s : Said) (f : Fitting form s) where
 
   behind-numbers : drop (indicesPlace form (s .kind) (s .counts)) (recordBytes form s) ≡ wordsBytes (s .indices)
   behind-numbers =
-      behind (recordBytes form s) (numbersBytes form (s .numbers)) _ (numbersPlace form (s .kind)) (sizeOf form * manyNumbers (s .kind) (s .counts)) behind-counts
+      behind (recordBytes form s) (numbersBytes form (s .numbers)) _ (numbersPlace form (s .kind))
+      (sizeOf form * manyNumbers (s .kind) (s .counts)) behind-counts
       (numbers-length form (s .numbers) ∙ ap (λ (n : ℕ). sizeOf form * n) (f .measured .numbered))
 
   back-numbers : numbersOf form (manyNumbers (s .kind) (s .counts)) (drop (numbersPlace form (s .kind)) (recordBytes form s)) ≡ s .numbers
   back-numbers =
-      numbers-read form (s .numbers) (wordsBytes (s .indices)) (drop (numbersPlace form (s .kind)) (recordBytes form s)) (manyNumbers (s .kind) (s .counts))
-      behind-counts (f .measured .numbered) (numbers-held form s (f .floatsHeld))
+      numbers-read form (s .numbers) (wordsBytes (s .indices)) (drop (numbersPlace form (s .kind)) (recordBytes form s))
+      (manyNumbers (s .kind) (s .counts))
+      behind-counts (f .measured .numbered) (numbers-of (fitsIn form) s (f .floatsFit))
 
-  back-indices : wordsOf (manyIndices (s .kind) (s .counts)) (drop (indicesPlace form (s .kind) (s .counts)) (recordBytes form s)) ≡ s .indices
+  back-indices : wordsOf (manyIndices (s .kind) (s .counts)) (drop (indicesPlace form (s .kind) (s .counts)) (recordBytes form s)) ≡ s
+      .indices
   back-indices =
       words-read (s .indices) [] (drop (indicesPlace form (s .kind) (s .counts)) (recordBytes form s)) (manyIndices (s .kind) (s .counts))
       (behind-numbers ∙ sym (append-nil (wordsBytes (s .indices)))) (f .measured .indexed) (f .indicesFit)
@@ -162,7 +176,7 @@ written-formed form s f =
 
 -- ---- writing what was read
 
-module _ (form other : Form) (l : List ℕ) (b : IsBytes l) (g : Formed form l) (h : T (saidHeld other (saidOf form l))) where
+module _ (form : Form) (l : List ℕ) (b : IsBytes l) (g : Formed form l) (h : T (withoutNan (saidOf form l))) where
   abbrev size : ℕ
   size = sizeOf form
 
@@ -176,18 +190,21 @@ module _ (form other : Form) (l : List ℕ) (b : IsBytes l) (g : Formed form l) 
   same-ray : numbersBytes form (numbersOf form 8 (drop 6 l)) ≡ take (size * 8) (drop 6 l)
   unfolding saidOf
   same-ray =
-      numbers-bytes form other 8 (drop 6 l) (drop-bytes 6 l b) (omega (arith, whole, length-drop 6 l)) (ray-held other (saidOf form l) h)
+      numbers-bytes form 8 (drop 6 l) (drop-bytes 6 l b) (omega (arith, whole, length-drop 6 l)) (ray-of isNumber (saidOf form l) h)
 
   same-counts : wordsBytes counts ≡ take (4 * manyCounts (kindOf l)) (drop (6 + size * 8) l)
   unfolding countsOf
   same-counts =
-      words-bytes (manyCounts (kindOf l)) (drop (6 + size * 8) l) (drop-bytes (6 + size * 8) l b) (omega (arith, whole, length-drop (6 + size * 8) l))
+      words-bytes (manyCounts (kindOf l)) (drop (6 + size * 8) l) (drop-bytes (6 + size * 8) l b)
+      (omega (arith, whole, length-drop (6 + size * 8) l))
 
-  same-numbers : numbersBytes form (saidOf form l .numbers) ≡ take (size * manyNumbers (kindOf l) counts) (drop (numbersPlace form (kindOf l)) l)
+  same-numbers : numbersBytes form (saidOf form l .numbers) ≡ take (size * manyNumbers (kindOf l) counts)
+      (drop (numbersPlace form (kindOf l)) l)
   unfolding saidOf
   same-numbers =
-      numbers-bytes form other (manyNumbers (kindOf l) counts) (drop (numbersPlace form (kindOf l)) l) (drop-bytes (numbersPlace form (kindOf l)) l b)
-      (omega (arith, whole, length-drop (numbersPlace form (kindOf l)) l)) (numbers-held other (saidOf form l) h)
+      numbers-bytes form (manyNumbers (kindOf l) counts) (drop (numbersPlace form (kindOf l)) l)
+      (drop-bytes (numbersPlace form (kindOf l)) l b)
+      (omega (arith, whole, length-drop (numbersPlace form (kindOf l)) l)) (numbers-of isNumber (saidOf form l) h)
 
   same-indices : wordsBytes (saidOf form l .indices) ≡ drop (indicesPlace form (kindOf l) counts) l
   unfolding saidOf

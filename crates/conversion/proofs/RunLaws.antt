@@ -14,8 +14,9 @@ use Rattle.conversion.specs.declared.forms.Form.{Form}
 use Rattle.conversion.specs.declared.forms.Form.the-variants.{Long, Short}
 use Rattle.conversion.specs.Forms.{sizeOf, formatOf}
 use Rattle.conversion.specs.Bytes.{IsBytes, wordOf, wordBytes, numberOf, numberBytes, numbersOf, numbersBytes, wordsOf, wordsBytes}
-use Rattle.conversion.specs.Convert.{held, allHeld}
-use Rattle.conversion.proofs.Numbers.{drop-bytes, word-back, word-length, word-below, word-bytes, number-length, number-back, number-bytes}
+use Rattle.conversion.specs.Convert.{every, isNumber, fitsIn, held}
+use Rattle.conversion.proofs.Numbers.{drop-bytes, word-back, word-length, word-below, word-bytes, number-length, number-back}
+use Rattle.conversion.proofs.Numbers.{number-bytes}
 
 -- ---- lengths
 
@@ -33,7 +34,8 @@ pub numbers-length : (form : Form) (xs : List Float) → length (numbersBytes fo
 unfolding numbersBytes
 numbers-length form [] = sym (mul-zero (sizeOf form))
 numbers-length form (x ∷ xs) =
-    let here : length (numberBytes form x ++ numbersBytes form xs) ≡ length (numberBytes form x) + length (numbersBytes form xs) = length-append (numberBytes form x) (numbersBytes form xs) in
+    let here : length (numberBytes form x ++ numbersBytes form xs) ≡ length (numberBytes form x) + length (numbersBytes form xs) =
+    length-append (numberBytes form x) (numbersBytes form xs) in
     omega (arith, here, number-length form x, numbers-length form xs, mul-suc (sizeOf form) (length xs))
 
 pub words-length : (ws : List ℕ) → length (wordsBytes ws) ≡ 4 * length ws
@@ -51,47 +53,48 @@ pub fits-held : (form : Form) (x : Float) → T (held form x) → T (fits (forma
 unfolding held
 fits-held form x h = and-r (not (isNan x)) (fits (formatOf form) x) h
 
-pub first-held : (form : Form) (x : Float) (xs : List Float) → T (allHeld form (x ∷ xs)) → T (held form x)
-unfolding allHeld
-first-held form x xs h = and-l (held form x) (allHeld form xs) h
+module _ (test : Float → Bool) (x : Float) (xs : List Float) (h : T (every test (x ∷ xs))) where
+  pub first-of : T (test x)
+  unfolding every
+  first-of = and-l (test x) (every test xs) h
 
-pub rest-held : (form : Form) (x : Float) (xs : List Float) → T (allHeld form (x ∷ xs)) → T (allHeld form xs)
-unfolding allHeld
-rest-held form x xs h = and-r (held form x) (allHeld form xs) h
+  pub rest-of : T (every test xs)
+  unfolding every
+  rest-of = and-r (test x) (every test xs) h
 
 -- ---- floats
 
 -- read what was written, whatever follows
-pub numbers-back : (form : Form) (xs : List Float) (rest : List ℕ) → T (allHeld form xs)
+pub numbers-back : (form : Form) (xs : List Float) (rest : List ℕ) → T (every (fitsIn form) xs)
     → numbersOf form (length xs) (numbersBytes form xs ++ rest) ≡ xs
 unfolding numbersOf numbersBytes
 numbers-back form [] rest h = refl
 numbers-back form (x ∷ xs) rest h =
     let after : drop (sizeOf form) (numberBytes form x ++ (numbersBytes form xs ++ rest)) ≡ numbersBytes form xs ++ rest
     = drop-at (numberBytes form x) (numbersBytes form xs ++ rest) (sizeOf form) (number-length form x) in
-    let fit : T (fits (formatOf form) x) = fits-held form x (first-held form x xs h) in
+    let fit : T (fits (formatOf form) x) = first-of (fitsIn form) x xs h in
     rw (
       append-assoc (numberBytes form x) (numbersBytes form xs) rest,
       after,
       number-back form x (numbersBytes form xs ++ rest) fit,
-      numbers-back form xs rest (rest-held form x xs h),
+      numbers-back form xs rest (rest-of (fitsIn form) x xs h),
     )
 
--- write what was read: the same bytes, where every float is held in some form, and so is no NaN
-pub numbers-bytes : (form other : Form) (n : ℕ) (l : List ℕ) → IsBytes l → sizeOf form * n ≤ length l
-    → T (allHeld other (numbersOf form n l))
+-- write what was read: the same bytes, where no float is NaN
+pub numbers-bytes : (form : Form) (n : ℕ) (l : List ℕ) → IsBytes l → sizeOf form * n ≤ length l
+    → T (every isNumber (numbersOf form n l))
     → numbersBytes form (numbersOf form n l) ≡ take (sizeOf form * n) l
 unfolding numbersOf numbersBytes
-numbers-bytes form other zero l b m h = rw mul-zero
-numbers-bytes form other (suc n) l b m h =
+numbers-bytes form zero l b m h = rw mul-zero
+numbers-bytes form (suc n) l b m h =
     let s = sizeOf form in
     let longer : s * suc n ≡ s + s * n = omega (arith, mul-suc s n) in
     let enough : s * n ≤ length (drop s l) = omega (arith, longer, m, length-drop s l) in
     let here : numberBytes form (numberOf form l) ≡ take s l
     = number-bytes form l b (omega (arith, longer, m))
-    (number-held other (numberOf form l) (first-held other (numberOf form l) (numbersOf form n (drop s l)) h)) in
+    (first-of isNumber (numberOf form l) (numbersOf form n (drop s l)) h) in
     let there : numbersBytes form (numbersOf form n (drop s l)) ≡ take (s * n) (drop s l)
-    = numbers-bytes form other n (drop s l) (drop-bytes s l b) enough (rest-held other (numberOf form l) (numbersOf form n (drop s l)) h) in
+    = numbers-bytes form n (drop s l) (drop-bytes s l b) enough (rest-of isNumber (numberOf form l) (numbersOf form n (drop s l)) h) in
     rw (here, there, longer) (sym (take-add s (s * n) l))
 
 -- ---- u32
@@ -109,7 +112,8 @@ pub words-back : (ws : List ℕ) (rest : List ℕ) → AllWords ws → wordsOf (
 unfolding wordsOf wordsBytes
 words-back [] rest none = refl
 words-back (w ∷ ws) rest (more h hs) =
-    let after : drop 4 (wordBytes w ++ (wordsBytes ws ++ rest)) ≡ wordsBytes ws ++ rest = drop-at (wordBytes w) (wordsBytes ws ++ rest) 4 (word-length w) in
+    let after : drop 4 (wordBytes w ++ (wordsBytes ws ++ rest)) ≡ wordsBytes ws ++ rest = drop-at (wordBytes w) (wordsBytes ws ++ rest) 4
+    (word-length w) in
     rw (append-assoc (wordBytes w) (wordsBytes ws) rest, after, word-back w (wordsBytes ws ++ rest) h, words-back ws rest hs)
 
 pub words-bytes : (n : ℕ) (l : List ℕ) → IsBytes l → 4 * n ≤ length l → wordsBytes (wordsOf n l) ≡ take (4 * n) l
@@ -118,13 +122,14 @@ words-bytes zero l b m = refl
 words-bytes (suc n) l b m =
     let longer : 4 * suc n ≡ 4 + 4 * n = omega arith in
     let here : wordBytes (wordOf l) ≡ take 4 l = word-bytes l b (omega (arith, longer, m)) in
-    let there : wordsBytes (wordsOf n (drop 4 l)) ≡ take (4 * n) (drop 4 l) = words-bytes n (drop 4 l) (drop-bytes 4 l b) (omega (arith, length-drop 4 l, m)) in
+    let there : wordsBytes (wordsOf n (drop 4 l)) ≡ take (4 * n) (drop 4 l) = words-bytes n (drop 4 l) (drop-bytes 4 l b)
+    (omega (arith, length-drop 4 l, m)) in
     rw (here, there, longer) (sym (take-add 4 (4 * n) l))
 
 -- ---- the same, where a run stands at the front of a list
 
 pub numbers-read : (form : Form) (xs : List Float) (rest l : List ℕ) (n : ℕ) → l ≡ numbersBytes form xs ++ rest → length xs ≡ n
-    → T (allHeld form xs) → numbersOf form n l ≡ xs
+    → T (every (fitsIn form) xs) → numbersOf form n l ≡ xs
 numbers-read form xs rest l n e m h = rw (e, ← m) (numbers-back form xs rest h)
 
 pub words-read : (ws rest l : List ℕ) (n : ℕ) → l ≡ wordsBytes ws ++ rest → length ws ≡ n → AllWords ws → wordsOf n l ≡ ws

@@ -10,8 +10,9 @@ use lib.ListN.{length, drop}
 use lib.Seq.{drop-drop, sets, length-sets}
 use Rattle.conversion.specs.declared.forms.Form.{Form}
 use Rattle.conversion.specs.Forms.{sizeOf, formatOf}
-use Rattle.conversion.specs.Bytes.{wordOf, wordBytes, patternBytes, numberOf, numberBytes, numbersOf, numbersBytes, wordsOf, wordsBytes}
-use Rattle.conversion.specs.Convert.{held, allHeld}
+use Rattle.conversion.specs.Bytes.{wordOf, wordBytes, patternBytes, numberOf, numberBytes, numbersOf, numbersBytes, wordsOf}
+use Rattle.conversion.specs.Bytes.{wordsBytes}
+use Rattle.conversion.specs.Convert.{every, fitsIn, held}
 use Rattle.conversion.proofs.Numbers.{word-length, number-length}
 use Rattle.conversion.proofs.PlaceLaws.{sets-append}
 
@@ -27,7 +28,7 @@ both-true false b e = absurd (let z : _≡_ {A = ℕ} 0 1 = cc in omega arith)
 
 pub record Scanning (p q : Form) (l : List ℕ) (whole : Bool) (from left : ℕ) : Type 0 where
   pub enough : from + sizeOf p * left ≤ length l
-  pub same : allHeld q (numbersOf p left (drop from l)) ≡ whole
+  pub same : every (held q) (numbersOf p left (drop from l)) ≡ whole
 
 -- the next float lies within the list
 pub next-inside : (size from left n : ℕ) → 0 < left → from + size * left ≤ n → from + size ≤ n
@@ -40,7 +41,7 @@ next-enough size from k n h = omega (arith, h, mul-suc size k)
 module _ (p q : Form) (l : List ℕ) (whole : Bool) where
   pub scan-next : (from left : ℕ) → 0 < left → Scanning p q l whole from left → held q (numberOf p (drop from l)) ≡ true
       → Scanning p q l whole (from + sizeOf p) (left - 1)
-  unfolding numbersOf allHeld
+  unfolding numbersOf every
   scan-next from zero g s h = absurd (omega (arith, g))
   scan-next from (suc k) g s h = rw (less-one k) record {
     enough = next-enough (sizeOf p) from k (length l) (s .enough);
@@ -48,12 +49,12 @@ module _ (p q : Form) (l : List ℕ) (whole : Bool) where
   }
 
   pub scan-unheld : (from left : ℕ) → 0 < left → Scanning p q l whole from left → held q (numberOf p (drop from l)) ≡ false → false ≡ whole
-  unfolding numbersOf allHeld
+  unfolding numbersOf every
   scan-unheld from zero g s h = absurd (omega (arith, g))
   scan-unheld from (suc k) g s h = rw h at (s .same)
 
   pub scan-done : (from left : ℕ) → left ≤ 0 → Scanning p q l whole from left → true ≡ whole
-  unfolding numbersOf allHeld
+  unfolding numbersOf every
   scan-done from zero g s = s .same
   scan-done from (suc k) g s = absurd (omega (arith, g))
 
@@ -63,21 +64,21 @@ pub record Writing (p q : Form) (l whole : List ℕ) (size : ℕ) (out : List �
   pub enough : from + sizeOf p * left ≤ length l
   pub room : to + sizeOf q * left ≤ length out
   pub kept : length out ≡ size
-  pub allAre : allHeld q (numbersOf p left (drop from l)) ≡ true
+  pub allFit : every (fitsIn q) (numbersOf p left (drop from l)) ≡ true
   pub same : sets out to (numbersBytes q (numbersOf p left (drop from l))) ≡ whole
 
 module _ (p q : Form) (l whole : List ℕ) (size : ℕ) where
-  pub next-held : (out : List ℕ) (from to left : ℕ) → 0 < left → Writing p q l whole size out from to left
-      → held q (numberOf p (drop from l)) ≡ true
-  unfolding numbersOf allHeld
-  next-held out from to zero g s = absurd (omega (arith, g))
-  next-held out from to (suc k) g s =
-      both-true (held q (numberOf p (drop from l))) (allHeld q (numbersOf p k (drop (sizeOf p) (drop from l)))) (s .allAre) .0
+  pub next-fits : (out : List ℕ) (from to left : ℕ) → 0 < left → Writing p q l whole size out from to left
+      → fitsIn q (numberOf p (drop from l)) ≡ true
+  unfolding numbersOf every
+  next-fits out from to zero g s = absurd (omega (arith, g))
+  next-fits out from to (suc k) g s =
+      both-true (fitsIn q (numberOf p (drop from l))) (every (fitsIn q) (numbersOf p k (drop (sizeOf p) (drop from l)))) (s .allFit) .0
 
   pub write-next : (out after : List ℕ) (from to left bits : ℕ) → 0 < left → Writing p q l whole size out from to left
       → bits ≡ toBits (formatOf q) (numberOf p (drop from l)) → after ≡ sets out to (patternBytes q bits)
       → Writing p q l whole size after (from + sizeOf p) (to + sizeOf q) (left - 1)
-  unfolding numbersOf allHeld numbersBytes numberBytes
+  unfolding numbersOf every numbersBytes numberBytes
   write-next out after from to zero bits g s e f = absurd (omega (arith, g))
   write-next out after from to (suc k) bits g s e f =
       let x = numberOf p (drop from l) in
@@ -90,7 +91,7 @@ module _ (p q : Form) (l whole : List ℕ) (size : ℕ) where
         enough = next-enough (sizeOf p) from k (length l) (s .enough);
         room = rw long (next-enough (sizeOf q) to k (length out) (s .room));
         kept = long ∙ s .kept;
-        allAre = rw (sym here) (both-true (held q x) (allHeld q (numbersOf p k (drop (sizeOf p) (drop from l)))) (s .allAre) .1);
+        allFit = rw (sym here) (both-true (fitsIn q x) (every (fitsIn q) (numbersOf p k (drop (sizeOf p) (drop from l)))) (s .allFit) .1);
         same = rw (put, sym (number-length q x)) (sym (sets-append out to (numberBytes q x) (numbersBytes q rest)) ∙ all);
       }
 

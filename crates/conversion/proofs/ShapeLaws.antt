@@ -16,7 +16,8 @@ use Rattle.conversion.specs.declared.shape.Planned.{Planned}
 use Rattle.conversion.specs.declared.shape.Planned.the-variants.{Is, Malformed}
 use Rattle.conversion.specs.Forms.{sizeOf, versionOf}
 use Rattle.conversion.specs.Bytes.{wordOf, wordsOf}
-use Rattle.conversion.specs.Records.{manyCounts, manyNumbers, manyIndices, bodyLength, kindOf, countsOf, isKind, framed, filled, wellFormed}
+use Rattle.conversion.specs.Records.{manyCounts, manyNumbers, manyIndices, bodyLength, kindOf, countsOf, isKind, framed, filled}
+use Rattle.conversion.specs.Records.{wellFormed}
 use Rattle.conversion.specs.Plans.{capped, planOf, filling, planned}
 
 pub size-small : (form : Form) → sizeOf form ≤ 8
@@ -101,9 +102,11 @@ pub count-read : (form : Form) (l : List ℕ) (kind many size i word : ℕ) → 
     → i < many → word ≡ wordOf (drop (6 + size * 8 + 4 * i) l) → word ≡ getD (countsOf form l) i 0
 unfolding countsOf
 count-read form l kind many size i word k m s h e =
-    let place : drop (6 + sizeOf form * 8 + 4 * i) l ≡ drop (4 * i) (drop (6 + sizeOf form * 8) l) = sym (drop-drop (4 * i) (6 + sizeOf form * 8) l) in
+    let place : drop (6 + sizeOf form * 8 + 4 * i) l ≡ drop (4 * i) (drop (6 + sizeOf form * 8) l) = sym
+    (drop-drop (4 * i) (6 + sizeOf form * 8) l) in
     e ∙
-    (rw (s, place) (word-of-run (manyCounts (kindOf l)) i (drop (6 + sizeOf form * 8) l) (subst (λ (z : ℕ). i < z) (m ∙ ap manyCounts k) h)))
+    (rw (s, place) (word-of-run (manyCounts (kindOf l)) i (drop (6 + sizeOf form * 8) l) (subst (λ (z : ℕ). i < z) (m ∙ ap manyCounts k)
+    h)))
 
 pub count-none : (form : Form) (l : List ℕ) (kind many i : ℕ) → kind ≡ kindOf l → many ≡ manyCounts kind → many ≤ i
     → 0 ≡ getD (countsOf form l) i 0
@@ -198,7 +201,8 @@ pub unfilled-short : (form : Form) (l : List ℕ) (kind counts size : ℕ) → k
 unfolding bodyLength
 unfilled-short form l kind counts size k m s h =
     let e : counts ≡ manyCounts (kindOf l) = m ∙ ap manyCounts k in
-    let g : length l < 6 + sizeOf form * 8 + 4 * manyCounts (kindOf l) = subst (λ (z : ℕ). length l < 6 + z * 8 + 4 * manyCounts (kindOf l)) s (rw e at h) in
+    let g : length l < 6 + sizeOf form * 8 + 4 * manyCounts (kindOf l) = subst (λ (z : ℕ). length l < 6 + z * 8 + 4 * manyCounts (kindOf l))
+    s (rw e at h) in
     unfilled form l (λ f _. omega (arith, f, g))
 
 module _ (form : Form) (l : List ℕ) (kind counts numbers indices : ℕ) (f : Counted form l kind counts numbers indices) where

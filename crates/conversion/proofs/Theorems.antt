@@ -5,6 +5,7 @@ use mathlib.Core.Bool.{Bool, true, false, cond}
 use mathlib.Core.List.{List, [], _∷_, _++_}
 use native.Mathlib.Omega.{arith}
 use lib.Dec.{T}
+use lib.Ieee.Bits.{is-true}
 use lib.ListN.{length, take, drop}
 use lib.Seq.{take-at}
 use Rattle.conversion.specs.declared.forms.Form.{Form}
@@ -12,13 +13,14 @@ use Rattle.conversion.specs.declared.forms.Form.the-variants.{Long, Shor
 use Rattle.conversion.specs.declared.forms.Converted.the-variants.{Written, Refused}
 use Rattle.conversion.specs.Forms.{sizeOf}
 use Rattle.conversion.specs.Bytes.{IsBytes}
-use Rattle.conversion.specs.Records.{Said, manyCounts, manyNumbers, manyIndices, bodyLength, kindOf, countsOf, numbersPlace, indicesPlace, saidOf, wellFormed, recordBytes}
-use Rattle.conversion.specs.Convert.{saidHeld, withoutNan, Outcome, turned, converted, toShort, toLong}
+use Rattle.conversion.specs.Records.{Said, manyCounts, manyNumbers, manyIndices, bodyLength, kindOf, countsOf, numbersPlace}
+use Rattle.conversion.specs.Records.{indicesPlace, saidOf, wellFormed, recordBytes}
+use Rattle.conversion.specs.Convert.{withoutNan, saidFits, saidHeld, Outcome, turned, converted, widened, toShort, toLong}
 use Rattle.conversion.proofs.Numbers.{drop-bytes}
 use Rattle.conversion.proofs.RunLaws.{numbers-count, words-count, words-below}
 use Rattle.conversion.proofs.Parts.{Formed, formed, well-formed}
 use Rattle.conversion.proofs.RoundTrip.{Measured, Fitting, written-length, written-formed, said-back, same-bytes, longest-form}
-use Rattle.conversion.proofs.Held.{long-holds-said, own-holds-said, without-nan}
+use Rattle.conversion.proofs.Held.{long-fits-said, held-fits, long-holds-said, own-holds-said, without-nan}
 use Rattle.conversion.proofs.Outcomes.{success, Success, succeeded, succeeds}
 
 -- what is read has its numbers, whatever the bytes
@@ -34,7 +36,7 @@ read-measured p l =
       indexed = words-count (manyIndices kind counts) (drop (indicesPlace p kind counts) l);
     }
 
-pub read-fits : (p q : Form) (l : List ℕ) → IsBytes l → Formed p l → T (saidHeld q (saidOf p l)) → Fitting q (saidOf p l)
+pub read-fits : (p q : Form) (l : List ℕ) → IsBytes l → Formed p l → T (saidFits q (saidOf p l)) → Fitting q (saidOf p l)
 unfolding saidOf countsOf
 read-fits p q l b g h =
     let kind = kindOf l in
@@ -45,7 +47,7 @@ read-fits p q l b g h =
       countsFit = words-below (manyCounts kind) (drop from l) (drop-bytes from l b);
       indicesFit =
           words-below (manyIndices kind counts) (drop (indicesPlace p kind counts) l) (drop-bytes (indicesPlace p kind counts) l b);
-      floatsHeld = h;
+      floatsFit = h;
       known = g .kinded;
       small = g .small;
     }
@@ -59,7 +61,7 @@ turned-length p q l = written-length q (saidOf p l) (read-measured p l)
 pub room-enough : (p q : Form) (l : List ℕ) → T (wellFormed p l) → length (turned p q l) ≤ 8196
 room-enough p q l w = omega (arith, turned-length p q l, longest-form q (kindOf l) (countsOf p l), formed p l w .small)
 
-module _ (p q : Form) (l : List ℕ) (b : IsBytes l) (w : T (wellFormed p l)) (h : T (saidHeld q (saidOf p l))) where
+module _ (p q : Form) (l : List ℕ) (b : IsBytes l) (w : T (wellFormed p l)) (h : T (saidFits q (saidOf p l))) where
   -- the converted record says the same: "A user's record must cast to the same bits from either version"
   pub says-the-same : saidOf q (turned p q l) ≡ saidOf p l
   says-the-same = said-back q (saidOf p l) (read-fits p q l b (formed p l w) h)
@@ -68,12 +70,16 @@ module _ (p q : Form) (l : List ℕ) (b : IsBytes l) (w : T (wellFormed p l)) (h
   pub turned-well-formed : T (wellFormed q (turned p q l))
   turned-well-formed = well-formed q (turned p q l) (written-formed q (saidOf p l) (read-fits p q l b (formed p l w) h))
 
+module _ (p q : Form) (l : List ℕ) (b : IsBytes l) (w : T (wellFormed p l)) (h : T (saidHeld q (saidOf p l))) where
+  same-said : saidOf q (turned p q l) ≡ saidOf p l
+  same-said = says-the-same p q l b w (held-fits q (saidOf p l) h)
+
   -- what comes back is held, and is the same bytes
   pub back-held : T (saidHeld p (saidOf q (turned p q l)))
-  back-held = rw says-the-same (own-holds-said p l (without-nan q (saidOf p l) h))
+  back-held = rw same-said (own-holds-said p l (without-nan q (saidOf p l) h))
 
   pub back-is : turned q p (turned p q l) ≡ l
-  back-is = ap (recordBytes p) says-the-same ∙ same-bytes p q l b (formed p l w) h
+  back-is = ap (recordBytes p) same-said ∙ same-bytes p l b (formed p l w) (without-nan q (saidOf p l) h)
 
 -- "coming back gives the same bytes where going to 3 succeeds" (p is Long, q Short), and the other way round
 pub comes-back : (p q : Form) (l area again : List ℕ) (n : ℕ) → IsBytes l → converted p q l area .answer ≡ Written n
@@ -88,7 +94,8 @@ comes-back p q l area again n b e r =
     let back : turned q p new ≡ l = back-is p q l b (s .wellFormed) (s .held) in
     let room : length (turned q p new) ≤ length again = rw back r in
     rw front
-    (succeeds q p new again (turned-well-formed p q l b (s .wellFormed) (s .held)) room (back-held p q l b (s .wellFormed) (s .held))
+    (succeeds q p new again (turned-well-formed p q l b (s .wellFormed) (held-fits q (saidOf p l) (s .held))) room
+    (back-held p q l b (s .wellFormed) (s .held))
     ∙ ap (λ (z : List ℕ). success z again) back)
 
 -- "going from 3 succeeds for every well-formed record without NaN"
@@ -96,3 +103,22 @@ pub from-short-succeeds : (l area : List ℕ) → T (wellFormed Short l) → T (
     → length (turned Short Long l) ≤ length area
     → toLong l area ≡ success (turned Short Long l) area
 from-short-succeeds l area w h r = succeeds Short Long l area w r (long-holds-said Short l h)
+
+-- ---- widening
+
+pub widened-is : (l : List ℕ) → T (wellFormed Short l) → widened l ≡ turned Short Long l
+unfolding widened
+widened-is l w = rw (is-true (wellFormed Short l) w)
+
+-- a record of version 3 becomes one of version 2 that says the same, NaN included
+pub widened-says : (l : List ℕ) → IsBytes l → T (wellFormed Short l) → saidOf Long (widened l) ≡ saidOf Short l
+widened-says l b w = rw (widened-is l w) (says-the-same Short Long l b w (long-fits-said Short l))
+
+pub widened-well-formed : (l : List ℕ) → IsBytes l → T (wellFormed Short l) → T (wellFormed Long (widened l))
+widened-well-formed l b w = rw (widened-is l w) (turned-well-formed Short Long l b w (long-fits-said Short l))
+
+-- where going to 3 succeeds, widening gives the bytes that were there
+pub widened-back : (l : List ℕ) → IsBytes l → T (wellFormed Long l) → T (saidHeld Short (saidOf Long l)) → widened (turned Long Short l) ≡ l
+widened-back l b w h =
+    widened-is (turned Long Short l) (turned-well-formed Long Short l b w (held-fits Short (saidOf Long l) h))
+    ∙ back-is Long Short l b w h

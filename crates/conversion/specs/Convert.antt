@@ -12,24 +12,34 @@ use Rattle.conversion.specs.declared.forms.Converted.the-variants.{Writt
 use Rattle.conversion.specs.Forms.{formatOf}
 use Rattle.conversion.specs.Records.{Said, saidOf, recordBytes, wellFormed}
 
--- not "a float that f32 does not hold exactly or that is NaN"; f64 holds every f32 (proofs/Held.antt, `long-holds`)
+-- each of some floats passes a test, and each float that a record says
+unfoldable pub every : (Float → Bool) → List Float → Bool
+every test [] = true
+every test (x ∷ xs) = test x && every test xs
+
+unfoldable pub everySaid : (Float → Bool) → Said → Bool
+everySaid test s = every test (s .ray) && every test (s .numbers)
+
+-- no NaN
+abbrev pub isNumber : Float → Bool
+isNumber x = not (isNan x)
+
+abbrev pub withoutNan : Said → Bool
+withoutNan = everySaid isNumber
+
+-- a float of the form's format, of which NaN is one; f64 has every f32 (proofs/Held.antt, `long-fits`)
+abbrev pub fitsIn : Form → Float → Bool
+fitsIn form x = fits (formatOf form) x
+
+abbrev pub saidFits : Form → Said → Bool
+saidFits form = everySaid (fitsIn form)
+
+-- not "a float that f32 does not hold exactly or that is NaN"
 unfoldable pub held : Form → Float → Bool
 held form x = not (isNan x) && fits (formatOf form) x
 
-unfoldable pub allHeld : Form → List Float → Bool
-allHeld form [] = true
-allHeld form (x ∷ xs) = held form x && allHeld form xs
-
-unfoldable pub saidHeld : Form → Said → Bool
-saidHeld form s = allHeld form (s .ray) && allHeld form (s .numbers)
-
--- no float is NaN
-unfoldable pub allNumbers : List Float → Bool
-allNumbers [] = true
-allNumbers (x ∷ xs) = not (isNan x) && allNumbers xs
-
-unfoldable pub withoutNan : Said → Bool
-withoutNan s = allNumbers (s .ray) && allNumbers (s .numbers)
+abbrev pub saidHeld : Form → Said → Bool
+saidHeld form = everySaid (held form)
 
 -- the answer, and the output area as the call returns
 pub record Outcome : Type 0 where
@@ -49,6 +59,10 @@ converted p q bytes area =
     record { answer = Written (length (turned p q bytes)); area = turned p q bytes ++ drop (length (turned p q bytes)) area }
     record { answer = Refused 11; area = area }))
     record { answer = Refused 2; area = area }
+
+-- what `probe` reads: a record of version 3 as one of version 2, a NaN as a NaN; nothing if it is malformed
+unfoldable pub widened : List ℕ → List ℕ
+widened bytes = cond (wellFormed Short bytes) (turned Short Long bytes) []
 
 abbrev pub toShort : List ℕ → List ℕ → Outcome
 toShort = converted Long Short

@@ -10,7 +10,8 @@ use Rattle.conversion.specs.declared.forms.Form.the-variants.{Long, Shor
 use Rattle.conversion.specs.Forms.{sizeOf, versionOf}
 use Rattle.conversion.specs.Bytes.{wordOf, wordBytes, numbersOf, numbersBytes, wordsOf, wordsBytes}
 
--- A record is four bytes of length, then its body: version byte, kind byte, eight floats (origin, direction, maximum, near), and the shape, which by kind is
+-- A record is four bytes of length, then its body: version byte, kind byte, eight floats (origin, direction, maximum, near), and the shape,
+-- which by kind is
 -- 1 plane: normal and distance; 2 triangle: three corners; 3 mesh: vertex and triangle counts, vertices, indices;
 -- 4 heights: rows, columns, two spacings, heights; 5 distances: three sides, origin, spacing, values.
 -- So every body is 8 floats, some u32, some floats, some u32.
@@ -61,7 +62,8 @@ saidOf form bytes = record {
   ray = numbersOf form 8 (drop 6 bytes);
   counts = countsOf form bytes;
   numbers = numbersOf form (manyNumbers (kindOf bytes) (countsOf form bytes)) (drop (numbersPlace form (kindOf bytes)) bytes);
-  indices = wordsOf (manyIndices (kindOf bytes) (countsOf form bytes)) (drop (indicesPlace form (kindOf bytes) (countsOf form bytes)) bytes);
+  indices = wordsOf (manyIndices (kindOf bytes) (countsOf form bytes))
+      (drop (indicesPlace form (kindOf bytes) (countsOf form bytes)) bytes);
 }
 
 abbrev pub isKind : ℕ → Bool

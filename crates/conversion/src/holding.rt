@@ -2,9 +2,9 @@ use crate::forms::Form;
 ghost use mathlib.Core.Path.{_≡_};
 ghost use mathlib.Core.Bool.{true};
 ghost use Prim.Native.Nat.{_*_, _<_};
-ghost use lib.Ieee.{top, toBits};
+ghost use lib.Ieee.{nan, top, toBits};
 ghost use Rattle.conversion.specs.Forms.{formatOf};
-ghost use Rattle.conversion.specs.Convert.{held};
+ghost use Rattle.conversion.specs.Convert.{held, fitsIn};
 ghost use Rattle.conversion.specs.Holding.{patternFor};
 
 // The pattern that stands for a float exactly, if the form holds it.
@@ -52,11 +52,24 @@ pub fn is_held(form: Form, x: f64) -> bool
     }
 }
 
-// The pattern of a float that is held.
+// The pattern that stands for NaN.
+fn nan_bits(form: Form) -> u64
+    ensures { λ r. ⌜ r ≡ toBits (formatOf form) nan ⌝ }
+{
+    match form {
+        Form::Long => 0x7ff8_0000_0000_0000,
+        Form::Short => 0x7fc0_0000,
+    }
+}
+
+// The pattern of a float of the form's format.
 pub fn bits_for(form: Form, x: f64) -> u64
-    requires { ⌜ held form x ≡ true ⌝ }
+    requires { ⌜ fitsIn form x ≡ true ⌝ }
     ensures { λ r. ⌜ (r ≡ toBits (formatOf form) x) × (r < 2 * top (formatOf form)) ⌝ }
 {
+    if x != x {
+        return nan_bits(form);
+    }
     let pattern = pattern_for(form, x);
     let Pattern::Bits(bits) = pattern else {
         return 0;

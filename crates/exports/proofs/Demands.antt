@@ -26,7 +26,8 @@ mesh-call-meets-demand r m t list stack area place admitted fits = record {
   says = room-there (rayAdmitted r && shapeAdmitted m (m .vertices) t) (resultsFit area place) _ _ fits;
 }
 
-built-told : (m : Mesh) (before : Areas) (work count : ℕ) (place : List ℕ) → buildOf m before work .answer ≡ nodes count → leb 1 (length place) ≡ true
+built-told : (m : Mesh) (before : Areas) (work count : ℕ) (place : List ℕ) → buildOf m before work .answer ≡ nodes count → leb 1
+    (length place) ≡ true
     → buildTold m before work place ≡ record {
       told = record { number = doneCode; count = sets place 0 (count ∷ []) };
       after = buildOf m before work .after;

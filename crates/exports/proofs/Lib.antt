@@ -8,3 +8,5 @@ pub mod Demands
 pub mod CabinetAnswers
 pub mod FoundHits
 pub mod BoardCalls
+pub mod ConversionCalls
+pub mod ExactCalls

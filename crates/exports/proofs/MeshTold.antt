@@ -21,7 +21,8 @@ module _ (area : List Float) (place : List ℕ) where
   untold number = record { number = number; hit = area; index = place }
 
   untold-short : (p q fits : Bool) (rest : Indexed) (number : ℕ) → fits ≡ false → number ≡ shortOf p q
-      → untold number ≡ withRoom (p && q) fits (toldIndexed (cond p (cond q rest (stopped badShape)) (stopped invalidInput)) area place) (untold noRoom)
+      → untold number ≡ withRoom (p && q) fits (toldIndexed (cond p (cond q rest (stopped badShape)) (stopped invalidInput)) area place)
+      (untold noRoom)
   unfolding untold toldIndexed
   untold-short true true fits rest number f e = simp (f, e)
   untold-short true false fits rest number f e = simp e

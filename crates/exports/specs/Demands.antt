@@ -26,7 +26,8 @@ pub record TellsDemand (r : Ray) (m : Mesh) (area : List Float) (place : List �
 abbrev pub MeshCallMeetsDemand : Type 0
 MeshCallMeetsDemand =
     (r : Ray) (m : Mesh) (t : Tree) (list stack : ℕ) (area : List Float) (place : List ℕ)
-    → Admitted r m t list stack → resultsFit area place ≡ true → TellsDemand r m area place (answeredMesh r m (m .vertices) t list stack area place)
+    → Admitted r m t list stack → resultsFit area place ≡ true → TellsDemand r m area place
+    (answeredMesh r m (m .vertices) t list stack area place)
 
 -- the build: where it does not refuse it tells so, with the node count, and the check's call says yes to the tree in the areas
 abbrev pub BuildCallPasses : Type 0

@@ -5,3 +5,5 @@ pub mod Ranges
 pub mod CabinetResults
 pub mod AllHits
 pub mod Boards
+pub mod Conversions
+pub mod ExactResults

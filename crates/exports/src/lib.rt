@@ -12,9 +12,13 @@ pub mod listings;
 pub mod meshes;
 // The mesh cast without a tree.
 pub mod plain;
+// The mesh cast on whole millimetres without a tree.
+pub mod exact;
 // The cast at heights known only within ranges.
 pub mod ranges;
 // The cast at a cabinet of many parts.
 pub mod cabinets;
 // The merge of two boards.
 pub mod boards;
+// Records of version 2 as version 3, and back.
+pub mod conversions;

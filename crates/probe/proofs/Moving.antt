@@ -27,7 +27,16 @@ module _ (before after : List ℕ) (from i : ℕ) (m : Moved before after from i
   moved-one room = record {
     is =
         let short : i < length (drop from before) = simp length-drop (omega arith) in
-        rw (next room, m .is, add-one, take-suc (drop from before) i 0 short, drop-cons before i 0 (omega arith), set-at (take i (drop from before)) (getD before i 0) (drop (suc i) before) (getD (drop from before) i 0) i (done (omega arith)), append-snoc);
+        rw (
+          next room,
+          m .is,
+          add-one,
+          take-suc (drop from before) i 0 short,
+          drop-cons before i 0 (omega arith),
+          set-at
+              (take i (drop from before)) (getD before i 0) (drop (suc i) before) (getD (drop from before) i 0) i (done (omega arith)),
+          append-snoc,
+        );
   }
 
   pub moved-all : (count : ℕ) → i ≤ count → count ≤ i → after ≡ take count (drop from before) ++ drop count before

@@ -1,4 +1,5 @@
-// Records in, lines out (document 01, 'Printed result'): reads standard input, answers what is at hand and writes the lines, up to the end, to the first malformed record, or to a read or a write that fails.
+// Records in, lines out (document 01, 'Printed result'): reads standard input, answers what is at hand and writes the lines, up to the
+// end, to the first malformed record, or to a read or a write that fails.
 use at_hand::answers;
 use libc::STDERR_FILENO;
 use libc::STDIN_FILENO;
@@ -22,7 +23,8 @@ struct Run {
 // Moves input[from..to] to the front, and returns how many bytes that are.
 fn moved(input: &mut [u8], from: usize, to: usize) -> usize
     requires { ⌜ (from ≤ to) × (to ≤ length (now input)) ⌝ }
-    ensures { λ r. ⌜ (r ≡ to - from) × (now (input .exit) ≡ take (to - from) (drop from (now (input .entry))) ++ drop (to - from) (now (input .entry))) ⌝ }
+    ensures { λ r. ⌜ (r ≡ to - from) × (now (input .exit) ≡ take (to - from) (drop from (now (input .entry))) ++ drop (to - from)
+        (now (input .entry))) ⌝ }
 {
     let count = to - from;
     let mut i = 0;
@@ -33,7 +35,8 @@ fn moved(input: &mut [u8], from: usize, to: usize) -> usize
     count
 }
 
-// Reads on where what is held may be less than a record: 4 + 8,192 bytes. A read that fails is no end of the input: it ends the run, and standard error says so.
+// Reads on where what is held may be less than a record: 4 + 8,192 bytes. A read that fails is no end of the input: it ends the run, and
+// standard error says so.
 fn read_on(run: Run, input: &mut [u8]) -> Run
     requires { ⌜ (run .held ≤ 65536) × (length (now input) ≡ 65536) ⌝ }
     ensures { λ r. ⌜ r .held ≤ 65536 ⌝ }
@@ -68,6 +71,7 @@ fn read_on(run: Run, input: &mut [u8]) -> Run
 fn turn(
     run: Run,
     input: &mut [u8],
+    wide: &mut [u8; 8196],
     work: &mut [f64; 1024],
     triangles: &mut [u32; 2031],
     node_boxes: &mut [f64; 8124],
@@ -100,6 +104,7 @@ fn turn(
         next,
         ready.ended,
         &input[..held],
+        wide,
         work,
         triangles,
         node_boxes,
@@ -130,6 +135,7 @@ fn turn(
 
 fn main() {
     let mut input = io::large_buffer();
+    let mut wide = [0u8; 8196];
     let mut work = [0.0; 1024];
     let mut triangles = [0u32; 2031];
     let mut node_boxes = [0.0; 8124];
@@ -151,6 +157,7 @@ fn main() {
         run = turn(
             run,
             &mut input,
+            &mut wide,
             &mut work,
             &mut triangles,
             &mut node_boxes,

@@ -17,18 +17,21 @@ use Rattle.height_field.specs.Cast.{rayHeightField}
 use Rattle.level_set.specs.Walk.{rayLevelSet}
 use Rattle.height_field.specs.declared.field.Field.{Field}
 use Rattle.distance_grid.specs.declared.grid.Grid.{Grid}
-use Rattle.records.specs.Bytes.{floatsAt}
-use Rattle.records.specs.Fields.{versionOf, kindOf, shapePlace, rayOf, shapePart, planeOf, cornersOf, fieldOf, heightCount, heightsOf, gridOf, valueCount, valuesOf, meshOf}
+use Rattle.record_bytes.specs.Bytes.{floatsAt}
+use Rattle.record_bytes.specs.Fields.{versionOf, kindOf, shapePlace, rayOf, shapePart, planeOf, cornersOf, fieldOf, heightCount, heightsOf}
+use Rattle.record_bytes.specs.Fields.{gridOf, valueCount, valuesOf, meshOf}
 use Rattle.records.specs.MeshAnswer.{meshAnswer}
-use Rattle.records.specs.Parse.{wellFormed, shapeOf, parse}
-use Rattle.records.specs.Text.{decimal, hexadecimal, printedBits, Put, Written}
-use Rattle.records.specs.Lines.{hitWord, noneWord, refusedWord, badWord, floatText, hitText, answerText, indexText, indexedText, shapeText, parsedText, recordText, lineWith}
-use Rattle.records.proofs.Storing.{put-then, put-front}
+use Rattle.record_bytes.specs.Parse.{wellFormed, shapeOf, parse}
+use Rattle.record_bytes.specs.Text.{decimal, hexadecimal, printedBits, Put, Written}
+use Rattle.records.specs.Lines.{hitWord, noneWord, refusedWord, badWord, floatText, hitText, answerText, indexText, indexedText}
+use Rattle.records.specs.Lines.{shapeText, parsedText, recordText, lineWith}
+use Rattle.record_bytes.proofs.Storing.{put-then, put-front}
 use Rattle.records.proofs.Lengths.{longest-line}
-use Rattle.records.proofs.WellFormed.{rest-is}
+use Rattle.record_bytes.proofs.WellFormed.{rest-is}
 
 -- the same text under another name
-pub put-as : {area after : List ℕ} {at next : ℕ} {text : List ℕ} (other : List ℕ) → text ≡ other → Put area at text after next → Put area at other after next
+pub put-as : {area after : List ℕ} {at next : ℕ} {text : List ℕ} (other : List ℕ) → text ≡ other → Put area at text after next → Put area at
+    other after next
 put-as other e p = rw e at p
 
 pub put-space : {area after last : List ℕ} {at next end bits : ℕ} (x : Float) → bits ≡ printedBits x
@@ -56,7 +59,8 @@ unfolding answerText
 refused-case a number e = rw e
 
 -- what a mesh adds, by the answer's cases
-pub index-hit : (a : Indexed) (normal : Vec3) (distance : Float) (index : ℕ) → a ≡ hitAt normal distance index → (32 ∷ []) ++ decimal index ≡ indexText a
+pub index-hit : (a : Indexed) (normal : Vec3) (distance : Float) (index : ℕ) → a ≡ hitAt normal distance index → (32 ∷ []) ++ decimal index
+    ≡ indexText a
 unfolding indexText
 index-hit a normal distance index e = rw e
 
@@ -88,23 +92,29 @@ module _ (ray : Ray) (kind : ℕ) (shape : List ℕ) (a : Answer) where
   unfolding shapeOf shapeText cornersOf
   triangle-answer k e = rw (k, e)
 
-  pub heights-answer : kind ≡ 4 → a ≡ rayHeightField ray (fieldOf shape) (heightsOf shape) → answerText a ≡ shapeText ray (shapeOf kind shape)
+  pub heights-answer : kind ≡ 4 → a ≡ rayHeightField ray (fieldOf shape) (heightsOf shape) → answerText a ≡ shapeText ray
+      (shapeOf kind shape)
   unfolding shapeOf shapeText
   heights-answer k e = rw (k, e)
 
-  pub values-answer : (kind ≡ 1 → ⊥) → (kind ≡ 2 → ⊥) → (kind ≡ 3 → ⊥) → (kind ≡ 4 → ⊥) → a ≡ rayLevelSet ray (gridOf shape) (valuesOf shape)
+  pub values-answer : (kind ≡ 1 → ⊥) → (kind ≡ 2 → ⊥) → (kind ≡ 3 → ⊥) → (kind ≡ 4 → ⊥) → a ≡ rayLevelSet ray (gridOf shape)
+      (valuesOf shape)
       → answerText a ≡ shapeText ray (shapeOf kind shape)
   unfolding shapeOf shapeText
   values-answer i j l k e = simp (ne-eqb kind 1 i, ne-eqb kind 2 j, ne-eqb kind 3 l, ne-eqb kind 4 k, e)
 
 -- the numbers of a grid, decoded
-pub heights-cast : (shape : List ℕ) (ray : Ray) (field : Field) (numbers : List Float) (count : ℕ) (a : Answer) → a ≡ rayHeightField ray field numbers
-    → field ≡ fieldOf shape → numbers ≡ floatsAt shape 24 count → count ≡ heightCount shape → a ≡ rayHeightField ray (fieldOf shape) (heightsOf shape)
+pub heights-cast : (shape : List ℕ) (ray : Ray) (field : Field) (numbers : List Float) (count : ℕ) (a : Answer) → a ≡ rayHeightField ray
+    field numbers
+    → field ≡ fieldOf shape → numbers ≡ floatsAt shape 24 count → count ≡ heightCount shape → a ≡ rayHeightField ray (fieldOf shape)
+    (heightsOf shape)
 unfolding heightsOf
 heights-cast shape ray field numbers count a e f n k = cc
 
-pub values-cast : (shape : List ℕ) (ray : Ray) (grid : Grid) (numbers : List Float) (count : ℕ) (a : Answer) → a ≡ rayLevelSet ray grid numbers
-    → grid ≡ gridOf shape → numbers ≡ floatsAt shape 60 count → count ≡ valueCount shape → a ≡ rayLevelSet ray (gridOf shape) (valuesOf shape)
+pub values-cast : (shape : List ℕ) (ray : Ray) (grid : Grid) (numbers : List Float) (count : ℕ) (a : Answer) → a ≡ rayLevelSet ray grid
+    numbers
+    → grid ≡ gridOf shape → numbers ≡ floatsAt shape 60 count → count ≡ valueCount shape → a ≡ rayLevelSet ray (gridOf shape)
+    (valuesOf shape)
 unfolding valuesOf
 values-cast shape ray grid numbers count a e f n k = cc
 

@@ -13,11 +13,12 @@ use Rattle.casts.specs.Triangle.{rayTriangle}
 use Rattle.height_field.specs.Cast.{rayHeightField}
 use Rattle.level_set.specs.Walk.{rayLevelSet}
 use Rattle.geometry.specs.declared.ray.Ray.{Ray}
-use Rattle.records.specs.Parse.{Shape, plane, triangle, mesh, heights, distances, Parsed, says, malformed, parse}
+use Rattle.record_bytes.specs.Parse.{Shape, plane, triangle, mesh, heights, distances, Parsed, says, malformed, parse}
 use Rattle.records.specs.MeshAnswer.{meshAnswer}
-use Rattle.records.specs.Text.{decimal, hexadecimal, printedBits, placesOf}
-use Rattle.records.specs.Lines.{refusedWord, floatText, hitText, answerText, indexText, indexedText, shapeText, parsedText, badWord, recordText, lineWith, lineOf, badLine}
-use Rattle.records.proofs.Places.{length-digits, places-at-most}
+use Rattle.record_bytes.specs.Text.{decimal, hexadecimal, printedBits, placesOf}
+use Rattle.records.specs.Lines.{refusedWord, floatText, hitText, answerText, indexText, indexedText, shapeText, parsedText, badWord}
+use Rattle.records.specs.Lines.{recordText, lineWith, lineOf, badLine}
+use Rattle.record_bytes.proofs.Places.{length-digits, places-at-most}
 
 pub length-decimal : (n : ℕ) → length (decimal n) ≤ 20
 unfolding decimal
@@ -71,7 +72,12 @@ length-number n = omega (arith, length-append (decimal n) (32 ∷ []), length-de
 pub longest-line : (number : ℕ) (text : List ℕ) → length text ≤ 92 → length (lineWith number text) ≤ 114
 unfolding lineWith
 longest-line number text short =
-    omega (arith, length-append ((decimal number ++ (32 ∷ [])) ++ text) (10 ∷ []), length-append (decimal number ++ (32 ∷ [])) text, length-number number)
+    omega (
+      arith,
+      length-append ((decimal number ++ (32 ∷ [])) ++ text) (10 ∷ []),
+      length-append (decimal number ++ (32 ∷ [])) text,
+      length-number number,
+    )
 
 pub length-line : (number : ℕ) (body : List ℕ) → length (lineOf number body) ≤ 114
 length-line number body = longest-line number (recordText body) (length-parsed (parse body))

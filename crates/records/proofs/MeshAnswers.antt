@@ -18,8 +18,8 @@ use Rattle.tree.specs.Layout.{Areas, areas, treeIn}
 use Rattle.tree_build.specs.declared.build.Built.{Built}
 use Rattle.tree_build.specs.declared.build.Built.the-variants.{Nodes, Refused}
 use Rattle.mesh.specs.MeshCast.{rayMesh}
-use Rattle.records.specs.Bytes.{floatsAt, wordsAt}
-use Rattle.records.specs.Fields.{vertexCount, triangleCount, meshOf}
+use Rattle.record_bytes.specs.Bytes.{floatsAt, wordsAt}
+use Rattle.record_bytes.specs.Fields.{vertexCount, triangleCount, meshOf}
 use Rattle.mesh.specs.Through.{throughBuilt, throughTree}
 use Rattle.records.specs.MeshAnswer.{meshAnswer}
 use Rattle.records.specs.Areas.{TreeRoom, TreeLent}
@@ -28,7 +28,8 @@ use Rattle.records.specs.Areas.{TreeRoom, TreeLent}
 
 module _ (ray : Ray) (m : Mesh) (list stack : ℕ) (built : Built) (after : Areas) (outcome : Outcome)
     (is : _≡_ {A = Outcome} record { answer = says built; after = after } outcome) where
-  pub through-nodes : (count kept : ℕ) (a : Indexed) → built ≡ Nodes count → kept ≡ list → a ≡ rayMesh ray m (m .vertices) (treeIn count after) kept stack
+  pub through-nodes : (count kept : ℕ) (a : Indexed) → built ≡ Nodes count → kept ≡ list → a ≡ rayMesh ray m (m .vertices)
+      (treeIn count after) kept stack
       → a ≡ throughTree ray m list stack outcome
   unfolding throughBuilt
   through-nodes count kept a n k e = rw (sym is, n, sym k) e
@@ -43,11 +44,13 @@ pub refused-ray : (ray : Ray) (m : Mesh) → rayAdmitted ray ≡ false → stopp
 unfolding meshAnswer
 refused-ray ray m h = simp h
 
-pub fresh-answer : (ray : Ray) (m : Mesh) (a : Indexed) {nodeBoxes nodeBoxes′ triangleBoxes triangleBoxes′ : List Float} {nodeWords nodeWords′ order order′ list stack : List ℕ}
+pub fresh-answer : (ray : Ray) (m : Mesh) (a : Indexed) {nodeBoxes nodeBoxes′ triangleBoxes triangleBoxes′ : List Float}
+    {nodeWords nodeWords′ order order′ list stack : List ℕ}
     → rayAdmitted ray ≡ true → TreeRoom (thirds (length (m .triangles))) nodeBoxes triangleBoxes nodeWords order list stack
     → nodeBoxes′ ≡ replicate (length nodeBoxes) zeroᶠ → triangleBoxes′ ≡ replicate (length triangleBoxes) zeroᶠ
     → nodeWords′ ≡ replicate (length nodeWords) 0 → order′ ≡ replicate (length order) 0
-    → a ≡ throughTree ray m (length list) (length stack) (buildOf m (areas nodeBoxes′ triangleBoxes′ nodeWords′ order′) (length list)) → a ≡ meshAnswer ray m
+    → a ≡ throughTree ray m (length list) (length stack) (buildOf m (areas nodeBoxes′ triangleBoxes′ nodeWords′ order′) (length list)) → a ≡
+    meshAnswer ray m
 unfolding meshAnswer
 fresh-answer ray m a admitted room n t w o e =
     simp admitted (rw (n, t, w, o, room .boxed, room .bounded, room .worded, room .ordered, room .listed, room .stacked) at e)
@@ -64,7 +67,8 @@ decoded-mesh shape ray vertices triangles corners start indices a v t c s i e = 
 -- the areas, cut to a number of triangles
 pub cut-room : (count : ℕ) (triangles : List ℕ) {nodeBoxes triangleBoxes : List Float} {nodeWords order list stack : List ℕ}
     → 3 * count ≤ length triangles → count ≤ 677 → TreeLent nodeBoxes triangleBoxes nodeWords order list stack
-    → TreeRoom (thirds (length (take (3 * count) triangles))) (take (12 * count) nodeBoxes) (take (6 * count) triangleBoxes) (take (6 * count) nodeWords) (take count order) (take count list) (take (2 * count + 1) stack)
+    → TreeRoom (thirds (length (take (3 * count) triangles))) (take (12 * count) nodeBoxes) (take (6 * count) triangleBoxes)
+    (take (6 * count) nodeWords) (take count order) (take count list) (take (2 * count + 1) stack)
 cut-room count triangles {nodeBoxes} {triangleBoxes} {nodeWords} {order} {list} {stack} enough few lent =
     let n : thirds (length (take (3 * count) triangles)) ≡ count = omega (arith, length-take-le (3 * count) triangles enough) in
     rw n

@@ -1,4 +1,4 @@
--- The lengths of the areas in which a record is answered. Definitions only. Assumes nothing.
+-- Inner contracts only: the lengths of the areas in which a record is answered. Definitions only. Assumes nothing.
 use Prim.Native.Nat.{ℕ, _+_, _*_, _≤_}
 use mathlib.Core.Path.{_≡_}
 use mathlib.Core.List.{List}

@@ -11,8 +11,8 @@ use Rattle.casts.specs.Triangle.{rayTriangle}
 use Rattle.height_field.specs.Cast.{rayHeightField}
 use Rattle.level_set.specs.Walk.{rayLevelSet}
 use Rattle.records.specs.MeshAnswer.{meshAnswer}
-use Rattle.records.specs.Parse.{Shape, plane, triangle, mesh, heights, distances, Parsed, says, malformed, parse}
-use Rattle.records.specs.Text.{decimal, hexadecimal, printedBits}
+use Rattle.record_bytes.specs.Parse.{Shape, plane, triangle, mesh, heights, distances, Parsed, says, malformed, parse}
+use Rattle.record_bytes.specs.Text.{decimal, hexadecimal, printedBits}
 
 -- `hit`, `none`, `refused ` and `bad`
 abbrev pub hitWord : List ℕ

@@ -1,11 +1,12 @@
--- Document 01's worked example: three records, and the whole output for them; and three of both versions. Definitions only. Assumes nothing.
+-- Document 01's worked example: three records, and the whole output for them; and three of both versions. Definitions only. Assumes
+-- nothing.
 use Prim.Native.Nat.{ℕ}
 use mathlib.Core.List.{List, [], _∷_, _++_}
 use lib.Ieee.{Float, binary64, ofBits}
 use lib.ListN.{drop, replicate}
 use Rattle.geometry.specs.Numbers.{zeroᶠ, oneᶠ}
-use Rattle.records.specs.Parse.{plane}
-use Rattle.records.specs.Encode.{bodyBytes, framed}
+use Rattle.record_bytes.specs.Parse.{plane}
+use Rattle.record_bytes.specs.Encode.{bodyBytes, framed}
 
 abbrev two : Float
 two = ofBits binary64 0x4000_0000_0000_0000
@@ -45,7 +46,8 @@ zeros n = replicate n 48
 abbrev firstLine : List ℕ
 firstLine =
     (49 ∷ (32 ∷ (104 ∷ (105 ∷ (116 ∷ (32 ∷ []))))))
-    ++ (zeros 16 ++ ((32 ∷ []) ++ (zeros 16 ++ ((32 ∷ (51 ∷ (102 ∷ (102 ∷ [])))) ++ (zeros 13 ++ ((32 ∷ (52 ∷ [])) ++ (zeros 15 ++ (10 ∷ []))))))))
+    ++ (zeros 16 ++ ((32 ∷ []) ++ (zeros 16 ++ ((32 ∷ (51 ∷ (102 ∷ (102 ∷ [])))) ++ (zeros 13 ++ ((32 ∷ (52 ∷ [])) ++ (zeros 15 ++ (10 ∷
+    []))))))))
 
 -- "2 none"
 abbrev secondLine : List ℕ

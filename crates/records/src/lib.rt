@@ -1,28 +1,6 @@
 // One record of bytes to its line of bytes, on lent slices (document 01, 'Printed result').
-//
-// A record is four bytes of length and a body of that many bytes. The body's fields, by place:
-//
-// | place | field                                   |
-// |-------|-----------------------------------------|
-// | 0     | version, 1 or 2                         |
-// | 1     | kind: 1 plane, 2 triangle, 3 mesh, 4 height grid, 5 distance grid |
-// | 2     | origin, three floats                    |
-// | 26    | direction, three floats                 |
-// | 50    | maximum, a float                        |
-// | 58    | version 2: near, a float                |
-// | 58 or 66 | the shape, to the end of the body    |
 
-// Readers of one number at a place.
-pub mod bytes;
-// The fields of a body.
-pub mod fields;
-// Which bodies are well formed.
-pub mod parse;
-// Numbers as text.
-pub mod text;
 // The answer to a mesh.
 pub mod meshes;
 // The line that answers a record.
 pub mod lines;
-// Where a record ends in a stream.
-pub mod stream;

@@ -1,8 +1,4 @@
-use crate::bytes;
-use crate::fields;
 use crate::meshes;
-use crate::parse;
-use crate::text;
 use casts::answer::Cast;
 use casts::nearest;
 use casts::nearest::IndexedCast;
@@ -12,6 +8,10 @@ use geometry::ray::Ray;
 use geometry::vec3::Vec3;
 use height_field::cast;
 use level_set::walk;
+use record_bytes::bytes;
+use record_bytes::fields;
+use record_bytes::parse;
+use record_bytes::text;
 ghost use mathlib.Core.Path.{_≡_};
 ghost use mathlib.Core.Bool.{true};
 ghost use mathlib.Core.List.{[], _∷_, _++_};
@@ -21,13 +21,14 @@ ghost use Rattle.casts.specs.Answer.{says};
 ghost use Rattle.casts.specs.Nearest.{saysIndexed};
 ghost use Rattle.height_field.specs.Cast.{rayHeightField};
 ghost use Rattle.level_set.specs.Walk.{rayLevelSet};
-ghost use Rattle.records.specs.Parse.{filled, shapeOf};
-ghost use Rattle.records.specs.Fields.{fieldOf, heightCount, heightsOf, gridOf, valueCount, valuesOf};
-ghost use Rattle.records.specs.Text.{Put, Written, decimal};
+ghost use Rattle.record_bytes.specs.Parse.{filled, shapeOf};
+ghost use Rattle.record_bytes.specs.Fields.{fieldOf, heightCount, heightsOf, gridOf, valueCount, valuesOf};
+ghost use Rattle.record_bytes.specs.Text.{Put, Written, decimal};
 ghost use Rattle.records.specs.Areas.{TreeLent};
 ghost use Rattle.records.specs.Lines.{floatText, hitText, answerText, indexText, indexedText, shapeText, recordText, lineOf, badLine};
 
-// A line has at most 114 bytes: a number, a space, `hit` with four floats of 17 bytes, a triangle's index after a space, and its end; 20 digits are set aside for each whole number.
+// A line has at most 114 bytes: a number, a space, `hit` with four floats of 17 bytes, a triangle's index after a space, and its end; 20
+// digits are set aside for each whole number.
 
 fn put_float(out: &mut [u8], at: usize, x: f64) -> usize
     requires { ⌜ at + 17 ≤ length (now out) ⌝ }
@@ -227,7 +228,8 @@ fn put_number(out: &mut [u8], number: u64) -> usize
     text::put_byte(out, end, b' ')
 }
 
-// The line of a record, at the front of `out`; returns how many bytes it has. All areas between are work areas, which may hold anything afterwards.
+// The line of a record, at the front of `out`; returns how many bytes it has. All areas between are work areas, which may hold anything
+// afterwards.
 pub fn line(
     number: u64,
     body: &[u8],

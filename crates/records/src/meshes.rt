@@ -1,9 +1,9 @@
-use crate::bytes;
 use casts::answer;
 use casts::nearest::IndexedCast;
 use geometry::ray::Ray;
 use lists::fill;
 use mesh::cast;
+use record_bytes::bytes;
 use tree_build::build;
 use tree_build::build::Built;
 ghost use mathlib.Core.Path.{_≡_};
@@ -13,7 +13,7 @@ ghost use Rattle.casts.specs.Nearest.{saysIndexed};
 ghost use Rattle.tree.specs.Mesh.{thirds, mesh};
 ghost use Rattle.tree.specs.Layout.{areas};
 ghost use Rattle.tree_build.specs.Build.{buildOf};
-ghost use Rattle.records.specs.Fields.{vertexCount, triangleCount, meshOf};
+ghost use Rattle.record_bytes.specs.Fields.{vertexCount, triangleCount, meshOf};
 ghost use Rattle.mesh.specs.Through.{throughTree};
 ghost use Rattle.records.specs.MeshAnswer.{meshAnswer};
 ghost use Rattle.records.specs.Areas.{TreeRoom, TreeLent};
@@ -32,7 +32,10 @@ fn cast_built(
     list: &mut [u32],
     stack: &mut [u32],
 ) -> IndexedCast
-    ensures { λ r. ⌜ saysIndexed r ≡ throughTree ray (mesh (now (vertices .entry)) (now (triangles .entry))) (length (now (list .entry))) (length (now (stack .entry))) (buildOf (mesh (now (vertices .entry)) (now (triangles .entry))) (areas (now («node_boxes» .entry)) (now («triangle_boxes» .entry)) (now («node_words» .entry)) (now (order .entry))) (length (now (list .entry)))) ⌝ }
+    ensures { λ r. ⌜ saysIndexed r ≡ throughTree ray (mesh (now (vertices .entry)) (now (triangles .entry))) (length (now (list .entry)))
+        (length (now (stack .entry))) (buildOf (mesh (now (vertices .entry)) (now (triangles .entry)))
+        (areas (now («node_boxes» .entry)) (now («triangle_boxes» .entry)) (now («node_words» .entry)) (now (order .entry)))
+        (length (now (list .entry)))) ⌝ }
 {
     let built = build::build(
         vertices,
@@ -77,7 +80,8 @@ fn cast_fresh(
     list: &mut [u32],
     stack: &mut [u32],
 ) -> IndexedCast
-    requires { ⌜ TreeRoom (thirds (length (now triangles))) (now «node_boxes») (now «triangle_boxes») (now «node_words») (now order) (now list) (now stack) ⌝ }
+    requires { ⌜ TreeRoom (thirds (length (now triangles))) (now «node_boxes») (now «triangle_boxes») (now «node_words») (now order)
+        (now list) (now stack) ⌝ }
     ensures { λ r. ⌜ saysIndexed r ≡ meshAnswer ray (mesh (now (vertices .entry)) (now (triangles .entry))) ⌝ }
 {
     if !ray.validate() {
@@ -100,7 +104,8 @@ fn cast_fresh(
     )
 }
 
-// The cast at a shape of kind 3, from its own bytes; its mesh is decoded into the first two areas, and the tree is built in parts of the others.
+// The cast at a shape of kind 3, from its own bytes; its mesh is decoded into the first two areas, and the tree is built in parts of the
+// others.
 pub fn mesh_answer(
     shape: &[u8],
     ray: Ray,
@@ -114,7 +119,8 @@ pub fn mesh_answer(
     stack: &mut [u32],
 ) -> IndexedCast
     requires { ⌜ (8 + 24 * vertexCount (now shape) + 12 * triangleCount (now shape) ≡ length (now shape)) × (length (now shape) ≤ 8134) ⌝ }
-    requires { ⌜ (1024 ≤ length (now vertices)) × ((2031 ≤ length (now triangles)) × TreeLent (now «node_boxes») (now «triangle_boxes») (now «node_words») (now order) (now list) (now stack)) ⌝ }
+    requires { ⌜ (1024 ≤ length (now vertices)) × ((2031 ≤ length (now triangles)) × TreeLent (now «node_boxes») (now «triangle_boxes»)
+        (now «node_words») (now order) (now list) (now stack)) ⌝ }
     ensures { λ r. ⌜ saysIndexed r ≡ meshAnswer ray (meshOf (now (shape .entry))) ⌝ }
 {
     let corners = 3 * bytes::word_at(shape, 0) as usize;

@@ -1,7 +1,8 @@
 -- The guess is right wherever 4 bytes hold the number; and coming back gives the same pattern. Assumes nothing.
 use Prim.Native.Nat.{ℕ, zero, suc, _+_, _-_, _*_, _/_, _%_, _^_, _<_, _≤_}
 use native.Mathlib.Omega.{arith}
-use native.Mathlib.Nat.{mul-assoc, mul-comm, add-comm, div-one, mul-one, le-of-lt, lt-of-lt-of-le, mul-le-mul-right, mul-lt-mul-of-pos-right, le-antisymm, lt-irrefl, lt-of-le-of-lt, lt-of-not-le, pow-succ', one-mul}
+use native.Mathlib.Nat.{mul-assoc, mul-comm, add-comm, div-one, mul-one, le-of-lt, lt-of-lt-of-le, mul-le-mul-right}
+use native.Mathlib.Nat.{mul-lt-mul-of-pos-right, le-antisymm, lt-irrefl, lt-of-le-of-lt, lt-of-not-le, pow-succ', one-mul}
 use mathlib.Core.Path.{_≡_, refl, sym, ap, subst, _∙_}
 use mathlib.Core.Bool.{Bool, true, false, not, _&&_, cond}
 use lib.IntN.{ℤ, pos, negsuc}
@@ -39,7 +40,8 @@ size-up m j h = le-antisymm below above
         let none : m < 1 = subst (λ (k : ℕ). m < 2 ^ k) e (size-lt m) in
         absurd (omega (arith, none, h))
     above-at (suc a) e =
-        let least : 2 ^ (a + j) ≤ m * 2 ^ j = subst (λ (x : ℕ). x ≤ m * 2 ^ j) (sym (pow-split a j)) (mul-le-mul-right (2 ^ j) (digits a e)) in
+        let least : 2 ^ (a + j) ≤ m * 2 ^ j = subst (λ (x : ℕ). x ≤ m * 2 ^ j) (sym (pow-split a j))
+        (mul-le-mul-right (2 ^ j) (digits a e)) in
         let big : 2 ^ (a + j) < 2 ^ size (m * 2 ^ j) = lt-of-le-of-lt least (size-lt (m * 2 ^ j)) in
         omega (arith, exponent-lt (a + j) (size (m * 2 ^ j)) big)
 
@@ -216,12 +218,14 @@ module _ (m j : ℕ) (pos-m : 0 < m) (few-m : m < 2 ^ 24) (most : size m + j ≤
   shifted-back : t < 24 → q * 0x2000_0000 / 2 ^ (53 - t) % 0x8000_0000 ≡ m * 2 ^ j
   shifted-back small =
       let parts : 53 - size m ≡ j + (53 - t) = omega (arith, small) in
-      let within : m * 2 ^ j < 2 ^ t = subst (λ (x : ℕ). m * 2 ^ j < x) (sym (pow-split (size m) j)) (mul-lt-mul-of-pos-right (size-lt m) (pow-pos j)) in
+      let within : m * 2 ^ j < 2 ^ t = subst (λ (x : ℕ). m * 2 ^ j < x) (sym (pow-split (size m) j))
+      (mul-lt-mul-of-pos-right (size-lt m) (pow-pos j)) in
       let less : t ≤ 23 = omega (arith, small) in
       let tiny : 2 ^ t ≤ 2 ^ 23 = pow-mono less in
       let digits : q * 0x2000_0000 / 2 ^ (53 - t) ≡ m * 2 ^ j =
       ap (λ (x : ℕ). x / 2 ^ (53 - t))
-      (sym (leading m pos-m few .2) ∙ ap (λ (x : ℕ). m * 2 ^ x) parts ∙ ap (λ (x : ℕ). m * x) (pow-split j (53 - t)) ∙ sym (mul-assoc m (2 ^ j) (2 ^ (53 - t))))
+      (sym (leading m pos-m few .2) ∙ ap (λ (x : ℕ). m * 2 ^ x) parts ∙ ap (λ (x : ℕ). m * x) (pow-split j (53 - t)) ∙ sym
+      (mul-assoc m (2 ^ j) (2 ^ (53 - t))))
       ∙ shl-shr (m * 2 ^ j) (53 - t) in
       omega (arith, digits, within, tiny)
 
@@ -239,7 +243,8 @@ module _ (m j : ℕ) (pos-m : 0 < m) (few-m : m < 2 ^ 24) (most : size m + j ≤
       → guess (toBits binary64 (fin s m e)) ≡ toBits binary32 (fin s m e)
   narrow-at s e short wide =
       ap guess
-      (to-bits-is binary64 s m e (m * 2 ^ (j + 925)) wide ∙ regroup (cond s (top binary64) 0) _ _ ∙ ap (λ (x : ℕ). cond s (top binary64) 0 + x) as-pattern)
+      (to-bits-is binary64 s m e (m * 2 ^ (j + 925)) wide ∙ regroup (cond s (top binary64) 0) _ _ ∙ ap
+      (λ (x : ℕ). cond s (top binary64) 0 + x) as-pattern)
       ∙ signed-guess s (pattern t q) in-range
       ∙ ap (λ (x : ℕ). cond s (top binary32) 0 + x) (by-size (leb 24 t) refl)
       ∙ sym (to-bits-is binary32 s m e (m * 2 ^ j) short ∙ regroup (cond s (top binary32) 0) _ _)
@@ -293,7 +298,8 @@ narrow-up s m k some few below =
     most : size m + (k + 149) ≤ 277
     most =
         let grown : m * 2 ^ k * 2 ^ 149 < 2 ^ 128 * 1 * 2 ^ 149 = mul-lt-mul-of-pos-right below (pow-pos 149) in
-        let product : m * 2 ^ (k + 149) < 2 ^ 277 = subst (λ (x : ℕ). x < 2 ^ 277) (mul-assoc m (2 ^ k) (2 ^ 149) ∙ ap (λ (x : ℕ). m * x) (sym (pow-split k 149))) grown in
+        let product : m * 2 ^ (k + 149) < 2 ^ 277 = subst (λ (x : ℕ). x < 2 ^ 277)
+        (mul-assoc m (2 ^ k) (2 ^ 149) ∙ ap (λ (x : ℕ). m * x) (sym (pow-split k 149))) grown in
         omega (arith, size-up m (k + 149) some, size-le (m * 2 ^ (k + 149)) 277 product)
 
 narrow-down : (s : Bool) (m k : ℕ) → 0 < m → m < 2 ^ 24 → 2 ^ suc k ≤ 2 ^ 149

@@ -1,4 +1,5 @@
--- The pattern of 4 bytes for a float that is none that "f32 does not hold exactly or that is NaN" (document 02, M-113). Definitions only. Assumes nothing.
+-- The pattern of 4 bytes for a float that is none that "f32 does not hold exactly or that is NaN" (document 02, M-113). Definitions only.
+-- Assumes nothing.
 use Prim.Native.Nat.{ℕ, _+_, _-_, _*_, _/_, _%_, _^_}
 use mathlib.Core.Bool.{Bool, not, _&&_, cond}
 use lib.Dec.{leb, ltb, eqb}

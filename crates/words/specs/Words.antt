@@ -1,4 +1,5 @@
--- "the big-endian value of the eight bytes there, and nothing exactly where fewer are left" (document 02, M-108). Definitions only. Assumes nothing.
+-- "the big-endian value of the eight bytes there, and nothing exactly where fewer are left" (document 02, M-108). Definitions only. Assumes
+-- nothing.
 use Prim.Native.Nat.{ℕ, _+_, _*_}
 use mathlib.Core.Bool.{cond}
 use mathlib.Core.List.{List}

@@ -1,13 +1,15 @@
 //! Writes seeded `probe` records to standard output, or malformed streams into a
 //! directory.
 
-use oracle::{generate, telling};
+use oracle::{generate, record::Record, telling};
 use std::io::{BufWriter, Write};
 
 const USAGE: &str = "usage: oracle-gen SEED COUNT [--near] [--kinds 1,2,3,4,5] > RECORDS
+       oracle-gen SEED COUNT --short | --widened > RECORDS
        oracle-gen --bad DIRECTORY
 COUNT counts the marked records that come first. Kinds: 1 plane, 2 triangle,
-3 mesh, 4 height grid, 5 distance grid. --near: records of version 2, and no marked ones.";
+3 mesh, 4 height grid, 5 distance grid. --near: records of version 2, and no marked ones;
+--short: of version 3; --widened: the same records in version 2.";
 
 fn usage() -> ! {
     eprintln!("{USAGE}");
@@ -30,9 +32,18 @@ fn write_records(seed: u64, count: usize, kinds: &[u8]) -> std::io::Result<()> {
 
 /// Records of version 2.
 fn write_near(seed: u64, count: u64, kinds: &[u8]) -> std::io::Result<()> {
+    write_by(generate::with_near, seed, count, kinds)
+}
+
+fn write_by(
+    record: fn(u64, u64, &[u8]) -> Record,
+    seed: u64,
+    count: u64,
+    kinds: &[u8],
+) -> std::io::Result<()> {
     let mut out = BufWriter::new(std::io::stdout().lock());
     for number in 0..count {
-        out.write_all(&generate::with_near(seed, number, kinds).write())?;
+        out.write_all(&record(seed, number, kinds).write())?;
     }
     out.flush()
 }
@@ -61,6 +72,18 @@ fn main() {
         ["--bad", directory] => write_bad(directory),
         [seed, count] => write_records(number(seed), number(count) as usize, &[1, 2, 3, 4, 5]),
         [seed, count, "--near"] => write_near(number(seed), number(count), &[1, 2, 3, 4, 5]),
+        [seed, count, "--short"] => write_by(
+            generate::short,
+            number(seed),
+            number(count),
+            &[1, 2, 3, 4, 5],
+        ),
+        [seed, count, "--widened"] => write_by(
+            generate::widened,
+            number(seed),
+            number(count),
+            &[1, 2, 3, 4, 5],
+        ),
         [seed, count, "--near", "--kinds", list] => {
             write_near(number(seed), number(count), &kinds(list))
         }

@@ -7,13 +7,13 @@ use Rattle.probe.proofs.main.Statement.{statement}
 use Rattle.probe.proofs.main.Tie as tie
 
 abbrev Inv-loop : tie.InvT-loop
-Inv-loop input₀ work₀ triangles₀ nodeBoxes₀ triangleBoxes₀ nodeWords₀ order₀ list₀ stack₀ output₀ run₀ turns₀
-    input work triangles nodeBoxes triangleBoxes nodeWords order list stack output run turns =
+Inv-loop input₀ wide₀ work₀ triangles₀ nodeBoxes₀ triangleBoxes₀ nodeWords₀ order₀ list₀ stack₀ output₀ run₀ turns₀
+    input wide work triangles nodeBoxes triangleBoxes nodeWords order list stack output run turns =
     (length input ≡ 65536) × ((length output ≡ 65536) × (run .held ≤ 65536))
 
 abbrev μ-loop : tie.MeasureT-loop
-μ-loop input₀ work₀ triangles₀ nodeBoxes₀ triangleBoxes₀ nodeWords₀ order₀ list₀ stack₀ output₀ run₀ turns₀
-    input work triangles nodeBoxes triangleBoxes nodeWords order list stack output run turns =
+μ-loop input₀ wide₀ work₀ triangles₀ nodeBoxes₀ triangleBoxes₀ nodeWords₀ order₀ list₀ stack₀ output₀ run₀ turns₀
+    input wide work triangles nodeBoxes triangleBoxes nodeWords order list stack output run turns =
     18446744073709551615 - turns
 
 abbrev Loop : Type 0
@@ -47,7 +47,7 @@ loop-again : tie.Need-loop-again Inv-loop μ-loop
 loop-again c =
     let (l, t) : Loop × tie.After-turn Inv-loop μ-loop = search in (
       omega (arith, t .turn .kept .1 .0, l .loop .inv .0),
-      (omega (arith, t .turn .kept .1 .1 .1 .1 .1 .1 .1 .1 .1 .1 .0, l .loop .inv .1 .0), t .turn .ensures),
+      (omega (arith, t .turn .kept .1 .1 .1 .1 .1 .1 .1 .1 .1 .1 .1 .0, l .loop .inv .1 .0), t .turn .ensures),
     )
 
 returns : tie.Need-returns Inv-loop μ-loop

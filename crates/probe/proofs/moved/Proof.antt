@@ -22,10 +22,14 @@ add-input : tie.Need-add-input Inv-loop μ-loop
 add-input c = omega arith
 
 slice-read-input : tie.Need-slice-read-input Inv-loop μ-loop
-slice-read-input c = omega (arith, moved-length (c .before .before .before .args .input .now) (c .before .before .loop .input) (c .before .before .before .args .from) (c .before .before .loop .i) (c .before .before .loop .inv .1) (omega arith))
+slice-read-input c =
+    let (s, l) : (tie.Start Inv-loop μ-loop) × (tie.At-loop Inv-loop μ-loop) = search in
+    omega (arith, moved-length (s .args .input .now) (l .loop .input) (s .args .from) (l .loop .i) (l .loop .inv .1) (omega arith))
 
 slice-write-input : tie.Need-slice-write-input Inv-loop μ-loop
-slice-write-input c = omega (arith, moved-length (c .before .before .before .args .input .now) (c .before .before .loop .input) (c .before .before .before .args .from) (c .before .before .loop .i) (c .before .before .loop .inv .1) (omega arith))
+slice-write-input c =
+    let (s, l) : (tie.Start Inv-loop μ-loop) × (tie.At-loop Inv-loop μ-loop) = search in
+    omega (arith, moved-length (s .args .input .now) (l .loop .input) (s .args .from) (l .loop .i) (l .loop .inv .1) (omega arith))
 
 add-i : tie.Need-add-i Inv-loop μ-loop
 add-i c = omega arith
@@ -34,13 +38,24 @@ loop-less : tie.Need-loop-less Inv-loop μ-loop
 loop-less c = omega arith
 
 loop-again : tie.Need-loop-again Inv-loop μ-loop
-loop-again c = (omega arith, moved-one (c .before .before .before .args .input .now) (c .before .before .loop .input) (c .before .before .before .args .from) (c .before .before .loop .i) (c .before .before .loop .inv .1) (omega arith))
+loop-again c =
+    let (s, l) : (tie.Start Inv-loop μ-loop) × (tie.At-loop Inv-loop μ-loop) = search in (
+      omega arith,
+      moved-one (s .args .input .now) (l .loop .input) (s .args .from) (l .loop .i) (l .loop .inv .1) (omega arith),
+    )
 
 same-length : tie.Need-same-length Inv-loop μ-loop
-same-length c = moved-length (c .before .before .args .input .now) (c .before .loop .input) (c .before .before .args .from) (c .before .loop .i) (c .before .loop .inv .1) (omega arith)
+same-length c =
+    let (s, l) : (tie.Start Inv-loop μ-loop) × (tie.At-loop Inv-loop μ-loop) = search in
+    moved-length (s .args .input .now) (l .loop .input) (s .args .from) (l .loop .i) (l .loop .inv .1) (omega arith)
 
 returns : tie.Need-returns Inv-loop μ-loop
-returns c = (refl, moved-all (c .before .before .args .input .now) (c .before .loop .input) (c .before .before .args .from) (c .before .loop .i) (c .before .loop .inv .1) (c .before .before .args .to - c .before .before .args .from) (c .before .loop .inv .0) (c .loop-test .left))
+returns c =
+    let (s, l) : (tie.Start Inv-loop μ-loop) × (tie.At-loop Inv-loop μ-loop) = search in (
+      refl,
+      moved-all (s .args .input .now) (l .loop .input) (s .args .from) (l .loop .i) (l .loop .inv .1) (s .args .to - s .args .from)
+          (l .loop .inv .0) (c .loop-test .left),
+    )
 
 pub moved-spec : {M : Type 1} → statement M
 moved-spec =

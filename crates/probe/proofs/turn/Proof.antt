@@ -58,7 +58,12 @@ slice-reshare-prefix-write-all c = search needs
 slice-aggregate-write-all : tie.Need-slice-aggregate-write-all
 slice-aggregate-write-all c =
     let d : tie.After-answer-at-hand = search in
-    sym (length-take-le _ _ (omega (arith, d .answer-at-hand .ensures .1 .1, d .answer-at-hand .kept .1 .1 .1 .1 .1 .1 .1 .1 .1 .1 .1 .0)))
+    sym (length-take-le _ _ (omega (
+      arith,
+      d .answer-at-hand .ensures .1 .1,
+      d .answer-at-hand .kept .1 .1 .1 .1 .1 .1 .1 .1 .1 .1 .1 .1
+          .0,
+    )))
 
 write-all-requires : tie.Need-write-all-requires
 write-all-requires c κs = search needs

@@ -12,10 +12,9 @@ float-from-bits-result : tie.Need-float-from-bits-result
 float-from-bits-result c = number-pattern (c .before .args .short) (c .if1 .left)
 
 float-to-float-result : tie.Need-float-to-float-result
-float-to-float-result c = widens (c .before .before .args .short) (c .before .if1 .left)
-
-returns-2 : tie.Need-returns-2
-returns-2 c = search needs
+float-to-float-result c =
+    let start : tie.Start = search in
+    widens (start .args .short) (c .before .if1 .left)
 
 pub float-of-spec : {M : Type 1} → statement M
-float-of-spec = tie.close (tie.spec returns float-from-bits-result float-to-float-result returns-2)
+float-of-spec = tie.close (tie.spec returns float-from-bits-result float-to-float-result (λ c. search needs))

@@ -3,7 +3,8 @@ use Prim.Native.Nat.{ℕ, _<_, _%_}
 use mathlib.Core.Path.{_≡_, sym, subst}
 use lib.Dec.{T}
 use lib.Ieee.{binary32, binary64, toBits, ofBits}
-use Rattle.short_floats.proofs.Shorts.{nan-unheld, number, nan-guess, number-pattern, pattern-number, widens, other-guess, right-guess}
+use Rattle.short_floats.proofs.Shorts.{nan-unheld, number, nan-guess, number-pattern, pattern-number, widens, other-guess}
+use Rattle.short_floats.proofs.Shorts.{right-guess}
 use borrow.Author.Needs.{needs}
 use Rattle.short_floats.proofs.short_of.Statement.{statement}
 use Rattle.short_floats.proofs.short_of.Tie as tie
@@ -14,17 +15,11 @@ returns c = nan-unheld (c .before .args .x) (c .if1 .taken)
 float-to-bits-bits : tie.Need-float-to-bits-bits
 float-to-bits-bits c = number (c .before .args .x) (c .if1 .left)
 
-guess-requires : tie.Need-guess-requires
-guess-requires c κs = search needs
-
 -- the guess is a NaN's pattern
 returns-2 : tie.Need-returns-2
 returns-2 c =
     let (a, e) : tie.Start × tie.Else1 = search in
     nan-guess (a .args .x) (e .if1 .left) (subst (λ (z : ℕ). 0x7f80_0000 < z % 0x8000_0000) (c .before .guess .ensures .0) (c .if2 .taken))
-
-cast-short : tie.Need-cast-short
-cast-short c = search needs
 
 float-from-bits-back : tie.Need-float-from-bits-back
 float-from-bits-back c = number-pattern (c .before .guess .result) (c .if2 .left)
@@ -57,9 +52,9 @@ short-of-spec =
     (tie.spec
     returns
     float-to-bits-bits
-    guess-requires
+    (λ c κs. search needs)  -- guess-requires
     returns-2
-    cast-short
+    (λ c. search needs)  -- cast-short
     float-from-bits-back
     float-to-float-back
     float-to-bits-if3

@@ -1,34 +1,89 @@
--- `at_hand::answers::record_turn` meets its contract. Assumes nothing.
+-- `at_hand::answers::record_turn` meets its contract: by the record at the front, or by the one that it is widened to. Assumes nothing.
+use native.Mathlib.Omega.{arith}
+use Prim.Native.Nat.{ℕ, _+_, _≤_}
 use mathlib.Core.List.{List}
-use mathlib.Core.Path.{refl}
-use Prim.Native.Nat.{ℕ}
-use Rattle.records.specs.Stream.{bodyOf}
-use Rattle.at_hand.proofs.HandLaws.{record-turned}
+use mathlib.Core.Path.{_≡_, refl, sym, _∙_}
+use lib.ListN.{length, take}
+use lib.Seq.{length-take-le}
+use Rattle.at_hand.proofs.HandLaws.{long-turned, short-turned, part-is}
 use borrow.Author.Needs.{needs}
 use Rattle.at_hand.proofs.answers.record_turn.Statement.{statement}
 use Rattle.at_hand.proofs.answers.record_turn.Tie as tie
 
--- the output area as `put_line` leaves it
-abbrev output : tie.After-put-line → List ℕ
-output k = k .put-line .last .1 .1 .1 .1 .1 .1 .1 .1 .1 .1 .0
+-- the output area as the call leaves it
+abbrev after-short : tie.After-body-turn → List ℕ
+after-short b = b .body-turn .last .1 .1 .1 .1 .1 .1 .1 .1 .1 .1 .1 .0
 
+abbrev after-long : tie.After-body-turn2 → List ℕ
+after-long b = b .body-turn2 .last .1 .1 .1 .1 .1 .1 .1 .1 .1 .1 .1 .0
+
+-- the area as `widen` leaves it
+abbrev area : tie.After-widen → List ℕ
+area w = w .widen .last .1 .0
+
+start : tie.After-widen → tie.Start
+start w = search
+
+room : (w : tie.After-widen) → 8196 ≤ length (area w)
+unfolding start
+room w = omega (arith, w .widen .kept .1 .0, start w .pre)
+
+short-length : (w : tie.After-widen) → length (take (4 + w .widen .result) (area w)) ≡ 4 + w .widen .result
+short-length w = length-take-le (4 + w .widen .result) (area w) (omega (arith, room w, w .widen .ensures .0))
+
+slice-aggregate-whole : tie.Need-slice-aggregate-whole
+slice-aggregate-whole c =
+    let s : tie.Start = search in
+    sym (length-take-le (s .args .end) (s .args .rest .now) (s .pre .0 .1 .0))
+
+slice-reshare-prefix-body-turn : tie.Need-slice-reshare-prefix-body-turn
+slice-reshare-prefix-body-turn c = let w : tie.After-widen = search in omega (arith, room w, w .widen .ensures .0)
+
+slice-aggregate-body-turn : tie.Need-slice-aggregate-body-turn
+slice-aggregate-body-turn c = let w : tie.After-widen = search in sym (short-length w)
+
+body-turn-requires : tie.Need-body-turn-requires
+unfolding start
+body-turn-requires c κs =
+    let w : tie.After-widen = search in
+    ((omega (arith, short-length w), start w .pre .0 .1 .1), start w .pre .1 .1)
+
+body-turn-requires-2 : tie.Need-body-turn-requires-2
+body-turn-requires-2 c κs =
+    let s : tie.Start = search in
+    let long = length-take-le (s .args .end) (s .args .rest .now) (s .pre .0 .1 .0) in
+    ((omega (arith, long, s .pre .0 .0), s .pre .0 .1 .1), s .pre .1 .1)
+
+-- version 3
 returns : tie.Need-returns
 returns c =
-    let (s, k, w) : tie.Start × tie.After-put-line × tie.After-is-well-formed = search in
+    let (s, k, t, w, b) : tie.Start × tie.After-is-short × tie.Then1 × tie.After-widen × tie.After-body-turn = search in
     let a = s .args in
-    record-turned (a .s) (a .rest .now) (bodyOf (a .end) (a .rest .now)) (a .output .now) (output k) (a .end) (k .put-line .result)
-    (w .is-well-formed .result) refl (k .put-line .ensures) (w .is-well-formed .ensures)
+    short-turned (a .s) (b .body-turn .result) (a .rest .now) _ (a .output .now) (after-short b) (a .end) (b .body-turn .ensures)
+    (sym (k .is-short .ensures) ∙ t .if1 .taken) (part-is (area w) (w .widen .result) (omega (arith, room w)) ∙ w .widen .ensures .1)
+
+-- version 1 or 2
+returns-2 : tie.Need-returns-2
+returns-2 c =
+    let (s, k, e, b) : tie.Start × tie.After-is-short × tie.Else1 × tie.After-body-turn2 = search in
+    let a = s .args in
+    long-turned (a .s) (b .body-turn2 .result) (a .rest .now) _ (a .output .now) (after-long b) (a .end) (b .body-turn2 .ensures)
+    (sym (k .is-short .ensures) ∙ e .if1 .left) refl
 
 pub record-turn-spec : {M : Type 1} → statement M
 record-turn-spec =
     tie.close
     (tie.spec
-    (search needs)  -- sub-body
-    (search needs)  -- part-body-start
-    (search needs)  -- part-body-end
-    (search needs)  -- put-line-requires
-    (search needs)  -- add-t16
-    (search needs)  -- add-t28
-    (search needs)  -- is-well-formed-requires
+    slice-aggregate-whole
+    (search needs)  -- is-short-requires
+    (search needs)  -- widen-requires
+    (search needs)  -- add-stop
+    slice-reshare-prefix-body-turn
+    slice-aggregate-body-turn
+    body-turn-requires
     (search needs)  -- same-length
-    returns)
+    (search needs)  -- same-length-2
+    returns
+    body-turn-requires-2
+    (search needs)  -- same-length-3
+    returns-2)

@@ -5,8 +5,8 @@ use mathlib.Core.Path.{_≡_, sym, ap, _∙_}
 use mathlib.Core.Bool.{true}
 use mathlib.Core.List.{List}
 use lib.ListN.{length, take, drop, length-drop}
-use Rattle.records.specs.declared.stream.Found.the-variants.{Record, Cut, End}
-use Rattle.records.proofs.Frames.{next-within}
+use Rattle.record_bytes.specs.declared.stream.Found.the-variants.{Record, Cut, End}
+use Rattle.record_bytes.proofs.Frames.{next-within}
 use Rattle.at_hand.proofs.HandLaws.{rest-is, found-is, turned-by, turned-rest, cut-turned, end-turned}
 use borrow.Author.Needs.{needs}
 use Rattle.at_hand.proofs.answers.turn.Statement.{statement}
@@ -14,21 +14,21 @@ use Rattle.at_hand.proofs.answers.turn.Tie as tie
 
 -- the output area as the two calls leave it
 abbrev after-record : tie.After-record-turn → List ℕ
-after-record k = k .record-turn .last .1 .1 .1 .1 .1 .1 .1 .1 .1 .1 .1 .0
+after-record k = k .record-turn .last .1 .1 .1 .1 .1 .1 .1 .1 .1 .1 .1 .1 .0
 
 abbrev after-bad : tie.After-put-bad → List ℕ
 after-bad k = k .put-bad .last .1 .0
 
 record-turn-requires : tie.Need-record-turn-requires
 record-turn-requires c κs =
-    let (s, k, f) : tie.Start × tie.After-next × tie.After-found = search in
+    let (s, k, f, wide) : tie.Start × tie.After-next × tie.After-found × tie.After-record-turn-arg = search in
     let input = s .args .input .now in
     let used = s .args .s .used in
     let rest = take (length input - used) (drop used input) in
     let end = f .found .given .0 .0 in
     let w : (4 ≤ end) × (end ≤ length rest) = next-within rest end (sym (k .next .ensures) ∙ f .found .given .1) in
     let n : length rest ≡ length input - used = ap length (rest-is input used) ∙ length-drop used input in
-    ((w .0, (w .1, s .pre .0 .1)), (s .pre .1, omega (arith, w .1, n, s .pre .0 .0)))
+    ((w .0, (w .1, s .pre .0 .1)), (omega (arith, wide .record-turn-arg .given), (s .pre .1, omega (arith, w .1, n, s .pre .0 .0))))
 
 returns : tie.Need-returns
 returns c =
@@ -43,7 +43,8 @@ returns-2 : tie.Need-returns-2
 returns-2 c =
     let (s, k, f, b) : tie.Start × tie.After-next × tie.After-enum-told × tie.After-put-bad = search in
     let a = s .args in
-    turned-by (a .s) record { used = a .s .used; filled = b .put-bad .result; next = a .s .next; over = true } (a .input .now) (a .output .now)
+    turned-by (a .s) record { used = a .s .used; filled = b .put-bad .result; next = a .s .next; over = true } (a .input .now)
+    (a .output .now)
     (after-bad b) Cut (found-is (a .input .now) (a .s .used) (k .next .result) Cut (k .next .ensures) (f .enum-told .given .1))
     (cut-turned (a .s) (drop (a .s .used) (a .input .now)) (a .output .now) (after-bad b) (b .put-bad .result) (b .put-bad .ensures))
 

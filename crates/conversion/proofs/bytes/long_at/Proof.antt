@@ -27,11 +27,11 @@ pub long-at-spec : {M : Type 1} → statement M
 long-at-spec =
     tie.close
     (tie.spec
-    (search needs)  -- word-at-requires
-    (search needs)  -- mul-bits
-    (search needs)  -- add-word-at
-    (search needs)  -- word-at-requires-2
-    (search needs)  -- add-bits
+    (λ c κs. search needs)  -- word-at-requires
+    (λ c. search needs)  -- mul-bits
+    (λ c. search needs)  -- add-word-at
+    (λ c κs. search needs)  -- word-at-requires-2
+    (λ c. search needs)  -- add-bits
     returns
     float-from-bits-result
     returns-2)

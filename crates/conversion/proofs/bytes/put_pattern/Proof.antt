@@ -44,11 +44,11 @@ pub put-pattern-spec : {M : Type 1} → statement M
 put-pattern-spec =
     tie.close
     (tie.spec
-    (search needs)  -- enum-told
+    (λ c. search needs)  -- enum-told
     put-long-requires
-    (search needs)  -- enum-told-2
+    (λ c. search needs)  -- enum-told-2
     put-word-requires
-    (search needs)  -- same-length
+    (λ c. search needs)  -- same-length
     returns
-    (search needs)  -- same-length-2
+    (λ c. search needs)  -- same-length-2
     returns-2)

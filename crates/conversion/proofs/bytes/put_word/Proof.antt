@@ -30,16 +30,16 @@ pub put-word-spec : {M : Type 1} → statement M
 put-word-spec =
     tie.close
     (tie.spec
-    (search needs)  -- cast-out
-    (search needs)  -- slice-write-out
-    (search needs)  -- cast-out-2
-    (search needs)  -- add-out
+    (λ c. search needs)  -- cast-out
+    (λ c. search needs)  -- slice-write-out
+    (λ c. search needs)  -- cast-out-2
+    (λ c. search needs)  -- add-out
     slice-write-out-2
-    (search needs)  -- cast-out-3
-    (search needs)  -- add-out-2
+    (λ c. search needs)  -- cast-out-3
+    (λ c. search needs)  -- add-out-2
     slice-write-out-3
-    (search needs)  -- cast-out-4
-    (search needs)  -- add-out-3
+    (λ c. search needs)  -- cast-out-4
+    (λ c. search needs)  -- add-out-3
     slice-write-out-4
-    (search needs)  -- same-length
+    (λ c. search needs)  -- same-length
     returns)

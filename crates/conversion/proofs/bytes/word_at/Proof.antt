@@ -17,17 +17,17 @@ pub word-at-spec : {M : Type 1} → statement M
 word-at-spec =
     tie.close
     (tie.spec
-    (search needs)  -- byte-at-requires
-    (search needs)  -- mul-high
-    (search needs)  -- add-byte-at
-    (search needs)  -- byte-at-requires-2
-    (search needs)  -- add-high
-    (search needs)  -- add-byte-at-2
-    (search needs)  -- byte-at-requires-3
-    (search needs)  -- mul-low
-    (search needs)  -- add-byte-at-3
-    (search needs)  -- byte-at-requires-4
-    (search needs)  -- add-low
-    (search needs)  -- mul-result
-    (search needs)  -- add-result
+    (λ c κs. search needs)  -- byte-at-requires
+    (λ c. search needs)  -- mul-high
+    (λ c. search needs)  -- add-byte-at
+    (λ c κs. search needs)  -- byte-at-requires-2
+    (λ c. search needs)  -- add-high
+    (λ c. search needs)  -- add-byte-at-2
+    (λ c κs. search needs)  -- byte-at-requires-3
+    (λ c. search needs)  -- mul-low
+    (λ c. search needs)  -- add-byte-at-3
+    (λ c κs. search needs)  -- byte-at-requires-4
+    (λ c. search needs)  -- add-low
+    (λ c. search needs)  -- mul-result
+    (λ c. search needs)  -- add-result
     returns)

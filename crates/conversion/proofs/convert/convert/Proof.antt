@@ -5,6 +5,7 @@ use mathlib.Core.Path.{sym, _∙_}
 use lib.ListN.{length}
 use borrow.Author.Tests.{not-true, not-false}
 use Rattle.conversion.proofs.ConvertLaws.{sizes, known, malformed, no-room, unheld, done, size-for}
+use Rattle.conversion.proofs.Held.{held-fits-said}
 use borrow.Author.Needs.{needs}
 use Rattle.conversion.proofs.convert.convert.Statement.{statement}
 use Rattle.conversion.proofs.convert.convert.Tie as tie
@@ -18,14 +19,17 @@ returns c =
 body-length-requires : tie.Need-body-length-requires
 body-length-requires c κs =
     let (start, at-plan-of) : tie.Start × tie.After-plan-of = search in
-    let s = (sizes (start .args .p) (now (start .args .source)) (c .before .planned .given .0 .0) (known (start .args .p) (now (start .args .source)) (c .before .planned .given .0 .0) (sym (at-plan-of .plan-of .ensures) ∙ c .before .planned .given .1))) in
+    let s = (sizes (start .args .p) (now (start .args .source)) (c .before .planned .given .0 .0)
+    (known (start .args .p) (now (start .args .source)) (c .before .planned .given .0 .0)
+    (sym (at-plan-of .plan-of .ensures) ∙ c .before .planned .given .1))) in
     (s .few, (omega (arith, s .small), omega (arith, s .small)))
 
 returns-2 : tie.Need-returns-2
 returns-2 c =
     let (start, at-plan-of, at-planned) : tie.Start × tie.After-plan-of × tie.After-planned = search in
     no-room (start .args .p) (start .args .q) (now (start .args .source)) (now (start .args .out)) (at-planned .planned .given .0 .0)
-    (known (start .args .p) (now (start .args .source)) (at-planned .planned .given .0 .0) (sym (at-plan-of .plan-of .ensures) ∙ at-planned .planned .given .1))
+    (known (start .args .p) (now (start .args .source)) (at-planned .planned .given .0 .0)
+    (sym (at-plan-of .plan-of .ensures) ∙ at-planned .planned .given .1))
     (c .before .body-length .result)
     (size-for (start .args .q) (at-planned .planned .given .0 .0) (c .before .body-length .result) (c .before .body-length .ensures .0))
     (c .if1 .taken)
@@ -41,9 +45,11 @@ returns-3 c =
     let (start, at-plan-of, at-planned, at-body-length, else1) :
     tie.Start × tie.After-plan-of × tie.After-planned × tie.After-body-length × tie.Else1 = search in
     unheld (start .args .p) (start .args .q) (now (start .args .source)) (now (start .args .out)) (at-planned .planned .given .0 .0)
-    (known (start .args .p) (now (start .args .source)) (at-planned .planned .given .0 .0) (sym (at-plan-of .plan-of .ensures) ∙ at-planned .planned .given .1))
+    (known (start .args .p) (now (start .args .source)) (at-planned .planned .given .0 .0)
+    (sym (at-plan-of .plan-of .ensures) ∙ at-planned .planned .given .1))
     (at-body-length .body-length .result)
-    (size-for (start .args .q) (at-planned .planned .given .0 .0) (at-body-length .body-length .result) (at-body-length .body-length .ensures .0))
+    (size-for (start .args .q) (at-planned .planned .given .0 .0) (at-body-length .body-length .result)
+    (at-body-length .body-length .ensures .0))
     (else1 .if1 .left)
     (sym (c .before .is-held .ensures) ∙ not-true (c .before .is-held .result) (c .if2 .taken))
 
@@ -51,8 +57,17 @@ write-requires : tie.Need-write-requires
 write-requires c κs =
     let (start, at-plan-of, at-planned, at-body-length, else1, at-is-held) :
     tie.Start × tie.After-plan-of × tie.After-planned × tie.After-body-length × tie.Else1 × tie.After-is-held = search in (
-      (known (start .args .p) (now (start .args .source)) (at-planned .planned .given .0 .0) (sym (at-plan-of .plan-of .ensures) ∙ at-planned .planned .given .1)),
-      (((size-for (start .args .q) (at-planned .planned .given .0 .0) (at-body-length .body-length .result) (at-body-length .body-length .ensures .0)), else1 .if1 .left), (sym (at-is-held .is-held .ensures) ∙ not-false (at-is-held .is-held .result) (c .before .if2 .left))),
+      (known (start .args .p) (now (start .args .source)) (at-planned .planned .given .0 .0)
+          (sym (at-plan-of .plan-of .ensures) ∙ at-planned .planned .given .1)),
+      (
+        (
+          (size-for (start .args .q) (at-planned .planned .given .0 .0) (at-body-length .body-length .result)
+              (at-body-length .body-length .ensures .0)),
+          else1 .if1 .left,
+        ),
+        held-fits-said (start .args .q) _ (sym (at-is-held .is-held
+            .ensures) ∙ not-false (at-is-held .is-held .result) (c .before .if2 .left)),
+      ),
     )
 
 returns-4 : tie.Need-returns-4
@@ -61,9 +76,11 @@ returns-4 c =
     tie.Start × tie.After-plan-of × tie.After-planned × tie.After-body-length × tie.Else1 × tie.After-is-held × tie.Else2 ×
     tie.After-write = search in
     done (start .args .p) (start .args .q) (now (start .args .source)) (now (start .args .out)) (at-planned .planned .given .0 .0)
-    (known (start .args .p) (now (start .args .source)) (at-planned .planned .given .0 .0) (sym (at-plan-of .plan-of .ensures) ∙ at-planned .planned .given .1))
+    (known (start .args .p) (now (start .args .source)) (at-planned .planned .given .0 .0)
+    (sym (at-plan-of .plan-of .ensures) ∙ at-planned .planned .given .1))
     (at-body-length .body-length .result) (at-write .write .last .1 .1 .1 .1 .1 .0)
-    (size-for (start .args .q) (at-planned .planned .given .0 .0) (at-body-length .body-length .result) (at-body-length .body-length .ensures .0))
+    (size-for (start .args .q) (at-planned .planned .given .0 .0) (at-body-length .body-length .result)
+    (at-body-length .body-length .ensures .0))
     (else1 .if1 .left)
     (sym (at-is-held .is-held .ensures) ∙ not-false (at-is-held .is-held .result) (else2 .if2 .left)) (at-write .write .ensures)
 
@@ -71,16 +88,16 @@ pub convert-spec : {M : Type 1} → statement M
 convert-spec =
     tie.close
     (tie.spec
-    (search needs)  -- plan-of-requires
-    (search needs)  -- enum-known-planned
-    (search needs)  -- enum-told
+    (λ c κs. search needs)  -- plan-of-requires
+    (λ c. search needs)  -- enum-known-planned
+    (λ c. search needs)  -- enum-told
     returns
     body-length-requires
-    (search needs)  -- add-if1
+    (λ c. search needs)  -- add-if1
     returns-2
     is-held-requires
     returns-3
     write-requires
-    (search needs)  -- add-t8
-    (search needs)  -- same-length
+    (λ c. search needs)  -- add-t8
+    (λ c. search needs)  -- same-length
     returns-4)

@@ -1,10 +1,11 @@
 -- `conversion::convert::write` meets its contract. Assumes nothing.
 use Prim.Native.Nat.{_+_, _*_}
 use Rattle.conversion.specs.Forms.{sizeOf}
+use Rattle.conversion.specs.Convert.{fitsIn}
 use native.Mathlib.Omega.{arith}
 use denote.Ref.{now}
 use lib.ListN.{length}
-use Rattle.conversion.proofs.ConvertLaws.{sizes, kept-by, head-room, ray-room, shape-room, held-ray, held-numbers, all-written}
+use Rattle.conversion.proofs.ConvertLaws.{sizes, kept-by, head-room, ray-room, shape-room, ray-passes, numbers-pass, all-written}
 use borrow.Author.Needs.{needs}
 use Rattle.conversion.proofs.convert.write.Statement.{statement}
 use Rattle.conversion.proofs.convert.write.Tie as tie
@@ -29,12 +30,18 @@ write-head-requires c κs =
 write-ray-requires : tie.Need-write-ray-requires
 write-ray-requires c κs =
     let (start, at-write-head) : tie.Start × tie.After-write-head = search in (
-      ((sizes (start .args .p) (now (start .args .source)) (start .args .plan) (start .pre .0)) .few, omega (arith, (sizes (start .args .p) (now (start .args .source)) (start .args .plan) (start .pre .0)) .whole)),
+      (
+        (sizes (start .args .p) (now (start .args .source)) (start .args .plan) (start .pre .0)) .few,
+        omega
+            (arith, (sizes (start .args .p) (now (start .args .source)) (start .args .plan) (start .pre .0)) .whole),
+      ),
       (
         kept-by (now (start .args .out)) (at-write-head .write-head .last .1 .1 .1 .0)
             (6 + sizeOf (start .args .q) * 8 + 4 * start .args .plan .counts) (at-write-head .write-head .kept .1 .1 .1 .0)
-            (ray-room (start .args .p) (start .args .q) (now (start .args .source)) (start .args .plan) (sizes (start .args .p) (now (start .args .source)) (start .args .plan) (start .pre .0)) (start .args .body) (length (now (start .args .out))) (start .pre .1 .0 .0) (start .pre .1 .0 .1)),
-        held-ray (start .args .p) (start .args .q) (now (start .args .source)) (start .pre .1 .1),
+            (ray-room (start .args .p) (start .args .q) (now (start .args .source)) (start .args .plan)
+            (sizes (start .args .p) (now (start .args .source)) (start .args .plan) (start .pre .0)) (start .args .body)
+            (length (now (start .args .out))) (start .pre .1 .0 .0) (start .pre .1 .0 .1)),
+        ray-passes (start .args .p) (fitsIn (start .args .q)) (now (start .args .source)) (start .pre .1 .1),
       ),
     )
 
@@ -42,16 +49,31 @@ write-shape-requires : tie.Need-write-shape-requires
 write-shape-requires c κs =
     let (start, at-numbers-place, at-numbers-place2, at-write-head, at-write-ray) :
     tie.Start × tie.After-numbers-place × tie.After-numbers-place2 × tie.After-write-head × tie.After-write-ray = search in (
-      (omega (arith, (sizes (start .args .p) (now (start .args .source)) (start .args .plan) (start .pre .0)) .small), omega (arith, (sizes (start .args .p) (now (start .args .source)) (start .args .plan) (start .pre .0)) .whole, at-numbers-place .numbers-place .ensures .0)),
+      (
+        omega (arith, (sizes (start .args .p) (now (start .args .source)) (start .args .plan) (start .pre .0)) .small),
+        omega (
+          arith,
+          (sizes (start .args .p) (now (start .args .source)) (start .args .plan) (start .pre .0)) .whole,
+          at-numbers-place
+              .numbers-place .ensures .0,
+        ),
+      ),
       (
         kept-by (at-write-head .write-head .last .1 .1 .1 .0) (at-write-ray .write-ray .last .1 .1 .1 .1 .0)
-            (at-numbers-place2 .numbers-place2 .result + sizeOf (start .args .q) * start .args .plan .numbers + 4 * start .args .plan .indices)
+            (at-numbers-place2 .numbers-place2 .result + sizeOf (start .args .q) * start .args .plan .numbers + 4 * start .args .plan
+            .indices)
             (at-write-ray .write-ray .kept .1 .1 .1 .1 .0)
-            (kept-by (now (start .args .out)) (at-write-head .write-head .last .1 .1 .1 .0) (at-numbers-place2 .numbers-place2 .result + sizeOf (start .args .q) * start .args .plan .numbers + 4 * start .args .plan .indices) (at-write-head .write-head .kept .1 .1 .1 .0) (shape-room (start .args .p) (start .args .q) (now (start .args .source)) (start .args .plan) (sizes (start .args .p) (now (start .args .source)) (start .args .plan) (start .pre .0)) (start .args .body) (length (now (start .args .out))) (start .pre .1 .0 .0) (start .pre .1 .0 .1) (at-numbers-place2 .numbers-place2 .result) (at-numbers-place2 .numbers-place2 .ensures .0))),
-        held-numbers (start .args .p) (start .args .q) (now (start .args .source)) (start .args .plan)
+            (kept-by (now (start .args .out)) (at-write-head .write-head .last .1 .1 .1 .0)
+            (at-numbers-place2 .numbers-place2 .result + sizeOf (start .args .q) * start .args .plan .numbers + 4 * start .args .plan
+            .indices) (at-write-head .write-head .kept .1 .1 .1 .0) (shape-room (start .args .p) (start .args .q)
+            (now (start .args .source)) (start .args .plan)
+            (sizes (start .args .p) (now (start .args .source)) (start .args .plan) (start .pre .0)) (start .args .body)
+            (length (now (start .args .out))) (start .pre .1 .0 .0) (start .pre .1 .0 .1) (at-numbers-place2 .numbers-place2 .result)
+            (at-numbers-place2 .numbers-place2 .ensures .0))),
+        numbers-pass (start .args .p) (fitsIn (start .args .q)) (now (start .args .source)) (start .pre .1 .1) (start .args .plan)
             (at-numbers-place .numbers-place .result)
             (sizes (start .args .p) (now (start .args .source)) (start .args .plan) (start .pre .0))
-            (at-numbers-place .numbers-place .ensures .0) (start .pre .1 .1),
+            (at-numbers-place .numbers-place .ensures .0),
       ),
     )
 
@@ -77,5 +99,5 @@ write-spec =
     write-head-requires
     write-ray-requires
     write-shape-requires
-    (search needs)  -- same-length
+    (λ c. search needs)  -- same-length
     returns)

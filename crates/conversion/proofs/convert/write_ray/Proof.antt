@@ -23,22 +23,25 @@ returns : tie.Need-returns
 returns c =
     let (start, at-numbers-place, at-numbers-place2, at-put-floats, at-put-words) :
     tie.Start × tie.After-numbers-place × tie.After-numbers-place2 × tie.After-put-floats × tie.After-put-words = search in
-    let from : at-numbers-place .numbers-place .result ≡ 6 + sizeOf (start .args .p) * 8 = omega (arith, at-numbers-place .numbers-place .ensures .0) in
+    let from : at-numbers-place .numbers-place .result ≡ 6 + sizeOf (start .args .p) * 8 = omega
+    (arith, at-numbers-place .numbers-place .ensures .0) in
     two-parts (now (start .args .out)) (at-put-floats .put-floats .last .1 .1 .1 .1 .1 .0) (at-put-words .put-words .last .1 .1 .1 .0)
     (numbersBytes (start .args .q) (numbersOf (start .args .p) 8 (drop 6 (now (start .args .source)))))
     (wordsBytes (wordsOf (start .args .counts) (drop (6 + sizeOf (start .args .p) * 8) (now (start .args .source))))) 6
     (at-numbers-place2 .numbers-place2 .result)
     (at-put-floats .put-floats .ensures)
-    (at-put-words .put-words .ensures ∙ ap (λ (n : ℕ). sets (at-put-floats .put-floats .last .1 .1 .1 .1 .1 .0) (at-numbers-place2 .numbers-place2 .result) (wordsBytes (wordsOf (start .args .counts) (drop n (now (start .args .source)))))) from)
-    (run-behind (start .args .p) (start .args .q) 8 6 (at-numbers-place2 .numbers-place2 .result) (drop 6 (now (start .args .source))) (omega (arith, at-numbers-place2 .numbers-place2 .ensures .0)))
+    (at-put-words .put-words .ensures ∙ ap (λ (n : ℕ). sets (at-put-floats .put-floats .last .1 .1 .1 .1 .1 .0) (at-numbers-place2
+    .numbers-place2 .result) (wordsBytes (wordsOf (start .args .counts) (drop n (now (start .args .source)))))) from)
+    (run-behind (start .args .p) (start .args .q) 8 6 (at-numbers-place2 .numbers-place2 .result) (drop 6 (now (start .args .source)))
+    (omega (arith, at-numbers-place2 .numbers-place2 .ensures .0)))
 
 pub write-ray-spec : {M : Type 1} → statement M
 write-ray-spec =
     tie.close
     (tie.spec
-    (search needs)  -- numbers-place-requires
-    (search needs)  -- numbers-place-requires-2
+    (λ c κs. search needs)  -- numbers-place-requires
+    (λ c κs. search needs)  -- numbers-place-requires-2
     put-floats-requires
-    (search needs)  -- put-words-requires
-    (search needs)  -- same-length
+    (λ c κs. search needs)  -- put-words-requires
+    (λ c. search needs)  -- same-length
     returns)

@@ -8,7 +8,6 @@ use denote.Ref.{now}
 use borrow.Author.Needs.{needs}
 use Rattle.conversion.specs.Forms.{sizeOf}
 use Rattle.conversion.specs.Bytes.{numbersOf, numbersBytes, wordsOf, wordsBytes}
-use Rattle.conversion.specs.Convert.{allHeld}
 use Rattle.conversion.proofs.RunSteps.{Copying, copy-next, copy-done}
 use Rattle.conversion.proofs.runs.put_words.Statement.{statement}
 use Rattle.conversion.proofs.runs.put_words.Tie as tie
@@ -31,7 +30,8 @@ loop-again c =
     (tie.Start Inv-loop μ-loop) × (tie.At-loop Inv-loop μ-loop) × (tie.In-loop Inv-loop μ-loop) × (tie.After-word-at Inv-loop μ-loop) ×
     (tie.After-put-word Inv-loop μ-loop) = search in
     copy-next (now (start .args .source))
-    (sets (now (start .args .out)) (start .args .at) (wordsBytes (wordsOf (start .args .count) (drop (start .args .place) (now (start .args .source))))))
+    (sets (now (start .args .out)) (start .args .at)
+    (wordsBytes (wordsOf (start .args .count) (drop (start .args .place) (now (start .args .source))))))
     (length (now (start .args .out)))
     (at-loop .loop .out) (at-put-word .put-word .last .0) (at-loop .loop .from) (at-loop .loop .to) (at-loop .loop .left)
     (at-word-at .word-at .result) (in-loop .loop-test .taken) (at-loop .loop .inv)
@@ -44,7 +44,8 @@ returns : tie.Need-returns Inv-loop μ-loop
 returns c =
     let start : tie.Start Inv-loop μ-loop = search in
     copy-done (now (start .args .source))
-    (sets (now (start .args .out)) (start .args .at) (wordsBytes (wordsOf (start .args .count) (drop (start .args .place) (now (start .args .source))))))
+    (sets (now (start .args .out)) (start .args .at)
+    (wordsBytes (wordsOf (start .args .count) (drop (start .args .place) (now (start .args .source))))))
     (length (now (start .args .out))) (c .before .loop .out) (c .before .loop .from) (c .before .loop .to) (c .before .loop .left)
     (c .loop-test .left) (c .before .loop .inv)
 
@@ -55,12 +56,12 @@ put-words-spec =
     Inv-loop
     μ-loop
     loop-holds
-    (search needs)  -- word-at-requires
-    (search needs)  -- put-word-requires
-    (search needs)  -- add-from
-    (search needs)  -- add-to
-    (search needs)  -- sub-left
-    (search needs)  -- loop-less
+    (λ c κs. search needs)  -- word-at-requires
+    (λ c κs. search needs)  -- put-word-requires
+    (λ c. search needs)  -- add-from
+    (λ c. search needs)  -- add-to
+    (λ c. search needs)  -- sub-left
+    (λ c. search needs)  -- loop-less
     loop-again
     same-length
     returns)

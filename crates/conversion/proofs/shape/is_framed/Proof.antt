@@ -39,12 +39,12 @@ is-framed-spec =
     tie.close
     (tie.spec
     returns
-    (search needs)  -- word-at-requires
-    (search needs)  -- add-if2
+    (λ c κs. search needs)  -- word-at-requires
+    (λ c. search needs)  -- add-if2
     returns-2
-    (search needs)  -- shared-slice-read-if3
-    (search needs)  -- version-of-requires
+    (λ c. search needs)  -- shared-slice-read-if3
+    (λ c κs. search needs)  -- version-of-requires
     returns-3
-    (search needs)  -- shared-slice-read-kind
+    (λ c. search needs)  -- shared-slice-read-kind
     returns-4
     returns-5)

@@ -18,14 +18,28 @@ returns-2 c =
 returns-3 : tie.Need-returns-3
 unfolding manyCounts
 returns-3 c =
-    let (start, else1) : tie.Start × tie.Else1 = search in
-    (simp (ne-eqb (start .args .kind) 3 (else1 .if1 .left), ne-eqb (start .args .kind) 4 (c .before .if2 .left), eq-eqb (start .args .kind) 5 (c .if3 .taken)), omega arith)
+    let (start, else1) : tie.Start × tie.Else1 = search in (
+      simp (
+        ne-eqb (start .args .kind) 3 (else1 .if1 .left),
+        ne-eqb (start .args .kind) 4 (c .before .if2 .left),
+        eq-eqb (start .args .kind)
+            5 (c .if3 .taken),
+      ),
+      omega arith,
+    )
 
 returns-4 : tie.Need-returns-4
 unfolding manyCounts
 returns-4 c =
-    let (start, else1) : tie.Start × tie.Else1 = search in
-    (simp (ne-eqb (start .args .kind) 3 (else1 .if1 .left), ne-eqb (start .args .kind) 4 (c .before .if2 .left), ne-eqb (start .args .kind) 5 (c .if3 .left)), omega arith)
+    let (start, else1) : tie.Start × tie.Else1 = search in (
+      simp (
+        ne-eqb (start .args .kind) 3 (else1 .if1 .left),
+        ne-eqb (start .args .kind) 4 (c .before .if2 .left),
+        ne-eqb (start .args .kind)
+            5 (c .if3 .left),
+      ),
+      omega arith,
+    )
 
 pub many-counts-spec : {M : Type 1} → statement M
 many-counts-spec = tie.close (tie.spec returns returns-2 returns-3 returns-4)

@@ -38,14 +38,14 @@ many-numbers-spec =
     (tie.spec
     returns
     returns-2
-    (search needs)  -- mul-capped
-    (search needs)  -- capped-requires
+    (λ c. search needs)  -- mul-capped
+    (λ c κs. search needs)  -- capped-requires
     returns-3
-    (search needs)  -- product-requires
-    (search needs)  -- add-capped
-    (search needs)  -- capped-requires-2
+    (λ c κs. search needs)  -- product-requires
+    (λ c. search needs)  -- add-capped
+    (λ c κs. search needs)  -- capped-requires-2
     returns-4
-    (search needs)  -- product-requires-2
-    (search needs)  -- add-capped-2
-    (search needs)  -- capped-requires-3
+    (λ c κs. search needs)  -- product-requires-2
+    (λ c. search needs)  -- add-capped-2
+    (λ c κs. search needs)  -- capped-requires-3
     returns-5)

@@ -29,9 +29,9 @@ pub plan-of-spec : {M : Type 1} → statement M
 plan-of-spec =
     tie.close
     (tie.spec
-    (search needs)  -- is-framed-requires
+    (λ c κs. search needs)  -- is-framed-requires
     returns
     returns-2
-    (search needs)  -- shared-slice-read-filled-by
-    (search needs)  -- filled-by-requires
+    (λ c. search needs)  -- shared-slice-read-filled-by
+    (λ c κs. search needs)  -- filled-by-requires
     returns-3)

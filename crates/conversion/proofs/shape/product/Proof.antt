@@ -14,7 +14,8 @@ mul-capped c = omega (arith, product-fits (c .args .a) (c .args .b) (c .pre .0) 
 
 mul-capped-2 : tie.Need-mul-capped-2
 mul-capped-2 c =
-    let few : c .capped .result < 4294967296 = omega (arith, c .capped .ensures, is-capped (c .before .args .a * c .before .args .b) .most) in
+    let few : c .capped .result < 4294967296 = omega
+    (arith, c .capped .ensures, is-capped (c .before .args .a * c .before .args .b) .most) in
     omega (arith, product-fits (c .capped .result) (c .before .args .c) few (c .before .pre .1 .1))
 
 returns : tie.Need-returns

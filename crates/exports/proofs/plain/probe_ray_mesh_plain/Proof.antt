@@ -54,7 +54,8 @@ plain-cast-requires c κs =
 returns-5 : tie.Need-returns-5
 returns-5 c =
     let (f, e, t, g, k, l, p, q) :
-    tie.After-ray-from × tie.Else1 × tie.After-lengths-admitted × tie.Else2 × tie.Else3 × tie.Else4 × tie.After-plain-cast × tie.After-put-indexed
+    tie.After-ray-from × tie.Else1 × tie.After-lengths-admitted × tie.Else2 × tie.Else3 × tie.Else4 × tie.After-plain-cast ×
+    tie.After-put-indexed
     = search in
     let shape = test-passed (t .lengths-admitted .ensures) (g .if2 .left) in
     told-for _ _ (f .ray-from .ensures) _ _ _ _

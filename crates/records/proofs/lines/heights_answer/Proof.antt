@@ -16,20 +16,15 @@ sub-count c = omega arith
 floats-at-requires : tie.Need-floats-at-requires
 floats-at-requires c κs = (omega arith, omega arith)
 
-slice-reshare-prefix-ray-height-field : tie.Need-slice-reshare-prefix-ray-height-field
-slice-reshare-prefix-ray-height-field c = search needs
-
 slice-aggregate-ray-height-field : tie.Need-slice-aggregate-ray-height-field
 slice-aggregate-ray-height-field c = sym (length-take-le _ _ (omega arith))
 
-ray-height-field-requires : tie.Need-ray-height-field-requires
-ray-height-field-requires c κs = search needs
-
-same-length : tie.Need-same-length
-same-length c = search needs
-
 returns : tie.Need-returns
-returns c = heights-cast _ _ _ _ _ _ (c .ray-height-field .ensures) (c .before .before .before .before .before .before .field-of .ensures) (c .before .before .before .before .floats-at .ensures) (omega (arith, c .before .before .before .before .before .before .before .before .before .pre .0))
+returns c =
+    let (start, at-field-of, at-floats-at) : tie.Start × tie.After-field-of × tie.After-floats-at = search in
+    heights-cast _ _ _ _ _ _ (c .ray-height-field .ensures) (at-field-of .field-of .ensures)
+    (at-floats-at .floats-at .ensures)
+    (omega (arith, start .pre .0))
 
 pub heights-answer-spec : {M : Type 1} → statement M
 heights-answer-spec =
@@ -38,8 +33,8 @@ heights-answer-spec =
     field-of-requires
     sub-count
     floats-at-requires
-    slice-reshare-prefix-ray-height-field
+    (λ c. search needs)  -- slice-reshare-prefix-ray-height-field
     slice-aggregate-ray-height-field
-    ray-height-field-requires
-    same-length
+    (λ c κs. search needs)  -- ray-height-field-requires
+    (λ c. search needs)  -- same-length
     returns)

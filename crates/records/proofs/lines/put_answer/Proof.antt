@@ -1,5 +1,5 @@
 -- `records::lines::put_answer` meets its contract. Assumes nothing.
-use Rattle.records.proofs.Storing.{put-then}
+use Rattle.record_bytes.proofs.Storing.{put-then}
 use Rattle.records.proofs.Answers.{put-as, hit-case, none-case, refused-case}
 use Rattle.casts.specs.Answer.{says}
 use mathlib.Core.Path.{ap}
@@ -7,71 +7,42 @@ use borrow.Author.Needs.{needs}
 use Rattle.records.proofs.lines.put_answer.Statement.{statement}
 use Rattle.records.proofs.lines.put_answer.Tie as tie
 
-enum-known-cast : tie.Need-enum-known-cast
-enum-known-cast c = search needs
-
-put-hit-requires : tie.Need-put-hit-requires
-put-hit-requires c κs = search needs
-
-same-length : tie.Need-same-length
-same-length c = search needs
-
 returns : tie.Need-returns
-returns c = put-as _ (hit-case _ _ _ (ap says (c .before .before .before .before .before .cast .given .1))) (c .before .before .put-hit .ensures)
-
-enum-told : tie.Need-enum-told
-enum-told c = search needs
-
-slice-aggregate-put-text : tie.Need-slice-aggregate-put-text
-slice-aggregate-put-text c = search needs
-
-put-text-requires : tie.Need-put-text-requires
-put-text-requires c κs = search needs
-
-same-length-2 : tie.Need-same-length-2
-same-length-2 c = search needs
+returns c =
+    let (at-cast, at-put-hit) : tie.After-cast × tie.After-put-hit = search in
+    put-as _ (hit-case _ _ _ (ap says (at-cast .cast .given .1)))
+    (at-put-hit .put-hit .ensures)
 
 returns-2 : tie.Need-returns-2
-returns-2 c = put-as _ (none-case _ (ap says (c .before .before .before .before .before .enum-told .given .1))) (c .before .before .put-text .ensures)
-
-enum-known-cast-2 : tie.Need-enum-known-cast-2
-enum-known-cast-2 c = search needs
-
-slice-aggregate-put-text-2 : tie.Need-slice-aggregate-put-text-2
-slice-aggregate-put-text-2 c = search needs
-
-put-text-requires-2 : tie.Need-put-text-requires-2
-put-text-requires-2 c κs = search needs
-
-cast-put-decimal : tie.Need-cast-put-decimal
-cast-put-decimal c = search needs
-
-put-decimal-requires : tie.Need-put-decimal-requires
-put-decimal-requires c κs = search needs
-
-same-length-3 : tie.Need-same-length-3
-same-length-3 c = search needs
+returns-2 c =
+    let (at-enum-told, at-put-text) : tie.After-enum-told × tie.After-put-text = search in
+    put-as _ (none-case _ (ap says (at-enum-told .enum-told .given .1)))
+    (at-put-text .put-text .ensures)
 
 returns-3 : tie.Need-returns-3
-returns-3 c = put-as _ (refused-case _ _ (ap says (c .before .before .before .before .before .before .before .before .before .before .cast2 .given .1))) (put-then _ _ (c .before .before .before .before .before .before .put-text2 .ensures) (c .before .before .put-decimal .ensures))
+returns-3 c =
+    let (at-cast2, at-put-text2, at-put-decimal) : tie.After-cast2 × tie.After-put-text2 × tie.After-put-decimal = search in
+    put-as _ (refused-case _ _ (ap says (at-cast2 .cast2
+    .given .1))) (put-then _ _ (at-put-text2 .put-text2 .ensures) (at-put-decimal .put-decimal
+    .ensures))
 
 pub put-answer-spec : {M : Type 1} → statement M
 put-answer-spec =
     tie.close
     (tie.spec
-    enum-known-cast
-    put-hit-requires
-    same-length
+    (λ c. search needs)  -- enum-known-cast
+    (λ c κs. search needs)  -- put-hit-requires
+    (λ c. search needs)  -- same-length
     returns
-    enum-told
-    slice-aggregate-put-text
-    put-text-requires
-    same-length-2
+    (λ c. search needs)  -- enum-told
+    (λ c. search needs)  -- slice-aggregate-put-text
+    (λ c κs. search needs)  -- put-text-requires
+    (λ c. search needs)  -- same-length-2
     returns-2
-    enum-known-cast-2
-    slice-aggregate-put-text-2
-    put-text-requires-2
-    cast-put-decimal
-    put-decimal-requires
-    same-length-3
+    (λ c. search needs)  -- enum-known-cast-2
+    (λ c. search needs)  -- slice-aggregate-put-text-2
+    (λ c κs. search needs)  -- put-text-requires-2
+    (λ c. search needs)  -- cast-put-decimal
+    (λ c κs. search needs)  -- put-decimal-requires
+    (λ c. search needs)  -- same-length-3
     returns-3)

@@ -4,22 +4,14 @@ use borrow.Author.Needs.{needs}
 use Rattle.records.proofs.lines.put_float.Statement.{statement}
 use Rattle.records.proofs.lines.put_float.Tie as tie
 
-put-byte-requires : tie.Need-put-byte-requires
-put-byte-requires c κs = search needs
-
-printed-bits-requires : tie.Need-printed-bits-requires
-printed-bits-requires c κs = search needs
-
-put-hexadecimal-requires : tie.Need-put-hexadecimal-requires
-put-hexadecimal-requires c κs = search needs
-
-same-length : tie.Need-same-length
-same-length c = search needs
-
 returns : tie.Need-returns
-returns c = put-space _ (c .before .before .before .printed-bits .ensures) (c .before .before .before .before .before .before .before .put-byte .ensures) (c .before .before .put-hexadecimal .ensures)
+returns c =
+    let (at-put-byte, at-printed-bits, at-put-hexadecimal) :
+    tie.After-put-byte × tie.After-printed-bits × tie.After-put-hexadecimal = search in
+    put-space _ (at-printed-bits .printed-bits .ensures)
+    (at-put-byte .put-byte .ensures) (at-put-hexadecimal .put-hexadecimal .ensures)
 
 pub put-float-spec : {M : Type 1} → statement M
 put-float-spec =
     tie.close
-    (tie.spec put-byte-requires printed-bits-requires put-hexadecimal-requires same-length returns)
+    (tie.spec (search needs) (search needs) (search needs) (search needs) returns)

@@ -1,7 +1,7 @@
 -- `records::lines::put_record` meets its contract: `bad`, or what the body says. Assumes nothing.
-use Rattle.records.specs.Fields.{versionOf, shapePlace}
-use Rattle.records.specs.Parse.{wellFormed}
-use Rattle.records.proofs.WellFormed.{well-formed-long, shape-within, part-filled, part-short}
+use Rattle.record_bytes.specs.Fields.{versionOf, shapePlace}
+use Rattle.record_bytes.specs.Parse.{wellFormed}
+use Rattle.record_bytes.proofs.WellFormed.{well-formed-long, shape-within, part-filled, part-short}
 use Rattle.records.proofs.Answers.{put-as, bad-text, part-text}
 use Rattle.lists.proofs.JoinedTests.{test-passed, test-failed}
 use native.Mathlib.Omega.{arith}
@@ -68,26 +68,26 @@ pub put-record-spec : {M : Type 1} → statement M
 put-record-spec =
     tie.close
     (tie.spec
-    (search needs)  -- is-well-formed-requires
-    (search needs)  -- slice-aggregate-put-text
-    (search needs)  -- put-text-requires
-    (search needs)  -- same-length
+    (λ c κs. search needs)  -- is-well-formed-requires
+    (λ c. search needs)  -- slice-aggregate-put-text
+    (λ c κs. search needs)  -- put-text-requires
+    (λ c. search needs)  -- same-length
     returns
     kind-of-requires
     ray-of-requires
     version-of-requires
-    (search needs)  -- shape-place-requires
+    (λ c κs. search needs)  -- shape-place-requires
     sub-put-shape
     part-put-shape-start
-    (search needs)  -- part-put-shape-end
+    (λ c. search needs)  -- part-put-shape-end
     put-shape-requires
-    (search needs)  -- same-length-2
-    (search needs)  -- same-length-3
-    (search needs)  -- same-length-4
-    (search needs)  -- same-length-5
-    (search needs)  -- same-length-6
-    (search needs)  -- same-length-7
-    (search needs)  -- same-length-8
-    (search needs)  -- same-length-9
-    (search needs)  -- same-length-10
+    (λ c. search needs)  -- same-length-2
+    (λ c. search needs)  -- same-length-3
+    (λ c. search needs)  -- same-length-4
+    (λ c. search needs)  -- same-length-5
+    (λ c. search needs)  -- same-length-6
+    (λ c. search needs)  -- same-length-7
+    (λ c. search needs)  -- same-length-8
+    (λ c. search needs)  -- same-length-9
+    (λ c. search needs)  -- same-length-10
     returns-2)

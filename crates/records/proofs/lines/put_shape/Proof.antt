@@ -1,13 +1,10 @@
 -- `records::lines::put_shape` meets its contract: a mesh adds its index, another kind does not. Assumes nothing.
-use Rattle.records.proofs.WellFormed.{mesh-length}
+use Rattle.record_bytes.proofs.WellFormed.{mesh-length}
 use Rattle.records.proofs.Answers.{put-as, mesh-answer}
 use mathlib.Core.Path.{sym}
 use borrow.Author.Needs.{needs}
 use Rattle.records.proofs.lines.put_shape.Statement.{statement}
 use Rattle.records.proofs.lines.put_shape.Tie as tie
-
-shape-answer-requires : tie.Need-shape-answer-requires
-shape-answer-requires c κs = search needs
 
 returns : tie.Need-returns
 returns c =
@@ -32,20 +29,20 @@ pub put-shape-spec : {M : Type 1} → statement M
 put-shape-spec =
     tie.close
     (tie.spec
-    shape-answer-requires
-    (search needs)  -- put-answer-requires
-    (search needs)  -- same-length
-    (search needs)  -- same-length-2
+    (λ c κs. search needs)  -- shape-answer-requires
+    (λ c κs. search needs)  -- put-answer-requires
+    (λ c. search needs)  -- same-length
+    (λ c. search needs)  -- same-length-2
     returns
     mesh-answer-requires
     put-indexed-requires
-    (search needs)  -- same-length-3
-    (search needs)  -- same-length-4
-    (search needs)  -- same-length-5
-    (search needs)  -- same-length-6
-    (search needs)  -- same-length-7
-    (search needs)  -- same-length-8
-    (search needs)  -- same-length-9
-    (search needs)  -- same-length-10
-    (search needs)  -- same-length-11
+    (λ c. search needs)  -- same-length-3
+    (λ c. search needs)  -- same-length-4
+    (λ c. search needs)  -- same-length-5
+    (λ c. search needs)  -- same-length-6
+    (λ c. search needs)  -- same-length-7
+    (λ c. search needs)  -- same-length-8
+    (λ c. search needs)  -- same-length-9
+    (λ c. search needs)  -- same-length-10
+    (λ c. search needs)  -- same-length-11
     returns-2)

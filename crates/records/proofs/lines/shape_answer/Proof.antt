@@ -2,7 +2,7 @@
 use Rattle.casts.specs.declared.plane.Plane.{Plane}
 use Rattle.casts.specs.Plane.{rayPlane}
 use Rattle.casts.specs.Triangle.{rayTriangle}
-use Rattle.records.proofs.WellFormed.{plane-length, triangle-length, heights-length, values-length}
+use Rattle.record_bytes.proofs.WellFormed.{plane-length, triangle-length, heights-length, values-length}
 use Rattle.records.proofs.Answers.{plane-answer, triangle-answer, heights-answer, values-answer}
 use native.Mathlib.Omega.{arith}
 use mathlib.Core.Path.{sym, ap, _∙_}
@@ -45,7 +45,8 @@ returns-3 c =
 values-answer-requires : tie.Need-values-answer-requires
 values-answer-requires c κs =
     let (s, e1, e2, e3) : tie.Start × tie.Else1 × tie.Else2 × tie.Else3 = search in
-    let long = values-length (s .args .kind) (s .args .shape .now) (s .pre .0 .0) (e1 .if1 .left) (e2 .if2 .left) (s .pre .1 .0) (e3 .if3 .left) in
+    let long = values-length (s .args .kind) (s .args .shape .now) (s .pre .0 .0) (e1 .if1 .left) (e2 .if2 .left) (s .pre .1 .0)
+    (e3 .if3 .left) in
     (sym long, (s .pre .0 .1, search needs))
 
 -- the kind that is left is 5
@@ -59,14 +60,14 @@ shape-answer-spec =
     tie.close
     (tie.spec
     plane-of-requires
-    (search needs)  -- ray-plane-requires
+    (λ c κs. search needs)  -- ray-plane-requires
     returns
     corners-of-requires
-    (search needs)  -- ray-triangle-requires
+    (λ c κs. search needs)  -- ray-triangle-requires
     returns-2
     heights-answer-requires
-    (search needs)  -- same-length
+    (λ c. search needs)  -- same-length
     returns-3
     values-answer-requires
-    (search needs)  -- same-length-2
+    (λ c. search needs)  -- same-length-2
     returns-4)

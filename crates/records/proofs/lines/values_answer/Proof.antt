@@ -16,20 +16,15 @@ sub-count c = omega arith
 floats-at-requires : tie.Need-floats-at-requires
 floats-at-requires c κs = (omega arith, omega arith)
 
-slice-reshare-prefix-ray-level-set : tie.Need-slice-reshare-prefix-ray-level-set
-slice-reshare-prefix-ray-level-set c = search needs
-
 slice-aggregate-ray-level-set : tie.Need-slice-aggregate-ray-level-set
 slice-aggregate-ray-level-set c = sym (length-take-le _ _ (omega arith))
 
-ray-level-set-requires : tie.Need-ray-level-set-requires
-ray-level-set-requires c κs = search needs
-
-same-length : tie.Need-same-length
-same-length c = search needs
-
 returns : tie.Need-returns
-returns c = values-cast _ _ _ _ _ _ (c .ray-level-set .ensures) (c .before .before .before .before .before .before .grid-of .ensures) (c .before .before .before .before .floats-at .ensures) (omega (arith, c .before .before .before .before .before .before .before .before .before .pre .0))
+returns c =
+    let (start, at-grid-of, at-floats-at) : tie.Start × tie.After-grid-of × tie.After-floats-at = search in
+    values-cast _ _ _ _ _ _ (c .ray-level-set .ensures) (at-grid-of .grid-of .ensures)
+    (at-floats-at .floats-at .ensures)
+    (omega (arith, start .pre .0))
 
 pub values-answer-spec : {M : Type 1} → statement M
 values-answer-spec =
@@ -38,8 +33,8 @@ values-answer-spec =
     grid-of-requires
     sub-count
     floats-at-requires
-    slice-reshare-prefix-ray-level-set
+    (λ c. search needs)  -- slice-reshare-prefix-ray-level-set
     slice-aggregate-ray-level-set
-    ray-level-set-requires
-    same-length
+    (λ c κs. search needs)  -- ray-level-set-requires
+    (λ c. search needs)  -- same-length
     returns)

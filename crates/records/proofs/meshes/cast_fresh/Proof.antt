@@ -6,63 +6,39 @@ use borrow.Author.Needs.{needs}
 use Rattle.records.proofs.meshes.cast_fresh.Statement.{statement}
 use Rattle.records.proofs.meshes.cast_fresh.Tie as tie
 
-validate-requires : tie.Need-validate-requires
-validate-requires c κs = search needs
-
 returns : tie.Need-returns
 returns c = refused-ray _ _ (sym (c .before .validate .ensures) ∙ not-true (c .before .validate .result) (c .if1 .taken))
 
-zero-numbers-requires : tie.Need-zero-numbers-requires
-zero-numbers-requires c κs = search needs
+-- the places of the first fills, from the second pair of them
+abbrev numbered : tie.After-zero-numbers2 → tie.Start × tie.After-validate × tie.Else1 × tie.After-zero-numbers
+numbered k = search
 
-zero-numbers-requires-2 : tie.Need-zero-numbers-requires-2
-zero-numbers-requires-2 c κs = search needs
-
-zero-words-requires : tie.Need-zero-words-requires
-zero-words-requires c κs = search needs
-
-zero-words-requires-2 : tie.Need-zero-words-requires-2
-zero-words-requires-2 c κs = search needs
-
-cast-built-requires : tie.Need-cast-built-requires
-cast-built-requires c κs = search needs
-
-same-length : tie.Need-same-length
-same-length c = search needs
-
-same-length-2 : tie.Need-same-length-2
-same-length-2 c = search needs
-
-same-length-3 : tie.Need-same-length-3
-same-length-3 c = search needs
-
-same-length-4 : tie.Need-same-length-4
-same-length-4 c = search needs
-
-same-length-5 : tie.Need-same-length-5
-same-length-5 c = search needs
-
-same-length-6 : tie.Need-same-length-6
-same-length-6 c = search needs
+abbrev worded : tie.After-zero-words2 → tie.After-zero-numbers2 × tie.After-zero-words
+worded k = search
 
 returns-2 : tie.Need-returns-2
-returns-2 c = fresh-answer _ _ _ (sym (c .before .before .before .before .before .before .before .before .before .before .before .before .before .before .before .before .before .before .before .before .before .before .before .before .before .before .before .before .before .before .before .before .before .before .before .before .validate .ensures) ∙ not-false (c .before .before .before .before .before .before .before .before .before .before .before .before .before .before .before .before .before .before .before .before .before .before .before .before .before .before .before .before .before .before .before .before .before .before .before .before .validate .result) (c .before .before .before .before .before .before .before .before .before .before .before .before .before .before .before .before .before .before .before .before .before .before .before .before .before .before .before .before .before .before .before .before .before .before .before .if1 .left)) (c .before .before .before .before .before .before .before .before .before .before .before .before .before .before .before .before .before .before .before .before .before .before .before .before .before .before .before .before .before .before .before .before .before .before .before .before .before .before .before .before .before .before .before .before .before .pre) (c .before .before .before .before .before .before .before .before .before .before .before .before .before .before .before .before .before .before .before .before .before .before .before .before .before .before .before .before .before .before .before .before .before .zero-numbers .ensures) (c .before .before .before .before .before .before .before .before .before .before .before .before .before .before .before .before .before .before .before .before .before .before .before .before .before .before .before .before .before .zero-numbers2 .ensures) (c .before .before .before .before .before .before .before .before .before .before .before .before .before .before .before .before .before .before .before .before .before .before .before .before .before .zero-words .ensures) (c .before .before .before .before .before .before .before .before .before .before .before .before .before .before .before .before .before .before .before .before .before .zero-words2 .ensures) (c .before .before .before .before .before .before .before .before .before .before .before .before .cast-built .ensures)
+returns-2 c =
+    let (w, b) : tie.After-zero-words2 × tie.After-cast-built = search in
+    let (m, u) = worded w in
+    let (s, v, e, n) = numbered m in
+    fresh-answer _ _ _ (sym (v .validate .ensures) ∙ not-false (v .validate .result) (e .if1 .left)) (s .pre)
+    (n .zero-numbers .ensures) (m .zero-numbers2 .ensures) (u .zero-words .ensures) (w .zero-words2 .ensures) (b .cast-built .ensures)
 
 pub cast-fresh-spec : {M : Type 1} → statement M
 cast-fresh-spec =
     tie.close
     (tie.spec
-    validate-requires
+    (λ c κs. search needs)  -- validate-requires
     returns
-    zero-numbers-requires
-    zero-numbers-requires-2
-    zero-words-requires
-    zero-words-requires-2
-    cast-built-requires
-    same-length
-    same-length-2
-    same-length-3
-    same-length-4
-    same-length-5
-    same-length-6
+    (λ c κs. search needs)  -- zero-numbers-requires
+    (λ c κs. search needs)  -- zero-numbers-requires-2
+    (λ c κs. search needs)  -- zero-words-requires
+    (λ c κs. search needs)  -- zero-words-requires-2
+    (λ c κs. search needs)  -- cast-built-requires
+    (λ c. search needs)  -- same-length
+    (λ c. search needs)  -- same-length-2
+    (λ c. search needs)  -- same-length-3
+    (λ c. search needs)  -- same-length-4
+    (λ c. search needs)  -- same-length-5
+    (λ c. search needs)  -- same-length-6
     returns-2)

@@ -1,4 +1,5 @@
--- `words::reader::word_at` meets its contract: nothing past the end or with fewer than eight bytes left, else the four pairs. Assumes nothing.
+-- `words::reader::word_at` meets its contract: nothing past the end or with fewer than eight bytes left, else the four pairs. Assumes
+-- nothing.
 use Rattle.words.proofs.WordLaws.{nothing-left, from-pairs}
 use native.Mathlib.Omega.{arith}
 use borrow.Author.Needs.{needs}

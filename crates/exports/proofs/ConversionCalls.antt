@@ -1,0 +1,61 @@
+-- The converter's calls, for each of their returns. Assumes nothing.
+use Prim.Native.Nat.{ℕ, _<_, _≤_}
+use mathlib.Core.Path.{_≡_, refl, sym, ap, _∙_}
+use mathlib.Core.Bool.{Bool, true, false, cond}
+use mathlib.Core.List.{List, [], _∷_}
+use native.Mathlib.Omega.{arith}
+use borrow.Author.Tests.{le-leb, lt-leb}
+use lib.Dec.{leb}
+use lib.ListN.{length}
+use lib.Seq.{sets}
+use Rattle.casts.specs.Answer.{badShape, noRoom}
+use Rattle.conversion.specs.declared.forms.Form.{Form}
+use Rattle.conversion.specs.declared.forms.Converted.{Converted}
+use Rattle.conversion.specs.declared.forms.Converted.the-variants.{Written, Refused}
+use Rattle.conversion.specs.declared.shape.Plan.{Plan}
+use Rattle.conversion.specs.declared.shape.Planned.{Planned}
+use Rattle.conversion.specs.declared.shape.Planned.the-variants.{Is, Malformed}
+use Rattle.conversion.specs.Records.{wellFormed}
+use Rattle.conversion.specs.Convert.{Outcome, converted}
+use Rattle.conversion.specs.Plans.{planOf, planned}
+use Rattle.results.specs.Results.{Counted, doneCode}
+use Rattle.exports.specs.Conversions.{toldConverted, withoutPlace, ConvertTold, convertTold}
+
+-- ---- the place is missing
+
+pub place-room : (form : Form) (l : List ℕ) (plan : Plan) → planned form l ≡ Is plan → noRoom ≡ withoutPlace form l
+unfolding planned withoutPlace
+place-room form l plan e = go (wellFormed form l) e
+  where
+    go : (b : Bool) → cond b (Is (planOf form l)) Malformed ≡ Is plan → noRoom ≡ cond b noRoom badShape
+    go true e = refl
+    go false e = absurd (let z : _≡_ {A = ℕ} 0 1 = cc in omega arith)
+
+pub place-shape : (form : Form) (l : List ℕ) → planned form l ≡ Malformed → badShape ≡ withoutPlace form l
+unfolding planned withoutPlace
+place-shape form l e = go (wellFormed form l) e
+  where
+    go : (b : Bool) → cond b (Is (planOf form l)) Malformed ≡ Malformed → badShape ≡ cond b noRoom badShape
+    go true e = absurd (let z : _≡_ {A = ℕ} 0 1 = cc in omega arith)
+    go false e = refl
+
+-- ---- the two calls
+
+told-of : {a b : Counted} {c d : List ℕ} → a ≡ b → c ≡ d
+    → _≡_ {A = ConvertTold} record { told = a; area = c } record { told = b; area = d }
+told-of p q = cc
+
+module _ (p q : Form) (l area place : List ℕ) where
+  pub no-place : (number : ℕ) → length place < 1 → number ≡ withoutPlace p l
+      → record { told = record { number = number; count = place }; area = area } ≡ convertTold p q l area place
+  unfolding convertTold
+  no-place number h e = rw (lt-leb 1 (length place) h, e)
+
+  pub has-place : (answer : Converted) (after : List ℕ) (told : Counted) → 1 ≤ length place
+      → record { answer = answer; area = after } ≡ converted p q l area → told ≡ toldConverted answer place
+      → record { told = told; area = after } ≡ convertTold p q l area place
+  unfolding convertTold
+  has-place answer after told h e t =
+      let x : answer ≡ converted p q l area .answer = ap (λ (o : Outcome). o .answer) e in
+      let y : after ≡ converted p q l area .area = ap (λ (o : Outcome). o .area) e in
+      rw (le-leb 1 (length place) h) (told-of (t ∙ ap (λ (z : Converted). toldConverted z place) x) y)

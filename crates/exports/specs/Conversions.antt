@@ -1,0 +1,34 @@
+-- What the calls of the converter tell and write. Definitions only. Assumes nothing.
+use Prim.Native.Nat.{ℕ}
+use mathlib.Core.Bool.{cond}
+use mathlib.Core.List.{List, [], _∷_}
+use lib.Dec.{leb}
+use lib.ListN.{length}
+use lib.Seq.{sets}
+use Rattle.casts.specs.Answer.{badShape, noRoom}
+use Rattle.conversion.specs.declared.forms.Form.{Form}
+use Rattle.conversion.specs.declared.forms.Converted.{Converted}
+use Rattle.conversion.specs.declared.forms.Converted.the-variants.{Written, Refused}
+use Rattle.conversion.specs.Records.{wellFormed}
+use Rattle.conversion.specs.Convert.{converted}
+use Rattle.results.specs.Results.{Counted, doneCode}
+
+unfoldable pub toldConverted : Converted → List ℕ → Counted
+toldConverted (Written count) place = record { number = doneCode; count = sets place 0 (count ∷ []) }
+toldConverted (Refused number) place = record { number = number; count = place }
+
+-- "2 before 3", where the length has no place
+unfoldable pub withoutPlace : Form → List ℕ → ℕ
+withoutPlace form bytes = cond (wellFormed form bytes) noRoom badShape
+
+-- the number and the length written, and the output area
+pub record ConvertTold : Type 0 where
+  pub told : Counted
+  pub area : List ℕ
+
+-- the converter from the form p to the form q; the last is the place of the length
+unfoldable pub convertTold : Form → Form → List ℕ → List ℕ → List ℕ → ConvertTold
+convertTold p q bytes area place =
+    cond (leb 1 (length place))
+    record { told = toldConverted (converted p q bytes area .answer) place; area = converted p q bytes area .area }
+    record { told = record { number = withoutPlace p bytes; count = place }; area = area }
