@@ -3,7 +3,7 @@ use geometry::vec3::Vec3;
 ghost use mathlib.Core.Path.{_≡_};
 ghost use Prim.Native.Nat.{_+_, _*_, _<_, _≤_};
 ghost use lib.ListN.{length};
-ghost use Rattle.tree.specs.Layout.{wordAt, vectorAt, boxAt};
+ghost use Rattle.tree.specs.Layout.{wordAt, vectorAt, boxAt, allLong, treeLengths};
 
 // The word at a place, as an index.
 pub fn word_at(words: &[u32], place: usize) -> usize
@@ -35,4 +35,27 @@ pub fn box_at(boxes: &[f64], index: usize) -> Aabb
         min: vector_at(boxes, place),
         max: vector_at(boxes, place + 3),
     }
+}
+
+// Whether areas of these lengths are as long as stated for a tree of n triangles. Callers show that n is admitted.
+pub fn lengths_fit(
+    n: usize,
+    node_boxes: usize,
+    triangle_boxes: usize,
+    node_words: usize,
+    order: usize,
+) -> bool
+    requires { ⌜ n ≤ 65536 ⌝ }
+    ensures { λ r. ⌜ r ≡ allLong (treeLengths n «node_boxes» «triangle_boxes» «node_words» order) ⌝ }
+{
+    if node_boxes < 12 * n {
+        return false;
+    }
+    if triangle_boxes < 6 * n {
+        return false;
+    }
+    if node_words < 6 * n {
+        return false;
+    }
+    n <= order
 }

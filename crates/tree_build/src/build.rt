@@ -1,6 +1,7 @@
 use crate::nodes;
 use casts::answer;
 use lists::fill;
+use tree::layout;
 use tree::mesh;
 use tree::writing;
 ghost use mathlib.Core.Path.{_≡_};
@@ -32,16 +33,13 @@ fn has_room(
         (areas (now («node_boxes» .entry)) (now («triangle_boxes» .entry)) (now («node_words» .entry)) (now (order .entry)))
         (length (now (work .entry))) ⌝ }
 {
-    if node_boxes.len() < 12 * count {
-        return false;
-    }
-    if triangle_boxes.len() < 6 * count {
-        return false;
-    }
-    if node_words.len() < 6 * count {
-        return false;
-    }
-    if order.len() < count {
+    if !layout::lengths_fit(
+        count,
+        node_boxes.len(),
+        triangle_boxes.len(),
+        node_words.len(),
+        order.len(),
+    ) {
         return false;
     }
     count <= work.len()

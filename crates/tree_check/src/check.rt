@@ -1,5 +1,6 @@
 use crate::boxes;
 use casts::answer;
+use tree::layout;
 use tree::mesh;
 use tree_words::words;
 ghost use mathlib.Core.Path.{_≡_};
@@ -113,19 +114,10 @@ fn room_for(
     requires { ⌜ n ≤ 65536 ⌝ }
     ensures { λ r. ⌜ r ≡ roomFor n «node_boxes» «triangle_boxes» «node_words» order marks ⌝ }
 {
-    if node_boxes < 12 * n {
+    if !layout::lengths_fit(n, node_boxes, triangle_boxes, node_words, order) {
         return false;
     }
-    if triangle_boxes < 6 * n {
-        return false;
-    }
-    if node_words < 6 * n {
-        return false;
-    }
-    if order < n {
-        return false;
-    }
-    marks >= 3 * n
+    3 * n <= marks
 }
 
 // Whether a tree, from whatever builder, fits the mesh: yes exactly when document 01's clauses hold.

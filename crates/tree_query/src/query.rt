@@ -2,6 +2,8 @@ use crate::walk;
 use casts::answer;
 use geometry::aabb::Aabb;
 use index_sort::sort;
+use lists::fill;
+use tree::layout;
 use tree_walk::step::Filled;
 ghost use mathlib.Core.Path.{_≡_};
 ghost use mathlib.Core.Bool.{false};
@@ -38,16 +40,13 @@ pub fn tree_fits(
     requires { ⌜ count ≤ 65536 ⌝ }
     ensures { λ r. ⌜ r ≡ treeFits count (treeOf nodes (now («node_boxes» .entry)) (now («triangle_boxes» .entry)) (now («node_words» .entry)) (now (order .entry))) ⌝ }
 {
-    if node_boxes.len() < 12 * count {
-        return false;
-    }
-    if triangle_boxes.len() < 6 * count {
-        return false;
-    }
-    if node_words.len() < 6 * count {
-        return false;
-    }
-    count <= order.len()
+    layout::lengths_fit(
+        count,
+        node_boxes.len(),
+        triangle_boxes.len(),
+        node_words.len(),
+        order.len(),
+    )
 }
 
 // The same of a tree's areas and those that the walk takes.
@@ -119,7 +118,7 @@ pub fn query(
         stack,
     );
     let Filled::Count(found) = walked else {
-        sort::clear(list);
+        fill::zero_words(list);
         return Listed::Refused(answer::OUT_OF_BOUNDS);
     };
     Listed::Count(found)
