@@ -1,5 +1,6 @@
 -- What the calls for other languages answer and write. Definitions only. Assumes nothing.
 pub mod Plain
+pub mod Calls
 pub mod Demands
 pub mod Ranges
 pub mod CabinetResults

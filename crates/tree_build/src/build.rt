@@ -10,7 +10,7 @@ ghost use Prim.Native.Nat.{ℕ, _≤_};
 ghost use lib.ListN.{length};
 ghost use Rattle.tree.specs.Mesh.{thirds, lengthsAdmitted, mesh};
 ghost use Rattle.tree.specs.Layout.{areas};
-ghost use Rattle.tree_build.specs.Build.{says, zeroed, roomFor, treeWritten, builtOf, testsPass, buildOf};
+ghost use Rattle.tree_build.specs.Build.{says, zeroed, roomFor, treeWritten, builtOf, outcome, Builds};
 ghost use Rattle.tree_build.specs.declared.build.Built.the-variants.{Nodes};
 
 // The node count, or a refusal with its number in document 01's table.
@@ -110,16 +110,11 @@ pub fn build(
     order: &mut [u32],
     work: &mut [u32],
 ) -> Built
-    ensures { λ r. ⌜ record {
-      answer = says r;
-      after = areas (now («node_boxes» .exit)) (now («triangle_boxes» .exit))
-          (now («node_words» .exit)) (now (order .exit));
-    } ≡ buildOf (mesh (now (vertices .entry)) (now (triangles .entry)))
+    ensures { λ r. ⌜ Builds (mesh (now (vertices .entry)) (now (triangles .entry)))
         (areas (now («node_boxes» .entry)) (now («triangle_boxes» .entry)) (now («node_words» .entry)) (now (order .entry)))
-        (length (now (work .entry))) ⌝ }
-    ensures { λ r. ⌜ (testsPass (mesh (now (vertices .entry)) (now (triangles .entry)))
-        (areas (now («node_boxes» .entry)) (now («triangle_boxes» .entry)) (now («node_words» .entry)) (now (order .entry)))
-        (length (now (work .entry))) ≡ false → now (work .exit) ≡ now (work .entry)) ⌝ }
+        (now (work .entry)) (now (work .exit))
+        (outcome (says r)
+        (areas (now («node_boxes» .exit)) (now («triangle_boxes» .exit)) (now («node_words» .exit)) (now (order .exit)))) ⌝ }
 {
     if !mesh::lengths_admitted(vertices.len(), triangles.len()) {
         return Built::Refused(answer::BAD_SHAPE);

@@ -6,9 +6,11 @@ use tree_words::words;
 ghost use mathlib.Core.Path.{_≡_};
 ghost use Prim.Native.Nat.{_*_, _/_, _<_, _≤_};
 ghost use lib.ListN.{length};
+ghost use Rattle.tree.specs.Layout.{treeOf};
+ghost use Rattle.tree.specs.Mesh.{mesh};
 ghost use Rattle.tree_check.specs.Check.{treePasses};
 ghost use Rattle.tree_check.specs.Steps.{wordsPass, boxesPass, Readable, Long};
-ghost use Rattle.tree_check.specs.Verdict.{says, roomFor, checkOf, marksAfter};
+ghost use Rattle.tree_check.specs.Verdict.{says, roomFor, Checks};
 
 // Yes, no, or a refusal with its number in document 01's table.
 pub enum Verdict {
@@ -132,18 +134,9 @@ pub fn check(
     order: &[u32],
     marks: &mut [u32],
 ) -> Verdict
-    ensures { λ r. ⌜ says r ≡ checkOf
-        (record { vertices = now (vertices .entry); triangles = now (triangles .entry) })
-        (record {
-          nodeCount = nodes;
-          nodeBoxes = now («node_boxes» .entry);
-          triangleBoxes = now («triangle_boxes» .entry);
-          nodeWords = now
-              («node_words» .entry);
-          order = now (order .entry);
-        })
-        (length (now (marks .entry))) ⌝ }
-    ensures { λ r. ⌜ now (marks .exit) ≡ marksAfter (says r) (now (marks .entry)) (now (marks .exit)) ⌝ }
+    ensures { λ r. ⌜ Checks (mesh (now (vertices .entry)) (now (triangles .entry)))
+        (treeOf nodes (now («node_boxes» .entry)) (now («triangle_boxes» .entry)) (now («node_words» .entry)) (now (order .entry)))
+        (now (marks .entry)) (now (marks .exit)) (says r) ⌝ }
 {
     if !mesh::lengths_admitted(vertices.len(), triangles.len()) {
         return Verdict::Refused(answer::BAD_SHAPE);

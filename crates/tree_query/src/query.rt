@@ -10,7 +10,7 @@ ghost use mathlib.Core.Bool.{false};
 ghost use Prim.Native.Nat.{_≤_};
 ghost use lib.ListN.{length};
 ghost use Rattle.tree.specs.Layout.{treeOf};
-ghost use Rattle.tree_query.specs.Query.{saysListed, countsAdmitted, treeFits, walkFits, queryOf, testsPass};
+ghost use Rattle.tree_query.specs.Query.{saysListed, countsAdmitted, treeFits, walkFits, Queries};
 
 // How many triangles are listed, or a refusal with its number in document 01's table.
 pub enum Listed {
@@ -85,8 +85,9 @@ pub fn query(
     list: &mut [u32],
     stack: &mut [u32],
 ) -> Listed
-    ensures { λ r. ⌜ record { answer = saysListed r; list = now (list .exit) } ≡ queryOf bounds count (treeOf nodes (now («node_boxes» .entry)) (now («triangle_boxes» .entry)) (now («node_words» .entry)) (now (order .entry))) (now (list .entry)) (length (now (stack .entry))) ⌝ }
-    ensures { λ r. ⌜ (testsPass bounds count (treeOf nodes (now («node_boxes» .entry)) (now («triangle_boxes» .entry)) (now («node_words» .entry)) (now (order .entry))) (length (now (list .entry))) (length (now (stack .entry))) ≡ false → now (stack .exit) ≡ now (stack .entry)) ⌝ }
+    ensures { λ r. ⌜ Queries bounds count
+        (treeOf nodes (now («node_boxes» .entry)) (now («triangle_boxes» .entry)) (now («node_words» .entry)) (now (order .entry)))
+        (now (list .entry)) (now (stack .entry)) (now (stack .exit)) (record { answer = saysListed r; list = now (list .exit) }) ⌝ }
 {
     if !bounds.is_valid() {
         return Listed::Refused(answer::INVALID_INPUT);
