@@ -51,13 +51,14 @@ triangleAt r offset a b p determinant =
     none)
     none
 
--- the cast at the corners v, w and u: the edges from v, "Determinant not finite is 6"
+-- the cast at three corners: the edges from the first, "Determinant not finite is 6"
 unfoldable pub triangleOf : Ray → Vec3 → Vec3 → Vec3 → Answer
-triangleOf r v w u =
-    withValue (checkedDot (subOf w v) (crossOf (r .direction) (subOf u v)))
+triangleOf r first second third =
+    withValue (checkedDot (subOf second first) (crossOf (r .direction) (subOf third first)))
     (λ (determinant : Float).
-    cond (flat determinant (subOf w v) (subOf u v)) none
-    (triangleAt r (subOf (r .origin) v) (subOf w v) (subOf u v) (crossOf (r .direction) (subOf u v)) determinant))
+    cond (flat determinant (subOf second first) (subOf third first)) none
+    (triangleAt r (subOf (r .origin) first) (subOf second first) (subOf third first) (crossOf (r .direction) (subOf third first))
+    determinant))
 
 abbrev pub triangleCast : Ray → List Vec3 → Answer
 triangleCast r vs = triangleOf r (corner vs 0) (corner vs 1) (corner vs 2)

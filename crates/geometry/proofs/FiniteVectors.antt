@@ -1,11 +1,14 @@
--- The components of a finite vector are finite numbers, and minimum and maximum of finite vectors are finite. Assumes nothing.
+-- The components of a finite vector are finite numbers, those of a vector with numbers are no NaN, and minimum and maximum of finite
+-- vectors are finite. Assumes nothing.
 use mathlib.Core.Path.{_≡_}
-use mathlib.Core.Bool.{true, _&&_}
+use mathlib.Core.Bool.{true, _&&_, not}
+use lib.Ieee.{isNan}
+use borrow.Author.Tests.{not-true}
 use Rattle.arithmetic.specs.Basic.{isFinite}
 use Rattle.arithmetic.specs.Extremes.{minimumOf, maximumOf}
 use Rattle.arithmetic.proofs.Numbers.{finite-number}
 use Rattle.arithmetic.proofs.ExtremesOrder.{minimum-finite, maximum-finite}
-use Rattle.geometry.specs.Vector.{finiteVec, Numbers, minOf, maxOf}
+use Rattle.geometry.specs.Vector.{finiteVec, hasNumbers, Numbers, minOf, maxOf}
 use Rattle.geometry.specs.declared.vec3.Vec3.{Vec3}
 use Rattle.lists.proofs.JoinedTests.{and-first, and-second, and-three}
 
@@ -29,6 +32,19 @@ module _ (v : Vec3) (h : finiteVec v ≡ true) where
     third = finite-number (v .z)
         finite-z;
   }
+
+-- what `hasNumbers` tells, component by component
+pub numbers-told : (v : Vec3) → hasNumbers v ≡ true → Numbers v
+unfolding hasNumbers
+numbers-told v h =
+    let p = not (isNan (v .x)) in
+    let q = not (isNan (v .y)) in
+    let r = not (isNan (v .z)) in
+    let rest = and-second p (q && r) h in record {
+      first = not-true (isNan (v .x)) (and-first p (q && r) h);
+      second = not-true (isNan (v .y)) (and-first q r rest);
+      third = not-true (isNan (v .z)) (and-second q r rest);
+    }
 
 module _ (v w : Vec3) (p : finiteVec v ≡ true) (q : finiteVec w ≡ true) where
   pub min-finite : finiteVec (minOf v w) ≡ true

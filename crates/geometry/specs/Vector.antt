@@ -37,6 +37,10 @@ vector x y z = record { x = x; y = y; z = z }
 unfoldable pub finiteVec : Vec3 → Bool
 finiteVec v = isFinite (v .x) && (isFinite (v .y) && isFinite (v .z))
 
+-- whether no component is NaN
+unfoldable pub hasNumbers : Vec3 → Bool
+hasNumbers v = not (isNan (v .x)) && (not (isNan (v .y)) && not (isNan (v .z)))
+
 -- no component is NaN, so that minimum and maximum take one comparison a component
 pub record Numbers (v : Vec3) : Type 0 where
   pub first : isNan (v .x) ≡ false

@@ -7,7 +7,7 @@ ghost use mathlib.Core.Bool.{true, false, cond};
 ghost use lib.Ieee.{lt};
 ghost use Rattle.arithmetic.specs.Basic.{isFinite};
 ghost use Rattle.geometry.specs.Numbers.{minPositive};
-ghost use Rattle.geometry.specs.Vector.{component, finiteVec, Numbers, addOf, subOf, negOf, scaleOf, minOf, maxOf, absOf, maxElement, dotOf, checkedDot, crossOf, lengthOf, normalizable, scaledToOne, overLength, tryNormalize};
+ghost use Rattle.geometry.specs.Vector.{component, finiteVec, hasNumbers, Numbers, addOf, subOf, scaleOf, minOf, maxOf, absOf, maxElement, dotOf, checkedDot, crossOf, normalizable, scaledToOne, overLength, tryNormalize};
 ghost use Rattle.geometry.specs.declared.vec3.Normalized.the-variants.{Unit as UnitOf, Degenerate};
 
 // Laid out as C does: a part of a cabinet (crates/cabinet) has its origin in it.
@@ -58,9 +58,9 @@ impl Vec3 {
         basic::is_finite(self.z)
     }
 
-    // Whether no component is NaN. Only a yes is promised to be right: after a no the callers take the way for any numbers.
+    // Whether no component is NaN.
     pub fn has_numbers(self) -> bool
-        ensures { λ r. ⌜ (r ≡ true → Numbers self) ⌝ }
+        ensures { λ r. ⌜ r ≡ hasNumbers self ⌝ }
     {
         if self.x != self.x {
             return false;
@@ -91,16 +91,6 @@ impl Vec3 {
             x: self.x - other.x,
             y: self.y - other.y,
             z: self.z - other.z,
-        }
-    }
-
-    pub fn neg(self) -> Vec3
-        ensures { λ r. ⌜ r ≡ negOf self ⌝ }
-    {
-        Vec3 {
-            x: -self.x,
-            y: -self.y,
-            z: -self.z,
         }
     }
 
@@ -198,12 +188,6 @@ impl Vec3 {
             y: self.z * other.x - self.x * other.z,
             z: self.x * other.y - self.y * other.x,
         }
-    }
-
-    pub fn length(self) -> f64
-        ensures { λ r. ⌜ r ≡ lengthOf self ⌝ }
-    {
-        square_root::root(self.dot(self))
     }
 
     // Whether the vector can be normalised: it is finite, and not zero.
