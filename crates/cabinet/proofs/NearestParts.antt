@@ -14,11 +14,11 @@ use Rattle.geometry.specs.Vector.{finiteVec, subOf}
 use Rattle.geometry.specs.declared.vec3.Vec3.{Vec3}
 use Rattle.geometry.specs.declared.ray.Ray.{Ray}
 use Rattle.casts.specs.Answer.{Answer, hit, refused, overflow}
-use Rattle.casts.specs.Nearest.{Indexed, hitAt, noHit, stopped, nextOf, foldFrom, nearestOf, withoutIndex}
-use Rattle.casts.proofs.NearestLaws.{LowestRefusal, LowestNearest, stopped-by-lowest-refusal, hit-of-lowest-nearest}
+use Rattle.nearest_hit.specs.Nearest.{Indexed, hitAt, noHit, stopped, nextOf, foldFrom, nearestOf, withoutIndex}
+use Rattle.nearest_hit.proofs.NearestLaws.{LowestRefusal, LowestNearest, stopped-by-lowest-refusal, hit-of-lowest-nearest}
 use Rattle.lists.proofs.Members.{Each}
 use Rattle.casts.proofs.AnswerLists.{HitSuch, IsNumber}
-use Rattle.casts.proofs.HitLaws.{OfIndexedHit, stopped-such, cond-such, without-index-such}
+use Rattle.nearest_hit.proofs.IndexedHits.{OfIndexedHit, stopped-such, cond-such, without-index-such}
 use Rattle.lists.specs.Lists.{range}
 use Rattle.lists.proofs.SortLaws.{range-ascends}
 use Rattle.mesh.specs.MeshCast.{rayMesh}

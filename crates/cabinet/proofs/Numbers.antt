@@ -18,8 +18,8 @@ use Rattle.geometry.specs.declared.vec3.Normalized.the-variants.{Unit as UnitOf
 use Rattle.geometry.specs.declared.ray.Ray.{Ray}
 use Rattle.casts.specs.Answer.{Answer, hit, none, refused, withValue, withNormal, noNormal, outOfBounds, overflow}
 use Rattle.casts.specs.Surface.{outOfRange, facing}
-use Rattle.casts.specs.Triangle.{flat, triangleNormal, triangleAbove, triangleAt, triangleOf}
-use Rattle.casts.specs.Nearest.{Indexed, hitAt, noHit, stopped, nextOf, foldFrom}
+use Rattle.triangle_cast.specs.Triangle.{flat, triangleNormal, triangleAbove, triangleAt, triangleOf}
+use Rattle.nearest_hit.specs.Nearest.{Indexed, hitAt, noHit, stopped, nextOf, foldFrom}
 use Rattle.tree.specs.Layout.{Tree}
 use Rattle.tree.specs.Mesh.{Mesh, thirds, cornersInside, cornerAt, triangleAnswer}
 use Rattle.tree_walk.specs.Walk.{Walking, walking, broken, walkOf}

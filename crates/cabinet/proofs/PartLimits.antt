@@ -15,7 +15,7 @@ use Rattle.geometry.specs.declared.vec3.Vec3.{Vec3}
 use Rattle.geometry.specs.declared.ray.Ray.{Ray}
 use Rattle.geometry.proofs.BoxLaws.{segment-box-valid}
 use Rattle.casts.specs.Answer.{overflow}
-use Rattle.casts.specs.Nearest.{Indexed, stopped}
+use Rattle.nearest_hit.specs.Nearest.{Indexed, stopped}
 use Rattle.tree.specs.Layout.{Tree}
 use Rattle.tree.specs.Mesh.{Mesh, thirds}
 use Rattle.lists.proofs.JoinedTests.{and-first, and-second}

@@ -10,7 +10,7 @@ use lib.Ieee.{Float}
 use lib.ListN.{length, take, drop}
 use Rattle.geometry.specs.declared.vec3.Vec3.{Vec3}
 use Rattle.casts.specs.Answer.{badShape, noRoom}
-use Rattle.casts.specs.Nearest.{saysIndexed}
+use Rattle.nearest_hit.specs.Nearest.{saysIndexed}
 use Rattle.tree.specs.Layout.{Tree, treeOf}
 use Rattle.tree.specs.Mesh.{Mesh, thirds, lengthsAdmitted, mesh}
 use Rattle.lists.proofs.JoinedTests.{and-first, and-second}

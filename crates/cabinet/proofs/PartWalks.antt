@@ -14,7 +14,7 @@ use Rattle.geometry.specs.declared.vec3.Vec3.{Vec3}
 use Rattle.geometry.specs.declared.aabb.Aabb.{Aabb}
 use Rattle.geometry.specs.declared.ray.Ray.{Ray}
 use Rattle.casts.specs.Answer.{outOfBounds, overflow}
-use Rattle.casts.specs.Nearest.{Indexed, stopped, nearestOf}
+use Rattle.nearest_hit.specs.Nearest.{Indexed, stopped, nearestOf}
 use Rattle.lists.specs.Lists.{sorted, allBelow}
 use Rattle.tree.specs.Layout.{Tree}
 use Rattle.tree.specs.Mesh.{Mesh, thirds, triangleAnswer}

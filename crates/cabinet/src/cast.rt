@@ -1,8 +1,8 @@
 use casts::answer;
-use casts::nearest::IndexedCast;
 use geometry::ray::Ray;
 use geometry::vec3::Vec3;
 use mesh::candidates;
+use nearest_hit::nearest::IndexedCast;
 use tree_walk::within;
 use tree_walk::within::Limited;
 ghost use mathlib.Core.Path.{_≡_};

@@ -9,7 +9,7 @@ use Rattle.geometry.specs.Box.{corner}
 use Rattle.geometry.specs.declared.vec3.Vec3.{Vec3}
 use Rattle.geometry.specs.declared.ray.Ray.{Ray}
 use Rattle.casts.specs.Answer.{Answer, none, refused}
-use Rattle.casts.specs.Triangle.{triangleNormal}
+use Rattle.triangle_cast.specs.Triangle.{triangleNormal}
 use Rattle.exact_depth.specs.declared.spots.Spot.{Spot}
 use Rattle.exact_depth.specs.declared.spots.Fraction.{Fraction}
 use Rattle.exact_depth.specs.declared.spots.Depth.{Depth}

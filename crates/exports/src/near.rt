@@ -1,15 +1,15 @@
 use casts::plane;
 use casts::plane::Plane;
-use casts::triangle;
 use distance_grid::grid::Grid;
 use distance_grid::grid::Sides;
 use geometry::vec3::Vec3;
 use height_field::cast;
 use height_field::field::Field;
 use level_set::walk;
+use triangle_cast::triangle;
 ghost use mathlib.Core.Path.{_≡_};
 ghost use Rattle.casts.specs.Plane.{rayPlane};
-ghost use Rattle.casts.specs.Triangle.{rayTriangle};
+ghost use Rattle.triangle_cast.specs.Triangle.{rayTriangle};
 ghost use Rattle.height_field.specs.Cast.{rayHeightField};
 ghost use Rattle.level_set.specs.Walk.{rayLevelSet};
 ghost use Rattle.results.specs.Results.{rayFrom, planeOf, cornersOf, fieldOf, gridOf, answered};

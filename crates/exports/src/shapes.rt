@@ -1,7 +1,7 @@
 use crate::near;
 ghost use mathlib.Core.Path.{_≡_};
 ghost use Rattle.casts.specs.Plane.{rayPlane};
-ghost use Rattle.casts.specs.Triangle.{rayTriangle};
+ghost use Rattle.triangle_cast.specs.Triangle.{rayTriangle};
 ghost use Rattle.height_field.specs.Cast.{rayHeightField};
 ghost use Rattle.level_set.specs.Walk.{rayLevelSet};
 ghost use Rattle.results.specs.Results.{version, rayOf, planeOf, cornersOf, fieldOf, gridOf, answered};

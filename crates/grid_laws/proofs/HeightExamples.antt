@@ -18,8 +18,8 @@ use Rattle.geometry.specs.Segment.{unitLength, rayAdmitted, segmentEnd, segment
 use Rattle.geometry.specs.declared.ray.Ray.{Ray}
 use Rattle.casts.specs.Answer.{hit, none, refused}
 use Rattle.casts.specs.Surface.{outOfRange, facing}
-use Rattle.casts.specs.Triangle.{flat, triangleNormal, triangleAbove, triangleAt, triangleOf}
-use Rattle.casts.specs.Nearest.{nextOf, foldFrom, withoutIndex}
+use Rattle.triangle_cast.specs.Triangle.{flat, triangleNormal, triangleAbove, triangleAt, triangleOf}
+use Rattle.nearest_hit.specs.Nearest.{nextOf, foldFrom, withoutIndex}
 use Rattle.height_field.specs.declared.field.Field.{Field}
 use Rattle.grids.specs.Spacing.{spacingAdmitted}
 use Rattle.height_field.specs.Grid.{sideAdmitted, fieldAdmitted, floatOf, vertexAt, cellAt, cellRow, cellColumn, cornersAt, featureCorners}

@@ -16,7 +16,7 @@ use Rattle.geometry.specs.declared.ray.Ray.{Ray}
 use Rattle.lists.proofs.JoinedTests.{and-first, and-second}
 use Rattle.geometry.proofs.BoxLaws.{corners-box-valid}
 use Rattle.casts.specs.Answer.{Answer, outOfBounds, overflow}
-use Rattle.casts.specs.Nearest.{Indexed, nextOf, foldFrom}
+use Rattle.nearest_hit.specs.Nearest.{Indexed, nextOf, foldFrom}
 use Rattle.height_field.specs.declared.field.Field.{Field}
 use Rattle.height_field.specs.Grid.{cellAt, cellRow, cellColumn, cornersAt, featureCorners}
 use Rattle.height_field.specs.Listing.{listed, unlisted, allFinite, cellFinite, featureBox, listCell}

@@ -12,8 +12,8 @@ use Rattle.geometry.specs.declared.vec3.Vec3.{Vec3}
 use Rattle.geometry.specs.declared.aabb.Aabb.{Aabb}
 use Rattle.geometry.specs.declared.ray.Ray.{Ray}
 use Rattle.casts.specs.Answer.{Answer, refused}
-use Rattle.casts.specs.Triangle.{triangleCast}
-use Rattle.casts.specs.Nearest.{Indexed, noHit, saysIndexed, nextOf, foldFrom, withoutIndex}
+use Rattle.triangle_cast.specs.Triangle.{triangleCast}
+use Rattle.nearest_hit.specs.Nearest.{Indexed, noHit, saysIndexed, nextOf, foldFrom, withoutIndex}
 use Rattle.height_field.specs.declared.field.Field.{Field}
 use Rattle.height_field.specs.declared.pass.Pass.{Pass}
 use Rattle.height_field.specs.declared.pass.Pass.the-variants.{Going, Ended}

@@ -1,15 +1,15 @@
 use crate::field;
 use crate::field::Field;
 use casts::answer;
-use casts::nearest;
-use casts::nearest::IndexedCast;
 use geometry::aabb::Aabb;
 use geometry::ray::Ray;
 use geometry::vec3::Vec3;
+use nearest_hit::nearest;
+use nearest_hit::nearest::IndexedCast;
 ghost use mathlib.Core.Path.{_≡_};
 ghost use mathlib.Core.List.{map};
 ghost use Prim.Native.Nat.{_+_, _-_, _^_, _<_};
-ghost use Rattle.casts.specs.Nearest.{noHit, saysIndexed};
+ghost use Rattle.nearest_hit.specs.Nearest.{noHit, saysIndexed};
 ghost use Rattle.height_field.specs.Grid.{Sized, cellAt};
 ghost use Rattle.height_field.specs.Cells.{run, gridCells};
 ghost use Rattle.height_field.specs.Listing.{allFinite, listCell, listAll};

@@ -19,8 +19,8 @@ use Rattle.geometry.specs.Box.{cornersBox}
 use Rattle.geometry.specs.Segment.{unitLength, rayAdmitted, segmentEnd, segmentBox}
 use Rattle.casts.specs.Surface.{outOfRange, facing}
 use Rattle.casts.specs.Plane.{planeAdmitted, planeAt, planeCast, rayPlane}
-use Rattle.casts.specs.Triangle.{flat, triangleNormal, hasNormal, triangleAbove, triangleAt, triangleOf, rayTriangle}
-use Rattle.casts.specs.Nearest.{nextOf, foldFrom, withoutIndex}
+use Rattle.triangle_cast.specs.Triangle.{flat, triangleNormal, hasNormal, triangleAbove, triangleAt, triangleOf, rayTriangle}
+use Rattle.nearest_hit.specs.Nearest.{nextOf, foldFrom, withoutIndex}
 use Rattle.grids.specs.Spacing.{spacingAdmitted}
 use Rattle.height_field.specs.Grid.{sideAdmitted, fieldAdmitted, floatOf, vertexAt, cellAt, cellRow, cellColumn, cornersAt, featureCorners}
 use Rattle.height_field.specs.Cells.{scaledRange, spanOf, cellRange, run, rangeCells, gridCells, columnRange, rowRange, visitedCells}

@@ -8,9 +8,10 @@ use lib.Ieee.{Float, lt, le, isNan}
 use Rattle.arithmetic.proofs.Order.{le-of-lt, le-left-number, le-right-number, le-of-not-lt, lt-of-lt-le, lt-transitive}
 use Rattle.geometry.specs.declared.vec3.Vec3.{Vec3}
 use Rattle.casts.specs.Answer.{Answer, hit, none, refused}
-use Rattle.casts.specs.Nearest.{Indexed, hitAt, noHit, stopped, nextOf, foldFrom, nearestOf}
+use Rattle.nearest_hit.specs.Nearest.{Indexed, hitAt, noHit, stopped, nextOf, foldFrom, nearestOf}
 use Rattle.lists.proofs.Members.{Each, each-rest}
-use Rattle.casts.proofs.AnswerLists.{HitSuch, IsNumber, hit-not-none, hit-not-stopped}
+use Rattle.casts.proofs.AnswerLists.{HitSuch, IsNumber}
+use Rattle.nearest_hit.proofs.IndexedCases.{hit-not-none, hit-not-stopped}
 use Rattle.merge.specs.Moved.{movedUp}
 use Rattle.merge.specs.Glue.{glue}
 

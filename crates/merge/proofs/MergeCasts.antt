@@ -13,7 +13,7 @@ use Rattle.geometry.specs.Segment.{rayAdmitted, segmentEnd, segmentBox}
 use Rattle.geometry.specs.declared.aabb.Aabb.{Aabb}
 use Rattle.geometry.specs.declared.ray.Ray.{Ray}
 use Rattle.casts.specs.Answer.{Answer, invalidInput, outOfBounds, overflow}
-use Rattle.casts.specs.Nearest.{Indexed, stopped, nearestOf}
+use Rattle.nearest_hit.specs.Nearest.{Indexed, stopped, nearestOf}
 use Rattle.lists.proofs.Members.{Each}
 use Rattle.casts.proofs.AnswerLists.{HitSuch, IsNumber}
 use Rattle.lists.specs.Lists.{range, keep, count}

@@ -2,7 +2,7 @@
 use Prim.Native.Nat.{ℕ, _+_}
 use mathlib.Core.Bool.{cond}
 use lib.Ieee.{lt}
-use Rattle.casts.specs.Nearest.{Indexed, hitAt, noHit, stopped}
+use Rattle.nearest_hit.specs.Nearest.{Indexed, hitAt, noHit, stopped}
 
 -- "the lesser distance of the two casts, the first board on ties; if either refuses, the first board's refusal goes ahead";
 -- the second board's triangles stand n further on

@@ -16,7 +16,7 @@ use Rattle.geometry.specs.declared.aabb.Aabb.{Aabb}
 use Rattle.geometry.specs.declared.ray.Ray.{Ray}
 use Rattle.geometry.proofs.BoxLaws.{segment-box-valid}
 use Rattle.casts.specs.Answer.{invalidInput, badShape, noRoom, wrongPose, outOfBounds, overflow}
-use Rattle.casts.specs.Nearest.{Indexed, stopped, noHit, foldFrom, nearestOf}
+use Rattle.nearest_hit.specs.Nearest.{Indexed, stopped, noHit, foldFrom, nearestOf}
 use Rattle.lists.specs.Lists.{sortBy, sorted, allBelow}
 use Rattle.tree.specs.Layout.{Tree}
 use Rattle.tree.specs.Mesh.{Mesh, thirds, lengthsAdmitted, triangleAnswer}

@@ -11,8 +11,8 @@ use Rattle.geometry.specs.Segment.{rayAdmitted, segmentEnd, segmentBox}
 use Rattle.geometry.specs.declared.vec3.Vec3.{Vec3}
 use Rattle.geometry.specs.declared.ray.Ray.{Ray}
 use Rattle.casts.specs.Answer.{Answer, hit, none, refused}
-use Rattle.casts.specs.Triangle.{rayTriangle}
-use Rattle.casts.specs.Nearest.{Indexed, hitAt, noHit, stopped}
+use Rattle.triangle_cast.specs.Triangle.{rayTriangle}
+use Rattle.nearest_hit.specs.Nearest.{Indexed, hitAt, noHit, stopped}
 use Rattle.tree.specs.Layout.{Tree}
 use Rattle.tree.specs.Mesh.{Mesh, thirds, lengthsAdmitted, cornersOf, triangleBox}
 use Rattle.tree_check.specs.Verdict.{yes, checkOf}

@@ -1,7 +1,7 @@
 use crate::candidates;
 use casts::answer;
-use casts::nearest::IndexedCast;
 use geometry::ray::Ray;
+use nearest_hit::nearest::IndexedCast;
 use tree::mesh;
 use tree_query::query;
 use tree_query::walk;
@@ -12,7 +12,7 @@ ghost use Prim.Native.Nat.{_*_};
 ghost use lib.Dec.{leb};
 ghost use lib.ListN.{length};
 ghost use Rattle.geometry.specs.Segment.{rayAdmitted};
-ghost use Rattle.casts.specs.Nearest.{saysIndexed};
+ghost use Rattle.nearest_hit.specs.Nearest.{saysIndexed};
 ghost use Rattle.tree.specs.Mesh.{thirds, lengthsAdmitted, mesh};
 ghost use Rattle.tree.specs.Layout.{treeOf};
 ghost use Rattle.tree_walk.specs.Areas.{WalkRoom};

@@ -14,12 +14,12 @@ use Rattle.geometry.specs.declared.vec3.Normalized.{Normalized}
 use Rattle.geometry.specs.declared.vec3.Normalized.the-variants.{Unit as UnitOf, Degenerate}
 use Rattle.geometry.specs.declared.ray.Ray.{Ray}
 use Rattle.casts.specs.Answer.{Answer, hit, none, refused, withNormal, noNormal, invalidInput, badShape, outOfBounds, overflow}
-use Rattle.casts.specs.Triangle.{triangleNormal}
+use Rattle.triangle_cast.specs.Triangle.{triangleNormal}
 use Rattle.casts.specs.Surface.{facing}
-use Rattle.casts.specs.Nearest.{Indexed, hitAt, noHit, stopped, nearestOf}
+use Rattle.nearest_hit.specs.Nearest.{Indexed, hitAt, noHit, stopped, nearestOf}
 use Rattle.lists.proofs.Members.{Each}
 use Rattle.casts.proofs.AnswerLists.{AnswersNone}
-use Rattle.casts.proofs.NearestRefusals.{nones-of-none}
+use Rattle.nearest_hit.proofs.NearestRefusals.{nones-of-none}
 use Rattle.tree.specs.Mesh.{Mesh, thirds, lengthsAdmitted, cornersInside, cornersOf, candidates}
 use Rattle.exact_depth.specs.declared.spots.Fraction.{Fraction}
 use Rattle.exact_depth.specs.declared.spots.Depth.{Depth}

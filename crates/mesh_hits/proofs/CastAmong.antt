@@ -8,9 +8,10 @@ use native.Mathlib.Omega.{arith}
 use lib.Ieee.{Float, lt}
 use Rattle.geometry.specs.declared.vec3.Vec3.{Vec3}
 use Rattle.casts.specs.Answer.{Answer, hit, none, refused}
-use Rattle.casts.specs.Nearest.{Indexed, hitAt, noHit, stopped, nextOf, foldFrom, nearestOf}
-use Rattle.casts.proofs.AnswerLists.{none-not-hit, hit-not-stopped, hit-not-none}
-use Rattle.casts.proofs.NearestRefusals.{refusal-stops, none-of-nones, nones-of-none}
+use Rattle.nearest_hit.specs.Nearest.{Indexed, hitAt, noHit, stopped, nextOf, foldFrom, nearestOf}
+use Rattle.casts.proofs.AnswerLists.{none-not-hit}
+use Rattle.nearest_hit.proofs.IndexedCases.{hit-not-stopped, hit-not-none}
+use Rattle.nearest_hit.proofs.NearestRefusals.{refusal-stops, none-of-nones, nones-of-none}
 use Rattle.tree.specs.Layout.{wordAt}
 use Rattle.lists.proofs.CountLaws.{member-of-count, count-of-member}
 use Rattle.mesh_hits.specs.Listing.{HitArea, isHit, listingOf}

@@ -11,8 +11,8 @@ use lib.ListN.{length, take, drop, List·getD-append}
 use lib.Seq.{take-at}
 use Rattle.geometry.specs.declared.vec3.Vec3.{Vec3}
 use Rattle.casts.specs.Answer.{Answer, hit, noRoom}
-use Rattle.casts.specs.Nearest.{Indexed, hitAt, noHit, stopped, nearestOf}
-use Rattle.casts.proofs.AnswerLists.{stopped-not-none, hit-not-stopped}
+use Rattle.nearest_hit.specs.Nearest.{Indexed, hitAt, noHit, stopped, nearestOf}
+use Rattle.nearest_hit.proofs.IndexedCases.{stopped-not-none, hit-not-stopped}
 use Rattle.lists.specs.Lists.{count}
 use Rattle.tree.specs.Layout.{wordAt, vectorAt, numberAt}
 use Rattle.lists.proofs.CountLaws.{count-keep}

@@ -10,7 +10,7 @@ use lib.ListN.{length, getD, take, drop, set, length-take}
 use lib.Seq.{length-take-le, take-suc}
 use Rattle.casts.specs.Answer.{Answer}
 use Rattle.casts.specs.Reach.{reachOf}
-use Rattle.casts.specs.Summary.{Summary, nothing, noteOf, summaryFrom}
+use Rattle.nearest_hit.specs.Summary.{Summary, nothing, noteOf, summaryFrom}
 use Rattle.casts.specs.declared.answer.Reach.{Reach}
 use Rattle.lists.specs.Lists.{keep}
 use Rattle.tree.specs.Layout.{wordAt, numberAt}

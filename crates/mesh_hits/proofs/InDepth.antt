@@ -10,10 +10,10 @@ use lib.Ieee.{Float}
 use lib.ListN.{length}
 use Rattle.geometry.specs.declared.vec3.Vec3.{Vec3}
 use Rattle.casts.specs.Answer.{Answer, hit}
-use Rattle.casts.specs.Nearest.{Indexed, hitAt, noHit, stopped, nearestOf}
+use Rattle.nearest_hit.specs.Nearest.{Indexed, hitAt, noHit, stopped, nearestOf}
 use Rattle.lists.proofs.Members.{Each, Rising as RisingList}
 use Rattle.casts.proofs.AnswerLists.{HitsAreNumbers}
-use Rattle.casts.proofs.NearestHits.{FirstNearest, hit-of-first-nearest}
+use Rattle.nearest_hit.proofs.NearestHits.{FirstNearest, hit-of-first-nearest}
 use Rattle.lists.specs.Lists.{count}
 use Rattle.tree.specs.Layout.{wordAt, numberAt}
 use Rattle.lists.proofs.CountLaws.{member-of-count}

@@ -10,13 +10,13 @@ use lib.Ieee.{Float, nan}
 use lib.ListN.{length, take, drop, length-append, List·getD-append}
 use lib.Seq.{length-take-le, take-at, drop-at, getD-take}
 use Rattle.casts.specs.Answer.{Answer, hit, none, refused, noRoom}
-use Rattle.casts.specs.Nearest.{Indexed, hitAt, noHit, stopped, nextOf, nearestOf}
+use Rattle.nearest_hit.specs.Nearest.{Indexed, hitAt, noHit, stopped, nextOf, nearestOf}
 use Rattle.casts.specs.Reach.{reachOf}
-use Rattle.casts.specs.Summary.{Summary, nothing, summaryFrom, winner}
+use Rattle.nearest_hit.specs.Summary.{Summary, nothing, summaryFrom, winner}
 use Rattle.casts.specs.declared.answer.Reach.the-variants.{At}
 use Rattle.casts.proofs.AnswerLists.{HitsAreNumbers}
-use Rattle.casts.specs.declared.summary.Outcome.{Outcome as Won}
-use Rattle.casts.specs.declared.summary.Outcome.the-variants.{Nobody, Refused, Struck as StruckBy}
+use Rattle.nearest_hit.specs.declared.summary.Outcome.{Outcome as Won}
+use Rattle.nearest_hit.specs.declared.summary.Outcome.the-variants.{Nobody, Refused, Struck as StruckBy}
 use Rattle.lists.specs.Lists.{count, sorted, allBelow}
 use Rattle.tree.specs.Layout.{numberAt, wordAt}
 use Rattle.lists.proofs.CountLaws.{count-keep, member-of-count, every-at}

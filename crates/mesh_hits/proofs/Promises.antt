@@ -15,9 +15,9 @@ use Rattle.geometry.specs.declared.vec3.Vec3.{Vec3}
 use Rattle.geometry.specs.declared.ray.Ray.{Ray}
 use Rattle.geometry.proofs.BoxLaws.{segment-box-valid}
 use Rattle.casts.specs.Answer.{Answer, invalidInput, badShape, noRoom, wrongPose, outOfBounds, overflow}
-use Rattle.casts.specs.Nearest.{Indexed, stopped, nearestOf}
+use Rattle.nearest_hit.specs.Nearest.{Indexed, stopped, nearestOf}
 use Rattle.lists.proofs.Members.{Rising}
-use Rattle.casts.proofs.AnswerLists.{same-number}
+use Rattle.nearest_hit.proofs.IndexedCases.{same-number}
 use Rattle.lists.specs.Lists.{count}
 use Rattle.tree.specs.Layout.{Tree, wordAt, numberAt, vectorAt}
 use Rattle.tree.specs.Mesh.{Mesh, thirds, triangleAnswer, candidates}

@@ -19,11 +19,12 @@ use Rattle.geometry.specs.declared.vec3.Normalized.the-variants.{Unit as UnitOf
 use Rattle.geometry.specs.declared.ray.Ray.{Ray}
 use Rattle.casts.specs.Answer.{Answer, hit, none, refused, withValue, withNormal, noNormal}
 use Rattle.casts.specs.Answer.{invalidInput, badShape, noRoom, wrongPose, outOfBounds, overflow}
-use Rattle.casts.specs.Nearest.{Indexed, hitAt, noHit, stopped, nearestOf}
+use Rattle.nearest_hit.specs.Nearest.{Indexed, hitAt, noHit, stopped, nearestOf}
 use Rattle.casts.specs.Surface.{outOfRange, facing}
-use Rattle.casts.specs.Triangle.{flat, triangleNormal, triangleAbove, triangleAt, triangleOf}
-use Rattle.casts.proofs.AnswerLists.{none-not-refused, hit-not-refused, stopped-not-none}
-use Rattle.casts.proofs.NearestRefusals.{stopped-by-first-refusal}
+use Rattle.triangle_cast.specs.Triangle.{flat, triangleNormal, triangleAbove, triangleAt, triangleOf}
+use Rattle.casts.proofs.AnswerLists.{none-not-refused, hit-not-refused}
+use Rattle.nearest_hit.proofs.IndexedCases.{stopped-not-none}
+use Rattle.nearest_hit.proofs.NearestRefusals.{stopped-by-first-refusal}
 use Rattle.tree.specs.Layout.{Tree}
 use Rattle.tree.specs.Mesh.{Mesh, thirds, cornersInside, cornerAt, triangleAnswer}
 use Rattle.tree_walk.specs.Walk.{Walking, walking, broken, walkOf}

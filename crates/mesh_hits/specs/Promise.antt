@@ -7,7 +7,7 @@ use lib.Ieee.{Float}
 use lib.ListN.{take}
 use Rattle.geometry.specs.declared.vec3.Vec3.{Vec3}
 use Rattle.geometry.specs.declared.ray.Ray.{Ray}
-use Rattle.casts.specs.Nearest.{Indexed, hitAt, noHit, stopped}
+use Rattle.nearest_hit.specs.Nearest.{Indexed, hitAt, noHit, stopped}
 use Rattle.lists.specs.Lists.{count}
 use Rattle.tree.specs.Layout.{Tree, wordAt, numberAt, vectorAt}
 use Rattle.tree.specs.Mesh.{Mesh}

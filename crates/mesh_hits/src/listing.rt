@@ -1,11 +1,11 @@
 use crate::gathering;
 use crate::places;
 use casts::answer;
-use casts::summary;
-use casts::summary::Outcome;
 use depth_sort::order;
 use geometry::ray::Ray;
 use mesh::cast;
+use nearest_hit::summary;
+use nearest_hit::summary::Outcome;
 use tree_query::query;
 use tree_query::query::Listed;
 use tree_query::walk;

@@ -14,13 +14,13 @@ use Rattle.geometry.specs.declared.vec3.Vec3.{Vec3}
 use Rattle.geometry.specs.declared.aabb.Aabb.{Aabb}
 use Rattle.geometry.specs.declared.ray.Ray.{Ray}
 use Rattle.casts.specs.Answer.{Answer, outOfBounds}
-use Rattle.casts.specs.Triangle.{triangleCast}
+use Rattle.triangle_cast.specs.Triangle.{triangleCast}
 use Rattle.casts.specs.Reach.{reachOf}
-use Rattle.casts.specs.Summary.{Summary, nothing, noteOf, summaryFrom, winner}
+use Rattle.nearest_hit.specs.Summary.{Summary, nothing, noteOf, summaryFrom, winner}
 use Rattle.casts.specs.declared.answer.Reach.{Reach}
 use Rattle.casts.specs.declared.answer.Reach.the-variants.{Miss}
-use Rattle.casts.specs.declared.summary.Outcome.{Outcome}
-use Rattle.casts.specs.declared.summary.Outcome.the-variants.{Refused as RefusedBy}
+use Rattle.nearest_hit.specs.declared.summary.Outcome.{Outcome}
+use Rattle.nearest_hit.specs.declared.summary.Outcome.the-variants.{Refused as RefusedBy}
 use Rattle.lists.specs.Lists.{range, keep, every}
 use Rattle.tree.specs.Mesh.{Mesh, thirds, cornersInside, cornersOf, triangleBox, triangleAnswer, candidates}
 use Rattle.lists.proofs.JoinedTests.{and-first, and-second}

@@ -10,16 +10,16 @@ use Rattle.geometry.specs.Box.{touches}
 use Rattle.geometry.specs.declared.aabb.Aabb.{Aabb}
 use Rattle.geometry.specs.declared.ray.Ray.{Ray}
 use Rattle.casts.specs.Answer.{Answer, outOfBounds}
-use Rattle.casts.specs.Nearest.{Indexed, noHit, stopped, nextOf, nearestOf}
+use Rattle.nearest_hit.specs.Nearest.{Indexed, noHit, stopped, nextOf, nearestOf}
 use Rattle.casts.specs.Reach.{reachOf}
-use Rattle.casts.specs.Summary.{nothing, summaryFrom, winner, answerAt}
+use Rattle.nearest_hit.specs.Summary.{nothing, summaryFrom, winner, answerAt}
 use Rattle.casts.specs.declared.answer.Reach.{Reach}
 use Rattle.casts.specs.declared.answer.Reach.the-variants.{At}
-use Rattle.casts.specs.declared.summary.Outcome.{Outcome}
-use Rattle.casts.specs.declared.summary.Outcome.the-variants.{Nobody, Refused as RefusedBy, Struck}
+use Rattle.nearest_hit.specs.declared.summary.Outcome.{Outcome}
+use Rattle.nearest_hit.specs.declared.summary.Outcome.the-variants.{Nobody, Refused as RefusedBy, Struck}
 use Rattle.lists.proofs.Members.{Each}
-use Rattle.casts.proofs.SummaryLaws.{nearest-of-ascending}
-use Rattle.casts.proofs.SummaryMembers.{OfOutcome, winner-of-list}
+use Rattle.nearest_hit.proofs.SummaryLaws.{nearest-of-ascending}
+use Rattle.nearest_hit.proofs.SummaryMembers.{OfOutcome, winner-of-list}
 use Rattle.lists.specs.Lists.{range, keep}
 use Rattle.tree.specs.Mesh.{Mesh, thirds, triangleBox, triangleAnswer, candidates}
 use Rattle.lists.proofs.CountLaws.{count-of-member, range-bounds}

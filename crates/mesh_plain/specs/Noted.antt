@@ -3,9 +3,9 @@ use mathlib.Core.Bool.{cond}
 use Rattle.geometry.specs.declared.aabb.Aabb.{Aabb}
 use Rattle.geometry.specs.declared.ray.Ray.{Ray}
 use Rattle.casts.specs.Answer.{outOfBounds}
-use Rattle.casts.specs.Summary.{nothing, summaryFrom, winner}
-use Rattle.casts.specs.declared.summary.Outcome.{Outcome}
-use Rattle.casts.specs.declared.summary.Outcome.the-variants.{Refused as RefusedBy}
+use Rattle.nearest_hit.specs.Summary.{nothing, summaryFrom, winner}
+use Rattle.nearest_hit.specs.declared.summary.Outcome.{Outcome}
+use Rattle.nearest_hit.specs.declared.summary.Outcome.the-variants.{Refused as RefusedBy}
 use Rattle.tree.specs.Mesh.{Mesh, triangleAnswer, candidates, trianglesFit}
 
 -- whose answer that is, by the notes of the candidates

@@ -10,9 +10,9 @@ use lib.ListN.{length, take, drop}
 use Rattle.geometry.specs.declared.vec3.Vec3.{Vec3}
 use Rattle.geometry.specs.declared.ray.Ray.{Ray}
 use Rattle.casts.specs.Answer.{Answer, hit, none, refused}
-use Rattle.casts.specs.Nearest.{Indexed, hitAt, noHit, stopped, withoutIndex}
+use Rattle.nearest_hit.specs.Nearest.{Indexed, hitAt, noHit, stopped, withoutIndex}
 use Rattle.casts.specs.Plane.{rayPlane}
-use Rattle.casts.specs.Triangle.{rayTriangle}
+use Rattle.triangle_cast.specs.Triangle.{rayTriangle}
 use Rattle.height_field.specs.Cast.{rayHeightField}
 use Rattle.level_set.specs.Walk.{rayLevelSet}
 use Rattle.height_field.specs.declared.field.Field.{Field}

@@ -1,15 +1,15 @@
 use casts::answer;
-use casts::nearest::IndexedCast;
 use geometry::ray::Ray;
 use lists::fill;
 use mesh::cast;
+use nearest_hit::nearest::IndexedCast;
 use record_bytes::bytes;
 use tree_build::build;
 use tree_build::build::Built;
 ghost use mathlib.Core.Path.{_≡_};
 ghost use Prim.Native.Nat.{_+_, _*_, _≤_};
 ghost use lib.ListN.{length};
-ghost use Rattle.casts.specs.Nearest.{saysIndexed};
+ghost use Rattle.nearest_hit.specs.Nearest.{saysIndexed};
 ghost use Rattle.tree.specs.Mesh.{thirds, mesh};
 ghost use Rattle.tree.specs.Layout.{areas};
 ghost use Rattle.tree_build.specs.Build.{buildOf};

@@ -14,7 +14,7 @@ use Rattle.geometry.specs.declared.vec3.Vec3.{Vec3}
 use Rattle.geometry.specs.Box.{validBox}
 use Rattle.geometry.specs.Segment.{rayAdmitted}
 use Rattle.casts.specs.Answer.{Answer, hit, none, refused, invalidInput, badShape, noRoom}
-use Rattle.casts.specs.Nearest.{Indexed, hitAt, noHit, stopped}
+use Rattle.nearest_hit.specs.Nearest.{Indexed, hitAt, noHit, stopped}
 use Rattle.casts.specs.declared.plane.Plane.{Plane}
 use Rattle.height_field.specs.declared.field.Field.{Field}
 use Rattle.distance_grid.specs.declared.grid.Grid.{Grid}

@@ -2,9 +2,9 @@
 
 use casts::answer;
 use casts::answer::Cast;
-use casts::nearest::IndexedCast;
 use geometry::ray::Ray;
 use geometry::vec3::Vec3;
+use nearest_hit::nearest::IndexedCast;
 use tree::mesh as lengths;
 use tree_build::build::Built;
 use tree_check::check::Verdict;
@@ -16,7 +16,7 @@ ghost use Prim.Native.Nat.{_≤_};
 ghost use lib.ListN.{length};
 ghost use lib.Seq.{sets};
 ghost use Rattle.casts.specs.Answer.{says, badShape, noRoom};
-ghost use Rattle.casts.specs.Nearest.{saysIndexed};
+ghost use Rattle.nearest_hit.specs.Nearest.{saysIndexed};
 ghost use Rattle.tree.specs.Mesh.{lengthsAdmitted};
 ghost use Rattle.tree_build.specs.Build.{says as saysBuilt};
 ghost use Rattle.tree_check.specs.Verdict.{says as saysVerdict};

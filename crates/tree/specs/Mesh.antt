@@ -11,7 +11,7 @@ use Rattle.geometry.specs.declared.vec3.Vec3.{Vec3}
 use Rattle.geometry.specs.declared.aabb.Aabb.{Aabb}
 use Rattle.geometry.specs.declared.ray.Ray.{Ray}
 use Rattle.casts.specs.Answer.{Answer, refused, outOfBounds}
-use Rattle.casts.specs.Triangle.{triangleOf}
+use Rattle.triangle_cast.specs.Triangle.{triangleOf}
 use Rattle.lists.specs.Lists.{range, keep, every, over}
 use Rattle.tree.specs.Layout.{wordAt, vectorAt, boxNumbers}
 

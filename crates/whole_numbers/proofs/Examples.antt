@@ -21,7 +21,7 @@ use Rattle.geometry.specs.declared.vec3.Vec3.{Vec3}
 use Rattle.geometry.specs.declared.ray.Ray.{Ray}
 use Rattle.casts.specs.Surface.{outOfRange, facing}
 use Rattle.casts.specs.Answer.{Answer, hit, none, refused}
-use Rattle.casts.specs.Triangle.{flat, triangleNormal, triangleAbove, triangleAt, triangleOf, rayTriangle}
+use Rattle.triangle_cast.specs.Triangle.{flat, triangleNormal, triangleAbove, triangleAt, triangleOf, rayTriangle}
 use Rattle.whole_numbers.specs.Points.{Point}
 use Rattle.whole_numbers.specs.Board.{Drawing, Board, Drawn, DrawnAt, Crossing, Inside, Outside, sum as far, downward, along}
 use Rattle.whole_numbers.specs.Board.{ExactOnWholeNumbers}

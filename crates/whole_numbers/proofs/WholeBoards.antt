@@ -16,7 +16,7 @@ use Rattle.geometry.specs.Numbers.{_+ᶠ_, zeroᶠ, oneᶠ}
 use Rattle.geometry.specs.declared.vec3.Vec3.{Vec3}
 use Rattle.geometry.specs.declared.ray.Ray.{Ray}
 use Rattle.casts.specs.Answer.{Answer, hit, none, refused}
-use Rattle.casts.specs.Triangle.{triangleNormal, rayTriangle}
+use Rattle.triangle_cast.specs.Triangle.{triangleNormal, rayTriangle}
 use Rattle.arithmetic.specs.Scaling.{unit}
 use Rattle.arithmetic.proofs.SignedOrder.{less}
 use Rattle.exact_depth.proofs.Integers.{no-factor, pp, np, size-is, add-parts}

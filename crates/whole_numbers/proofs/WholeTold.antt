@@ -15,7 +15,7 @@ use Rattle.geometry.specs.Numbers.{zeroᶠ}
 use Rattle.geometry.specs.declared.vec3.Vec3.{Vec3}
 use Rattle.geometry.specs.declared.ray.Ray.{Ray}
 use Rattle.casts.specs.Answer.{Answer, hit, none, refused}
-use Rattle.casts.specs.Triangle.{rayTriangle}
+use Rattle.triangle_cast.specs.Triangle.{rayTriangle}
 use Rattle.tree.specs.Layout.{numberAt}
 use Rattle.results.specs.Results.{Told, rayFrom, rayOf, cornersOf, hitCode, noneCode, told, answered}
 use Rattle.whole_numbers.specs.Board.{Drawing, Drawn, Board, Crossing, Within, sum as far, ExactOnWholeNumbers}

@@ -12,7 +12,7 @@ use Rattle.geometry.specs.Box.{corner}
 use Rattle.geometry.specs.declared.vec3.Vec3.{Vec3}
 use Rattle.geometry.specs.declared.ray.Ray.{Ray}
 use Rattle.casts.specs.Answer.{Answer, hit, none, refused}
-use Rattle.casts.specs.Triangle.{rayTriangle}
+use Rattle.triangle_cast.specs.Triangle.{rayTriangle}
 use Rattle.whole_numbers.specs.Points.{Point, subP, crossP, dotP}
 
 -- ---- what is drawn

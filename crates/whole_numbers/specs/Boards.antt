@@ -8,7 +8,7 @@ use lib.Ieee.{Float, nan, inf, fin, up, down, le}
 use lib.ListN.{length}
 use Rattle.geometry.specs.declared.vec3.Vec3.{Vec3}
 use Rattle.geometry.specs.declared.ray.Ray.{Ray}
-use Rattle.casts.specs.Nearest.{Indexed, hitAt, noHit, stopped}
+use Rattle.nearest_hit.specs.Nearest.{Indexed, hitAt, noHit, stopped}
 use Rattle.tree.specs.Layout.{Tree}
 use Rattle.tree.specs.Mesh.{Mesh, lengthsAdmitted, cornerAt}
 use Rattle.mesh.specs.MeshCast.{roomFor, rayMesh}

@@ -3,7 +3,7 @@ use Prim.Native.Nat.{_+_, _-_, _*_, _<_}
 use mathlib.Core.Path.{sym, _∙_}
 use native.Mathlib.Omega.{arith}
 use borrow.Author.Tests.{not-true, not-false}
-use Rattle.casts.specs.Nearest.{saysIndexed}
+use Rattle.nearest_hit.specs.Nearest.{saysIndexed}
 use Rattle.height_field.specs.Grid.{cellAt, cornersAt}
 use Rattle.height_field.specs.Listing.{cellFinite}
 use Rattle.height_field.proofs.Sizes.{cell-small}

@@ -4,7 +4,7 @@ use mathlib.Core.Path.{_≡_, refl, sym, ap, _∙_, subst}
 use mathlib.Core.List.{List}
 use native.Mathlib.Omega.{arith}
 use Rattle.geometry.specs.declared.vec3.Vec3.{Vec3}
-use Rattle.casts.specs.Nearest.{saysIndexed}
+use Rattle.nearest_hit.specs.Nearest.{saysIndexed}
 use Rattle.height_field.specs.Pass.{FiniteCorners, halfOf, passTriangle, passTriangles}
 use Rattle.height_field.proofs.CellPass.{half-finite, one-more}
 use borrow.Author.Needs.{needs}

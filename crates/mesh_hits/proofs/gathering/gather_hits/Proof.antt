@@ -1,7 +1,7 @@
 -- `mesh_hits::gathering::gather_hits` meets its contract. Assumes nothing.
 use Prim.Native.Nat.{_-_}
 use native.Mathlib.Omega.{arith}
-use Rattle.casts.specs.Summary.{saysNotes}
+use Rattle.nearest_hit.specs.Summary.{saysNotes}
 use Rattle.tree.specs.Mesh.{triangleAnswer}
 use Rattle.mesh.proofs.Folding.{listed-below}
 use Rattle.mesh_hits.proofs.GatheredHits.{Gathering, gathering-begins, gathering-goes, gathering-ends}

@@ -3,7 +3,7 @@ use Prim.Native.Nat.{_-_}
 use mathlib.Core.Bool.{true}
 use native.Mathlib.Omega.{arith}
 use lib.ListN.{length}
-use Rattle.casts.specs.Summary.{saysNotes}
+use Rattle.nearest_hit.specs.Summary.{saysNotes}
 use Rattle.tree.specs.Mesh.{Mesh, thirds, mesh}
 use Rattle.lists.proofs.JoinedTests.{test-passed, test-failed}
 use Rattle.mesh_plain.proofs.Passing.{Passing, passing-begins, passing-goes, passing-unfit, passing-ends}

@@ -1,8 +1,8 @@
 -- `mesh_plain::cast::over_triangles` meets its contract. Assumes nothing.
 use native.Mathlib.Omega.{arith}
 use mathlib.Core.Path.{sym, ap, _∙_}
-use Rattle.casts.specs.Nearest.{noHit, nextOf}
-use Rattle.casts.specs.Summary.{answerAt}
+use Rattle.nearest_hit.specs.Nearest.{noHit, nextOf}
+use Rattle.nearest_hit.specs.Summary.{answerAt}
 use Rattle.tree.specs.Mesh.{Mesh, triangleAnswer, mesh}
 use Rattle.tree.proofs.Corners.{hit-inside, hit-answer}
 use Rattle.lists.proofs.JoinedTests.{test-passed, test-failed}

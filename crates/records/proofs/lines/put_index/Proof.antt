@@ -1,7 +1,7 @@
 -- `records::lines::put_index` meets its contract. Assumes nothing.
 use Rattle.record_bytes.proofs.Storing.{put-then, put-empty}
 use Rattle.records.proofs.Answers.{put-as, index-hit, index-none, index-stopped}
-use Rattle.casts.specs.Nearest.{saysIndexed}
+use Rattle.nearest_hit.specs.Nearest.{saysIndexed}
 use mathlib.Core.Path.{ap}
 use borrow.Author.Needs.{needs}
 use Rattle.records.proofs.lines.put_index.Statement.{statement}
