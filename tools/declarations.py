@@ -12,7 +12,7 @@ pointer its size, and its fields' names, types and offsets. The proved source de
   crates/casts/src/answer.rt    the refusals, and that of the ranges in crates/height_ranges/src/answer.rt,
                                 of a limit in crates/cabinet/src/cast.rt, of a float that is not held in
                                 crates/conversion/src/forms.rt, and of what is not whole in crates/exact_triangle/src/cast.rt
-  crates/cabinet/src/part.rt    the structs; crates/geometry/src/vec3.rt has the vector in them
+  crates/cabinet/src/part.rt    the structs; crates/vectors/src/vec3.rt has the vector in them
   crates/tree/src/lib.rt        the table of areas
   include/probe_rays.h          for C and C++
   bindings/rust/src/sys.rs      for Rust; src/lent.rs has the lengths
@@ -32,7 +32,7 @@ REFUSALS = [
     "crates/exact_triangle/src/cast.rt",
     "crates/cabinet/src/cast.rt",
 ]
-STRUCTS = ["crates/cabinet/src/part.rt", "crates/geometry/src/vec3.rt"]
+STRUCTS = ["crates/cabinet/src/part.rt", "crates/vectors/src/vec3.rt"]
 AREAS = "crates/tree/src/lib.rt"
 HEADER = "include/probe_rays.h"
 RUST = "bindings/rust/src/sys.rs"

@@ -8,9 +8,9 @@ use borrow.Author.Tests.{leb-true, leb-false}
 use lib.Dec.{leb}
 use lib.Ieee.{Float}
 use lib.ListN.{length, take}
-use Rattle.geometry.specs.Vector.{finiteVec, subOf}
+use Rattle.vectors.specs.Vector.{finiteVec, subOf}
 use Rattle.geometry.specs.Segment.{segmentEnd, segmentBox}
-use Rattle.geometry.specs.declared.vec3.Vec3.{Vec3}
+use Rattle.vectors.specs.declared.vec3.Vec3.{Vec3}
 use Rattle.geometry.specs.declared.aabb.Aabb.{Aabb}
 use Rattle.geometry.specs.declared.ray.Ray.{Ray}
 use Rattle.casts.specs.Answer.{outOfBounds, overflow}

@@ -4,9 +4,9 @@ use mathlib.Core.Bool.{Bool, cond}
 use mathlib.Core.List.{List}
 use lib.Dec.{leb}
 use lib.ListN.{length}
-use Rattle.geometry.specs.Vector.{finiteVec, subOf}
+use Rattle.vectors.specs.Vector.{finiteVec, subOf}
 use Rattle.geometry.specs.Segment.{segmentEnd, segmentBox}
-use Rattle.geometry.specs.declared.vec3.Vec3.{Vec3}
+use Rattle.vectors.specs.declared.vec3.Vec3.{Vec3}
 use Rattle.geometry.specs.declared.ray.Ray.{Ray}
 use Rattle.casts.specs.Answer.{overflow}
 use Rattle.nearest_hit.specs.Nearest.{Indexed, stopped}

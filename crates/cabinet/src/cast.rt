@@ -1,14 +1,14 @@
 use casts::answer;
 use geometry::ray::Ray;
-use geometry::vec3::Vec3;
 use mesh::candidates;
 use nearest_hit::nearest::IndexedCast;
 use tree_walk::within;
 use tree_walk::within::Limited;
+use vectors::vec3::Vec3;
 ghost use mathlib.Core.Path.{_≡_};
 ghost use mathlib.Core.Bool.{true};
 ghost use lib.ListN.{length};
-ghost use Rattle.geometry.specs.Vector.{finiteVec};
+ghost use Rattle.vectors.specs.Vector.{finiteVec};
 ghost use Rattle.tree.specs.Mesh.{thirds, mesh};
 ghost use Rattle.tree.specs.Layout.{treeOf};
 ghost use Rattle.tree_walk.specs.Areas.{WalkRoom};

@@ -1,5 +1,5 @@
 use geometry::ray::Ray;
-use geometry::vec3::Vec3;
+use vectors::vec3::Vec3;
 
 // A range of an area, in elements. Laid out as C does, as Part is.
 #[repr(C)]

@@ -1,4 +1,4 @@
-use geometry::vec3::Vec3;
+use vectors::vec3::Vec3;
 
 // A hit with a unit normal and a distance, none, or a refusal with its number in document 01's table.
 pub enum Cast {

@@ -10,11 +10,11 @@ use lib.Ieee.{Float, nan, inf, fin, ofBits, up, down, neg, lt, le}
 use lib.Ieee.Fits.{down-pos}
 use borrow.Author.Tests.{ltb-false}
 use Rattle.arithmetic.proofs.Order.{not-lt-of-le, le-transitive}
-use Rattle.geometry.specs.Numbers.{_-ᶠ_, _*ᶠ_, zeroᶠ, oneᶠ}
-use Rattle.geometry.specs.Vector.{finiteVec}
-use Rattle.geometry.specs.declared.vec3.Vec3.{Vec3}
-use Rattle.geometry.specs.declared.vec3.Checked.{Checked}
-use Rattle.geometry.specs.declared.vec3.Checked.the-variants.{Value}
+use Rattle.vectors.specs.Numbers.{_-ᶠ_, _*ᶠ_, zeroᶠ, oneᶠ}
+use Rattle.vectors.specs.Vector.{finiteVec}
+use Rattle.vectors.specs.declared.vec3.Vec3.{Vec3}
+use Rattle.vectors.specs.declared.vec3.Checked.{Checked}
+use Rattle.vectors.specs.declared.vec3.Checked.the-variants.{Value}
 use Rattle.distance_grid.specs.Faces.{lowX, highX, lowY, highY}
 use Rattle.distance_grid.specs.Steps.{checked, blend, lerp, checkedDifference, over, lerpFace, valueOn, slopeOn}
 use Rattle.distance_grid.specs.Sampling.{gathered, sampleFaces}

@@ -6,9 +6,9 @@ use lib.Ieee.{Float, lt, le}
 use Rattle.arithmetic.specs.Basic.{isFinite, clampTo}
 use Rattle.arithmetic.specs.Below.{justBelow}
 use Rattle.arithmetic.specs.Rounding.{floorOf, wholeOf}
-use Rattle.geometry.specs.Numbers.{_-ᶠ_, _/ᶠ_, zeroᶠ, oneᶠ}
-use Rattle.geometry.specs.Vector.{finiteVec}
-use Rattle.geometry.specs.declared.vec3.Vec3.{Vec3}
+use Rattle.vectors.specs.Numbers.{_-ᶠ_, _/ᶠ_, zeroᶠ, oneᶠ}
+use Rattle.vectors.specs.Vector.{finiteVec}
+use Rattle.vectors.specs.declared.vec3.Vec3.{Vec3}
 use Rattle.casts.specs.Answer.{overflow}
 use Rattle.distance_grid.specs.Grid.{whole, lastNode}
 use Rattle.distance_grid.specs.declared.grid.Grid.{Grid}

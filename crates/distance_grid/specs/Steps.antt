@@ -2,9 +2,9 @@
 use mathlib.Core.Bool.{cond}
 use lib.Ieee.{Float}
 use Rattle.arithmetic.specs.Basic.{isFinite}
-use Rattle.geometry.specs.Numbers.{_+ᶠ_, _-ᶠ_, _*ᶠ_, _/ᶠ_, oneᶠ}
-use Rattle.geometry.specs.declared.vec3.Checked.{Checked}
-use Rattle.geometry.specs.declared.vec3.Checked.the-variants.{Value, Overflow}
+use Rattle.vectors.specs.Numbers.{_+ᶠ_, _-ᶠ_, _*ᶠ_, _/ᶠ_, oneᶠ}
+use Rattle.vectors.specs.declared.vec3.Checked.{Checked}
+use Rattle.vectors.specs.declared.vec3.Checked.the-variants.{Value, Overflow}
 use Rattle.distance_grid.specs.declared.faces.Face.{Face}
 
 unfoldable pub checked : Float → Checked

@@ -2,8 +2,8 @@
 use mathlib.Core.Bool.{Bool, true, _&&_}
 use mathlib.Core.Path.{_≡_}
 use lib.Ieee.{Float, binary64, ofBits, neg, le}
-use Rattle.geometry.specs.Numbers.{zeroᶠ, oneᶠ}
-use Rattle.geometry.specs.declared.vec3.Vec3.{Vec3}
+use Rattle.vectors.specs.Numbers.{zeroᶠ, oneᶠ}
+use Rattle.vectors.specs.declared.vec3.Vec3.{Vec3}
 use Rattle.distance_grid.specs.Steps.{blend}
 use Rattle.distance_grid.specs.declared.faces.Face.{Face}
 use Rattle.distance_grid.specs.declared.sampling.Sampled.{Sampled}

@@ -1,6 +1,6 @@
 use geometry::aabb::Aabb;
-use geometry::vec3::Vec3;
 use grids::spacing;
+use vectors::vec3::Vec3;
 ghost use mathlib.Core.Path.{_≡_};
 ghost use Prim.Native.Nat.{_≤_};
 ghost use Rattle.distance_grid.specs.Grid.{SidesStand, nodes, sideAdmitted, sidesAdmitted, gridAdmitted, lastNode, lastCorner};

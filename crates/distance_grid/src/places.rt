@@ -4,7 +4,7 @@ use arithmetic::basic;
 use arithmetic::below;
 use arithmetic::rounding;
 use casts::answer;
-use geometry::vec3::Vec3;
+use vectors::vec3::Vec3;
 ghost use mathlib.Core.Path.{_≡_};
 ghost use Prim.Native.Nat.{_-_, _≤_};
 ghost use Rattle.distance_grid.specs.Grid.{SidesStand, lastNode};

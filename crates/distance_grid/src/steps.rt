@@ -1,6 +1,6 @@
 use crate::faces::Face;
 use arithmetic::basic;
-use geometry::vec3::Checked;
+use vectors::vec3::Checked;
 ghost use mathlib.Core.Path.{_≡_};
 ghost use Rattle.distance_grid.specs.Steps.{checked, blend, lerp, checkedDifference, over, lerpFace, valueOn, slopeOn};
 

@@ -7,7 +7,7 @@ use crate::places::Near;
 use crate::sampling;
 use crate::sampling::Sampled;
 use crate::steps;
-use geometry::vec3::Vec3;
+use vectors::vec3::Vec3;
 ghost use mathlib.Core.Path.{_≡_};
 ghost use Prim.Native.Nat.{_+_, _<_};
 ghost use Rattle.distance_grid.specs.Grid.{Stands};

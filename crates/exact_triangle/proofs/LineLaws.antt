@@ -4,7 +4,7 @@ use mathlib.Core.Bool.{Bool, true, false, true≢false, false≢true}
 use mathlib.Core.List.{List}
 use lib.IntN.{ℤ, pos}
 use Rattle.geometry.specs.Box.{corner}
-use Rattle.geometry.specs.declared.vec3.Vec3.{Vec3}
+use Rattle.vectors.specs.declared.vec3.Vec3.{Vec3}
 use Rattle.geometry.specs.declared.ray.Ray.{Ray}
 use Rattle.exact_depth.specs.Sizes.{Sized}
 use Rattle.exact_triangle.specs.declared.whole.Whole.{Whole}

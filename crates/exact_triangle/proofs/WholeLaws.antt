@@ -7,7 +7,7 @@ use lib.IntN.{ℤ, pos, negsuc, natAbs}
 use lib.Signed.{ltZ}
 use lib.Ieee.{Float, binary64, ofInt, toSigned, le, lt, ne}
 use borrow.Author.Tests.{ltb-false}
-use Rattle.geometry.specs.declared.vec3.Vec3.{Vec3}
+use Rattle.vectors.specs.declared.vec3.Vec3.{Vec3}
 use Rattle.exact_depth.specs.Sizes.{Sized}
 use Rattle.exact_triangle.specs.declared.whole.Whole.{Whole}
 use Rattle.exact_triangle.specs.declared.whole.Whole.the-variants.{Is, Not}

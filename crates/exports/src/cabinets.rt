@@ -4,7 +4,7 @@ use cabinet::part::State;
 use cabinet::pass;
 use casts::answer;
 use geometry::ray::Ray;
-use geometry::vec3::Vec3;
+use vectors::vec3::Vec3;
 ghost use mathlib.Core.Path.{_≡_};
 ghost use mathlib.Core.Bool.{false};
 ghost use lib.ListN.{length};

@@ -1,8 +1,8 @@
 use casts::answer;
 use geometry::ray::Ray;
-use geometry::vec3::Vec3;
 use mesh::cast;
 use mesh_hits::listing;
+use vectors::vec3::Vec3;
 ghost use mathlib.Core.Path.{_≡_};
 ghost use mathlib.Core.Bool.{false, _&&_};
 ghost use Prim.Native.Nat.{_*_, _≤_};

@@ -1,11 +1,11 @@
 use casts::answer;
 use geometry::aabb::Aabb;
 use geometry::ray::Ray;
-use geometry::vec3::Vec3;
 use mesh::cast;
 use tree_build::build;
 use tree_check::check;
 use tree_query::query;
+use vectors::vec3::Vec3;
 ghost use mathlib.Core.Path.{_≡_};
 ghost use mathlib.Core.Bool.{false, _&&_};
 ghost use Prim.Native.Nat.{_*_};

@@ -1,9 +1,9 @@
-use crate::vec3::Vec3;
 use arithmetic::basic;
+use vectors::vec3::Vec3;
 ghost use mathlib.Core.Path.{_≡_};
 ghost use mathlib.Core.Bool.{true};
 ghost use Rattle.geometry.specs.Box.{validSide, validBox, touchSide, touches, withinSide, encloses, sameSide, sameBox, unionOf, centre, corner, cornersBox};
-ghost use Rattle.geometry.specs.Vector.{finiteVec};
+ghost use Rattle.vectors.specs.Vector.{finiteVec};
 
 // The box of all points from min to max on every axis.
 pub struct Aabb {

@@ -1,10 +1,10 @@
 use crate::aabb::Aabb;
-use crate::vec3::Vec3;
 use arithmetic::basic;
+use vectors::vec3::Vec3;
 ghost use mathlib.Core.Path.{_≡_};
 ghost use mathlib.Core.Bool.{true};
 ghost use Rattle.geometry.specs.Segment.{closeToUnitLength, rangeAdmitted, rayAdmitted, segmentEnd, segmentBox};
-ghost use Rattle.geometry.specs.Vector.{finiteVec};
+ghost use Rattle.vectors.specs.Vector.{finiteVec};
 
 pub struct Ray {
     pub origin: Vec3,

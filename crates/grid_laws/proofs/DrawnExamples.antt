@@ -8,10 +8,10 @@ use Rattle.arithmetic.specs.Extremes.{minimumOf, maximumOf}
 use Rattle.arithmetic.specs.Ordering.{totalOrder}
 use Rattle.arithmetic.specs.Root.{rootOf, rootRound, wholeRoot, rootDigits}
 use Rattle.arithmetic.specs.Rounding.{wholeBy, floorOf, roundOf}
-use Rattle.geometry.specs.Numbers.{_/ᶠ_, zeroᶠ, oneᶠ, halfᶠ}
+use Rattle.vectors.specs.Numbers.{_/ᶠ_, zeroᶠ, oneᶠ, halfᶠ}
 use Rattle.arithmetic.specs.Scaling.{unit, digitsOf, scaledBy}
-use Rattle.geometry.specs.Vector.{finiteVec, addOf, scaleOf, minOf, maxOf, dotOf, lengthOf, normalizable, zeroVec, dotTells, scaledToOne}
-use Rattle.geometry.specs.Vector.{overLength, tryNormalize}
+use Rattle.vectors.specs.Vector.{finiteVec, addOf, scaleOf, minOf, maxOf, dotOf, lengthOf, normalizable, zeroVec, dotTells, scaledToOne}
+use Rattle.vectors.specs.Vector.{overLength, tryNormalize}
 use Rattle.geometry.specs.Box.{validSide, validBox}
 use Rattle.geometry.specs.Segment.{unitLength, rayAdmitted}
 use Rattle.geometry.specs.declared.ray.Ray.{Ray}

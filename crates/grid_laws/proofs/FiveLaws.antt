@@ -8,14 +8,14 @@ use lib.Ieee.{Float, lt, le, eq}
 use lib.ListN.{length}
 use Rattle.arithmetic.specs.Extremes.{minimumOf}
 use Rattle.geometry.specs.Box.{validBox}
-use Rattle.geometry.specs.Numbers.{zeroᶠ}
+use Rattle.vectors.specs.Numbers.{zeroᶠ}
 use Rattle.geometry.specs.Segment.{rayAdmitted}
-use Rattle.geometry.specs.Vector.{finiteVec, tryNormalize}
-use Rattle.geometry.specs.declared.vec3.Vec3.{Vec3}
-use Rattle.geometry.specs.declared.vec3.Checked.{Checked}
-use Rattle.geometry.specs.declared.vec3.Checked.the-variants.{Value, Overflow}
-use Rattle.geometry.specs.declared.vec3.Normalized.{Normalized}
-use Rattle.geometry.specs.declared.vec3.Normalized.the-variants.{Unit as UnitOf, Degenerate}
+use Rattle.vectors.specs.Vector.{finiteVec, tryNormalize}
+use Rattle.vectors.specs.declared.vec3.Vec3.{Vec3}
+use Rattle.vectors.specs.declared.vec3.Checked.{Checked}
+use Rattle.vectors.specs.declared.vec3.Checked.the-variants.{Value, Overflow}
+use Rattle.vectors.specs.declared.vec3.Normalized.{Normalized}
+use Rattle.vectors.specs.declared.vec3.Normalized.the-variants.{Unit as UnitOf, Degenerate}
 use Rattle.geometry.specs.declared.ray.Ray.{Ray}
 use Rattle.casts.specs.Answer.{Answer, hit, none, refused, withNormal, invalidInput, badShape, outOfBounds, overflow, notConvergent}
 use Rattle.cubic.specs.Roots.{firstCubicRoot}

@@ -9,10 +9,10 @@ use Rattle.arithmetic.specs.Basic.{isFinite, absolute, clampTo}
 use Rattle.arithmetic.specs.Extremes.{minimumOf, maximumOf}
 use Rattle.arithmetic.specs.Root.{rootDigits, wholeRoot, rootRound, rootOf}
 use Rattle.arithmetic.specs.Rounding.{wholeBy, floorOf}
-use Rattle.geometry.specs.Numbers.{zeroᶠ, oneᶠ}
+use Rattle.vectors.specs.Numbers.{zeroᶠ, oneᶠ}
 use Rattle.arithmetic.specs.Scaling.{unit, digitsOf, scaledBy}
-use Rattle.geometry.specs.Vector.{finiteVec, addOf, subOf, negOf, scaleOf, minOf, maxOf, absOf, maxElement, dotOf, checkedDot, crossOf}
-use Rattle.geometry.specs.Vector.{lengthOf, normalizable, zeroVec, dotTells, scaledToOne, overLength, tryNormalize}
+use Rattle.vectors.specs.Vector.{finiteVec, addOf, subOf, negOf, scaleOf, minOf, maxOf, absOf, maxElement, dotOf, checkedDot, crossOf}
+use Rattle.vectors.specs.Vector.{lengthOf, normalizable, zeroVec, dotTells, scaledToOne, overLength, tryNormalize}
 use Rattle.geometry.specs.Box.{validSide, validBox, touchSide, touches, cornersBox}
 use Rattle.geometry.specs.Segment.{unitLength, rayAdmitted, segmentEnd, segmentBox}
 use Rattle.geometry.specs.declared.ray.Ray.{Ray}

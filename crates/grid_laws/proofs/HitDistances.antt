@@ -20,10 +20,10 @@ use Rattle.arithmetic.proofs.Order.{le-right-number}
 use Rattle.arithmetic.proofs.QuotientOrder.{between-finite}
 use Rattle.arithmetic.proofs.SumOrder.{nothing}
 use Rattle.geometry.specs.Box.{validBox}
-use Rattle.geometry.specs.Numbers.{_+ᶠ_, _-ᶠ_, _/ᶠ_, zeroᶠ, minPositive}
+use Rattle.vectors.specs.Numbers.{_+ᶠ_, _-ᶠ_, _/ᶠ_, zeroᶠ, minPositive}
 use Rattle.geometry.specs.Segment.{rayAdmitted, unitLength, rangeAdmitted}
-use Rattle.geometry.specs.Vector.{finiteVec, tryNormalize}
-use Rattle.geometry.specs.declared.vec3.Vec3.{Vec3}
+use Rattle.vectors.specs.Vector.{finiteVec, tryNormalize}
+use Rattle.vectors.specs.declared.vec3.Vec3.{Vec3}
 use Rattle.geometry.specs.declared.aabb.Aabb.{Aabb}
 use Rattle.geometry.specs.declared.ray.Ray.{Ray}
 use Rattle.lists.proofs.JoinedTests.{and-first, and-second}

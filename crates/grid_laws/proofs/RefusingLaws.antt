@@ -8,10 +8,10 @@ use lib.Ieee.{Float, lt, le, eq}
 use lib.ListN.{length}
 use Rattle.arithmetic.specs.Extremes.{minimumOf}
 use Rattle.geometry.specs.Box.{validBox}
-use Rattle.geometry.specs.Numbers.{zeroᶠ, oneᶠ}
+use Rattle.vectors.specs.Numbers.{zeroᶠ, oneᶠ}
 use Rattle.geometry.specs.Segment.{rayAdmitted}
-use Rattle.geometry.specs.Vector.{finiteVec}
-use Rattle.geometry.specs.declared.vec3.Vec3.{Vec3}
+use Rattle.vectors.specs.Vector.{finiteVec}
+use Rattle.vectors.specs.declared.vec3.Vec3.{Vec3}
 use Rattle.geometry.specs.declared.ray.Ray.{Ray}
 use Rattle.casts.specs.Answer.{Answer, none, refused, outOfBounds}
 use Rattle.cubic.specs.Roots.{firstCubicRoot}

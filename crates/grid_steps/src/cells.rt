@@ -3,7 +3,7 @@ use arithmetic::extremes;
 use arithmetic::rounding;
 use distance_grid::grid::Grid;
 use distance_grid::places;
-use geometry::vec3::Vec3;
+use vectors::vec3::Vec3;
 ghost use mathlib.Core.Path.{_≡_};
 ghost use Prim.Native.Nat.{_≤_};
 ghost use Rattle.distance_grid.specs.Grid.{SidesStand};

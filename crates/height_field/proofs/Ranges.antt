@@ -7,7 +7,7 @@ use native.Mathlib.Nat.{min-le-right}
 use lib.Ieee.{Float, lt}
 use Rattle.arithmetic.specs.Basic.{isFinite, clampTo}
 use Rattle.arithmetic.specs.Rounding.{floorOf, wholeOf}
-use Rattle.geometry.specs.Numbers.{_/ᶠ_, zeroᶠ}
+use Rattle.vectors.specs.Numbers.{_/ᶠ_, zeroᶠ}
 use Rattle.geometry.specs.declared.aabb.Aabb.{Aabb}
 use Rattle.geometry.specs.declared.ray.Ray.{Ray}
 use Rattle.nearest_hit.specs.Nearest.{noHit}

@@ -1,5 +1,5 @@
-use geometry::vec3::Vec3;
 use grids::spacing;
+use vectors::vec3::Vec3;
 ghost use mathlib.Core.Path.{_≡_};
 ghost use Prim.Native.Nat.{_<_, _≤_};
 ghost use Rattle.height_field.specs.Grid.{sideAdmitted, fieldAdmitted, Sized, floatOf, vertexAt};

@@ -6,7 +6,7 @@ use lib.Dec.{eqb}
 use lib.Ieee.{Float, binary64, toBits}
 use Rattle.arithmetic.specs.Root.{rootOf}
 use Rattle.arithmetic.specs.Rounding.{roundOf}
-use Rattle.geometry.specs.declared.vec3.Vec3.{Vec3}
+use Rattle.vectors.specs.declared.vec3.Vec3.{Vec3}
 use Rattle.geometry.specs.declared.ray.Ray.{Ray}
 use Rattle.casts.specs.Answer.{Answer, hit, none, refused}
 use Rattle.casts.specs.Plane.{rayPlane}

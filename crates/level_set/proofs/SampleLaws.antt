@@ -6,7 +6,7 @@ use mathlib.Core.List.{List}
 use Prim.Native.Nat.{ℕ, zero, suc, _+_, _≤_, _<_}
 use native.Mathlib.Omega.{arith}
 use lib.Ieee.{Float, nan, isNan, ofBits, div}
-use Rattle.geometry.specs.Numbers.{_/ᶠ_, zeroᶠ, oneᶠ}
+use Rattle.vectors.specs.Numbers.{_/ᶠ_, zeroᶠ, oneᶠ}
 use Rattle.geometry.specs.declared.ray.Ray.{Ray}
 use Rattle.level_set.specs.Hits.{along, valueAlong, samplesOf, samplesAlong, fractionOf, Remembered}
 use Rattle.level_set.specs.Walk.{Carries, ends, goes, Kept, ended, going}

@@ -8,8 +8,8 @@ use lib.Ieee.{Float, binary64, ofBits, ofFields, lt, le, eq, isNan}
 use lib.ListN.{replicate}
 use Rattle.arithmetic.specs.Basic.{isFinite}
 use Rattle.arithmetic.specs.Extremes.{minimumOf, maximumOf}
-use Rattle.geometry.specs.Numbers.{zeroᶠ, oneᶠ}
-use Rattle.geometry.specs.Vector.{minOf, maxOf}
+use Rattle.vectors.specs.Numbers.{zeroᶠ, oneᶠ}
+use Rattle.vectors.specs.Vector.{minOf, maxOf}
 use Rattle.geometry.specs.Box.{validSide, validBox, withinSide, encloses, sameSide, sameBox, unionOf}
 use Rattle.lists.specs.Lists.{range, count, every, gather}
 use Rattle.tree.specs.Layout.{vectorAt, boxAt, boxNumbers}

@@ -6,7 +6,7 @@ use mathlib.Core.List.{List, [], _∷_, _++_, List·Memᴰ, List·Memᴰ·head, 
 use native.Mathlib.Omega.{arith}
 use lib.Ieee.{Float, lt, le, isNan}
 use Rattle.arithmetic.proofs.Order.{le-of-lt, le-left-number, le-right-number, le-of-not-lt, lt-of-lt-le, lt-transitive}
-use Rattle.geometry.specs.declared.vec3.Vec3.{Vec3}
+use Rattle.vectors.specs.declared.vec3.Vec3.{Vec3}
 use Rattle.casts.specs.Answer.{Answer, hit, none, refused}
 use Rattle.nearest_hit.specs.Nearest.{Indexed, hitAt, noHit, stopped, nextOf, foldFrom, nearestOf}
 use Rattle.lists.proofs.Members.{Each, each-rest}

@@ -8,8 +8,8 @@ use Rattle.arithmetic.specs.Basic.{isFinite, absolute}
 use Rattle.arithmetic.specs.Extremes.{minimumOf, maximumOf}
 use Rattle.arithmetic.specs.Root.{rootDigits, wholeRoot, rootRound, rootOf}
 use Rattle.arithmetic.specs.Scaling.{unit, digitsOf, scaledBy}
-use Rattle.geometry.specs.Vector.{component, finiteVec, addOf, subOf, negOf, scaleOf, minOf, maxOf, absOf, maxElement, dotOf, checkedDot}
-use Rattle.geometry.specs.Vector.{crossOf, lengthOf, normalizable, zeroVec, dotTells, scaledToOne, overLength, tryNormalize}
+use Rattle.vectors.specs.Vector.{component, finiteVec, addOf, subOf, negOf, scaleOf, minOf, maxOf, absOf, maxElement, dotOf, checkedDot}
+use Rattle.vectors.specs.Vector.{crossOf, lengthOf, normalizable, zeroVec, dotTells, scaledToOne, overLength, tryNormalize}
 use Rattle.geometry.specs.Box.{validSide, validBox, touchSide, touches, withinSide, encloses, sameSide, sameBox}
 use Rattle.geometry.specs.Segment.{unitLength, rayAdmitted, segmentEnd, segmentBox}
 use Rattle.geometry.specs.declared.ray.Ray.{Ray}

@@ -6,12 +6,12 @@ use mathlib.Core.List.{List, List·Memᴰ}
 use lib.IntN.{ℤ}
 use lib.Ieee.{Float}
 use lib.ListN.{length}
-use Rattle.geometry.specs.Vector.{finiteVec, crossOf, dotOf, subOf, tryNormalize}
+use Rattle.vectors.specs.Vector.{finiteVec, crossOf, dotOf, subOf, tryNormalize}
 use Rattle.geometry.specs.Box.{corner, validBox}
 use Rattle.geometry.specs.Segment.{rayAdmitted, segmentEnd, segmentBox}
-use Rattle.geometry.specs.declared.vec3.Vec3.{Vec3}
-use Rattle.geometry.specs.declared.vec3.Normalized.{Normalized}
-use Rattle.geometry.specs.declared.vec3.Normalized.the-variants.{Unit as UnitOf, Degenerate}
+use Rattle.vectors.specs.declared.vec3.Vec3.{Vec3}
+use Rattle.vectors.specs.declared.vec3.Normalized.{Normalized}
+use Rattle.vectors.specs.declared.vec3.Normalized.the-variants.{Unit as UnitOf, Degenerate}
 use Rattle.geometry.specs.declared.ray.Ray.{Ray}
 use Rattle.casts.specs.Answer.{Answer, hit, none, refused, withNormal, noNormal, invalidInput, badShape, outOfBounds, overflow}
 use Rattle.triangle_cast.specs.Triangle.{triangleNormal}

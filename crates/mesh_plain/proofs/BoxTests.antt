@@ -13,8 +13,8 @@ use Rattle.arithmetic.specs.Basic.{isFinite}
 use Rattle.arithmetic.specs.Extremes.{minimumOf, maximumOf}
 use Rattle.arithmetic.proofs.Order.{le-of-lt, le-of-not-lt, le-transitive, le-left-number, le-right-number}
 use Rattle.geometry.specs.Box.{cornersBox, corner, touches, touchSide, validBox}
-use Rattle.geometry.specs.Vector.{finiteVec, minOf, maxOf}
-use Rattle.geometry.specs.declared.vec3.Vec3.{Vec3}
+use Rattle.vectors.specs.Vector.{finiteVec, minOf, maxOf}
+use Rattle.vectors.specs.declared.vec3.Vec3.{Vec3}
 use Rattle.geometry.specs.declared.aabb.Aabb.{Aabb}
 use Rattle.geometry.proofs.BoxLaws.{corners-box-valid}
 use Rattle.lists.proofs.JoinedTests.{and-three}

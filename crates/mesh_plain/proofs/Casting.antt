@@ -5,7 +5,7 @@ use mathlib.Core.Bool.{Bool, true, false, _&&_}
 use borrow.Author.Tests.{leb-true}
 use lib.Dec.{leb, eqb}
 use lib.ListN.{length}
-use Rattle.geometry.specs.Vector.{finiteVec}
+use Rattle.vectors.specs.Vector.{finiteVec}
 use Rattle.geometry.specs.Segment.{rayAdmitted, segmentEnd, segmentBox}
 use Rattle.geometry.specs.declared.aabb.Aabb.{Aabb}
 use Rattle.geometry.specs.declared.ray.Ray.{Ray}

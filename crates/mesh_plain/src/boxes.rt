@@ -1,7 +1,7 @@
 use arithmetic::basic;
 use geometry::aabb::Aabb;
-use geometry::vec3::Vec3;
 use tree::mesh as triangle_mesh;
+use vectors::vec3::Vec3;
 ghost use mathlib.Core.Path.{_≡_};
 ghost use mathlib.Core.Bool.{true, false};
 ghost use Prim.Native.Nat.{_≤_};

@@ -4,7 +4,7 @@ use mathlib.Core.Path.{_≡_, refl, sym, subst}
 use mathlib.Core.Bool.{Bool, true, false, cond}
 use mathlib.Core.List.{List, [], _∷_}
 use lib.Ieee.{Float, lt}
-use Rattle.geometry.specs.declared.vec3.Vec3.{Vec3}
+use Rattle.vectors.specs.declared.vec3.Vec3.{Vec3}
 use Rattle.casts.specs.Answer.{Answer, hit, none, refused}
 use Rattle.nearest_hit.specs.Nearest.{Indexed, hitAt, noHit, stopped, nextOf, foldFrom, nearestOf, withoutIndex}
 use Rattle.casts.proofs.AnswerLists.{OfHit, HitSuch}

@@ -6,7 +6,7 @@ use mathlib.Core.Bool.{Bool, true, false, cond}
 use mathlib.Core.List.{List, [], _∷_, _++_, List·Memᴰ, List·Memᴰ·head, List·Memᴰ·not-nil}
 use lib.Ieee.{Float, lt, le}
 use Rattle.arithmetic.proofs.Order.{le-of-not-lt, lt-transitive, lt-of-lt-le}
-use Rattle.geometry.specs.declared.vec3.Vec3.{Vec3}
+use Rattle.vectors.specs.declared.vec3.Vec3.{Vec3}
 use Rattle.casts.specs.Answer.{Answer, hit, none, refused}
 use Rattle.nearest_hit.specs.Nearest.{hitAt, noHit, nextOf, foldFrom, nearestOf}
 use Rattle.lists.proofs.Members.{Each, each-cons, each-rest}

@@ -8,7 +8,7 @@ use mathlib.Core.List.{List, [], _∷_, _++_, List·Memᴰ, List·Memᴰ·head, 
 use native.Mathlib.Omega.{arith}
 use lib.Ieee.{Float, lt, le}
 use Rattle.arithmetic.proofs.Order.{le-of-lt, le-reflexive}
-use Rattle.geometry.specs.declared.vec3.Vec3.{Vec3}
+use Rattle.vectors.specs.declared.vec3.Vec3.{Vec3}
 use Rattle.casts.specs.Answer.{Answer, hit, refused}
 use Rattle.nearest_hit.specs.Nearest.{hitAt, noHit, stopped, nearestOf}
 use Rattle.lists.proofs.Members.{Each, Ascending}

@@ -3,7 +3,7 @@ use Prim.Native.Nat.{ℕ}
 use mathlib.Core.Bool.{Bool, true, false, cond}
 use mathlib.Core.List.{List, [], _∷_}
 use lib.Ieee.{Float, lt}
-use Rattle.geometry.specs.declared.vec3.Vec3.{Vec3}
+use Rattle.vectors.specs.declared.vec3.Vec3.{Vec3}
 use Rattle.casts.specs.Answer.{Answer, hit, none, refused}
 use Rattle.nearest_hit.specs.declared.nearest.IndexedCast.{IndexedCast}
 use Rattle.nearest_hit.specs.declared.nearest.IndexedCast.the-variants.{Hit, None, Refused}

@@ -1,10 +1,10 @@
 use casts::answer::Cast;
 use casts::answer::Reach;
 use geometry::ray::Ray;
-use geometry::vec3::Vec3;
 use triangle_cast::parts::Crossing;
 use triangle_cast::parts::Distance;
 use triangle_cast::triangle;
+use vectors::vec3::Vec3;
 ghost use mathlib.Core.Path.{_≡_};
 ghost use Rattle.casts.specs.Answer.{says};
 ghost use Rattle.nearest_hit.specs.Nearest.{noHit, hitAt, saysIndexed, nextOf, givesWay, withoutIndex};

@@ -1,4 +1,4 @@
-use geometry::vec3::Vec3;
+use vectors::vec3::Vec3;
 use words::reader;
 use words::reader::Word;
 ghost use mathlib.Core.Path.{_≡_};

@@ -7,7 +7,7 @@ use native.Mathlib.Omega.{arith}
 use lib.Ieee.{Float}
 use lib.ListN.{length, take, replicate}
 use lib.Seq.{length-take-le}
-use Rattle.geometry.specs.Numbers.{zeroᶠ}
+use Rattle.vectors.specs.Numbers.{zeroᶠ}
 use Rattle.geometry.specs.Segment.{rayAdmitted}
 use Rattle.geometry.specs.declared.ray.Ray.{Ray}
 use Rattle.casts.specs.Answer.{invalidInput}

@@ -5,7 +5,7 @@ use lib.Ieee.{span, climb, size, odd, units, round, neg, sum, add, sub, mul, div
 use lib.Ieee.{ofBits, toBits}
 use Rattle.arithmetic.specs.Basic.{isFinite, absolute, negative}
 use Rattle.arithmetic.specs.Root.{rootDigits, wholeRoot, rootRound, rootOf}
-use Rattle.geometry.specs.Vector.{finiteVec, negOf, dotOf, checkedDot, lengthOf}
+use Rattle.vectors.specs.Vector.{finiteVec, negOf, dotOf, checkedDot, lengthOf}
 use Rattle.geometry.specs.Segment.{unitLength, rayAdmitted}
 use Rattle.casts.specs.Surface.{outOfRange, facing}
 use Rattle.casts.specs.Plane.{planeAdmitted, planeAt, planeCast, rayPlane}

@@ -3,12 +3,12 @@
 use casts::answer;
 use casts::answer::Cast;
 use geometry::ray::Ray;
-use geometry::vec3::Vec3;
 use nearest_hit::nearest::IndexedCast;
 use tree::mesh as lengths;
 use tree_build::build::Built;
 use tree_check::check::Verdict;
 use tree_query::query::Listed;
+use vectors::vec3::Vec3;
 ghost use mathlib.Core.Path.{_≡_};
 ghost use mathlib.Core.Bool.{cond};
 ghost use mathlib.Core.List.{[], _∷_};

@@ -1,5 +1,5 @@
 use geometry::aabb::Aabb;
-use geometry::vec3::Vec3;
+use vectors::vec3::Vec3;
 ghost use mathlib.Core.Path.{_≡_};
 ghost use Prim.Native.Nat.{_+_, _*_, _<_, _≤_};
 ghost use lib.ListN.{length};

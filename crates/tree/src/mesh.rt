@@ -1,6 +1,6 @@
 use crate::layout;
 use geometry::aabb::Aabb;
-use geometry::vec3::Vec3;
+use vectors::vec3::Vec3;
 ghost use mathlib.Core.Path.{_≡_};
 ghost use mathlib.Core.Bool.{true};
 ghost use Prim.Native.Nat.{_+_, _*_, _<_, _≤_};

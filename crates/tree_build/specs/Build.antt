@@ -4,7 +4,7 @@ use mathlib.Core.Bool.{Bool, cond}
 use mathlib.Core.List.{List, [], _∷_, _++_}
 use lib.Dec.{eqb}
 use lib.ListN.{length, replicate}
-use Rattle.geometry.specs.Numbers.{zeroᶠ}
+use Rattle.vectors.specs.Numbers.{zeroᶠ}
 use Rattle.lists.specs.Lists.{range, over}
 use Rattle.lists.specs.Refusals.{Test, refusing, unlessRefused, allPass}
 use Rattle.casts.specs.Answer.{badShape, noRoom, outOfBounds, overflow}

@@ -8,8 +8,8 @@ use lib.Ieee.{ofBits, ofFields, lt, le, eq, isNan}
 use lib.ListN.{replicate}
 use Rattle.arithmetic.specs.Basic.{isFinite}
 use Rattle.arithmetic.specs.Extremes.{minimumOf, maximumOf}
-use Rattle.geometry.specs.Numbers.{zeroᶠ}
-use Rattle.geometry.specs.Vector.{minOf, maxOf}
+use Rattle.vectors.specs.Numbers.{zeroᶠ}
+use Rattle.vectors.specs.Vector.{minOf, maxOf}
 use Rattle.geometry.specs.Box.{validSide, validBox, withinSide, encloses, sameSide, sameBox}
 use Rattle.lists.specs.Lists.{range, count, every, gather}
 use Rattle.tree.specs.Layout.{Tree, vectorAt, boxAt}

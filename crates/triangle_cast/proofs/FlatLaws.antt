@@ -16,9 +16,9 @@ use Rattle.arithmetic.proofs.Order.{is-nan, lt-nan-false, le-right-number, le-o
 use Rattle.arithmetic.proofs.ExtremesOrder.{maximum-one, greater-first, maximum-above-first, maximum-above-second}
 use Rattle.arithmetic.proofs.ValueOrder.{mul-values}
 use Rattle.arithmetic.proofs.Bounds.{FromOne, from-one}
-use Rattle.geometry.specs.Numbers.{_*ᶠ_, oneᶠ, epsilon}
-use Rattle.geometry.specs.Vector.{absOf, maxElement}
-use Rattle.geometry.specs.declared.vec3.Vec3.{Vec3}
+use Rattle.vectors.specs.Numbers.{_*ᶠ_, oneᶠ, epsilon}
+use Rattle.vectors.specs.Vector.{absOf, maxElement}
+use Rattle.vectors.specs.declared.vec3.Vec3.{Vec3}
 use Rattle.lists.proofs.JoinedTests.{and-first}
 use Rattle.triangle_cast.specs.Size.{orSize, sizeFromOne}
 use Rattle.triangle_cast.specs.Triangle.{flat}

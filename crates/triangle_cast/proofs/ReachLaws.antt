@@ -4,12 +4,12 @@ use Prim.Native.Nat.{ℕ}
 use mathlib.Core.Path.{_≡_, refl, sym, ap, _∙_}
 use mathlib.Core.Bool.{Bool, true, false, cond, true≢false}
 use lib.Ieee.{Float, nan, lt, le, isNan}
-use Rattle.geometry.specs.Numbers.{_+ᶠ_, _*ᶠ_, _/ᶠ_, zeroᶠ, oneᶠ}
-use Rattle.geometry.specs.Vector.{subOf, crossOf, dotOf, checkedDot, normalizable, tryNormalize}
-use Rattle.geometry.specs.declared.vec3.Vec3.{Vec3}
-use Rattle.geometry.specs.declared.vec3.Checked.{Checked}
-use Rattle.geometry.specs.declared.vec3.Checked.the-variants.{Value, Overflow}
-use Rattle.geometry.specs.declared.vec3.Normalized.the-variants.{Unit as UnitOf, Degenerate}
+use Rattle.vectors.specs.Numbers.{_+ᶠ_, _*ᶠ_, _/ᶠ_, zeroᶠ, oneᶠ}
+use Rattle.vectors.specs.Vector.{subOf, crossOf, dotOf, checkedDot, normalizable, tryNormalize}
+use Rattle.vectors.specs.declared.vec3.Vec3.{Vec3}
+use Rattle.vectors.specs.declared.vec3.Checked.{Checked}
+use Rattle.vectors.specs.declared.vec3.Checked.the-variants.{Value, Overflow}
+use Rattle.vectors.specs.declared.vec3.Normalized.the-variants.{Unit as UnitOf, Degenerate}
 use Rattle.geometry.specs.declared.ray.Ray.{Ray}
 use Rattle.casts.specs.Answer.{Answer, hit, none, refused, withValue, withNormal, overflow, noNormal}
 use Rattle.casts.specs.Surface.{facing, outOfRange}

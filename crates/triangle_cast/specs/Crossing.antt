@@ -2,9 +2,9 @@
 -- only. Assumes nothing.
 use mathlib.Core.Bool.{cond}
 use lib.Ieee.{Float, lt, isNan}
-use Rattle.geometry.specs.Numbers.{_+ᶠ_, _*ᶠ_, zeroᶠ, oneᶠ}
-use Rattle.geometry.specs.Vector.{crossOf, dotOf}
-use Rattle.geometry.specs.declared.vec3.Vec3.{Vec3}
+use Rattle.vectors.specs.Numbers.{_+ᶠ_, _*ᶠ_, zeroᶠ, oneᶠ}
+use Rattle.vectors.specs.Vector.{crossOf, dotOf}
+use Rattle.vectors.specs.declared.vec3.Vec3.{Vec3}
 use Rattle.geometry.specs.declared.ray.Ray.{Ray}
 use Rattle.casts.specs.Answer.{Answer, none, refused, overflow}
 use Rattle.casts.specs.Surface.{outOfRange}

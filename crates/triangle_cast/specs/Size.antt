@@ -3,8 +3,8 @@
 -- nothing.
 use lib.Ieee.{Float, neg}
 use Rattle.arithmetic.specs.Extremes.{maximumOf}
-use Rattle.geometry.specs.Numbers.{oneᶠ}
-use Rattle.geometry.specs.declared.vec3.Vec3.{Vec3}
+use Rattle.vectors.specs.Numbers.{oneᶠ}
+use Rattle.vectors.specs.declared.vec3.Vec3.{Vec3}
 
 abbrev pub orSize : Float → Float → Float
 orSize m x = maximumOf (maximumOf m x) (neg x)

@@ -4,11 +4,11 @@ use mathlib.Core.List.{List}
 use lib.Ieee.{Float, binary64, ofBits, le, lt, isNan}
 use Rattle.arithmetic.specs.Basic.{absolute}
 use Rattle.arithmetic.specs.Extremes.{maximumOf}
-use Rattle.geometry.specs.Numbers.{_+ᶠ_, _*ᶠ_, _/ᶠ_, zeroᶠ, oneᶠ, epsilon}
-use Rattle.geometry.specs.Vector.{subOf, crossOf, dotOf, checkedDot, absOf, maxElement, normalizable, tryNormalize}
+use Rattle.vectors.specs.Numbers.{_+ᶠ_, _*ᶠ_, _/ᶠ_, zeroᶠ, oneᶠ, epsilon}
+use Rattle.vectors.specs.Vector.{subOf, crossOf, dotOf, checkedDot, absOf, maxElement, normalizable, tryNormalize}
 use Rattle.geometry.specs.Box.{corner}
 use Rattle.geometry.specs.Segment.{rayAdmitted}
-use Rattle.geometry.specs.declared.vec3.Vec3.{Vec3}
+use Rattle.vectors.specs.declared.vec3.Vec3.{Vec3}
 use Rattle.geometry.specs.declared.ray.Ray.{Ray}
 use Rattle.casts.specs.Answer.{Answer, hit, none, refused, withValue, withNormal, invalidInput, overflow, noNormal}
 use Rattle.casts.specs.Surface.{outOfRange, facing}

@@ -1,4 +1,4 @@
-use geometry::vec3::Vec3;
+use vectors::vec3::Vec3;
 
 // What the tests of v, of the sum and of the range leave of a triangle: a distance, which may be NaN, or a miss.
 pub enum Distance {

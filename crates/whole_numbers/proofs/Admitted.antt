@@ -13,10 +13,10 @@ use lib.Ieee.Back.{whole-unique}
 use borrow.Author.Tests.{le-ltb}
 use Rattle.arithmetic.specs.Basic.{isFinite, absolute}
 use Rattle.arithmetic.specs.Root.{rootDigits, wholeRoot, rootRound, rootOf}
-use Rattle.geometry.specs.Numbers.{_-ᶠ_, zeroᶠ, oneᶠ, tolerance}
-use Rattle.geometry.specs.Vector.{dotOf, lengthOf, finiteVec}
+use Rattle.vectors.specs.Numbers.{_-ᶠ_, zeroᶠ, oneᶠ, tolerance}
+use Rattle.vectors.specs.Vector.{dotOf, lengthOf, finiteVec}
 use Rattle.geometry.specs.Segment.{unitLength, rayAdmitted}
-use Rattle.geometry.specs.declared.vec3.Vec3.{Vec3}
+use Rattle.vectors.specs.declared.vec3.Vec3.{Vec3}
 use Rattle.geometry.specs.declared.ray.Ray.{Ray}
 use Rattle.arithmetic.proofs.SignedOrder.{plus}
 use Rattle.whole_numbers.proofs.Whole.{Stands, Whole, WholeVec}

@@ -13,13 +13,13 @@ use lib.Ieee.Fits.{down-pos}
 use lib.Ieee.Exact.{HasValue}
 use Rattle.arithmetic.specs.Basic.{isFinite}
 use Rattle.arithmetic.proofs.Order.{le-is-not-lt}
-use Rattle.geometry.specs.Numbers.{_+ᶠ_, _*ᶠ_, _/ᶠ_, zeroᶠ, oneᶠ}
-use Rattle.geometry.specs.Vector.{subOf, crossOf, dotOf, checkedDot, finiteVec, zeroVec, normalizable, dotTells, scaledToOne, overLength}
+use Rattle.vectors.specs.Numbers.{_+ᶠ_, _*ᶠ_, _/ᶠ_, zeroᶠ, oneᶠ}
+use Rattle.vectors.specs.Vector.{subOf, crossOf, dotOf, checkedDot, finiteVec, zeroVec, normalizable, dotTells, scaledToOne, overLength}
 use Rattle.geometry.specs.Box.{corner}
 use Rattle.geometry.specs.Segment.{rayAdmitted}
-use Rattle.geometry.specs.declared.vec3.Vec3.{Vec3}
+use Rattle.vectors.specs.declared.vec3.Vec3.{Vec3}
 use Rattle.geometry.specs.declared.ray.Ray.{Ray}
-use Rattle.geometry.specs.declared.vec3.Normalized.{Normalized}
+use Rattle.vectors.specs.declared.vec3.Normalized.{Normalized}
 use Rattle.casts.specs.Answer.{Answer, hit, none, withNormal, noNormal}
 use Rattle.casts.specs.Surface.{outOfRange, facing}
 use Rattle.triangle_cast.specs.Triangle.{flat, triangleNormal, triangleAbove, triangleAt, triangleOf, rayTriangle}
@@ -38,7 +38,7 @@ use Rattle.whole_numbers.proofs.Drawings.{drawn, drawn-at}
 use Rattle.whole_numbers.proofs.Flat.{flat-zero, not-flat}
 use Rattle.whole_numbers.proofs.Polynomials.{triple}
 use Rattle.whole_numbers.proofs.Admitted.{stands-finite, finite-vec, not-below-zero, admitted}
-use Rattle.geometry.proofs.NormalLaws.{normalized-where}
+use Rattle.vectors.proofs.NormalLaws.{normalized-where}
 
 -- ---- the five tests
 unfoldable pub chain : Bool → Bool → Bool → Bool → Bool → Answer → Answer

@@ -11,7 +11,7 @@ use lib.Ieee.{Float, nan, inf, fin, binary64, ofBits, up, down, lt, unlike, belo
 use lib.Ieee.Fits.{down-pos}
 use lib.Ieee.Exact.{HasValue}
 use borrow.Author.Tests.{lt-ltb, le-ltb}
-use Rattle.geometry.specs.Numbers.{_*ᶠ_, _/ᶠ_, zeroᶠ, oneᶠ}
+use Rattle.vectors.specs.Numbers.{_*ᶠ_, _/ᶠ_, zeroᶠ, oneᶠ}
 use Rattle.arithmetic.specs.Scaling.{unit}
 use Rattle.arithmetic.proofs.SignedOrder.{plus, less}
 use Rattle.exact_depth.proofs.Integers.{pp, np, no-factor, size-is, neg-pp, neg-np, neg-size}

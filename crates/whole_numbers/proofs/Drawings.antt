@@ -12,7 +12,7 @@ use lib.Ieee.{Float, nan, inf, fin, binary64, up, down, eq, round, ofInt}
 use lib.Ieee.Fits.{down-pos}
 use lib.Ieee.Exact.{HasValue}
 use lib.Ieee.Back.{round-whole}
-use Rattle.geometry.specs.declared.vec3.Vec3.{Vec3}
+use Rattle.vectors.specs.declared.vec3.Vec3.{Vec3}
 use Rattle.arithmetic.proofs.SignedOrder.{plus, less}
 use Rattle.arithmetic.proofs.WholeValues.{Is, signed}
 use Rattle.whole_numbers.proofs.Whole.{Stands, Whole, WholeVec}

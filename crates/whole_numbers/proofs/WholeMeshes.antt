@@ -12,9 +12,9 @@ use lib.Ieee.Fits.{down-pos}
 use lib.ListN.{length}
 use Rattle.arithmetic.specs.Basic.{isFinite}
 use Rattle.arithmetic.proofs.SumOrder.{le-parts}
-use Rattle.geometry.specs.Vector.{finiteVec, addOf, scaleOf}
+use Rattle.vectors.specs.Vector.{finiteVec, addOf, scaleOf}
 use Rattle.geometry.specs.Segment.{rayAdmitted, segmentEnd}
-use Rattle.geometry.specs.declared.vec3.Vec3.{Vec3}
+use Rattle.vectors.specs.declared.vec3.Vec3.{Vec3}
 use Rattle.geometry.specs.declared.ray.Ray.{Ray}
 use Rattle.casts.specs.Answer.{Answer, hit, none, refused}
 use Rattle.triangle_cast.specs.Triangle.{rayTriangle}

@@ -6,7 +6,7 @@ use mathlib.Core.List.{List}
 use lib.IntN.{ℤ, natAbs}
 use lib.Ieee.{Float}
 use lib.ListN.{length}
-use Rattle.geometry.specs.declared.vec3.Vec3.{Vec3}
+use Rattle.vectors.specs.declared.vec3.Vec3.{Vec3}
 use Rattle.geometry.specs.declared.ray.Ray.{Ray}
 use Rattle.triangle_cast.specs.Triangle.{rayTriangle}
 use Rattle.tree.specs.Layout.{numberAt}

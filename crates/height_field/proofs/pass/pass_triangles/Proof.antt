@@ -3,7 +3,7 @@ use Prim.Native.Nat.{_+_, _-_, _≤_}
 use mathlib.Core.Path.{_≡_, refl, sym, ap, _∙_, subst}
 use mathlib.Core.List.{List}
 use native.Mathlib.Omega.{arith}
-use Rattle.geometry.specs.declared.vec3.Vec3.{Vec3}
+use Rattle.vectors.specs.declared.vec3.Vec3.{Vec3}
 use Rattle.nearest_hit.specs.Nearest.{saysIndexed}
 use Rattle.height_field.specs.Pass.{FiniteCorners, halfOf, passTriangle, passTriangles}
 use Rattle.height_field.proofs.CellPass.{half-finite, one-more}

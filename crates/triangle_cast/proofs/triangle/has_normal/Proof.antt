@@ -1,6 +1,6 @@
 -- `triangle_cast::triangle::has_normal` meets its contract. Assumes nothing.
 use mathlib.Core.Path.{ap, _∙_}
-use Rattle.geometry.specs.Vector.{normalizable}
+use Rattle.vectors.specs.Vector.{normalizable}
 use Rattle.triangle_cast.specs.Triangle.{hasNormal}
 use borrow.Author.Needs.{needs}
 use Rattle.triangle_cast.proofs.triangle.has_normal.Statement.{statement}

@@ -1,6 +1,6 @@
 -- `geometry::aabb::Aabb::around` meets its contract. Assumes nothing.
 use Rattle.geometry.specs.Box.{cornersBox}
-use Rattle.geometry.proofs.FiniteVectors.{finite-numbers}
+use Rattle.vectors.proofs.FiniteVectors.{finite-numbers}
 use mathlib.Core.Path.{sym}
 use borrow.Author.Needs.{needs}
 use Rattle.geometry.proofs.aabb.Aabb.around.Statement.{statement}
