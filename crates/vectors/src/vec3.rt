@@ -36,7 +36,7 @@ const LEAST_SQUARE: f64 = 1.0e-300;
 const GREATEST_SQUARE: f64 = 1.0e300;
 
 // Whether a vector's dot with itself tells its length. Only a yes is promised to be right: after a no the callers take the way for any vector.
-pub fn tells_length(square: f64) -> bool
+fn tells_length(square: f64) -> bool
     ensures { λ r. ⌜ (r ≡ true → (isFinite square ≡ true) × (lt square minPositive ≡ false)) ⌝ }
 {
     if square >= LEAST_SQUARE {
