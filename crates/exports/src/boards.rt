@@ -1,15 +1,15 @@
+use board_tests::merged::Merged;
+use board_tests::testing;
 use casts::answer;
 use merge::merging;
-use merge::merging::Merged;
-use merge::testing;
 ghost use mathlib.Core.Path.{_≡_};
 ghost use mathlib.Core.Bool.{false, _&&_};
 ghost use Prim.Native.Nat.{_≤_};
 ghost use lib.Dec.{leb};
 ghost use lib.ListN.{length};
 ghost use Rattle.tree.specs.Layout.{wordAt};
-ghost use Rattle.merge.specs.Merge.{says, boardOf, areasOf, testsPass};
-ghost use Rattle.merge.specs.Promises.{Glued};
+ghost use Rattle.board_tests.specs.Merge.{says, boardOf, areasOf, testsPass};
+ghost use Rattle.board_glue.specs.Promises.{Glued};
 ghost use Rattle.results.specs.Results.{doneCode};
 ghost use Rattle.exports.specs.Boards.{toldMerged, mergeTold};
 
