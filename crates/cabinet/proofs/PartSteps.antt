@@ -20,7 +20,7 @@ use Rattle.cabinet.specs.declared.part.Part.{Part}
 use Rattle.cabinet.specs.declared.part.Found.{Found}
 use Rattle.cabinet.specs.declared.part.Progress.{Progress}
 use Rattle.cabinet.specs.declared.part.State.{State}
-use Rattle.cabinet.specs.declared.cast.CastCost.{CastCost}
+use Rattle.cabinet.specs.declared.part.CastCost.{CastCost}
 use Rattle.cabinet.specs.Parts.{Areas, floatsAt, wordsAt, meshOf, treeOfPart, staysIn, rangesInside}
 use Rattle.cabinet.specs.PartCast.{Costed, castMoved}
 use Rattle.cabinet.specs.Cabinet.{isRefused, foundNext, nextPart, afterPart}

@@ -1,3 +1,4 @@
+use casts::nearest::IndexedCast;
 use geometry::ray::Ray;
 use geometry::vec3::Vec3;
 
@@ -19,6 +20,12 @@ pub struct Part {
     pub triangle_boxes: Span,
     pub node_words: Span,
     pub order: Span,
+}
+
+// A part's answer with the nodes spent on it.
+pub struct CastCost {
+    pub spent: usize,
+    pub cast: IndexedCast,
 }
 
 // The nearest hit so far, or the first refusal.

@@ -1,7 +1,7 @@
 use cabinet::part::Found;
 use cabinet::part::Part;
 use cabinet::part::State;
-use cabinet::pass;
+use cabinet_passes::pass;
 use casts::answer;
 use geometry::ray::Ray;
 use geometry::vec3::Vec3;
