@@ -1,4 +1,5 @@
-use tree_copy::gluing;
+use tree_copy::root;
+use tree_join::gluing;
 ghost use mathlib.Core.Path.{_≡_};
 ghost use mathlib.Core.Bool.{cond};
 ghost use Prim.Native.Nat.{_+_, _≤_};
@@ -44,7 +45,7 @@ pub fn glue(
 {
     let n = first_triangles.len() / 3;
     let m = second_triangles.len() / 3;
-    let empty = gluing::one_empty(n, m);
+    let empty = root::one_empty(n, m);
     gluing::glue_mesh(
         first_vertices,
         first_triangles,

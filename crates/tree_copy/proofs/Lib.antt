@@ -1,4 +1,3 @@
 -- Laws of moved lists and of copying. Assumes nothing.
 pub mod MovedLists
 pub mod CopyLaws
-pub mod JoinLaws

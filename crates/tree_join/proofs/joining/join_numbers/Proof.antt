@@ -1,4 +1,4 @@
--- `tree_copy::joining::join_numbers` meets its contract. Assumes nothing.
+-- `tree_join::joining::join_numbers` meets its contract. Assumes nothing.
 use mathlib.Core.Path.{ap, _∙_}
 use mathlib.Core.List.{List}
 use Prim.Native.Nat.{_-_}
@@ -6,10 +6,10 @@ use native.Mathlib.Omega.{arith}
 use lib.Ieee.{Float}
 use lib.ListN.{take}
 use lib.Seq.{sets, length-take-le}
-use Rattle.tree_copy.proofs.JoinLaws.{two-runs}
+use Rattle.tree_join.proofs.JoinLaws.{two-runs}
 use borrow.Author.Needs.{needs}
-use Rattle.tree_copy.proofs.joining.join_numbers.Statement.{statement}
-use Rattle.tree_copy.proofs.joining.join_numbers.Tie as tie
+use Rattle.tree_join.proofs.joining.join_numbers.Statement.{statement}
+use Rattle.tree_join.proofs.joining.join_numbers.Tie as tie
 
 returns : tie.Need-returns
 returns c =

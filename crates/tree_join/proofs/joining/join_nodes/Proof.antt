@@ -1,17 +1,17 @@
--- `tree_copy::joining::join_nodes` meets its contract. Assumes nothing.
+-- `tree_join::joining::join_nodes` meets its contract. Assumes nothing.
 use mathlib.Core.Path.{sym, ap, _∙_, subst}
 use mathlib.Core.Bool.{Bool, cond}
 use mathlib.Core.List.{List, [], _∷_}
 use Prim.Native.Nat.{ℕ, _+_, _-_, _*_}
 use native.Mathlib.Omega.{arith}
 use lib.Seq.{sets}
 use Rattle.tree_copy.specs.Moved.{movedNodes}
 use Rattle.tree_copy.specs.Sizes.{SmallNodes}
 use Rattle.tree_copy.proofs.MovedLists.{length-nodes}
-use Rattle.tree_copy.proofs.JoinLaws.{three-runs, root-words-length}
+use Rattle.tree_join.proofs.JoinLaws.{three-runs, root-words-length}
 use borrow.Author.Needs.{needs}
-use Rattle.tree_copy.proofs.joining.join_nodes.Statement.{statement}
-use Rattle.tree_copy.proofs.joining.join_nodes.Tie as tie
+use Rattle.tree_join.proofs.joining.join_nodes.Statement.{statement}
+use Rattle.tree_join.proofs.joining.join_nodes.Tie as tie
 
 put-root-words-requires : tie.Need-put-root-words-requires
 put-root-words-requires c κs =

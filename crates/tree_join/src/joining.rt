@@ -1,17 +1,15 @@
-use crate::copying;
-use tree::layout;
-use tree::writing;
+use tree_copy::copying;
+use tree_copy::root;
 ghost use mathlib.Core.Path.{_≡_};
 ghost use mathlib.Core.Bool.{false, cond};
 ghost use mathlib.Core.List.{[], _∷_, _++_};
-ghost use Prim.Native.Nat.{_+_, _*_, _<_, _≤_};
+ghost use Prim.Native.Nat.{_+_, _*_, _≤_};
 ghost use lib.ListN.{length, take};
-ghost use lib.Seq.{sets};
 ghost use Rattle.geometry.specs.Box.{unionOf};
 ghost use Rattle.tree.specs.Layout.{boxAt, boxNumbers};
 ghost use Rattle.lists.specs.Lists.{over};
 ghost use Rattle.tree_copy.specs.Moved.{movedUp, movedNodes};
 ghost use Rattle.tree_copy.specs.Sizes.{SmallWords, SmallNodes};
 
 // The first numbers of one slice and then of another, over the front of an area.
 pub fn join_numbers(first: &[f64], m: usize, second: &[f64], n: usize, area: &mut [f64])
@@ -32,38 +30,13 @@ pub fn join_words(first: &[u32], m: usize, second: &[u32], n: usize, up: usize, 
     copying::copy_words(second, n, up, area, m);
 }
 
-// The root's box, around both trees', and how many nodes it is: none where a board has no triangles.
-fn put_root_box(empty: bool, first: &[f64], second: &[f64], area: &mut [f64]) -> usize
-    requires { ⌜ (empty ≡ false → ((6 ≤ length (now first)) × (6 ≤ length (now second))) × (6 ≤ length (now area))) ⌝ }
-    ensures { λ r. ⌜ (r ≡ cond empty 0 1) × (now (area .exit) ≡ sets (now (area .entry)) 0 (cond empty [] (boxNumbers (unionOf (boxAt (now (first .entry)) 0) (boxAt (now (second .entry)) 0))))) ⌝ }
-{
-    if empty {
-        return 0;
-    }
-    let below = layout::box_at(first, 0);
-    writing::put_box(area, 0, below.union(layout::box_at(second, 0)));
-    1
-}
-
-// The root's words: a branch over both trees' first nodes.
-fn put_root_words(empty: bool, m: usize, area: &mut [u32]) -> usize
-    requires { ⌜ (empty ≡ false → 3 ≤ length (now area)) × (m ≤ 131072) ⌝ }
-    ensures { λ r. ⌜ (r ≡ cond empty 0 1) × (now (area .exit) ≡ sets (now (area .entry)) 0 (cond empty [] (1 ∷ (1 ∷ ((1 + m) ∷ []))))) ⌝ }
-{
-    if empty {
-        return 0;
-    }
-    writing::put_words(area, 0, 1, 1, 1 + m);
-    1
-}
-
 // The boxes of the root, of the first tree's nodes and of the second's.
 pub fn join_boxes(empty: bool, first: &[f64], m: usize, second: &[f64], n: usize, area: &mut [f64])
     requires { ⌜ ((6 * m ≤ length (now first)) × (6 * n ≤ length (now second))) × (6 * (cond empty 0 1 + (m + n)) ≤ length (now area)) ⌝ }
     requires { ⌜ ((m ≤ 131072) × (n ≤ 131072)) × (empty ≡ false → (1 ≤ m) × (1 ≤ n)) ⌝ }
     ensures { λ _. ⌜ now (area .exit) ≡ over (cond empty [] (boxNumbers (unionOf (boxAt (now (first .entry)) 0) (boxAt (now (second .entry)) 0))) ++ (take (6 * m) (now (first .entry)) ++ take (6 * n) (now (second .entry)))) (now (area .entry)) ⌝ }
 {
-    let roots = put_root_box(empty, first, second, area);
+    let roots = root::put_root_box(empty, first, second, area);
     copying::copy_numbers(first, 6 * m, area, 6 * roots);
     copying::copy_numbers(second, 6 * n, area, 6 * (roots + m));
 }
@@ -82,7 +55,7 @@ pub fn join_nodes(
     requires { ⌜ ((m ≤ 131072) × (n ≤ 131072)) × (SmallNodes (now first) (cond empty 0 1) 0 m × SmallNodes (now second) (cond empty 0 1 + m) places n) ⌝ }
     ensures { λ _. ⌜ now (area .exit) ≡ over (cond empty [] (1 ∷ (1 ∷ ((1 + m) ∷ []))) ++ (movedNodes (cond empty 0 1) 0 (now (first .entry)) m ++ movedNodes (cond empty 0 1 + m) places (now (second .entry)) n)) (now (area .entry)) ⌝ }
 {
-    let roots = put_root_words(empty, m, area);
+    let roots = root::put_root_words(empty, m, area);
     copying::copy_nodes(first, m, roots, 0, area, 3 * roots);
     copying::copy_nodes(second, n, roots + m, places, area, 3 * (roots + m));
 }

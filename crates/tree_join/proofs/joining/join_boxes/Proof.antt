@@ -1,4 +1,4 @@
--- `tree_copy::joining::join_boxes` meets its contract. Assumes nothing.
+-- `tree_join::joining::join_boxes` meets its contract. Assumes nothing.
 use mathlib.Core.Path.{ap, _∙_}
 use mathlib.Core.Bool.{Bool, cond}
 use mathlib.Core.List.{List, []}
@@ -9,10 +9,10 @@ use lib.ListN.{take}
 use lib.Seq.{sets, length-take-le}
 use Rattle.geometry.specs.Box.{unionOf}
 use Rattle.tree.specs.Layout.{boxAt, boxNumbers}
-use Rattle.tree_copy.proofs.JoinLaws.{three-runs, root-box-length}
+use Rattle.tree_join.proofs.JoinLaws.{three-runs, root-box-length}
 use borrow.Author.Needs.{needs}
-use Rattle.tree_copy.proofs.joining.join_boxes.Statement.{statement}
-use Rattle.tree_copy.proofs.joining.join_boxes.Tie as tie
+use Rattle.tree_join.proofs.joining.join_boxes.Statement.{statement}
+use Rattle.tree_join.proofs.joining.join_boxes.Tie as tie
 
 put-root-box-requires : tie.Need-put-root-box-requires
 put-root-box-requires c κs =

@@ -1,16 +1,15 @@
 use crate::joining;
 ghost use mathlib.Core.Path.{_≡_};
-ghost use mathlib.Core.Bool.{false, cond, _||_};
+ghost use mathlib.Core.Bool.{false, cond};
 ghost use mathlib.Core.List.{[], _∷_, _++_};
-ghost use Prim.Native.Nat.{_+_, _*_, _<_, _≤_};
-ghost use lib.Dec.{eqb};
+ghost use Prim.Native.Nat.{_+_, _*_, _≤_};
 ghost use lib.ListN.{length, take};
 ghost use Rattle.geometry.specs.Box.{unionOf};
 ghost use Rattle.tree.specs.Layout.{boxAt, boxNumbers};
 ghost use Rattle.tree.specs.Mesh.{thirds};
 ghost use Rattle.lists.specs.Lists.{over};
 ghost use Rattle.tree_copy.specs.Moved.{movedUp, movedNodes};
 ghost use Rattle.tree_copy.specs.Sizes.{SmallWords, SmallNodes};
 
 // Vertices of the first then the second, and triangles likewise, the second's indices moved up.
 pub fn glue_mesh(
@@ -40,16 +39,6 @@ pub fn glue_mesh(
         first_vertices.len() / 3,
         triangles,
     );
-}
-
-// Whether one of two boards has no triangles.
-pub fn one_empty(n: usize, m: usize) -> bool
-    ensures { λ r. ⌜ r ≡ (eqb n 0 || eqb m 0) ⌝ }
-{
-    if n == 0 {
-        return true;
-    }
-    m == 0
 }
 
 // The boxes of the nodes and of the triangles.

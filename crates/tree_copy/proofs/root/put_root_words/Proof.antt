@@ -1,4 +1,4 @@
--- `tree_copy::joining::put_root_words` meets its contract. Assumes nothing.
+-- `tree_copy::root::put_root_words` meets its contract. Assumes nothing.
 use mathlib.Core.Path.{sym, ap, _∙_}
 use mathlib.Core.Bool.{Bool, cond}
 use mathlib.Core.List.{[], _∷_}
@@ -6,8 +6,8 @@ use Prim.Native.Nat.{_+_, _-_}
 use native.Mathlib.Omega.{arith}
 use lib.Seq.{sets}
 use borrow.Author.Needs.{needs}
-use Rattle.tree_copy.proofs.joining.put_root_words.Statement.{statement}
-use Rattle.tree_copy.proofs.joining.put_root_words.Tie as tie
+use Rattle.tree_copy.proofs.root.put_root_words.Statement.{statement}
+use Rattle.tree_copy.proofs.root.put_root_words.Tie as tie
 
 put-words-requires : tie.Need-put-words-requires
 put-words-requires c κs =

@@ -1,16 +1,16 @@
--- `tree_copy::joining::join_words` meets its contract. Assumes nothing.
+-- `tree_join::joining::join_words` meets its contract. Assumes nothing.
 use mathlib.Core.Path.{ap, _∙_}
 use mathlib.Core.List.{List}
 use Prim.Native.Nat.{ℕ, _-_}
 use native.Mathlib.Omega.{arith}
 use lib.ListN.{take}
 use lib.Seq.{sets, length-take-le}
 use Rattle.tree_copy.specs.Moved.{movedUp}
 use Rattle.tree_copy.proofs.MovedLists.{length-moved, moved-nowhere}
-use Rattle.tree_copy.proofs.JoinLaws.{two-runs}
+use Rattle.tree_join.proofs.JoinLaws.{two-runs}
 use borrow.Author.Needs.{needs}
-use Rattle.tree_copy.proofs.joining.join_words.Statement.{statement}
-use Rattle.tree_copy.proofs.joining.join_words.Tie as tie
+use Rattle.tree_join.proofs.joining.join_words.Statement.{statement}
+use Rattle.tree_join.proofs.joining.join_words.Tie as tie
 
 copy-words-requires : tie.Need-copy-words-requires
 copy-words-requires c κs =

@@ -1,11 +1,11 @@
--- `tree_copy::gluing::glue_mesh` meets its contract. Assumes nothing.
+-- `tree_join::gluing::glue_mesh` meets its contract. Assumes nothing.
 use mathlib.Core.Path.{_∙_}
 use lib.ListN.{length}
 use Rattle.tree.specs.Mesh.{thirds}
-use Rattle.tree_copy.proofs.JoinLaws.{whole-joined, whole-moved}
+use Rattle.tree_join.proofs.JoinLaws.{whole-joined, whole-moved}
 use borrow.Author.Needs.{needs}
-use Rattle.tree_copy.proofs.gluing.glue_mesh.Statement.{statement}
-use Rattle.tree_copy.proofs.gluing.glue_mesh.Tie as tie
+use Rattle.tree_join.proofs.gluing.glue_mesh.Statement.{statement}
+use Rattle.tree_join.proofs.gluing.glue_mesh.Tie as tie
 
 returns : tie.Need-returns
 returns c =

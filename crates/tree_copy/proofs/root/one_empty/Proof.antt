@@ -1,7 +1,7 @@
--- `tree_copy::gluing::one_empty` meets its contract. Assumes nothing.
+-- `tree_copy::root::one_empty` meets its contract. Assumes nothing.
 use borrow.Author.Tests.{eq-eqb, ne-eqb}
-use Rattle.tree_copy.proofs.gluing.one_empty.Statement.{statement}
-use Rattle.tree_copy.proofs.gluing.one_empty.Tie as tie
+use Rattle.tree_copy.proofs.root.one_empty.Statement.{statement}
+use Rattle.tree_copy.proofs.root.one_empty.Tie as tie
 
 returns : tie.Need-returns
 returns c = simp (eq-eqb _ 0 (c .if1 .taken))

@@ -1,4 +1,4 @@
--- `tree_copy::joining::put_root_box` meets its contract. Assumes nothing.
+-- `tree_copy::root::put_root_box` meets its contract. Assumes nothing.
 use mathlib.Core.Path.{sym, ap, _∙_}
 use mathlib.Core.Bool.{Bool, cond}
 use mathlib.Core.List.{[]}
@@ -8,8 +8,8 @@ use Rattle.geometry.specs.Box.{unionOf}
 use Rattle.geometry.specs.declared.aabb.Aabb.{Aabb}
 use Rattle.tree.specs.Layout.{boxAt, boxNumbers}
 use borrow.Author.Needs.{needs}
-use Rattle.tree_copy.proofs.joining.put_root_box.Statement.{statement}
-use Rattle.tree_copy.proofs.joining.put_root_box.Tie as tie
+use Rattle.tree_copy.proofs.root.put_root_box.Statement.{statement}
+use Rattle.tree_copy.proofs.root.put_root_box.Tie as tie
 
 box-at-requires : tie.Need-box-at-requires
 box-at-requires c κs =
