@@ -1,33 +1,19 @@
-use casts::answer;
 use geometry::ray::Ray;
 use geometry::vec3::Vec3;
-use mesh::cast;
 use mesh_hits::listing;
+use results::short;
 ghost use mathlib.Core.Path.{_≡_};
 ghost use mathlib.Core.Bool.{false, _&&_};
-ghost use Prim.Native.Nat.{_*_, _≤_};
+ghost use Prim.Native.Nat.{_≤_};
 ghost use lib.Dec.{leb};
 ghost use lib.ListN.{length};
-ghost use Rattle.tree.specs.Mesh.{thirds, lengthsAdmitted, mesh};
+ghost use Rattle.tree.specs.Mesh.{mesh};
 ghost use Rattle.tree.specs.Layout.{treeOf};
 ghost use Rattle.mesh.specs.MeshCast.{testsPass};
 ghost use Rattle.mesh_hits.specs.Listing.{hitArea};
 ghost use Rattle.mesh_hits.specs.Promise.{KeepsPromises};
 ghost use Rattle.results.specs.Results.{rayFrom};
-ghost use Rattle.exports.specs.AllHits.{withoutPlace, allTold, foundTold};
-
-// What is answered where the place of the count is missing: 1 and 2 go before that 3.
-fn without_place(ray: Ray, vertices: usize, triangles: usize, pose: usize, nodes: usize) -> u32
-    ensures { λ r. ⌜ r ≡ withoutPlace ray (lengthsAdmitted vertices triangles && (lengthsAdmitted pose triangles && leb nodes (2 * thirds triangles))) ⌝ }
-{
-    if !ray.validate() {
-        return answer::INVALID_INPUT;
-    }
-    if !cast::shape_admitted(vertices, triangles, pose, nodes) {
-        return answer::BAD_SHAPE;
-    }
-    answer::NO_ROOM
-}
+ghost use Rattle.exports.specs.AllHits.{allTold, foundTold};
 
 // Every hit of a ray at a mesh: indices and numbers are the hit area, and the count is written into found.
 // The list and the stack are work areas: unchanged until the place of the count and refusals 1 to 4 have let the call pass, and then they may hold anything.
@@ -75,7 +61,7 @@ pub extern "C" fn probe_ray_mesh_all(
         near: near_distance,
     };
     if found.len() < 1 {
-        return without_place(ray, vertices.len(), triangles.len(), pose.len(), nodes);
+        return short::short_cast(ray, vertices.len(), triangles.len(), pose.len(), nodes);
     }
     let listed = listing::ray_mesh_all(
         ray,

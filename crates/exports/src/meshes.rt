@@ -1,38 +1,23 @@
 use casts::answer;
 use geometry::aabb::Aabb;
-use geometry::ray::Ray;
 use geometry::vec3::Vec3;
 use mesh::cast;
+use results::short;
 use tree_build::build;
 use tree_check::check;
 use tree_query::query;
 ghost use mathlib.Core.Path.{_≡_};
 ghost use mathlib.Core.Bool.{false, _&&_};
-ghost use Prim.Native.Nat.{_*_};
 ghost use lib.Dec.{leb};
 ghost use lib.ListN.{length};
 ghost use Rattle.geometry.specs.Box.{validBox};
-ghost use Rattle.geometry.specs.Segment.{rayAdmitted};
-ghost use Rattle.tree.specs.Mesh.{thirds, lengthsAdmitted, mesh};
+ghost use Rattle.tree.specs.Mesh.{mesh};
 ghost use Rattle.tree.specs.Layout.{areas, treeOf};
 ghost use Rattle.tree_build.specs.Build.{testsPass as buildTestsPass};
 ghost use Rattle.tree_query.specs.Query.{countsAdmitted, testsPass as queryTestsPass};
 ghost use Rattle.tree_check.specs.Verdict.{checkOf, marksAfter};
 ghost use Rattle.mesh.specs.MeshCast.{testsPass};
 ghost use Rattle.results.specs.Results.{rayFrom, rayOf, boxOf, shortOf, resultsFit, answeredMesh, buildTold, queryTold, toldVerdict};
-
-// The mesh cast's number where a result slice is too short: 1 and 2 go before 3.
-fn short_cast(ray: Ray, vertices: usize, triangles: usize, pose: usize, nodes: usize) -> u32
-    ensures { λ r. ⌜ r ≡ shortOf (rayAdmitted ray) (lengthsAdmitted vertices triangles && (lengthsAdmitted pose triangles && leb nodes (2 * thirds triangles))) ⌝ }
-{
-    if !ray.validate() {
-        return answer::INVALID_INPUT;
-    }
-    if !cast::shape_admitted(vertices, triangles, pose, nodes) {
-        return answer::BAD_SHAPE;
-    }
-    answer::NO_ROOM
-}
 
 // The mesh cast with its answer in the result slices. The list and the stack are unchanged until these and refusals 1 to 4 have let the
 // call pass.
@@ -79,10 +64,10 @@ fn told_mesh(
         near_distance,
     );
     if hit.len() < 4 {
-        return short_cast(ray, vertices.len(), triangles.len(), pose.len(), nodes);
+        return short::short_cast(ray, vertices.len(), triangles.len(), pose.len(), nodes);
     }
     if places < 1 {
-        return short_cast(ray, vertices.len(), triangles.len(), pose.len(), nodes);
+        return short::short_cast(ray, vertices.len(), triangles.len(), pose.len(), nodes);
     }
     let found = cast::ray_mesh(
         ray,

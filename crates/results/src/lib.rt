@@ -1,5 +1,8 @@
 // The codes of the calls for C, C++ and Rust, and how an answer goes into the lent result slices.
 
+// The mesh cast's number where a result slice is too short.
+pub mod short;
+
 use casts::answer;
 use casts::answer::Cast;
 use casts::nearest::IndexedCast;

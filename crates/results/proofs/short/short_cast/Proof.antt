@@ -1,9 +1,9 @@
--- `exports::meshes::short_cast` meets its contract. Assumes nothing.
+-- `results::short::short_cast` meets its contract. Assumes nothing.
 use mathlib.Core.Path.{sym, _∙_}
 use borrow.Author.Tests.{not-true, not-false}
 use borrow.Author.Needs.{needs}
-use Rattle.exports.proofs.meshes.short_cast.Statement.{statement}
-use Rattle.exports.proofs.meshes.short_cast.Tie as tie
+use Rattle.results.proofs.short.short_cast.Statement.{statement}
+use Rattle.results.proofs.short.short_cast.Tie as tie
 
 -- 1
 returns : tie.Need-returns
