@@ -1,102 +1,31 @@
 use crate::meshes;
 use casts::answer::Cast;
-use casts::nearest;
-use casts::nearest::IndexedCast;
 use casts::plane;
 use casts::triangle;
 use geometry::ray::Ray;
-use geometry::vec3::Vec3;
 use height_field::cast;
 use level_set::walk;
 use record_bytes::bytes;
 use record_bytes::fields;
 use record_bytes::parse;
-use record_bytes::text;
+use record_text::answers;
+use record_text::text;
 ghost use mathlib.Core.Path.{_≡_};
 ghost use mathlib.Core.Bool.{true};
-ghost use mathlib.Core.List.{[], _∷_, _++_};
 ghost use Prim.Native.Nat.{_+_, _*_, _≤_};
 ghost use lib.ListN.{length};
 ghost use Rattle.casts.specs.Answer.{says};
-ghost use Rattle.casts.specs.Nearest.{saysIndexed};
 ghost use Rattle.height_field.specs.Cast.{rayHeightField};
 ghost use Rattle.level_set.specs.Walk.{rayLevelSet};
 ghost use Rattle.record_bytes.specs.Parse.{filled, shapeOf};
 ghost use Rattle.record_bytes.specs.Fields.{fieldOf, heightCount, heightsOf, gridOf, valueCount, valuesOf};
-ghost use Rattle.record_bytes.specs.Text.{Put, Written, decimal};
+ghost use Rattle.record_text.specs.Text.{Put, Written};
 ghost use Rattle.records.specs.Areas.{TreeLent};
-ghost use Rattle.records.specs.Lines.{floatText, hitText, answerText, indexText, indexedText, shapeText, recordText, lineOf, badLine};
+ghost use Rattle.record_text.specs.AnswerText.{answerText};
+ghost use Rattle.records.specs.Lines.{shapeText, recordText, lineOf, badLine};
 
 // A line has at most 114 bytes: a number, a space, `hit` with four floats of 17 bytes, a triangle's index after a space, and its end; 20
 // digits are set aside for each whole number.
-
-fn put_float(out: &mut [u8], at: usize, x: f64) -> usize
-    requires { ⌜ at + 17 ≤ length (now out) ⌝ }
-    ensures { λ r. ⌜ Put (now (out .entry)) at (floatText x) (now (out .exit)) r ⌝ }
-{
-    let next = text::put_byte(out, at, b' ');
-    text::put_hexadecimal(out, next, text::printed_bits(x))
-}
-
-fn put_hit(out: &mut [u8], at: usize, normal: Vec3, distance: f64) -> usize
-    requires { ⌜ at + 71 ≤ length (now out) ⌝ }
-    ensures { λ r. ⌜ Put (now (out .entry)) at (hitText normal distance) (now (out .exit)) r ⌝ }
-{
-    let word = text::put_text(out, at, b"hit");
-    let x = put_float(out, word, normal.x);
-    let y = put_float(out, x, normal.y);
-    let z = put_float(out, y, normal.z);
-    put_float(out, z, distance)
-}
-
-fn put_answer(out: &mut [u8], at: usize, cast: Cast) -> usize
-    requires { ⌜ at + 71 ≤ length (now out) ⌝ }
-    ensures { λ r. ⌜ Put (now (out .entry)) at (answerText (says cast)) (now (out .exit)) r ⌝ }
-{
-    match cast {
-        Cast::Hit { normal, distance } => {
-            return put_hit(out, at, normal, distance);
-        }
-        Cast::None => {
-            return text::put_text(out, at, b"none");
-        }
-        Cast::Refused(number) => {
-            let word = text::put_text(out, at, b"refused ");
-            return text::put_decimal(out, word, number as u64);
-        }
-    }
-}
-
-// What a mesh adds to an answer.
-fn put_index(out: &mut [u8], at: usize, cast: IndexedCast) -> usize
-    requires { ⌜ at + 21 ≤ length (now out) ⌝ }
-    ensures { λ r. ⌜ Put (now (out .entry)) at (indexText (saysIndexed cast)) (now (out .exit)) r ⌝ }
-{
-    match cast {
-        IndexedCast::Hit {
-            normal: _,
-            distance: _,
-            index,
-        } => {
-            let next = text::put_byte(out, at, b' ');
-            return text::put_decimal(out, next, index as u64);
-        }
-        IndexedCast::None => {
-            return at;
-        }
-        IndexedCast::Refused(_) => {
-            return at;
-        }
-    }
-}
-
-fn put_indexed(out: &mut [u8], at: usize, cast: IndexedCast) -> usize
-    requires { ⌜ at + 92 ≤ length (now out) ⌝ }
-    ensures { λ r. ⌜ Put (now (out .entry)) at (indexedText (saysIndexed cast)) (now (out .exit)) r ⌝ }
-{
-    let next = put_answer(out, at, nearest::without_index(cast));
-    put_index(out, next, cast)
-}
 
 // The cast at a shape of kind 4, from its own bytes; its heights are decoded into the work area.
 fn heights_answer(shape: &[u8], ray: Ray, work: &mut [f64]) -> Cast
@@ -161,7 +90,7 @@ fn put_shape(
 {
     if kind != 3 {
         let cast = shape_answer(kind, ray, shape, work);
-        return put_answer(out, at, cast);
+        return answers::put_answer(out, at, cast);
     }
     let nearest = meshes::mesh_answer(
         shape,
@@ -175,7 +104,7 @@ fn put_shape(
         list,
         stack,
     );
-    put_indexed(out, at, nearest)
+    answers::put_indexed(out, at, nearest)
 }
 
 // The answer to any body.
@@ -219,15 +148,6 @@ fn put_record(
     )
 }
 
-// The record number and a space, at the front.
-fn put_number(out: &mut [u8], number: u64) -> usize
-    requires { ⌜ 21 ≤ length (now out) ⌝ }
-    ensures { λ r. ⌜ Put (now (out .entry)) 0 (decimal number ++ (32 ∷ [])) (now (out .exit)) r ⌝ }
-{
-    let end = text::put_decimal(out, 0, number);
-    text::put_byte(out, end, b' ')
-}
-
 // The line of a record, at the front of `out`; returns how many bytes it has. All areas between are work areas, which may hold anything
 // afterwards.
 pub fn line(
@@ -245,7 +165,7 @@ pub fn line(
 ) -> usize
     ensures { λ r. ⌜ Written (lineOf number (now (body .entry))) (now (out .entry)) (now (out .exit)) r ⌝ }
 {
-    let start = put_number(out, number);
+    let start = answers::put_number(out, number);
     let end = put_record(
         out,
         start,
@@ -266,7 +186,7 @@ pub fn line(
 pub fn bad_line(number: u64, out: &mut [u8; 114]) -> usize
     ensures { λ r. ⌜ Written (badLine number) (now (out .entry)) (now (out .exit)) r ⌝ }
 {
-    let start = put_number(out, number);
+    let start = answers::put_number(out, number);
     let end = text::put_text(out, start, b"bad");
     text::put_byte(out, end, b'\n')
 }
