@@ -18,7 +18,7 @@ use Rattle.geometry.specs.declared.vec3.Vec3.{Vec3}
 use Rattle.distance_grid.specs.Grid.{whole, lastNode, SideStands, SidesStand}
 use Rattle.distance_grid.specs.Places.{topOf, drawnTo, drawn, stays, inBox, drawnPoint, upTo, floorCell, guessHolds, cellBelow}
 use Rattle.distance_grid.specs.Places.{placeOf, placeAt, locateAxis, withPlace, locateInside, locate}
-use Rattle.distance_grid.specs.Valued.{isFraction, Fractions}
+use Rattle.distance_grid.specs.Places.{isFraction, Fractions}
 use Rattle.distance_grid.specs.declared.grid.Sides.{Sides}
 use Rattle.distance_grid.specs.declared.grid.Grid.{Grid}
 use Rattle.distance_grid.specs.declared.places.Place.{Place}

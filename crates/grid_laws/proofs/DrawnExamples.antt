@@ -23,9 +23,9 @@ use Rattle.grid_steps.specs.Cells.{slack, leavesNode, wholeCell, cellAt, cellOn
 use Rattle.grid_steps.specs.Cells.{boundaryDistance, boundaryBy, axisBoundary, nextCellBoundary}
 use Rattle.distance_grid.specs.Places.{upTo, floorCell, topOf, drawnTo, drawn, drawnPoint, cellBelow, placeOf, placeAt, locateAxis}
 use Rattle.distance_grid.specs.Places.{locateInside, locate}
-use Rattle.distance_grid.specs.Faces.{valueAt, faceAt}
-use Rattle.distance_grid.specs.Steps.{checked, blend, lerp, checkedDifference, over, lerpFace, valueOn, slopeOn}
-use Rattle.distance_grid.specs.Sampling.{gathered, sampleFaces, sampleCell, sample}
+use Rattle.grid_samples.specs.Faces.{valueAt, faceAt}
+use Rattle.grid_samples.specs.Steps.{checked, blend, lerp, checkedDifference, over, lerpFace, valueOn, slopeOn}
+use Rattle.grid_samples.specs.Sampling.{gathered, sampleFaces, sampleCell, sample}
 use Rattle.cubic.specs.Polynomial.{twoᶠ, threeᶠ, cubicBy, cubicOf, finiteCubic, evaluate, rootTolerance}
 use Rattle.cubic.specs.Turns.{betweenEnds, keptPoint, keptPoints, vertex, turningBy, turningPoints, extrema}
 use Rattle.cubic.specs.Halving.{middleOf, halveAt, halve, halvings, settled}

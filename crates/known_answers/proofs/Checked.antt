@@ -37,10 +37,11 @@ use Rattle.grid_steps.specs.Cells.{slack, leavesNode, wholeCell, cellAt as leve
 use Rattle.grid_steps.specs.Cells.{boundaryDistance, boundaryBy, axisBoundary, nextCellBoundary}
 use Rattle.distance_grid.specs.Places.{upTo, floorCell, topOf, drawnTo, drawn, drawnPoint, cellBelow, placeOf, placeAt, locateAxis}
 use Rattle.distance_grid.specs.Places.{locateInside, locate}
-use Rattle.distance_grid.specs.Faces.{valueAt, faceAt}
-use Rattle.distance_grid.specs.Steps.{checked, blend, lerp, checkedDifference, over, lerpFace, valueOn, slopeOn}
-use Rattle.distance_grid.specs.Sampling.{gathered, sampleFaces, sampleCell, sample}
-use Rattle.distance_grid.specs.Valued.{across, cellValue, isFraction, smallValue, smallFace, fairSide, fairSpacing}
+use Rattle.grid_samples.specs.Faces.{valueAt, faceAt}
+use Rattle.grid_samples.specs.Steps.{checked, blend, lerp, checkedDifference, over, lerpFace, valueOn, slopeOn}
+use Rattle.grid_samples.specs.Sampling.{gathered, sampleFaces, sampleCell, sample}
+use Rattle.grid_samples.specs.Valued.{across, cellValue, smallValue, smallFace, fairSide, fairSpacing}
+use Rattle.distance_grid.specs.Places.{isFraction}
 use Rattle.level_set.specs.Hits.{pointAt, along, hitWith, hitAlong, touchAt, valueAlong, samplesOf, samplesAlong}
 use Rattle.level_set.specs.Walk.{goesOn, cellBy, cellCast, goesTo, walkStep, cellLimit, walkFrom, levelSetCast, rayLevelSet}
 use Rattle.tree.specs.Layout.{vectorAt, boxAt, boxNumbers}
