@@ -15,7 +15,8 @@ use Rattle.tree.specs.Layout.{Tree}
 use Rattle.tree.specs.Mesh.{Mesh}
 use Rattle.tree_query.specs.Query.{Listing, count, refused}
 use Rattle.mesh.specs.MeshCast.{shapeAdmitted}
-use Rattle.mesh_hits.specs.Listing.{HitArea, Outcome, rayMeshAll}
+use Rattle.hit_area.specs.HitArea.{HitArea, Outcome}
+use Rattle.mesh_hits.specs.Listing.{rayMeshAll}
 use Rattle.mesh_hits.specs.Promise.{KeepsPromises}
 use Rattle.mesh_hits.proofs.RefusalNumbers.{refusals-small}
 use Rattle.results.specs.Results.{Counted, doneCode, shortOf, toldFound}

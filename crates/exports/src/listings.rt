@@ -10,7 +10,7 @@ ghost use lib.ListN.{length};
 ghost use Rattle.tree.specs.Mesh.{mesh};
 ghost use Rattle.tree.specs.Layout.{treeOf};
 ghost use Rattle.mesh.specs.MeshCast.{testsPass};
-ghost use Rattle.mesh_hits.specs.Listing.{hitArea};
+ghost use Rattle.hit_area.specs.HitArea.{hitArea};
 ghost use Rattle.mesh_hits.specs.Promise.{KeepsPromises};
 ghost use Rattle.results.specs.Results.{rayFrom};
 ghost use Rattle.exports.specs.AllHits.{allTold, foundTold};

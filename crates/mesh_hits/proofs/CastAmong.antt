@@ -13,9 +13,10 @@ use Rattle.casts.proofs.AnswerLists.{none-not-hit, hit-not-stopped, hit-not-non
 use Rattle.casts.proofs.NearestRefusals.{refusal-stops, none-of-nones, nones-of-none}
 use Rattle.tree.specs.Layout.{wordAt}
 use Rattle.lists.proofs.CountLaws.{member-of-count, count-of-member}
-use Rattle.mesh_hits.specs.Listing.{HitArea, isHit, listingOf}
+use Rattle.hit_area.specs.HitArea.{HitArea, isHit}
+use Rattle.hit_listing.specs.HitListing.{listingOf}
 use Rattle.mesh_hits.specs.Promise.{IsListed, FitsCast}
-use Rattle.mesh_hits.proofs.PlaceLaws.{at-counted, Place, place-of}
+use Rattle.hit_listing.proofs.PlaceLaws.{at-counted, Place, place-of}
 use Rattle.mesh_hits.proofs.CountedHits.{places, Counted, listed-of-hit, all-hit, index-at, place-at, hit-at}
 
 -- ---- the fold's hit is one of its list
