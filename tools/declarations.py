@@ -11,7 +11,7 @@ pointer its size, and its fields' names, types and offsets. The proved source de
   crates/exports/src/*.rt       the calls, the version, and the codes
   crates/casts/src/answer.rt    the refusals, and that of the ranges in crates/height_ranges/src/answer.rt,
                                 of a limit in crates/cabinet/src/cast.rt, of a float that is not held in
-                                crates/conversion/src/forms.rt, and of what is not whole in crates/exact_triangle/src/cast.rt
+                                crates/float_forms/src/forms.rt, and of what is not whole in crates/exact_triangle/src/cast.rt
   crates/cabinet/src/part.rt    the structs; crates/geometry/src/vec3.rt has the vector in them
   crates/tree/src/lib.rt        the table of areas
   include/probe_rays.h          for C and C++
@@ -28,7 +28,7 @@ CODES = "crates/results/src/lib.rt"
 REFUSALS = [
     "crates/casts/src/answer.rt",
     "crates/height_ranges/src/answer.rt",
-    "crates/conversion/src/forms.rt",
+    "crates/float_forms/src/forms.rt",
     "crates/exact_triangle/src/cast.rt",
     "crates/cabinet/src/cast.rt",
 ]

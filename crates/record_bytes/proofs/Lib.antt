@@ -4,4 +4,3 @@ pub mod WellFormed
 pub mod Counts
 pub mod Decoding
 pub mod Frames
-pub mod RoundTrip
