@@ -107,16 +107,29 @@ abbrev placeOf : Placed → Point
 placeOf (At p) = p
 placeOf Off = record { x = pos 0; y = pos 0; z = pos 0 }
 
-pub point-near : (v : Vec3) (p : Point) → pointOf v ≡ At p → Near p
+-- the coordinates of a point that is told
+pub record PointParts (v : Vec3) (p : Point) : Type 0 where
+  pub x : coordinate (v .x) ≡ Is (p .x)
+  pub y : coordinate (v .y) ≡ Is (p .y)
+  pub z : coordinate (v .z) ≡ Is (p .z)
+
+pub point-parts : (v : Vec3) (p : Point) → pointOf v ≡ At p → PointParts v p
 unfolding pointOf
-point-near v p h = go (coordinate (v .x)) (coordinate (v .y)) (coordinate (v .z)) refl refl refl h
+point-parts v p h = go (coordinate (v .x)) (coordinate (v .y)) (coordinate (v .z)) refl refl refl h
   where
     go : (a b c : Whole) → coordinate (v .x) ≡ a → coordinate (v .y) ≡ b → coordinate (v .z) ≡ c
         → withWhole a Off (λ (x : ℤ). withWhole b Off (λ (y : ℤ). withWhole c Off (λ (z : ℤ). At (record { x = x; y = y; z = z })))) ≡ At p
-        → Near p
+        → PointParts v p
     go Not b c a' b' c' h = absurd (false≢true (ap isAt h))
     go (Is x) Not c a' b' c' h = absurd (false≢true (ap isAt h))
     go (Is x) (Is y) Not a' b' c' h = absurd (false≢true (ap isAt h))
-    go (Is x) (Is y) (Is z) a' b' c' h =
-        subst Near (ap placeOf h)
-        (record { x = coordinate-near (v .x) x a'; y = coordinate-near (v .y) y b'; z = coordinate-near (v .z) z c' })
+    go (Is x) (Is y) (Is z) a' b' c' h = subst (PointParts v) (ap placeOf h) (record { x = a'; y = b'; z = c' })
+
+pub point-near : (v : Vec3) (p : Point) → pointOf v ≡ At p → Near p
+point-near v p h =
+    let q = point-parts v p h in
+    record {
+      x = coordinate-near (v .x) (p .x) (q .x);
+      y = coordinate-near (v .y) (p .y) (q .y);
+      z = coordinate-near (v .z) (p .z) (q .z);
+    }

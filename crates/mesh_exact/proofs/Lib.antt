@@ -1,4 +1,5 @@
--- The pass over the triangles, the exact cast refusal by refusal, and where boxes touch on one axis. Assumes nothing.
+-- The pass over the triangles, the exact cast refusal by refusal, and that a triangle that the segment meets is a candidate. Assumes
+-- nothing.
 pub mod Passing
 pub mod Casting
 pub mod Nones
@@ -6,3 +7,5 @@ pub mod Standing
 pub mod Means
 pub mod Sides
 pub mod Ends
+pub mod Headings
+pub mod Touching

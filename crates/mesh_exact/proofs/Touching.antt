@@ -1,0 +1,164 @@
+-- A triangle on whole millimetres that the segment meets has a box that touches the segment's box. Assumes nothing.
+use mathlib.Core.Path.{_≡_, refl, sym, ap, _∙_, subst}
+use mathlib.Core.Bool.{Bool, true, false}
+use mathlib.Core.List.{List}
+use Prim.Native.Nat.{ℕ, zero, suc, _+_, _*_, _^_, _≤_, _<_}
+use native.Mathlib.Nat.{le-trans, mul-le-mul-right}
+use native.Mathlib.Omega.{arith}
+use lib.Dec.{lit≤}
+use lib.IntN.{ℤ, pos, negsuc, natAbs, _-ℤ_, _*ℤ_}
+use lib.Signed.{leZ}
+use lib.Ieee.{Float, binary64, add, mul}
+use Rattle.lists.proofs.JoinedTests.{and-three}
+use Rattle.arithmetic.specs.Extremes.{minimumOf, maximumOf}
+use Rattle.arithmetic.proofs.WholeValues.{Is, same}
+use Rattle.geometry.specs.Vector.{addOf, scaleOf, minOf, maxOf}
+use Rattle.geometry.specs.Box.{corner, cornersBox, touchSide, touches}
+use Rattle.geometry.specs.Segment.{segmentEnd, segmentBox}
+use Rattle.geometry.specs.declared.vec3.Vec3.{Vec3}
+use Rattle.geometry.specs.declared.ray.Ray.{Ray}
+use Rattle.exact_depth.specs.Sizes.{Sized}
+use Rattle.exact_depth.specs.Meeting.{mix}
+use Rattle.exact_depth.proofs.Integers.{pp, np, size-is}
+use Rattle.exact_depth.proofs.Polynomials.{own, own-pos, rep-mul}
+use Rattle.exact_depth.proofs.Order.{rep-le}
+use Rattle.exact_depth.proofs.Firsts.{whole-of}
+use Rattle.exact_triangle.specs.declared.whole.Point.{Point}
+use Rattle.exact_triangle.specs.declared.whole.Placed.the-variants.{At as Placed}
+use Rattle.exact_triangle.specs.declared.whole.Whole.the-variants.{Is as IsWhole}
+use Rattle.exact_triangle.specs.declared.line.Axis.{Axis}
+use Rattle.exact_triangle.specs.declared.line.Axis.the-variants.{East, West, North, South, Upward, Downward}
+use Rattle.exact_triangle.specs.declared.line.Line.{Line}
+use Rattle.exact_triangle.specs.declared.line.Ruled.the-variants.{On}
+use Rattle.exact_triangle.specs.declared.cast.Board.the-variants.{At}
+use Rattle.exact_triangle.specs.Whole.{wholeIn, coordinate, pointOf}
+use Rattle.exact_triangle.specs.Line.{lineOf}
+use Rattle.exact_triangle.specs.Exact.{Near, boardOf}
+use Rattle.exact_triangle.specs.Surface.{along, Lies, Surface}
+use Rattle.exact_triangle.proofs.WholeLaws.{whole-told, range-of, coordinate-near, point-parts, point-near}
+use Rattle.exact_triangle.proofs.LineLaws.{line-parts, board-parts}
+use Rattle.mesh_exact.proofs.Standing.{Stands, whole-stands}
+use Rattle.mesh_exact.proofs.Headings.{StandsAt, heading-stands}
+use Rattle.mesh_exact.proofs.Sides.{ahead, behind, across}
+use Rattle.mesh_exact.proofs.Ends.{end-is}
+
+-- ---- what is told stands for its whole number
+coordinate-stands : (x : Float) (z : ℤ) → coordinate x ≡ IsWhole z → Stands x z
+coordinate-stands x z h =
+    whole-stands x (negsuc 4095) (pos 4096) z (le-trans (coordinate-near x z h .size) (lit≤ tt)) h
+
+point-stands : (v : Vec3) (p : Point) → pointOf v ≡ Placed p → StandsAt v p
+point-stands v p h =
+    let q = point-parts v p h in
+    record {
+      x = coordinate-stands (v .x) (p .x) (q .x);
+      y = coordinate-stands (v .y) (p .y) (q .y);
+      z = coordinate-stands (v .z) (p .z) (q .z);
+    }
+
+-- near and the maximum are not below 0
+pub record Ranged (x : Float) (z : ℤ) : Type 0 where
+  pub whole : z ≡ pos (pp z)
+  pub stands : Is x (pp z) 0
+  pub size : pp z ≤ 16384
+
+range-stands : (x : Float) (z : ℤ) → wholeIn x (pos 0) (pos 16384) ≡ IsWhole z → Ranged x z
+range-stands x z h =
+    let t = whole-told x (pos 0) (pos 16384) z h in
+    let e = whole-of z (t .least) in
+    let s = range-of z t in
+    let none : np z ≡ 0 = ap np e in
+    record {
+      whole = e;
+      stands = subst (λ (n : ℕ). Is x (pp z) n) none (whole-stands x (pos 0) (pos 16384) z (le-trans (s .size) (lit≤ tt)) h);
+      size = subst (λ (n : ℕ). n ≤ 16384) (ap natAbs e) (s .size);
+    }
+
+-- ---- one axis: the direction's component is 1, -1 or 0
+data Step : ℤ → Type 0 where
+  forth : Step (pos 1)
+  back : Step (negsuc 0)
+  still : Step (pos 0)
+
+record Steps (p : Point) : Type 0 where
+  x : Step (p .x)
+  y : Step (p .y)
+  z : Step (p .z)
+
+steps : (axis : Axis) → Steps (along axis)
+steps East = record { x = forth; y = still; z = still }
+steps West = record { x = back; y = still; z = still }
+steps North = record { x = still; y = forth; z = still }
+steps South = record { x = still; y = back; z = still }
+steps Upward = record { x = still; y = still; z = forth }
+steps Downward = record { x = still; y = still; z = back }
+
+module _ (a b c o d far : Float) (A B C O : ℤ) (va : Stands a A) (vb : Stands b B) (vc : Stands c C) (vo : Stands o O)
+    (small : Sized 4096 O) (F : ℕ) (vf : Is far F 0) (size : F ≤ 16384) (i j k : ℕ) (t : ℤ) (some : 0 < i + j + k)
+    (least : np t ≤ pp t) (most : pp t ≤ F * (i + j + k) + np t) where
+  abbrev end : Float
+  end = add binary64 o (mul binary64 d far)
+
+  -- its end is u - v times the maximum from the origin
+  end-at : (u v p n : ℕ) → Is d u v → u ≤ 1 → v ≤ 1 → pp O + u * F + n ≡ p + (np O + v * F) → Is end p n
+  end-at u v p n vd l m e =
+      let l' : u * F ≤ 1 * F = mul-le-mul-right F l in
+      let m' : v * F ≤ 1 * F = mul-le-mul-right F m in
+      same end (pp O + u * F) (np O + v * F) p n e
+      (end-is o d far (pp O) (np O) u v F vo vd vf (subst (λ (s : ℕ). s ≤ 4096) (size-is O) (small .size)) size (omega (arith, l', size))
+      (omega (arith, m', size)))
+
+  side-touches : (δ : ℤ) → Step δ → Stands d δ → mix i j k (A -ℤ O) (B -ℤ O) (C -ℤ O) ≡ t *ℤ δ
+      → touchSide (minimumOf (minimumOf a b) c) (maximumOf (maximumOf a b) c) (minimumOf o end) (maximumOf o end) ≡ true
+  side-touches δ forth vd h =
+      ahead a b c o end A B C O va vb vc vo F i j k t some least most
+      (end-at 1 0 (pp O + F) (np O) vd (omega arith) (omega arith) (omega arith)) h
+  side-touches δ back vd h =
+      behind a b c o end A B C O va vb vc vo F i j k t some least most
+      (end-at 0 1 (pp O) (np O + F) vd (omega arith) (omega arith) (omega arith)) h
+  side-touches δ still vd h =
+      across a b c o end A B C O va vb vc vo F i j k t some least most
+      (end-at 0 0 (pp O) (np O) vd (omega arith) (omega arith) (omega arith)) h
+
+-- ---- every axis
+-- near and the maximum bound t / D from 0 to F
+reach-least : (n : ℤ) (D : ℕ) (t : ℤ) → n ≡ pos (pp n) → leZ (n *ℤ pos D) t ≡ true → np t ≤ pp t
+reach-least n D t e h =
+    let m =
+    rep-le (rep-mul (own-pos (pp n)) (own-pos D)) (own t) (ap (λ (z : ℤ). leZ (z *ℤ pos D) t) (sym e) ∙ h) in
+    omega (arith, m)
+
+reach-most : (f : ℤ) (D : ℕ) (t : ℤ) → f ≡ pos (pp f) → leZ t (f *ℤ pos D) ≡ true → pp t ≤ pp f * D + np t
+reach-most f D t e h =
+    let m =
+    rep-le (own t) (rep-mul (own-pos (pp f)) (own-pos D)) (ap (λ (z : ℤ). leZ t (z *ℤ pos D)) (sym e) ∙ h) in
+    omega (arith, m)
+
+pub met-touches : (r : Ray) (l : Line) → lineOf r ≡ On l → (vs : List Vec3) (a b c : Point) → boardOf vs ≡ At a b c
+    → (D : ℕ) (t : ℤ) → Surface l a b c D t → touches (cornersBox vs) (segmentBox r) ≡ true
+unfolding touches cornersBox segmentBox segmentEnd addOf scaleOf minOf maxOf
+met-touches r l on vs a b c board D t s =
+    let line = line-parts r l on in
+    let corners = board-parts vs a b c board in
+    let va = point-stands (corner vs 0) a (corners .first) in
+    let vb = point-stands (corner vs 1) b (corners .second) in
+    let vc = point-stands (corner vs 2) c (corners .third) in
+    let vo = point-stands (r .origin) (l .origin) (line .origin) in
+    let near = point-near (r .origin) (l .origin) (line .origin) in
+    let vd = heading-stands (r .direction) (l .axis) (line .axis) in
+    let ahead = range-stands (r .near) (l .reach .near) (line .reach .near) in
+    let far = range-stands (r .«max_distance») (l .reach .far) (line .reach .far) in
+    let m = s .lies in
+    let F = pp (l .reach .far) in
+    let some : 0 < m .i + m .j + m .k = subst (λ (n : ℕ). 0 < n) (sym (m .total)) (s .positive) in
+    let least = reach-least (l .reach .near) D t (ahead .whole) (s .least) in
+    let most : pp t ≤ F * (m .i + m .j + m .k) + np t =
+    subst (λ (n : ℕ). pp t ≤ F * n + np t) (sym (m .total)) (reach-most (l .reach .far) D t (far .whole) (s .most)) in
+    let step = steps (l .axis) in
+    and-three _ _ _
+    (side-touches _ _ _ _ _ _ (a .x) (b .x) (c .x) (l .origin .x) (va .x) (vb .x) (vc .x) (vo .x) (near .x) F (far .stands) (far .size)
+    (m .i) (m .j) (m .k) t some least most (along (l .axis) .x) (step .x) (vd .x) (m .x))
+    (side-touches _ _ _ _ _ _ (a .y) (b .y) (c .y) (l .origin .y) (va .y) (vb .y) (vc .y) (vo .y) (near .y) F (far .stands) (far .size)
+    (m .i) (m .j) (m .k) t some least most (along (l .axis) .y) (step .y) (vd .y) (m .y))
+    (side-touches _ _ _ _ _ _ (a .z) (b .z) (c .z) (l .origin .z) (va .z) (vb .z) (vc .z) (vo .z) (near .z) F (far .stands) (far .size)
+    (m .i) (m .j) (m .k) t some least most (along (l .axis) .z) (step .z) (vd .z) (m .z))
