@@ -1,10 +1,10 @@
 -- A direction that is told to lie along an axis stands for it, component by component. Assumes nothing.
-use mathlib.Core.Path.{_≡_, refl, sym, ap, _∙_, subst}
+use mathlib.Core.Path.{_≡_, refl, ap, subst}
 use mathlib.Core.Bool.{Bool, true, false, cond, false≢true}
-use lib.IntN.{ℤ, pos, negsuc}
-use lib.Ieee.{Float, binary64, eq, neg, round, ofBits, ofFields}
+use lib.IntN.{pos, negsuc}
+use lib.Ieee.{Float, eq, neg, ofBits, ofFields}
 use lib.Ieee.Exact.{HasValue}
-use Rattle.arithmetic.proofs.WholeValues.{Is, zero-is}
+use Rattle.arithmetic.proofs.WholeValues.{zero-is}
 use Rattle.geometry.specs.Numbers.{zeroᶠ, oneᶠ}
 use Rattle.geometry.specs.declared.vec3.Vec3.{Vec3}
 use Rattle.exact_triangle.specs.declared.whole.Point.{Point}

@@ -2,6 +2,8 @@
 -- nothing.
 pub mod Passing
 pub mod Casting
+pub mod Answered
+pub mod OneCandidate
 pub mod Nones
 pub mod Standing
 pub mod Means
@@ -9,3 +11,4 @@ pub mod Sides
 pub mod Ends
 pub mod Headings
 pub mod Touching
+pub mod Certainty

@@ -1,8 +1,8 @@
 -- A triangle on whole millimetres that the segment meets has a box that touches the segment's box. Assumes nothing.
-use mathlib.Core.Path.{_≡_, refl, sym, ap, _∙_, subst}
-use mathlib.Core.Bool.{Bool, true, false}
+use mathlib.Core.Path.{_≡_, sym, ap, _∙_, subst}
+use mathlib.Core.Bool.{true}
 use mathlib.Core.List.{List}
-use Prim.Native.Nat.{ℕ, zero, suc, _+_, _*_, _^_, _≤_, _<_}
+use Prim.Native.Nat.{ℕ, _+_, _*_, _≤_, _<_}
 use native.Mathlib.Nat.{le-trans, mul-le-mul-right}
 use native.Mathlib.Omega.{arith}
 use lib.Dec.{lit≤}
@@ -33,8 +33,8 @@ use Rattle.exact_triangle.specs.declared.line.Ruled.the-variants.{On}
 use Rattle.exact_triangle.specs.declared.cast.Board.the-variants.{At}
 use Rattle.exact_triangle.specs.Whole.{wholeIn, coordinate, pointOf}
 use Rattle.exact_triangle.specs.Line.{lineOf}
-use Rattle.exact_triangle.specs.Exact.{Near, boardOf}
-use Rattle.exact_triangle.specs.Surface.{along, Lies, Surface}
+use Rattle.exact_triangle.specs.Exact.{boardOf}
+use Rattle.exact_triangle.specs.Surface.{along, Surface}
 use Rattle.exact_triangle.proofs.WholeLaws.{whole-told, range-of, coordinate-near, point-parts, point-near}
 use Rattle.exact_triangle.proofs.LineLaws.{line-parts, board-parts}
 use Rattle.mesh_exact.proofs.Standing.{Stands, whole-stands}
