@@ -1,10 +1,10 @@
 -- A hit's distance is the float nearest to the least depth. Assumes nothing.
 use mathlib.Core.Path.{_≡_, refl, sym, ap, _∙_, subst}
 use mathlib.Core.Bool.{Bool, true, false, cond}
-use Prim.Native.Nat.{ℕ, zero, suc, _+_, _*_, _^_, _≤_, _<_}
-use native.Mathlib.Nat.{mul-pos, zero-lt-suc, mul-le-mul-right, le-of-mul-le-mul-right, le-trans}
+use Prim.Native.Nat.{ℕ, zero, suc, _*_, _≤_, _<_}
+use native.Mathlib.Nat.{mul-pos, le-of-mul-le-mul-right}
 use native.Mathlib.Omega.{arith}
-use lib.Dec.{eqb, lit≤}
+use lib.Dec.{eqb}
 use lib.IntN.{ℤ, pos, natAbs, _*ℤ_}
 use lib.Signed.{ltZ, leZ}
 use lib.Ieee.{Float, nan, inf, fin, binary64, up, down, round, ofInt, div, unlike}
@@ -20,11 +20,11 @@ use Rattle.exact_depth.proofs.Integers.{pp, np}
 use Rattle.exact_depth.proofs.Polynomials.{own, own-pos, rep-mul}
 use Rattle.exact_depth.proofs.Order.{rep-le, rep-same, nlt-rep}
 use Rattle.exact_depth.proofs.Firsts.{whole-of}
-use Rattle.exact_depth.proofs.DepthSizes.{Exact, first-point-exact}
+use Rattle.exact_depth.proofs.DepthSizes.{first-point-exact}
 use Rattle.exact_triangle.specs.declared.whole.Point.{Point}
 use Rattle.exact_triangle.specs.declared.line.Line.{Line}
 use Rattle.exact_triangle.specs.Exact.{Near, Ruled, spotOf, depthOf, distanceOf}
-use Rattle.exact_triangle.specs.Surface.{FirstSurface, NearestDepth}
+use Rattle.exact_triangle.specs.Surface.{Surface, FirstSurface, NearestDepth}
 use Rattle.exact_triangle.proofs.SeenLaws.{spot-close}
 use Rattle.exact_triangle.proofs.Certainty.{depth-certain}
 
@@ -66,21 +66,27 @@ distance-is f n W e d p l m =
     (λ i. div binary64 (ofInt binary64 (e i)) (ofInt binary64 (d i)))
     ∙ quotient-is (ofInt binary64 (pos n)) (ofInt binary64 (pos W)) n W (whole-value n l) (whole-value W m) p
 
--- ---- the first depth is not below 0, since near is not
+-- ---- no depth is below 0, since near is not
+pub surface-positive : (l : Line) (a b c : Point) (D : ℕ) (t : ℤ) → ltZ (l .reach .near) (pos 0) ≡ false → Surface l a b c D t
+    → t ≡ pos (pp t)
+surface-positive l a b c D t h s =
+    let n = pp (l .reach .near) in
+    let near : leZ (pos n *ℤ pos D) t ≡ true =
+    ap (λ (z : ℤ). leZ (z *ℤ pos D) t) (sym (whole-of (l .reach .near) h)) ∙ s .least in
+    let m = rep-le (rep-mul (own-pos n) (own-pos D)) (own t) near in
+    whole-of t (nlt-rep (own t) (own-pos 0) (omega (arith, m)))
+
 first-positive : (l : Line) (a b c : Point) (f : Fraction) → ltZ (l .reach .near) (pos 0) ≡ false → FirstSurface l a b c f
     → f .t ≡ pos (pp (f .t))
 first-positive l a b c f h s =
     let D = s .D in
     let W = s .W in
-    let t = s .t in
-    let n = pp (l .reach .near) in
-    let e = rep-same (rep-mul (own t) (own-pos W)) (rep-mul (own (f .t)) (own-pos D)) (s .same) in
-    let near : leZ (pos n *ℤ pos D) t ≡ true =
-    ap (λ (z : ℤ). leZ (z *ℤ pos D) t) (sym (whole-of (l .reach .near) h)) ∙ s .on .least in
-    let m = rep-le (rep-mul (own-pos n) (own-pos D)) (own t) near in
-    let m' : np t ≤ pp t = omega (arith, m) in
-    let k : np t * W ≤ pp t * W = mul-le-mul-right W m' in
-    let g : np (f .t) ≤ pp (f .t) = le-of-mul-le-mul-right (omega (arith, e, k)) (s .on .positive) in
+    let n = pp (s .t) in
+    let whole = surface-positive l a b c D (s .t) h (s .on) in
+    let e =
+    rep-same (rep-mul (own-pos n) (own-pos W)) (rep-mul (own (f .t)) (own-pos D))
+    (ap (λ (z : ℤ). z *ℤ pos W) (sym whole) ∙ s .same) in
+    let g : np (f .t) ≤ pp (f .t) = le-of-mul-le-mul-right (omega (arith, e)) (s .on .positive) in
     whole-of (f .t) (nlt-rep (own (f .t)) (own-pos 0) (omega (arith, g)))
 
 -- ---- both

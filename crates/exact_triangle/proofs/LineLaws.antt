@@ -3,6 +3,7 @@ use mathlib.Core.Path.{_≡_, refl, ap, _∙_, subst}
 use mathlib.Core.Bool.{Bool, true, false, false≢true}
 use mathlib.Core.List.{List}
 use lib.IntN.{ℤ, pos}
+use lib.Signed.{ltZ}
 use Rattle.geometry.specs.Box.{corner}
 use Rattle.geometry.specs.declared.vec3.Vec3.{Vec3}
 use Rattle.geometry.specs.declared.ray.Ray.{Ray}
@@ -126,6 +127,9 @@ line-told r l h =
       near = range-of (reach .near) (whole-told (r .near) (pos 0) (pos 16384) (reach .near) (p .reach .near));
       far = range-of (reach .far) (whole-told (r .«max_distance») (pos 0) (pos 16384) (reach .far) (p .reach .far));
     }
+
+pub near-positive : (r : Ray) (l : Line) → lineOf r ≡ On l → ltZ (l .reach .near) (pos 0) ≡ false
+near-positive r l on = whole-told (r .near) (pos 0) (pos 16384) (l .reach .near) (line-parts r l on .reach .near) .least
 
 -- ---- the corners
 abbrev isBoard : Board → Bool

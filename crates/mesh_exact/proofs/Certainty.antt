@@ -1,22 +1,19 @@
 -- The exact cast's answer is certain of the whole mesh: a none has no point of the segment in any triangle, and a hit is at the least depth.
 -- Assumes nothing.
-use Prim.Native.Nat.{ℕ, _+_, _*_, _≤_, _<_}
+use Prim.Native.Nat.{ℕ, _*_, _≤_, _<_}
 use mathlib.Core.Path.{_≡_, refl, sym, ap, _∙_, subst}
-use mathlib.Core.Logic.{_⊎_, inl, inr}
+use mathlib.Core.Logic.{inl, inr}
 use mathlib.Core.Bool.{Bool, true, false, not, _||_, true≢false}
-use mathlib.Core.List.{List, [], _∷_, List·Memᴰ, List·Memᴰ·head, List·Memᴰ·cases-cons, List·Memᴰ·not-nil}
-use native.Mathlib.Nat.{mul-le-mul-right, le-of-mul-le-mul-right}
-use native.Mathlib.Omega.{arith}
-use lib.Dec.{T, leb}
-use borrow.Author.Tests.{leb-true, leb-false, le-leb}
+use mathlib.Core.List.{List, List·Memᴰ}
+use borrow.Author.Tests.{le-leb}
 use lib.IntN.{ℤ, pos, _*ℤ_}
 use lib.Signed.{leZ}
-use lib.Ieee.{Float, binary64, round, lt, le, fits}
+use lib.Ieee.{Float, binary64, round, le}
 use lib.Ieee.Bits.{is-true}
 use lib.Ieee.Fits.{round-fits}
 use lib.Ieee.Order.{round-mono}
 use Rattle.lists.specs.Lists.{range}
-use Rattle.lists.proofs.Members.{Each, Ascending, each-cons, each-rest}
+use Rattle.lists.proofs.Members.{Each, Ascending}
 use Rattle.lists.proofs.SortLaws.{range-ascends, keep-ascends}
 use Rattle.arithmetic.specs.Basic.{negative}
 use Rattle.arithmetic.proofs.Order.{le-transitive, lt-of-lt-le}
@@ -27,8 +24,8 @@ use Rattle.geometry.specs.Segment.{segmentBox}
 use Rattle.geometry.specs.declared.vec3.Vec3.{Vec3}
 use Rattle.geometry.specs.declared.ray.Ray.{Ray}
 use Rattle.casts.specs.Answer.{Answer, hit, none, refused}
-use Rattle.casts.specs.Nearest.{Indexed, hitAt, noHit, stopped, nearestOf}
-use Rattle.casts.proofs.AnswerLists.{HitSuch, IsNumber, AtLeast, NotRefused}
+use Rattle.casts.specs.Nearest.{Indexed, hitAt, noHit, nearestOf}
+use Rattle.casts.proofs.AnswerLists.{HitSuch, IsNumber, NotRefused}
 use Rattle.casts.proofs.NearestRefusals.{refusal-stops, nones-of-none}
 use Rattle.casts.proofs.NearestLaws.{LowestNearest, hit-of-lowest-nearest}
 use Rattle.tree.specs.Mesh.{Mesh, cornersOf, triangleBox, triangleCount, candidates}
@@ -40,11 +37,14 @@ use Rattle.exact_triangle.specs.declared.line.Ruled.the-variants.{On}
 use Rattle.exact_triangle.specs.declared.cast.Board.the-variants.{Off}
 use Rattle.exact_triangle.specs.Line.{lineOf}
 use Rattle.exact_triangle.specs.Exact.{boardOf}
+use Rattle.exact_triangle.proofs.LineLaws.{near-positive}
+use Rattle.exact_triangle.proofs.Distances.{surface-positive}
 use Rattle.mesh_exact.specs.ExactCast.{exactAnswer, rayMeshExactPlain}
-use Rattle.mesh_exact.specs.Certain.{Met, Drawn, LeastDepth, Struck, CertainMesh}
+use Rattle.mesh_exact.specs.Certain.{Met, LeastDepth, Struck, CertainMesh}
 use Rattle.mesh_exact.proofs.Touching.{met-touches}
 use Rattle.mesh_exact.proofs.Answered.{isStopped, going, ruled, folded}
-use Rattle.mesh_exact.proofs.OneCandidate.{near-positive, surface-positive, round-number, Deep, not-whole-refused, none-unmet, hit-deep}
+use Rattle.mesh_exact.proofs.Leasts.{Least, least-of}
+use Rattle.mesh_exact.proofs.OneCandidate.{round-number, Deep, not-whole-refused, none-unmet, hit-deep}
 
 -- ---- rounded depths
 rounded-le : (n D n' D' : ℕ) → 0 < D → 0 < D' → n * D' ≤ n' * D → le (round binary64 false n D) (round binary64 false n' D') ≡ true
@@ -62,14 +62,6 @@ rounded-same n D n' D' h g =
     totalOrder-antisymmetric x y (round-fits binary64 false n D) (round-fits binary64 false n' D')
     (at-most-before x y h (signs (negative x) (negative y) (round-not-negative binary64 n' D')))
     (at-most-before y x g (signs (negative y) (negative x) (round-not-negative binary64 n D)))
-
--- ---- the order of depths
-depth-le : (n D n' D' n'' D'' : ℕ) → 0 < D' → n * D' ≤ n' * D → n' * D'' ≤ n'' * D' → n * D'' ≤ n'' * D
-depth-le n D n' D' n'' D'' p h g =
-    let h' : n * D' * D'' ≤ n' * D * D'' = mul-le-mul-right D'' h in
-    let g' : n' * D'' * D ≤ n'' * D' * D = mul-le-mul-right D g in
-    let k : (n * D'') * D' ≤ (n'' * D) * D' = omega (arith, h', g') in
-    le-of-mul-le-mul-right k p
 
 module _ (r : Ray) (m : Mesh) (l : Line) (on : lineOf r ≡ On l) where
   abbrev listed : List ℕ
@@ -100,81 +92,6 @@ module _ (r : Ray) (m : Mesh) (l : Line) (on : lineOf r ≡ On l) where
   -- its depth is not below 0
   met-whole : (i D : ℕ) (t : ℤ) → Met m l i D t → t ≡ pos (pp t)
   met-whole i D t q = surface-positive l (q .a) (q .b) (q .c) D t (near-positive r l on) (q .point)
-
-  -- ---- the least of the candidates' depths
-  record Least (xs : List ℕ) : Type 0 where
-    index : ℕ
-    D : ℕ
-    n : ℕ
-    met : Met m l index D (pos n)
-    least : (j D' n' : ℕ) → List·Memᴰ j xs → Met m l j D' (pos n') → n * D' ≤ n' * D
-
-  abbrev Unmet : ℕ → Type 0
-  Unmet j = (D n : ℕ) → Met m l j D (pos n) → ⊥
-
-  least-deep : (x : ℕ) (xs : List ℕ) (d : Float) → Deep m l x d → Each Unmet xs ⊎ Least xs → Least (x ∷ xs)
-  least-deep x xs d p (inl free) = record {
-    index = x;
-    D = p .D;
-    n = p .n;
-    met = p .met;
-    least = λ j D' n' k q. elim (List·Memᴰ·cases-cons k) [
-      | inl e ↦ p .least D' n' (subst (λ (z : ℕ). Met m l z D' (pos n')) e q)
-      | inr k ↦ absurd (free j k D' n' q)
-    ];
-  }
-  least-deep x xs d p (inr b) = go (leb (p .n * b .D) (b .n * p .D)) refl
-    where
-      go : (c : Bool) → leb (p .n * b .D) (b .n * p .D) ≡ c → Least (x ∷ xs)
-      go true e = record {
-        index = x;
-        D = p .D;
-        n = p .n;
-        met = p .met;
-        least = λ j D' n' k q. elim (List·Memᴰ·cases-cons k) [
-          | inl e' ↦ p .least D' n' (subst (λ (z : ℕ). Met m l z D' (pos n')) e' q)
-          | inr k ↦
-              depth-le (p .n) (p .D) (b .n) (b .D) n' D' (b .met .point .positive) (leb-true (p .n * b .D) (b .n * p .D) e)
-              (b .least j D' n' k q)
-        ];
-      }
-      go false e = record {
-        index = b .index;
-        D = b .D;
-        n = b .n;
-        met = b .met;
-        least = λ j D' n' k q. elim (List·Memᴰ·cases-cons k) [
-          | inl e' ↦
-              let f = leb-false (p .n * b .D) (b .n * p .D) e in
-              depth-le (b .n) (b .D) (p .n) (p .D) n' D' (p .met .point .positive) (omega (arith, f))
-              (p .least D' n' (subst (λ (z : ℕ). Met m l z D' (pos n')) e' q))
-          | inr k ↦ b .least j D' n' k q
-        ];
-      }
-
-  least-none : (x : ℕ) (xs : List ℕ) → Unmet x → Each Unmet xs ⊎ Least xs → Each Unmet (x ∷ xs) ⊎ Least (x ∷ xs)
-  least-none x xs u (inl free) =
-      inl (each-cons Unmet x xs (λ j e D n q. u D n (subst (λ (z : ℕ). Met m l z D (pos n)) e q)) free)
-  least-none x xs u (inr b) = inr record {
-    index = b .index;
-    D = b .D;
-    n = b .n;
-    met = b .met;
-    least = λ j D' n' k q. elim (List·Memᴰ·cases-cons k) [
-      | inl e ↦ absurd (u D' n' (subst (λ (z : ℕ). Met m l z D' (pos n')) e q))
-      | inr k ↦ b .least j D' n' k q
-    ];
-  }
-
-  least-of : (xs : List ℕ) → Each (NotRefused answers) xs → Each (λ (j : ℕ). j < triangleCount m) xs → Each Unmet xs ⊎ Least xs
-  least-of [] fine below = inl (λ (j : ℕ) (k : List·Memᴰ j []). absurd (List·Memᴰ·not-nil k))
-  least-of (x ∷ xs) fine below =
-      go (least-of xs (each-rest (NotRefused answers) x xs fine) (each-rest (λ (j : ℕ). j < triangleCount m) x xs below)) (answers x) refl
-    where
-      go : Each Unmet xs ⊎ Least xs → (a : Answer) → answers x ≡ a → Each Unmet (x ∷ xs) ⊎ Least (x ∷ xs)
-      go rest (hit n d) e = inr (least-deep x xs d (hit-deep r m l on x (below x (List·Memᴰ·head refl)) n d e) rest)
-      go rest none e = least-none x xs (λ D n q. none-unmet r m l on x e D (pos n) q) rest
-      go rest (refused k) e = absurd (fine x (List·Memᴰ·head refl) k e)
 
   -- ---- an answer that is no refusal
   module _ (answer : Indexed) (goes : isStopped answer ≡ false) (is : nearestOf answers listed ≡ answer) where
@@ -261,8 +178,8 @@ module _ (r : Ray) (m : Mesh) (l : Line) (on : lineOf r ≡ On l) where
           (lowest .farther-below j (met-listed j D (pos n) q) below (b .normal') (b .distance') (b .hits)) (b .at-most);
     }
 
-    least-listed : Least listed
-    least-listed = elim (least-of listed fine inner) [
+    least-listed : Least r m l on listed
+    least-listed = elim (least-of r m l on listed fine inner) [
       | inl free ↦ absurd (free index (lowest .member) (own .D) (own .n) (own .met))
       | inr b ↦ b
     ]

@@ -4,11 +4,11 @@ pub mod Passing
 pub mod Casting
 pub mod Answered
 pub mod OneCandidate
-pub mod Nones
 pub mod Standing
 pub mod Means
 pub mod Sides
 pub mod Ends
 pub mod Headings
 pub mod Touching
+pub mod Leasts
 pub mod Certainty

@@ -1,17 +1,18 @@
 -- One candidate's answer: refused where it is not on whole millimetres, none where it has no point, and a hit at its first. Assumes nothing.
-use Prim.Native.Nat.{ℕ, _+_, _*_, _≤_, _<_}
+use Prim.Native.Nat.{ℕ, _*_, _≤_, _<_}
 use mathlib.Core.Path.{_≡_, refl, sym, ap, _∙_, subst}
 use mathlib.Core.Bool.{Bool, true, false, cond, false≢true}
 use mathlib.Core.List.{List}
-use native.Mathlib.Nat.{mul-le-mul-right, le-of-mul-le-mul-right}
+use native.Mathlib.Nat.{le-of-eq}
 use native.Mathlib.Omega.{arith}
 use lib.IntN.{ℤ, pos, _*ℤ_}
-use lib.Signed.{ltZ, leZ}
+use lib.Signed.{leZ}
 use lib.ListN.{length}
 use borrow.Author.Tests.{leb-true}
-use lib.Ieee.{Float, binary64, round, le, isNan}
+use lib.Ieee.{Float, binary64, round, isNan}
 use lib.Ieee.Bits.{is-true}
 use lib.Ieee.Order.{round-mono}
+use lib.Ieee.Positive.{through}
 use lib.Ieee.Scale.{round-same}
 use Rattle.arithmetic.proofs.Order.{le-left-number}
 use Rattle.geometry.specs.Vector.{crossOf, dotOf, subOf, tryNormalize}
@@ -27,10 +28,7 @@ use Rattle.tree.specs.Mesh.{Mesh, thirds, cornersInside, cornersOf, triangleCou
 use Rattle.exact_depth.specs.declared.spots.Fraction.{Fraction}
 use Rattle.exact_depth.specs.declared.spots.Depth.{Depth}
 use Rattle.exact_depth.specs.declared.spots.Depth.the-variants.{At as Reached, Miss}
-use Rattle.exact_depth.proofs.Integers.{pp, np}
-use Rattle.exact_depth.proofs.Polynomials.{own, own-pos, rep-mul}
-use Rattle.exact_depth.proofs.Order.{rep-le, rep-same, nlt-rep}
-use Rattle.exact_depth.proofs.Firsts.{whole-of}
+use Rattle.exact_depth.proofs.Integers.{pp}
 use Rattle.exact_triangle.specs.declared.whole.Point.{Point}
 use Rattle.exact_triangle.specs.declared.line.Line.{Line}
 use Rattle.exact_triangle.specs.declared.line.Ruled.the-variants.{On}
@@ -38,11 +36,10 @@ use Rattle.exact_triangle.specs.declared.cast.Board.{Board}
 use Rattle.exact_triangle.specs.declared.cast.Board.the-variants.{At, Off}
 use Rattle.exact_triangle.specs.Line.{lineOf}
 use Rattle.exact_triangle.specs.Exact.{notWhole, boardOf, depthOf, distanceOf, depthTold, withBoard, exactTriangle}
-use Rattle.exact_triangle.specs.Surface.{Surface, Apart, FirstSurface, NearestDepth}
-use Rattle.exact_triangle.proofs.WholeLaws.{whole-told}
-use Rattle.exact_triangle.proofs.LineLaws.{line-parts, line-told, board-near}
+use Rattle.exact_triangle.specs.Surface.{Surface, FirstSurface, NearestDepth}
+use Rattle.exact_triangle.proofs.LineLaws.{line-told, near-positive, board-near}
 use Rattle.exact_triangle.proofs.Certainty.{depth-certain}
-use Rattle.exact_triangle.proofs.Distances.{depth-nearest}
+use Rattle.exact_triangle.proofs.Distances.{surface-positive, depth-nearest}
 use Rattle.mesh_exact.specs.ExactCast.{exactAnswer}
 use Rattle.mesh_exact.specs.Certain.{Met}
 
@@ -130,19 +127,6 @@ triangle-hit r l vs normal distance h = go (boardOf vs) refl
     }
     go Off on = absurd (false≢true (ap isHit (told r l vs Off on ∙ h)))
 
--- ---- depths are not below 0
-pub near-positive : (r : Ray) (l : Line) → lineOf r ≡ On l → ltZ (l .reach .near) (pos 0) ≡ false
-near-positive r l on = whole-told (r .near) (pos 0) (pos 16384) (l .reach .near) (line-parts r l on .reach .near) .least
-
-pub surface-positive : (l : Line) (a b c : Point) (D : ℕ) (t : ℤ) → ltZ (l .reach .near) (pos 0) ≡ false → Surface l a b c D t
-    → t ≡ pos (pp t)
-surface-positive l a b c D t h s =
-    let n = pp (l .reach .near) in
-    let near : leZ (pos n *ℤ pos D) t ≡ true =
-    ap (λ (z : ℤ). leZ (z *ℤ pos D) t) (sym (whole-of (l .reach .near) h)) ∙ s .least in
-    let m = rep-le (rep-mul (own-pos n) (own-pos D)) (own t) near in
-    whole-of t (nlt-rep (own t) (own-pos 0) (omega (arith, m)))
-
 -- ---- what a candidate's answer says of its points
 pub round-number : (n D : ℕ) → 0 < D → isNan (round binary64 false n D) ≡ false
 round-number n D p =
@@ -159,14 +143,6 @@ pub record Deep (m : Mesh) (l : Line) (i : ℕ) (distance : Float) : Type 0 wher
   pub met : Met m l i D (pos n)
   pub nearest : distance ≡ round binary64 false n D
   pub least : (D' n' : ℕ) → Met m l i D' (pos n') → n * D' ≤ n' * D
-
--- x / D ≤ y / D', as w / W = x / D
-quotient-least : (x D y D' w W : ℕ) → 0 < W → x * W ≡ w * D → w * D' ≤ y * W → x * D' ≤ y * D
-quotient-least x D y D' w W p e h =
-    let e' : x * W * D' ≡ w * D * D' = ap (λ (z : ℕ). z * D') e in
-    let h' : w * D' * D ≤ y * W * D = mul-le-mul-right D h in
-    let g : (x * D') * W ≤ (y * D) * W = omega (arith, e', h') in
-    le-of-mul-le-mul-right g p
 
 module _ (r : Ray) (m : Mesh) (l : Line) (on : lineOf r ≡ On l) (i : ℕ) where
   abbrev corners : List Vec3
@@ -247,7 +223,7 @@ module _ (r : Ray) (m : Mesh) (l : Line) (on : lineOf r ≡ On l) (i : ℕ) wher
           let e = first .least D' (pos n') (on-board D' (pos n') q) in
           let e' : leZ (pos (near .numerator) *ℤ pos D') (pos n' *ℤ pos (first .W)) ≡ true =
           ap (λ (z : ℤ). leZ (z *ℤ pos D') (pos n' *ℤ pos (first .W))) (sym (near .is)) ∙ e in
-          quotient-least n (first .D) n' D' (near .numerator) (first .W) (first .positive) same-depth (leb-true _ _ e');
+          through n (near .numerator) n' (first .D) (first .W) D' (first .positive) (le-of-eq same-depth) (leb-true _ _ e');
     }
 
   pub hit-deep : i < triangleCount m → (normal : Vec3) (distance : Float) → answer ≡ hit normal distance → Deep m l i distance

@@ -36,7 +36,8 @@ use Rattle.exact_triangle.specs.Line.{lineOf}
 use Rattle.exact_triangle.specs.Exact.{boardOf}
 use Rattle.exact_triangle.specs.Surface.{along, Surface}
 use Rattle.exact_triangle.proofs.WholeLaws.{whole-told, range-of, coordinate-near, point-parts, point-near}
-use Rattle.exact_triangle.proofs.LineLaws.{line-parts, board-parts}
+use Rattle.exact_triangle.proofs.LineLaws.{line-parts, near-positive, board-parts}
+use Rattle.exact_triangle.proofs.Distances.{surface-positive}
 use Rattle.mesh_exact.proofs.Standing.{Stands, whole-stands}
 use Rattle.mesh_exact.proofs.Headings.{StandsAt, heading-stands}
 use Rattle.mesh_exact.proofs.Sides.{ahead, behind, across}
@@ -56,11 +57,11 @@ point-stands v p h =
       z = coordinate-stands (v .z) (p .z) (q .z);
     }
 
--- near and the maximum are not below 0
-pub record Ranged (x : Float) (z : ℤ) : Type 0 where
-  pub whole : z ≡ pos (pp z)
-  pub stands : Is x (pp z) 0
-  pub size : pp z ≤ 16384
+-- the maximum is not below 0
+record Ranged (x : Float) (z : ℤ) : Type 0 where
+  whole : z ≡ pos (pp z)
+  stands : Is x (pp z) 0
+  size : pp z ≤ 16384
 
 range-stands : (x : Float) (z : ℤ) → wholeIn x (pos 0) (pos 16384) ≡ IsWhole z → Ranged x z
 range-stands x z h =
@@ -121,13 +122,7 @@ module _ (a b c o d far : Float) (A B C O : ℤ) (va : Stands a A) (vb : Stands 
       (end-at 0 0 (pp O) (np O) vd (omega arith) (omega arith) (omega arith)) h
 
 -- ---- every axis
--- near and the maximum bound t / D from 0 to F
-reach-least : (n : ℤ) (D : ℕ) (t : ℤ) → n ≡ pos (pp n) → leZ (n *ℤ pos D) t ≡ true → np t ≤ pp t
-reach-least n D t e h =
-    let m =
-    rep-le (rep-mul (own-pos (pp n)) (own-pos D)) (own t) (ap (λ (z : ℤ). leZ (z *ℤ pos D) t) (sym e) ∙ h) in
-    omega (arith, m)
-
+-- the maximum bounds t / D
 reach-most : (f : ℤ) (D : ℕ) (t : ℤ) → f ≡ pos (pp f) → leZ t (f *ℤ pos D) ≡ true → pp t ≤ pp f * D + np t
 reach-most f D t e h =
     let m =
@@ -146,12 +141,12 @@ met-touches r l on vs a b c board D t s =
     let vo = point-stands (r .origin) (l .origin) (line .origin) in
     let near = point-near (r .origin) (l .origin) (line .origin) in
     let vd = heading-stands (r .direction) (l .axis) (line .axis) in
-    let ahead = range-stands (r .near) (l .reach .near) (line .reach .near) in
     let far = range-stands (r .«max_distance») (l .reach .far) (line .reach .far) in
     let m = s .lies in
     let F = pp (l .reach .far) in
     let some : 0 < m .i + m .j + m .k = subst (λ (n : ℕ). 0 < n) (sym (m .total)) (s .positive) in
-    let least = reach-least (l .reach .near) D t (ahead .whole) (s .least) in
+    let whole = surface-positive l a b c D t (near-positive r l on) s in
+    let least : np t ≤ pp t = omega (arith, ap np whole) in
     let most : pp t ≤ F * (m .i + m .j + m .k) + np t =
     subst (λ (n : ℕ). pp t ≤ F * n + np t) (sym (m .total)) (reach-most (l .reach .far) D t (far .whole) (s .most)) in
     let step = steps (l .axis) in

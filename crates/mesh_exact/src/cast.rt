@@ -19,6 +19,7 @@ ghost use Rattle.casts.specs.Nearest.{saysIndexed, nextOf};
 ghost use Rattle.tree.specs.Mesh.{lengthsAdmitted, mesh};
 ghost use Rattle.exact_triangle.specs.Exact.{exactTriangle, Ruled as RuledLine};
 ghost use Rattle.mesh_exact.specs.ExactCast.{overExact, exactCast, rayMeshExactPlain};
+ghost use Rattle.mesh_exact.specs.Certain.{CertainMesh};
 
 // One more triangle, which counts where its box touches the segment's box.
 fn next_exact(
@@ -84,8 +85,10 @@ pub fn exact_cast(ray: Ray, line: Line, vertices: &[f64], triangles: &[u32]) -> 
 }
 
 // The first point of the segment that lies in a triangle of the mesh, sides and corners included.
+// The second clause: a none is certain, and a hit's distance is the float nearest to the least depth of such a point.
 pub fn ray_mesh_exact_plain(ray: Ray, vertices: &[f64], triangles: &[u32]) -> IndexedCast
     ensures { λ r. ⌜ saysIndexed r ≡ rayMeshExactPlain ray (mesh (now (vertices .entry)) (now (triangles .entry))) ⌝ }
+    ensures { λ r. ⌜ CertainMesh ray (mesh (now (vertices .entry)) (now (triangles .entry))) (saysIndexed r) ⌝ }
 {
     if !ray.validate() {
         return IndexedCast::Refused(answer::INVALID_INPUT);
