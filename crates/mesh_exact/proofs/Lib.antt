@@ -12,3 +12,4 @@ pub mod Headings
 pub mod Touching
 pub mod Leasts
 pub mod Certainty
+pub mod Examples
