@@ -1,5 +1,5 @@
--- The exact cast's answer is certain of the whole mesh: a none has no point of the segment in any triangle, and a hit is at the least depth.
--- Assumes nothing.
+-- The exact cast's answer is certain of the whole mesh: a none leaves no point of the segment in any triangle, and a hit is at the least
+-- depth. Assumes nothing.
 use Prim.Native.Nat.{ℕ, _*_, _≤_, _<_}
 use mathlib.Core.Path.{_≡_, refl, sym, ap, _∙_, subst}
 use mathlib.Core.Logic.{inl, inr}

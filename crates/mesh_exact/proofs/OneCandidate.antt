@@ -1,4 +1,5 @@
--- One candidate's answer: refused where it is not on whole millimetres, none where it has no point, and a hit at its first. Assumes nothing.
+-- One candidate's answer: refused where it is not on whole millimetres, none where the segment does not meet it, and a hit at the first
+-- point. Assumes nothing.
 use Prim.Native.Nat.{ℕ, _*_, _≤_, _<_}
 use mathlib.Core.Path.{_≡_, refl, sym, ap, _∙_, subst}
 use mathlib.Core.Bool.{Bool, true, false, cond, false≢true}
