@@ -1,11 +1,11 @@
 -- Floats that stand for whole numbers: what is told to be whole does, and their order is the whole numbers'. Assumes nothing.
-use mathlib.Core.Path.{_≡_, refl, sym, ap, _∙_, subst}
+use mathlib.Core.Path.{_≡_, refl, sym, ap, _∙_}
 use mathlib.Core.Logic.{_⊎_, inl, inr}
-use mathlib.Core.Bool.{Bool, true, false, _||_, Bool·beq, cond, not, false≢true}
-use Prim.Native.Nat.{ℕ, zero, suc, _+_, _*_, _^_, _≤_, _<_}
-use native.Mathlib.Nat.{mul-one, mul-right-comm, mul-pos, eq-of-mul-eq-mul-right, mul-le-mul-right, le-trans}
+use mathlib.Core.Bool.{Bool, true, false, _||_, Bool·beq, cond, false≢true}
+use Prim.Native.Nat.{ℕ, suc, _+_, _*_, _^_, _≤_}
+use native.Mathlib.Nat.{mul-one, mul-right-comm, eq-of-mul-eq-mul-right, mul-le-mul-right}
 use native.Mathlib.Omega.{arith}
-use lib.Dec.{eqb, lit≤}
+use lib.Dec.{eqb}
 use borrow.Author.Tests.{eqb-true, not-false}
 use lib.IntN.{ℤ, pos, negsuc, natAbs}
 use lib.Signed.{ltZ}
@@ -101,19 +101,21 @@ equals : (x y : Float) → ne x y ≡ false → eq x y ≡ true
 unfolding ne
 equals x y h = not-false (eq x y) h
 
-pub whole-stands : (x : Float) (low high z : ℤ) → natAbs z ≤ 2 ^ 53 → wholeIn x low high ≡ IsWhole z → Stands x z
+pub whole-equals : (x : Float) (low high z : ℤ) → wholeIn x low high ≡ IsWhole z → eq x (ofInt binary64 z) ≡ true
 unfolding wholeIn
-whole-stands x low high z l h = go (le least x) (lt x past) (ne x (ofInt binary64 (toSigned 63 x))) refl h
+whole-equals x low high z h = go (le least x) (lt x past) (ne x (ofInt binary64 (toSigned 63 x))) refl h
   where
     go : (p q s : Bool) → ne x (ofInt binary64 (toSigned 63 x)) ≡ s
-        → cond p (cond q (cond s Not (within (toSigned 63 x) low high)) Not) Not ≡ IsWhole z → Stands x z
+        → cond p (cond q (cond s Not (within (toSigned 63 x) low high)) Not) Not ≡ IsWhole z → eq x (ofInt binary64 z) ≡ true
     go false q s e h = absurd (false≢true (ap isWhole h))
     go true false s e h = absurd (false≢true (ap isWhole h))
     go true true true e h = absurd (false≢true (ap isWhole h))
     go true true false e h =
-        stands x z l
-        (ap (λ (k : ℤ). eq x (ofInt binary64 k)) (sym (within-is (toSigned 63 x) low high z h))
-        ∙ equals x (ofInt binary64 (toSigned 63 x)) e)
+        ap (λ (k : ℤ). eq x (ofInt binary64 k)) (sym (within-is (toSigned 63 x) low high z h))
+        ∙ equals x (ofInt binary64 (toSigned 63 x)) e
+
+pub whole-stands : (x : Float) (low high z : ℤ) → natAbs z ≤ 2 ^ 53 → wholeIn x low high ≡ IsWhole z → Stands x z
+whole-stands x low high z l h = stands x z l (whole-equals x low high z h)
 
 -- ---- finite, and in order
 pub is-number : (x : Float) (p n : ℕ) → Is x p n → isNan x ≡ false

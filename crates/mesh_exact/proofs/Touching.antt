@@ -31,31 +31,42 @@ use Rattle.exact_triangle.specs.declared.line.Axis.the-variants.{East, West, No
 use Rattle.exact_triangle.specs.declared.line.Line.{Line}
 use Rattle.exact_triangle.specs.declared.line.Ruled.the-variants.{On}
 use Rattle.exact_triangle.specs.declared.cast.Board.the-variants.{At}
-use Rattle.exact_triangle.specs.Whole.{wholeIn, coordinate, pointOf}
+use Rattle.exact_triangle.specs.Whole.{wholeIn, pointOf}
 use Rattle.exact_triangle.specs.Line.{lineOf}
-use Rattle.exact_triangle.specs.Exact.{boardOf}
+use Rattle.exact_triangle.specs.Exact.{Near, boardOf}
 use Rattle.exact_triangle.specs.Surface.{along, Surface}
-use Rattle.exact_triangle.proofs.WholeLaws.{whole-told, range-of, coordinate-near, point-parts, point-near}
+use Rattle.exact_triangle.proofs.WholeLaws.{whole-told, range-of, point-parts, point-near}
 use Rattle.exact_triangle.proofs.LineLaws.{line-parts, near-positive, board-parts}
 use Rattle.exact_triangle.proofs.Distances.{surface-positive}
-use Rattle.mesh_exact.proofs.Standing.{Stands, whole-stands}
-use Rattle.mesh_exact.proofs.Headings.{StandsAt, heading-stands}
+use Rattle.mesh_exact.proofs.Standing.{Stands, stands, whole-equals, whole-stands}
+use Rattle.mesh_exact.proofs.Headings.{EqualsAt, heading-equals}
 use Rattle.mesh_exact.proofs.Sides.{ahead, behind, across}
 use Rattle.mesh_exact.proofs.Ends.{end-is}
 
 -- ---- what is told stands for its whole number
-coordinate-stands : (x : Float) (z : ℤ) → coordinate x ≡ IsWhole z → Stands x z
-coordinate-stands x z h =
-    whole-stands x (negsuc 4095) (pos 4096) z (le-trans (coordinate-near x z h .size) (lit≤ tt)) h
+record StandsAt (v : Vec3) (p : Point) : Type 0 where
+  x : Stands (v .x) (p .x)
+  y : Stands (v .y) (p .y)
+  z : Stands (v .z) (p .z)
 
-point-stands : (v : Vec3) (p : Point) → pointOf v ≡ Placed p → StandsAt v p
-point-stands v p h =
+pub point-equals : (v : Vec3) (p : Point) → pointOf v ≡ Placed p → EqualsAt v p
+point-equals v p h =
     let q = point-parts v p h in
     record {
-      x = coordinate-stands (v .x) (p .x) (q .x);
-      y = coordinate-stands (v .y) (p .y) (q .y);
-      z = coordinate-stands (v .z) (p .z) (q .z);
+      x = whole-equals (v .x) (negsuc 4095) (pos 4096) (p .x) (q .x);
+      y = whole-equals (v .y) (negsuc 4095) (pos 4096) (p .y) (q .y);
+      z = whole-equals (v .z) (negsuc 4095) (pos 4096) (p .z) (q .z);
     }
+
+point-stands : (v : Vec3) (p : Point) → EqualsAt v p → Near p → StandsAt v p
+point-stands v p e n = record {
+  x = stands (v .x) (p .x) (le-trans (n .x .size) (lit≤ tt)) (e .x);
+  y = stands (v .y) (p .y) (le-trans (n .y .size) (lit≤ tt)) (e .y);
+  z = stands (v .z) (p .z) (le-trans (n .z .size) (lit≤ tt)) (e .z);
+}
+
+told-stands : (v : Vec3) (p : Point) → pointOf v ≡ Placed p → StandsAt v p
+told-stands v p h = point-stands v p (point-equals v p h) (point-near v p h)
 
 -- the maximum is not below 0
 record Ranged (x : Float) (z : ℤ) : Type 0 where
@@ -93,6 +104,16 @@ steps North = record { x = still; y = forth; z = still }
 steps South = record { x = still; y = back; z = still }
 steps Upward = record { x = still; y = still; z = forth }
 steps Downward = record { x = still; y = still; z = back }
+
+step-near : (δ : ℤ) → Step δ → Sized 4096 δ
+step-near δ forth = record { size = lit≤ tt }
+step-near δ back = record { size = lit≤ tt }
+step-near δ still = record { size = lit≤ tt }
+
+along-near : (axis : Axis) → Near (along axis)
+along-near axis =
+    let s = steps axis in
+    record { x = step-near (along axis .x) (s .x); y = step-near (along axis .y) (s .y); z = step-near (along axis .z) (s .z) }
 
 module _ (a b c o d far : Float) (A B C O : ℤ) (va : Stands a A) (vb : Stands b B) (vc : Stands c C) (vo : Stands o O)
     (small : Sized 4096 O) (F : ℕ) (vf : Is far F 0) (size : F ≤ 16384) (i j k : ℕ) (t : ℤ) (some : 0 < i + j + k)
@@ -135,12 +156,13 @@ unfolding touches cornersBox segmentBox segmentEnd addOf scaleOf minOf maxOf
 met-touches r l on vs a b c board D t s =
     let line = line-parts r l on in
     let corners = board-parts vs a b c board in
-    let va = point-stands (corner vs 0) a (corners .first) in
-    let vb = point-stands (corner vs 1) b (corners .second) in
-    let vc = point-stands (corner vs 2) c (corners .third) in
-    let vo = point-stands (r .origin) (l .origin) (line .origin) in
+    let va = told-stands (corner vs 0) a (corners .first) in
+    let vb = told-stands (corner vs 1) b (corners .second) in
+    let vc = told-stands (corner vs 2) c (corners .third) in
+    let vo = told-stands (r .origin) (l .origin) (line .origin) in
     let near = point-near (r .origin) (l .origin) (line .origin) in
-    let vd = heading-stands (r .direction) (l .axis) (line .axis) in
+    let vd =
+    point-stands (r .direction) (along (l .axis)) (heading-equals (r .direction) (l .axis) (line .axis)) (along-near (l .axis)) in
     let far = range-stands (r .«max_distance») (l .reach .far) (line .reach .far) in
     let m = s .lies in
     let F = pp (l .reach .far) in
