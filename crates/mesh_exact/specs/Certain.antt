@@ -56,12 +56,12 @@ pub record Struck (m : Mesh) (l : Line) (distance : Float) (index : ℕ) : Type 
   pub lowest : (j D' t' : ℕ) → Met m l j D' (pos t') → j < index → lt distance (round binary64 false t' D') ≡ true
 
 pub record CertainMesh (r : Ray) (m : Mesh) (answer : Indexed) : Type 0 where
-  -- an answer that is no refusal is about the whole mesh: "the candidates are the triangles that can be met"
+  -- an answer that is no refusal is about the whole mesh: 'the candidates are the triangles that can be met'
   pub drawn : ((number : ℕ) → answer ≡ stopped number → ⊥) → Drawn r m
-  -- "it answers none exactly if no point of the closed segment lies in a closed triangle with area": a none has none, and a hit has one
+  -- 'it answers none exactly if no point of the closed segment lies in a closed triangle with area': a none has none, and a hit has one
   pub none : (l : Line) → lineOf r ≡ On l → answer ≡ noHit → (i D : ℕ) (t : ℤ) → Met m l i D t → ⊥
   pub struck : (l : Line) → lineOf r ≡ On l → (normal : Vec3) (distance : Float) (index : ℕ) → answer ≡ hitAt normal distance index
       → Struck m l distance index
-  -- "a hit's distance is the float nearest to the least such depth"
+  -- 'a hit's distance is the float nearest to the least such depth'
   pub least : (l : Line) → lineOf r ≡ On l → (normal : Vec3) (distance : Float) (index : ℕ) → answer ≡ hitAt normal distance index
       → LeastDepth m l distance

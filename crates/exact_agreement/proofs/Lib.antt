@@ -1,0 +1,5 @@
+-- The exact cast agrees with the mesh cast outside the open cases of M-112. Assumes nothing.
+pub mod Crossings
+pub mod Points
+pub mod Plans
+pub mod Agreeing

@@ -1,0 +1,2 @@
+-- The exact cast beside the mesh cast. Definitions only. Assumes nothing.
+pub mod Agreement
