@@ -3,3 +3,4 @@ pub mod Crossings
 pub mod Points
 pub mod Plans
 pub mod Agreeing
+pub mod Examples
