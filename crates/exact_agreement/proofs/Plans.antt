@@ -25,9 +25,8 @@ use Rattle.exact_triangle.specs.Whole.{pointOf}
 use Rattle.exact_triangle.specs.Line.{lineOf}
 use Rattle.exact_triangle.specs.Exact.{boardOf}
 use Rattle.exact_triangle.specs.Surface.{along}
-use Rattle.exact_triangle.proofs.WholeLaws.{whole-told, range-of, point-near}
+use Rattle.exact_triangle.proofs.WholeLaws.{whole-told, whole-equals, range-of, point-near}
 use Rattle.exact_triangle.proofs.LineLaws.{line-parts, board-parts}
-use Rattle.mesh_exact.proofs.Standing.{whole-equals}
 use Rattle.mesh_exact.proofs.Headings.{EqualsAt, heading-equals}
 use Rattle.mesh_exact.proofs.Touching.{point-equals}
 use Rattle.whole_numbers.specs.Board.{DrawnAt}

@@ -4,8 +4,8 @@ use mathlib.Core.Bool.{Bool, true, false, cond, true≢false, false≢true}
 use native.Mathlib.Omega.{arith}
 use lib.IntN.{ℤ, pos, negsuc}
 use lib.Signed.{ltZ}
-use lib.Ieee.{Float, binary64, ofInt, toSigned, le, lt, ne}
-use borrow.Author.Tests.{ltb-false}
+use lib.Ieee.{Float, binary64, ofInt, toSigned, le, lt, eq, ne}
+use borrow.Author.Tests.{ltb-false, not-false}
 use Rattle.geometry.specs.declared.vec3.Vec3.{Vec3}
 use Rattle.exact_depth.specs.Sizes.{Sized}
 use Rattle.exact_triangle.specs.declared.whole.Whole.{Whole}
@@ -85,6 +85,33 @@ whole-told y low high x h = go (le least y) (lt y past) (ne y (ofInt binary64 (t
     go true false r h = absurd (false≢true (ap isWhole h))
     go true true true h = absurd (false≢true (ap isWhole h))
     go true true false h = within-told (toSigned 63 y) low high x h
+
+-- it equals that number
+within-is : (n low high z : ℤ) → within n low high ≡ Is z → n ≡ z
+unfolding within
+within-is n low high z h = go (ltZ n low) (ltZ high n) h
+  where
+    go : (p q : Bool) → cond p Not (cond q Not (Is n)) ≡ Is z → n ≡ z
+    go true q h = absurd (false≢true (ap isWhole h))
+    go false true h = absurd (false≢true (ap isWhole h))
+    go false false h = ap numberOf h
+
+equals : (x y : Float) → ne x y ≡ false → eq x y ≡ true
+unfolding ne
+equals x y h = not-false (eq x y) h
+
+pub whole-equals : (x : Float) (low high z : ℤ) → wholeIn x low high ≡ Is z → eq x (ofInt binary64 z) ≡ true
+unfolding wholeIn
+whole-equals x low high z h = go (le least x) (lt x past) (ne x (ofInt binary64 (toSigned 63 x))) refl h
+  where
+    go : (p q s : Bool) → ne x (ofInt binary64 (toSigned 63 x)) ≡ s
+        → cond p (cond q (cond s Not (within (toSigned 63 x) low high)) Not) Not ≡ Is z → eq x (ofInt binary64 z) ≡ true
+    go false q s e h = absurd (false≢true (ap isWhole h))
+    go true false s e h = absurd (false≢true (ap isWhole h))
+    go true true true e h = absurd (false≢true (ap isWhole h))
+    go true true false e h =
+        ap (λ (k : ℤ). eq x (ofInt binary64 k)) (sym (within-is (toSigned 63 x) low high z h))
+        ∙ equals x (ofInt binary64 (toSigned 63 x)) e
 
 near-of : (x : ℤ) → Between (negsuc 4095) (pos 4096) x → Sized 4096 x
 near-of (pos n) b = let m = ltb-false 4096 n (b .most) in record { size = m }

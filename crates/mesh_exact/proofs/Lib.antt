@@ -4,7 +4,6 @@ pub mod Passing
 pub mod Casting
 pub mod Answered
 pub mod OneCandidate
-pub mod Standing
 pub mod Means
 pub mod Sides
 pub mod Ends

@@ -35,10 +35,10 @@ use Rattle.exact_triangle.specs.Whole.{wholeIn, pointOf}
 use Rattle.exact_triangle.specs.Line.{lineOf}
 use Rattle.exact_triangle.specs.Exact.{Near, boardOf}
 use Rattle.exact_triangle.specs.Surface.{along, Surface}
-use Rattle.exact_triangle.proofs.WholeLaws.{whole-told, range-of, point-parts, point-near}
+use Rattle.exact_triangle.proofs.WholeLaws.{whole-told, whole-equals, range-of, point-parts, point-near}
 use Rattle.exact_triangle.proofs.LineLaws.{line-parts, near-positive, board-parts}
 use Rattle.exact_triangle.proofs.Distances.{surface-positive}
-use Rattle.mesh_exact.proofs.Standing.{Stands, stands, whole-equals, whole-stands}
+use Rattle.exact_depth.proofs.Standing.{Stands, stands}
 use Rattle.mesh_exact.proofs.Headings.{EqualsAt, heading-equals}
 use Rattle.mesh_exact.proofs.Sides.{ahead, behind, across}
 use Rattle.mesh_exact.proofs.Ends.{end-is}
@@ -82,7 +82,7 @@ range-stands x z h =
     let none : np z ≡ 0 = ap np e in
     record {
       whole = e;
-      stands = subst (λ (n : ℕ). Is x (pp z) n) none (whole-stands x (pos 0) (pos 16384) z (le-trans (s .size) (lit≤ tt)) h);
+      stands = subst (λ (n : ℕ). Is x (pp z) n) none (stands x z (le-trans (s .size) (lit≤ tt)) (whole-equals x (pos 0) (pos 16384) z h));
       size = subst (λ (n : ℕ). n ≤ 16384) (ap natAbs e) (s .size);
     }
 

@@ -19,7 +19,8 @@ use Rattle.geometry.specs.Segment.{unitLength, rayAdmitted}
 use Rattle.geometry.specs.declared.vec3.Vec3.{Vec3}
 use Rattle.geometry.specs.declared.ray.Ray.{Ray}
 use Rattle.arithmetic.proofs.SignedOrder.{plus}
-use Rattle.whole_numbers.proofs.Whole.{Stands, Whole, WholeVec}
+use Rattle.exact_depth.proofs.Standing.{Stands}
+use Rattle.whole_numbers.proofs.Whole.{Whole, WholeVec}
 use Rattle.whole_numbers.specs.Points.{Point, dotP}
 use Rattle.whole_numbers.specs.Board.{Axis, east, west, north, south, upward, downward, along}
 use Rattle.arithmetic.proofs.ValueOrder.{value-finite, lt-values}

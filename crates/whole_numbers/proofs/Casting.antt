@@ -24,7 +24,8 @@ use Rattle.casts.specs.Answer.{Answer, hit, none, withNormal, noNormal}
 use Rattle.casts.specs.Surface.{outOfRange, facing}
 use Rattle.casts.specs.Triangle.{flat, triangleNormal, triangleAbove, triangleAt, triangleOf, rayTriangle}
 use Rattle.exact_depth.proofs.Integers.{no-factor, pp, np, size-is, add-size, mul-size, neg-size}
-use Rattle.whole_numbers.proofs.Whole.{Stands, Whole, WholeVec}
+use Rattle.exact_depth.proofs.Standing.{Stands}
+use Rattle.whole_numbers.proofs.Whole.{Whole, WholeVec}
 use Rattle.whole_numbers.specs.Points.{Point, subP, crossP, dotP}
 use Rattle.whole_numbers.specs.Board.{Drawing, Board, along, firstEdge, secondEdge}
 use Rattle.whole_numbers.proofs.Vectors.{sub-whole, dot-whole, cross-whole}

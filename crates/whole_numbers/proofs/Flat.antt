@@ -19,7 +19,8 @@ use Rattle.geometry.specs.Numbers.{_*ᶠ_, oneᶠ, epsilon}
 use Rattle.geometry.specs.Vector.{absOf, maxElement}
 use Rattle.geometry.specs.declared.vec3.Vec3.{Vec3}
 use Rattle.casts.specs.Triangle.{flat}
-use Rattle.whole_numbers.proofs.Whole.{Stands, Whole, WholeVec}
+use Rattle.exact_depth.proofs.Standing.{Stands}
+use Rattle.whole_numbers.proofs.Whole.{Whole, WholeVec}
 use Rattle.whole_numbers.specs.Points.{Point}
 use Rattle.arithmetic.proofs.ValueOrder.{absolute-value, le-values, mul-values}
 use Rattle.arithmetic.proofs.ScalingLaws.{one-value}

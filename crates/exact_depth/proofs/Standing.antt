@@ -1,15 +1,14 @@
--- Floats that stand for whole numbers: what is told to be whole does, and their order is the whole numbers'. Assumes nothing.
+-- Floats that stand for whole numbers: one that equals a whole number's does, and their order is the whole numbers'. Assumes nothing.
 use mathlib.Core.Path.{_≡_, refl, sym, ap, _∙_}
 use mathlib.Core.Logic.{_⊎_, inl, inr}
-use mathlib.Core.Bool.{Bool, true, false, _||_, Bool·beq, cond, false≢true}
+use mathlib.Core.Bool.{Bool, true, false, _||_, Bool·beq, false≢true}
 use Prim.Native.Nat.{ℕ, suc, _+_, _*_, _^_, _≤_}
 use native.Mathlib.Nat.{mul-one, mul-right-comm, eq-of-mul-eq-mul-right, mul-le-mul-right}
 use native.Mathlib.Omega.{arith}
 use lib.Dec.{eqb}
-use borrow.Author.Tests.{eqb-true, not-false}
+use borrow.Author.Tests.{eqb-true}
 use lib.IntN.{ℤ, pos, negsuc, natAbs}
-use lib.Signed.{ltZ}
-use lib.Ieee.{Float, nan, inf, fin, binary64, up, down, lt, le, eq, ne, round, ofInt, toSigned, isNan}
+use lib.Ieee.{Float, nan, inf, fin, binary64, up, down, lt, le, eq, round, ofInt, isNan}
 use lib.Ieee.Fits.{down-pos}
 use lib.Ieee.Exact.{HasValue}
 use lib.Ieee.Back.{round-whole}
@@ -18,10 +17,7 @@ use Rattle.arithmetic.specs.Basic.{isFinite}
 use Rattle.arithmetic.proofs.Order.{le-of-not-lt}
 use Rattle.arithmetic.proofs.SignedOrder.{plus, less, below-not}
 use Rattle.arithmetic.proofs.WholeValues.{Is, signed}
 use Rattle.exact_depth.proofs.Integers.{pp, np, no-factor}
-use Rattle.exact_triangle.specs.declared.whole.Whole.{Whole}
-use Rattle.exact_triangle.specs.declared.whole.Whole.the-variants.{Is as IsWhole, Not}
-use Rattle.exact_triangle.specs.Whole.{within, least, past, wholeIn}
 
 -- x is the whole number z
 abbrev pub Stands : Float → ℤ → Type 0
@@ -78,44 +74,6 @@ pub stands : (x : Float) (z : ℤ) → natAbs z ≤ 2 ^ 53 → eq x (ofInt binar
 stands x (pos n) l h = eq-is x (round binary64 false n 1) false n (round-whole binary64 false n l) (ap (eq x) (sym (of-pos n)) ∙ h)
 stands x (negsuc n) l h =
     eq-is x (round binary64 true (suc n) 1) true (suc n) (round-whole binary64 true (suc n) l) (ap (eq x) (sym (of-negsuc n)) ∙ h)
-
--- ---- what is told
-abbrev isWhole : Whole → Bool
-isWhole (IsWhole n) = true
-isWhole Not = false
-
-abbrev numberOf : Whole → ℤ
-numberOf (IsWhole n) = n
-numberOf Not = pos 0
-
-within-is : (n low high z : ℤ) → within n low high ≡ IsWhole z → n ≡ z
-unfolding within
-within-is n low high z h = go (ltZ n low) (ltZ high n) h
-  where
-    go : (p q : Bool) → cond p Not (cond q Not (IsWhole n)) ≡ IsWhole z → n ≡ z
-    go true q h = absurd (false≢true (ap isWhole h))
-    go false true h = absurd (false≢true (ap isWhole h))
-    go false false h = ap numberOf h
-
-equals : (x y : Float) → ne x y ≡ false → eq x y ≡ true
-unfolding ne
-equals x y h = not-false (eq x y) h
-
-pub whole-equals : (x : Float) (low high z : ℤ) → wholeIn x low high ≡ IsWhole z → eq x (ofInt binary64 z) ≡ true
-unfolding wholeIn
-whole-equals x low high z h = go (le least x) (lt x past) (ne x (ofInt binary64 (toSigned 63 x))) refl h
-  where
-    go : (p q s : Bool) → ne x (ofInt binary64 (toSigned 63 x)) ≡ s
-        → cond p (cond q (cond s Not (within (toSigned 63 x) low high)) Not) Not ≡ IsWhole z → eq x (ofInt binary64 z) ≡ true
-    go false q s e h = absurd (false≢true (ap isWhole h))
-    go true false s e h = absurd (false≢true (ap isWhole h))
-    go true true true e h = absurd (false≢true (ap isWhole h))
-    go true true false e h =
-        ap (λ (k : ℤ). eq x (ofInt binary64 k)) (sym (within-is (toSigned 63 x) low high z h))
-        ∙ equals x (ofInt binary64 (toSigned 63 x)) e
-
-pub whole-stands : (x : Float) (low high z : ℤ) → natAbs z ≤ 2 ^ 53 → wholeIn x low high ≡ IsWhole z → Stands x z
-whole-stands x low high z l h = stands x z l (whole-equals x low high z h)
 
 -- ---- finite, and in order
 pub is-number : (x : Float) (p n : ℕ) → Is x p n → isNan x ≡ false
