@@ -2,5 +2,7 @@
 pub mod Crossings
 pub mod Points
 pub mod Plans
+pub mod Normals
+pub mod Refusing
 pub mod Agreeing
 pub mod Examples

@@ -34,7 +34,7 @@ use Rattle.whole_numbers.specs.Board as Board112
 use Rattle.whole_numbers.specs.Boards.{Boards}
 use Rattle.exact_agreement.specs.Agreement.{drawn, heading, drawnCorner, planOf, OfKind}
 
-point-drawn : (v : Vec3) (p : Point) → pointOf v ≡ Placed p → DrawnAt 4096 v (drawn p)
+pub point-drawn : (v : Vec3) (p : Point) → pointOf v ≡ Placed p → DrawnAt 4096 v (drawn p)
 point-drawn v p h =
     let e = point-equals v p h in
     let n = point-near v p h in

@@ -70,7 +70,7 @@ module _ (r : Ray) (m : Mesh) (l : Line) (on : lineOf r ≡ On l) where
   abbrev answers : ℕ → Answer
   answers = exactAnswer r l (m .vertices) (m .triangles)
 
-  ascends : Ascending listed
+  pub ascends : Ascending listed
   unfolding candidates
   ascends =
       keep-ascends (λ (t : ℕ). touches (triangleBox (m .vertices) (m .triangles) t) (segmentBox r)) (range 0 (triangleCount m))

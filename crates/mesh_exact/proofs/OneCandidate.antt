@@ -95,17 +95,17 @@ reached r vs (Reached f) normal distance h = record {
 }
 
 -- ---- the triangle's answer by its board
-told : (r : Ray) (l : Line) (vs : List Vec3) (board : Board) → boardOf vs ≡ board
+pub by-board : (r : Ray) (l : Line) (vs : List Vec3) (board : Board) → boardOf vs ≡ board
     → withBoard board (λ (a b c : Point). depthTold r vs (depthOf l a b c)) ≡ exactTriangle r l vs
 unfolding exactTriangle
-told r l vs board on = sym (ap (λ (x : Board). withBoard x (λ (a b c : Point). depthTold r vs (depthOf l a b c))) on)
+by-board r l vs board on = sym (ap (λ (x : Board). withBoard x (λ (a b c : Point). depthTold r vs (depthOf l a b c))) on)
 
 pub triangle-refused : (r : Ray) (l : Line) (vs : List Vec3) → boardOf vs ≡ Off → exactTriangle r l vs ≡ refused notWhole
-triangle-refused r l vs off = sym (told r l vs Off off)
+triangle-refused r l vs off = sym (by-board r l vs Off off)
 
 triangle-missed : (r : Ray) (l : Line) (vs : List Vec3) (a b c : Point) → boardOf vs ≡ At a b c → exactTriangle r l vs ≡ none
     → depthOf l a b c ≡ Miss
-triangle-missed r l vs a b c on h = missed r vs (depthOf l a b c) (told r l vs (At a b c) on ∙ h)
+triangle-missed r l vs a b c on h = missed r vs (depthOf l a b c) (by-board r l vs (At a b c) on ∙ h)
 
 record Hitting (l : Line) (vs : List Vec3) (distance : Float) : Type 0 where
   a : Point
@@ -124,9 +124,9 @@ triangle-hit r l vs normal distance h = go (boardOf vs) refl
       b = b;
       c = c;
       board = on;
-      reaching = reached r vs (depthOf l a b c) normal distance (told r l vs (At a b c) on ∙ h);
+      reaching = reached r vs (depthOf l a b c) normal distance (by-board r l vs (At a b c) on ∙ h);
     }
-    go Off on = absurd (false≢true (ap isHit (told r l vs Off on ∙ h)))
+    go Off on = absurd (false≢true (ap isHit (by-board r l vs Off on ∙ h)))
 
 -- ---- what a candidate's answer says of its points
 pub round-number : (n D : ℕ) → 0 < D → isNan (round binary64 false n D) ≡ false

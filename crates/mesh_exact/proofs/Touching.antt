@@ -10,9 +10,10 @@ use lib.IntN.{ℤ, pos, negsuc, natAbs, _-ℤ_, _*ℤ_}
 use lib.Signed.{leZ}
 use lib.Ieee.{Float, binary64, add, mul}
 use Rattle.lists.proofs.JoinedTests.{and-three}
+use Rattle.arithmetic.specs.Basic.{isFinite}
 use Rattle.arithmetic.specs.Extremes.{minimumOf, maximumOf}
 use Rattle.arithmetic.proofs.WholeValues.{Is, same}
-use Rattle.geometry.specs.Vector.{addOf, scaleOf, minOf, maxOf}
+use Rattle.geometry.specs.Vector.{finiteVec, addOf, scaleOf, minOf, maxOf}
 use Rattle.geometry.specs.Box.{corner, cornersBox, touchSide, touches}
 use Rattle.geometry.specs.Segment.{segmentEnd, segmentBox}
 use Rattle.geometry.specs.declared.vec3.Vec3.{Vec3}
@@ -38,7 +39,7 @@ use Rattle.exact_triangle.specs.Surface.{along, Surface}
 use Rattle.exact_triangle.proofs.WholeLaws.{whole-told, whole-equals, range-of, point-parts, point-near}
 use Rattle.exact_triangle.proofs.LineLaws.{line-parts, near-positive, board-parts}
 use Rattle.exact_triangle.proofs.Distances.{surface-positive}
-use Rattle.exact_depth.proofs.Standing.{Stands, stands}
+use Rattle.exact_depth.proofs.Standing.{Stands, stands, is-finite}
 use Rattle.mesh_exact.proofs.Headings.{EqualsAt, heading-equals}
 use Rattle.mesh_exact.proofs.Sides.{ahead, behind, across}
 use Rattle.mesh_exact.proofs.Ends.{end-is}
@@ -115,13 +116,11 @@ along-near axis =
     let s = steps axis in
     record { x = step-near (along axis .x) (s .x); y = step-near (along axis .y) (s .y); z = step-near (along axis .z) (s .z) }
 
-module _ (a b c o d far : Float) (A B C O : ℤ) (va : Stands a A) (vb : Stands b B) (vc : Stands c C) (vo : Stands o O)
-    (small : Sized 4096 O) (F : ℕ) (vf : Is far F 0) (size : F ≤ 16384) (i j k : ℕ) (t : ℤ) (some : 0 < i + j + k)
-    (least : np t ≤ pp t) (most : pp t ≤ F * (i + j + k) + np t) where
+module _ (o d far : Float) (O : ℤ) (vo : Stands o O) (small : Sized 4096 O) (F : ℕ) (vf : Is far F 0) (size : F ≤ 16384) where
   abbrev end : Float
   end = add binary64 o (mul binary64 d far)
 
-  -- its end is u - v times the maximum from the origin
+  -- the end is u - v times the maximum from the origin
   end-at : (u v p n : ℕ) → Is d u v → u ≤ 1 → v ≤ 1 → pp O + u * F + n ≡ p + (np O + v * F) → Is end p n
   end-at u v p n vd l m e =
       let l' : u * F ≤ 1 * F = mul-le-mul-right F l in
@@ -130,17 +129,27 @@ module _ (a b c o d far : Float) (A B C O : ℤ) (va : Stands a A) (vb : Stands 
       (end-is o d far (pp O) (np O) u v F vo vd vf (subst (λ (s : ℕ). s ≤ 4096) (size-is O) (small .size)) size (omega (arith, l', size))
       (omega (arith, m', size)))
 
-  side-touches : (δ : ℤ) → Step δ → Stands d δ → mix i j k (A -ℤ O) (B -ℤ O) (C -ℤ O) ≡ t *ℤ δ
-      → touchSide (minimumOf (minimumOf a b) c) (maximumOf (maximumOf a b) c) (minimumOf o end) (maximumOf o end) ≡ true
-  side-touches δ forth vd h =
-      ahead a b c o end A B C O va vb vc vo F i j k t some least most
-      (end-at 1 0 (pp O + F) (np O) vd (omega arith) (omega arith) (omega arith)) h
-  side-touches δ back vd h =
-      behind a b c o end A B C O va vb vc vo F i j k t some least most
-      (end-at 0 1 (pp O) (np O + F) vd (omega arith) (omega arith) (omega arith)) h
-  side-touches δ still vd h =
-      across a b c o end A B C O va vb vc vo F i j k t some least most
-      (end-at 0 0 (pp O) (np O) vd (omega arith) (omega arith) (omega arith)) h
+  ahead-at : Stands d (pos 1) → Is end (pp O + F) (np O)
+  ahead-at vd = end-at 1 0 (pp O + F) (np O) vd (omega arith) (omega arith) (omega arith)
+
+  behind-at : Stands d (negsuc 0) → Is end (pp O) (np O + F)
+  behind-at vd = end-at 0 1 (pp O) (np O + F) vd (omega arith) (omega arith) (omega arith)
+
+  across-at : Stands d (pos 0) → Is end (pp O) (np O)
+  across-at vd = end-at 0 0 (pp O) (np O) vd (omega arith) (omega arith) (omega arith)
+
+  side-finite : (δ : ℤ) → Step δ → Stands d δ → isFinite end ≡ true
+  side-finite δ forth vd = is-finite end (pp O + F) (np O) (ahead-at vd)
+  side-finite δ back vd = is-finite end (pp O) (np O + F) (behind-at vd)
+  side-finite δ still vd = is-finite end (pp O) (np O) (across-at vd)
+
+  module _ (a b c : Float) (A B C : ℤ) (va : Stands a A) (vb : Stands b B) (vc : Stands c C) (i j k : ℕ) (t : ℤ) (some : 0 < i + j + k)
+      (least : np t ≤ pp t) (most : pp t ≤ F * (i + j + k) + np t) where
+    side-touches : (δ : ℤ) → Step δ → Stands d δ → mix i j k (A -ℤ O) (B -ℤ O) (C -ℤ O) ≡ t *ℤ δ
+        → touchSide (minimumOf (minimumOf a b) c) (maximumOf (maximumOf a b) c) (minimumOf o end) (maximumOf o end) ≡ true
+    side-touches δ forth vd h = ahead a b c o end A B C O va vb vc vo F i j k t some least most (ahead-at vd) h
+    side-touches δ back vd h = behind a b c o end A B C O va vb vc vo F i j k t some least most (behind-at vd) h
+    side-touches δ still vd h = across a b c o end A B C O va vb vc vo F i j k t some least most (across-at vd) h
 
 -- ---- every axis
 -- the maximum bounds t / D
@@ -150,32 +159,58 @@ reach-most f D t e h =
     rep-le (own t) (rep-mul (own-pos (pp f)) (own-pos D)) (ap (λ (z : ℤ). leZ t (z *ℤ pos D)) (sym e) ∙ h) in
     omega (arith, m)
 
+-- the ray stands for the line
+record RayStands (r : Ray) (l : Line) : Type 0 where
+  origin : StandsAt (r .origin) (l .origin)
+  small : Near (l .origin)
+  direction : StandsAt (r .direction) (along (l .axis))
+  far : Ranged (r .«max_distance») (l .reach .far)
+
+ray-stands : (r : Ray) (l : Line) → lineOf r ≡ On l → RayStands r l
+ray-stands r l on =
+    let line = line-parts r l on in
+    record {
+      origin = told-stands (r .origin) (l .origin) (line .origin);
+      small = point-near (r .origin) (l .origin) (line .origin);
+      direction =
+          point-stands (r .direction) (along (l .axis)) (heading-equals (r .direction) (l .axis) (line .axis)) (along-near (l .axis));
+      far = range-stands (r .«max_distance») (l .reach .far) (line .reach .far);
+    }
+
+-- 6 never comes
+pub end-finite : (r : Ray) (l : Line) → lineOf r ≡ On l → finiteVec (segmentEnd r) ≡ true
+unfolding finiteVec segmentEnd addOf scaleOf
+end-finite r l on =
+    let q = ray-stands r l on in
+    let step = steps (l .axis) in
+    let d = along (l .axis) in
+    and-three _ _ _
+    (side-finite _ _ _ (l .origin .x) (q .origin .x) (q .small .x) _ (q .far .stands) (q .far .size) (d .x) (step .x) (q .direction .x))
+    (side-finite _ _ _ (l .origin .y) (q .origin .y) (q .small .y) _ (q .far .stands) (q .far .size) (d .y) (step .y) (q .direction .y))
+    (side-finite _ _ _ (l .origin .z) (q .origin .z) (q .small .z) _ (q .far .stands) (q .far .size) (d .z) (step .z) (q .direction .z))
+
 pub met-touches : (r : Ray) (l : Line) → lineOf r ≡ On l → (vs : List Vec3) (a b c : Point) → boardOf vs ≡ At a b c
     → (D : ℕ) (t : ℤ) → Surface l a b c D t → touches (cornersBox vs) (segmentBox r) ≡ true
 unfolding touches cornersBox segmentBox segmentEnd addOf scaleOf minOf maxOf
 met-touches r l on vs a b c board D t s =
-    let line = line-parts r l on in
+    let q = ray-stands r l on in
     let corners = board-parts vs a b c board in
     let va = told-stands (corner vs 0) a (corners .first) in
     let vb = told-stands (corner vs 1) b (corners .second) in
     let vc = told-stands (corner vs 2) c (corners .third) in
-    let vo = told-stands (r .origin) (l .origin) (line .origin) in
-    let near = point-near (r .origin) (l .origin) (line .origin) in
-    let vd =
-    point-stands (r .direction) (along (l .axis)) (heading-equals (r .direction) (l .axis) (line .axis)) (along-near (l .axis)) in
-    let far = range-stands (r .«max_distance») (l .reach .far) (line .reach .far) in
     let m = s .lies in
     let F = pp (l .reach .far) in
     let some : 0 < m .i + m .j + m .k = subst (λ (n : ℕ). 0 < n) (sym (m .total)) (s .positive) in
     let whole = surface-positive l a b c D t (near-positive r l on) s in
     let least : np t ≤ pp t = omega (arith, ap np whole) in
     let most : pp t ≤ F * (m .i + m .j + m .k) + np t =
-    subst (λ (n : ℕ). pp t ≤ F * n + np t) (sym (m .total)) (reach-most (l .reach .far) D t (far .whole) (s .most)) in
+    subst (λ (n : ℕ). pp t ≤ F * n + np t) (sym (m .total)) (reach-most (l .reach .far) D t (q .far .whole) (s .most)) in
     let step = steps (l .axis) in
+    let d = along (l .axis) in
     and-three _ _ _
-    (side-touches _ _ _ _ _ _ (a .x) (b .x) (c .x) (l .origin .x) (va .x) (vb .x) (vc .x) (vo .x) (near .x) F (far .stands) (far .size)
-    (m .i) (m .j) (m .k) t some least most (along (l .axis) .x) (step .x) (vd .x) (m .x))
-    (side-touches _ _ _ _ _ _ (a .y) (b .y) (c .y) (l .origin .y) (va .y) (vb .y) (vc .y) (vo .y) (near .y) F (far .stands) (far .size)
-    (m .i) (m .j) (m .k) t some least most (along (l .axis) .y) (step .y) (vd .y) (m .y))
-    (side-touches _ _ _ _ _ _ (a .z) (b .z) (c .z) (l .origin .z) (va .z) (vb .z) (vc .z) (vo .z) (near .z) F (far .stands) (far .size)
-    (m .i) (m .j) (m .k) t some least most (along (l .axis) .z) (step .z) (vd .z) (m .z))
+    (side-touches _ _ _ (l .origin .x) (q .origin .x) (q .small .x) F (q .far .stands) (q .far .size) _ _ _ (a .x) (b .x) (c .x) (va .x)
+    (vb .x) (vc .x) (m .i) (m .j) (m .k) t some least most (d .x) (step .x) (q .direction .x) (m .x))
+    (side-touches _ _ _ (l .origin .y) (q .origin .y) (q .small .y) F (q .far .stands) (q .far .size) _ _ _ (a .y) (b .y) (c .y) (va .y)
+    (vb .y) (vc .y) (m .i) (m .j) (m .k) t some least most (d .y) (step .y) (q .direction .y) (m .y))
+    (side-touches _ _ _ (l .origin .z) (q .origin .z) (q .small .z) F (q .far .stands) (q .far .size) _ _ _ (a .z) (b .z) (c .z) (va .z)
+    (vb .z) (vc .z) (m .i) (m .j) (m .k) t some least most (d .z) (step .z) (q .direction .z) (m .z))

@@ -109,7 +109,7 @@ stands-not-zero x z v h = go (eq x zeroᶠ) refl
         let q = zero-value-of x (zero-is x e) in
         absurd (let w = same-size x (p .sign) (q .0) (natAbs z) (p .value) (q .1) in omega (arith, w, h))
 
-whole-normalizable : (B : ℕ) (v : Vec3) (p : Point) → WholeVec B v p → 0 < natAbs (p .x) + (natAbs (p .y) + natAbs (p .z))
+pub whole-normalizable : (B : ℕ) (v : Vec3) (p : Point) → WholeVec B v p → 0 < natAbs (p .x) + (natAbs (p .y) + natAbs (p .z))
     → normalizable v ≡ true
 unfolding normalizable zeroVec
 whole-normalizable B v p w h = go (natAbs (p .x)) (natAbs (p .y)) refl refl
