@@ -1,7 +1,7 @@
 -- Outside the open cases of M-112 the exact cast and the mesh cast agree in none and in the depth. Assumes nothing.
 use Prim.Native.Nat.{ℕ, _+_, _*_, _≤_, _<_}
 use mathlib.Core.Path.{_≡_, refl, sym, ap, _∙_, subst}
-use mathlib.Core.Bool.{Bool, true, false}
+use mathlib.Core.Bool.{Bool, true, false, true≢false}
 use native.Mathlib.Nat.{mul-le-mul-right, le-of-mul-le-mul-right}
 use native.Mathlib.Omega.{arith}
 use lib.Dec.{ltb, le→leb, lt→ltb}
@@ -13,28 +13,35 @@ use Rattle.geometry.specs.declared.vec3.Vec3.{Vec3}
 use Rattle.geometry.specs.declared.ray.Ray.{Ray}
 use Rattle.casts.specs.Nearest.{Indexed, hitAt, noHit, stopped}
 use Rattle.casts.proofs.AnswerLists.{hit-not-none}
-use Rattle.tree.specs.Mesh.{Mesh}
+use Rattle.geometry.specs.Segment.{rayAdmitted}
+use Rattle.tree.specs.Mesh.{Mesh, lengthsAdmitted}
+use lib.ListN.{length}
 use Rattle.mesh.specs.MeshCast.{rayMesh}
 use Rattle.mesh.specs.Demand3.{Candidate}
+use Rattle.tree_check.proofs.Answers.{yes-passes}
 use Rattle.mesh.proofs.Demand3.{listed-candidate}
+use Rattle.mesh_plain.proofs.Agreement.{triangles-fit}
 use Rattle.exact_depth.proofs.Integers.{pp}
 use Rattle.exact_triangle.specs.declared.line.Line.{Line}
-use Rattle.exact_triangle.specs.declared.line.Ruled.the-variants.{On}
+use Rattle.exact_triangle.specs.declared.line.Ruled.{Ruled}
+use Rattle.exact_triangle.specs.declared.line.Ruled.the-variants.{On, Off}
 use Rattle.exact_triangle.specs.declared.cast.Board.{Board}
 use Rattle.exact_triangle.specs.declared.cast.Board.the-variants.{At}
 use Rattle.exact_triangle.specs.Line.{lineOf}
 use Rattle.exact_triangle.proofs.LineLaws.{near-positive}
 use Rattle.exact_triangle.proofs.Distances.{surface-positive}
-use Rattle.mesh_exact.specs.ExactCast.{rayMeshExactPlain}
+use Rattle.mesh_exact.specs.ExactCast.{trianglesFit, rayMeshExactPlain}
 use Rattle.mesh_exact.specs.Certain.{Met}
 use Rattle.mesh_exact.proofs.Certainty.{met-listed, certain}
 use Rattle.whole_numbers.specs.Board.{Drawing, Parallel, Crossing, Within}
 use Rattle.whole_numbers.specs.Board as Board112
 use Rattle.whole_numbers.specs.Boards.{Plan, drawingOf, Missed, outside, behind, beyond, AtMost, MeshExact}
 use Rattle.whole_numbers.specs.Boards as Boards112
-use Rattle.whole_numbers.proofs.WholeMeshes.{meshes-exact}
-use Rattle.exact_agreement.specs.Agreement.{planOf, OfKind, Closed, NoOpenCase, SameDepth, Agree, CastsAgree}
+use Rattle.whole_numbers.proofs.WholeMeshes.{ray-admitted, meshes-exact}
+use Rattle.exact_agreement.specs.Refusals.{Refusal, not-admitted, no-line, bad-lengths, no-box, not-whole}
+use Rattle.exact_agreement.specs.Agreement.{planOf, OfKind, WholeCandidates, Closed, NoOpenCase, SameDepth, Agree, CastsAgree}
 use Rattle.exact_agreement.proofs.Points.{drawingAt, lies-crossing, crossing-lies, has-area}
+use Rattle.exact_agreement.proofs.Refusing.{refuses-only}
 use Rattle.exact_agreement.proofs.Plans.{far-whole, Whole, candidate-whole, drawn-boards}
 
 -- ---- both bounds of a rounded depth: x is within 2^-51 of t' / D', and t / D is not above that, and bounds x from above
@@ -97,7 +104,8 @@ strict n N h f = go (ltb n N) refl
     go true e = ltb-true n N e
     go false e = absurd (f (let w = ltb-false n N e in omega (arith, h, w)))
 
-module _ (r : Ray) (m : Mesh) (l : Line) (on : lineOf r ≡ On l) (kind : OfKind l) (closed : NoOpenCase r m (planOf l m)) where
+module _ (r : Ray) (m : Mesh) (l : Line) (on : lineOf r ≡ On l) (kind : OfKind l) (all : WholeCandidates r m)
+    (closed : NoOpenCase r m (planOf l m)) where
   abbrev plan : Plan
   plan = planOf l m
 
@@ -201,7 +209,7 @@ module _ (r : Ray) (m : Mesh) (l : Line) (on : lineOf r ≡ On l) (kind : OfKind
     hit-met n d i h =
         let c = told .candidate n d i h in
         let x = told .crosses n d i h in
-        let w = candidate-whole r m (certain r m .drawn runs .others) i c in (
+        let w = candidate-whole r m all i c in (
           x .0,
           x .3,
           crossing-met i c w (x .0) (x .1) (x .2) (x .3) (x .4) (told .not-missed n d i h),
@@ -228,14 +236,32 @@ module _ (r : Ray) (m : Mesh) (l : Line) (on : lineOf r ≡ On l) (kind : OfKind
 
     agree : Agree m l rounded exact
     agree = record {
+      answers = told .answers;
+      exact-answers = runs;
       none = λ e. is-none exact runs (λ n d i h. struck-promised n d i h e);
       none-only = λ e. is-none rounded (told .answers) (λ n d i h. certain r m .none l on e i _ _ (hit-met n d i h .2));
       depth = same-depth;
     }
 
 -- ---- of any tree that passes the check
+abbrev isOn : Ruled → Bool
+isOn (On l) = true
+isOn Off = false
+
+answers-all : (r : Ray) (m : Mesh) → rayAdmitted r ≡ true → (l : Line) → lineOf r ≡ On l
+    → lengthsAdmitted (length (m .vertices)) (length (m .triangles)) ≡ true → trianglesFit m ≡ true → WholeCandidates r m
+    → (number : ℕ) → Refusal r m number → ⊥
+answers-all r m ok l on lengths fit all number (not-admitted h) = true≢false (sym ok ∙ h)
+answers-all r m ok l on lengths fit all number (no-line p h) = true≢false (ap isOn (sym on ∙ h))
+answers-all r m ok l on lengths fit all number (bad-lengths h) = true≢false (sym lengths ∙ h)
+answers-all r m ok l on lengths fit all number (no-box h) = true≢false (sym fit ∙ h)
+answers-all r m ok l on lengths fit all number (not-whole i k h) = all i k h
+
 pub casts-agree : CastsAgree
-casts-agree r m t list stack lengths passes room l on kind closed runs =
-    agree r m l on kind closed (rayMesh r m (m .vertices) t list stack)
-    (meshes-exact r m t list stack (planOf l m) lengths passes room
-    (drawn-boards r m (certain r m .drawn runs .others) l on kind)) runs
+casts-agree r m t list stack lengths passes room l on kind all closed =
+    let boards = drawn-boards r m all l on kind in
+    let fit = triangles-fit m t (yes-passes m t (passes .marks) (passes .says-yes)) in
+    agree r m l on kind all closed (rayMesh r m (m .vertices) t list stack)
+    (meshes-exact r m t list stack (planOf l m) lengths passes room boards)
+    (λ number h.
+    answers-all r m (ray-admitted r m (planOf l m) boards) l on lengths fit all number (refuses-only r m number h))

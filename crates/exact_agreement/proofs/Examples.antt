@@ -1,7 +1,7 @@
 -- The agreement at three triangles with whole corners, in a tree that no builder of ours would write. Assumes nothing.
 use Prim.Native.Nat.{ℕ, zero, suc, _*_, _≤_, _<_}
 use mathlib.Core.Path.{_≡_, refl, sym, ap, _∙_, subst}
-use mathlib.Core.Bool.{Bool, true, false, true≢false}
+use mathlib.Core.Bool.{Bool, true, false, true≢false, false≢true}
 use mathlib.Core.List.{List, [], _∷_}
 use native.Mathlib.Nat.{mul-le-mul-right}
 use native.Mathlib.Omega.{arith}
@@ -19,6 +19,7 @@ use Rattle.geometry.specs.Vector.{dotOf, checkedDot, crossOf, lengthOf}
 use Rattle.geometry.specs.Vector.{normalizable, zeroVec, dotTells, scaledToOne, overLength, tryNormalize}
 use Rattle.geometry.specs.Box.{validSide, validBox, touchSide, touches}
 use Rattle.geometry.specs.Segment.{unitLength, rayAdmitted, segmentEnd, segmentBox}
+use Rattle.geometry.specs.declared.vec3.Vec3.{Vec3}
 use Rattle.geometry.specs.declared.ray.Ray.{Ray}
 use Rattle.casts.specs.Surface.{facing}
 use Rattle.casts.specs.Triangle.{triangleNormal}
@@ -48,7 +49,7 @@ use Rattle.exact_triangle.specs.Exact.{facing as seenFrom, spotOf, depthOf, boa
 use Rattle.mesh_exact.specs.ExactCast.{triangleFits, trianglesFit, exactAnswer, overExact, exactCast, rayMeshExactPlain}
 use Rattle.whole_numbers.specs.Board.{Parallel, Crossing}
 use Rattle.whole_numbers.specs.Points as Points
-use Rattle.exact_agreement.specs.Agreement.{planOf, NoOpenCase, Agree}
+use Rattle.exact_agreement.specs.Agreement.{planOf, WholeCandidates, NoOpenCase, SameDepth, Agree}
 use Rattle.exact_agreement.proofs.Points.{drawingAt}
 use Rattle.exact_agreement.proofs.Agreeing.{casts-agree}
 
@@ -109,6 +110,10 @@ unfolding touches touchSide triangleBox cornerAt vectorAt segmentBox segmentEnd 
 second-apart = refl
 
 -- ---- a triangle of the column is crossed in its first corner, k millimetres deep
+abbrev isOff : Board → Bool
+isOff (At a b c) = false
+isOff Off = true
+
 abbrev is-negative : ℤ → Bool
 is-negative (pos n) = false
 is-negative (negsuc n) = true
@@ -199,9 +204,19 @@ column-clear = record {
 }
 
 -- so the cast through that tree and the exact cast agree
+whole : WholeCandidates ray mesh
+whole zero c h = false≢true (ap isOff (sym (ap (λ (xs : List Board). getD xs 0 Off) boards-told) ∙ h))
+whole (suc zero) c h = true≢false (sym (c .near) ∙ second-apart)
+whole (suc (suc zero)) c h = false≢true (ap isOff (sym (ap (λ (xs : List Board). getD xs 1 Off) boards-told) ∙ h))
+whole (suc (suc (suc j))) c h = omega (arith, c .triangle)
+
 pub odd-agrees : Agree mesh line (rayMesh ray mesh vertices oddTree 3 4) (rayMeshExactPlain ray mesh)
 unfolding lengthsAdmitted roomFor treeFits
 odd-agrees =
     casts-agree ray mesh oddTree 3 4 refl (record { marks = 9; says-yes = odd-passes }) refl line line-told
-    (record { near = refl; maximum = lit≤ tt }) column-clear
-    (λ number h. hit-not-stopped (record { x = o; y = o; z = i }) i 0 number (sym cast-told ∙ h))
+    (record { near = refl; maximum = lit≤ tt }) whole column-clear
+
+-- .. in a depth of 1: the cast through the tree is a hit within 2^-51 of the exact cast's least depth
+pub odd-hit : (normal : Vec3) (distance : Float) (index : ℕ) → rayMesh ray mesh vertices oddTree 3 4 ≡ hitAt normal distance index
+    → SameDepth mesh line distance i
+odd-hit n d j h = odd-agrees .depth n d j h (record { x = o; y = o; z = i }) i 0 cast-told

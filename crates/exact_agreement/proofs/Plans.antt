@@ -32,7 +32,7 @@ use Rattle.mesh_exact.proofs.Touching.{point-equals}
 use Rattle.whole_numbers.specs.Board.{DrawnAt}
 use Rattle.whole_numbers.specs.Board as Board112
 use Rattle.whole_numbers.specs.Boards.{Boards}
-use Rattle.exact_agreement.specs.Agreement.{drawn, heading, drawnCorner, planOf, OfKind}
+use Rattle.exact_agreement.specs.Agreement.{drawn, heading, drawnCorner, planOf, OfKind, WholeCandidates}
 
 pub point-drawn : (v : Vec3) (p : Point) → pointOf v ≡ Placed p → DrawnAt 4096 v (drawn p)
 point-drawn v p h =
@@ -76,14 +76,13 @@ pub record Whole (m : Mesh) (i : ℕ) : Type 0 where
   pub c : Point
   pub board : boardOf (cornersOf (m .vertices) (m .triangles) i) ≡ At a b c
 
-module _ (r : Ray) (m : Mesh) (others : (i : ℕ) → i < triangleCount m → boardOf (cornersOf (m .vertices) (m .triangles) i) ≡ Off
-    → touches (triangleBox (m .vertices) (m .triangles) i) (segmentBox r) ≡ false) where
+module _ (r : Ray) (m : Mesh) (all : WholeCandidates r m) where
   pub candidate-whole : (i : ℕ) → Candidate r m i → Whole m i
   candidate-whole i k = go (boardOf (cornersOf (m .vertices) (m .triangles) i)) refl
     where
       go : (x : Board) → boardOf (cornersOf (m .vertices) (m .triangles) i) ≡ x → Whole m i
       go (At a b c) e = record { a = a; b = b; c = c; board = e }
-      go Off e = absurd (true≢false (sym (k .near) ∙ others i (k .triangle) e))
+      go Off e = absurd (all i k e)
 
   module _ (l : Line) (on : lineOf r ≡ On l) (kind : OfKind l) where
     corner-drawn : (i : ℕ) (w : Whole m i) (k : ℕ) → k < 3

@@ -60,6 +60,10 @@ pub record OfKind (l : Line) : Type 0 where
   pub near : l .reach .near ≡ pos 0
   pub maximum : 1 ≤ natAbs (l .reach .far)
 
+-- the candidates' corners are whole
+abbrev pub WholeCandidates : Ray → Mesh → Type 0
+WholeCandidates r m = (i : ℕ) → Candidate r m i → boardOf (cornersOf (m .vertices) (m .triangles) i) ≡ Off → ⊥
+
 -- ---- the open cases
 -- the crossing lies in the closed triangle
 pub record Closed (D : ℕ) (u v : ℤ) : Type 0 where
@@ -82,16 +86,18 @@ pub record SameDepth (m : Mesh) (l : Line) (distance exact : Float) : Type 0 whe
   pub close : Within distance (least .t) (least .D)
 
 pub record Agree (m : Mesh) (l : Line) (rounded exact : Indexed) : Type 0 where
+  -- neither refuses
+  pub answers : (number : ℕ) → rounded ≡ stopped number → ⊥
+  pub exact-answers : (number : ℕ) → exact ≡ stopped number → ⊥
   pub none : rounded ≡ noHit → exact ≡ noHit
   pub none-only : exact ≡ noHit → rounded ≡ noHit
   pub depth : (normal : Vec3) (distance : Float) (index : ℕ) → rounded ≡ hitAt normal distance index
       → (normal' : Vec3) (distance' : Float) (index' : ℕ) → exact ≡ hitAt normal' distance' index' → SameDepth m l distance distance'
 
 -- 'where `ray_mesh` answers a hit or none on such a board and no candidate's crossing lies on the side opposite its first corner or at the
--- maximum, and no candidate is parallel': through any tree that passes the check, where the exact cast does not refuse
+-- maximum, and no candidate is parallel': through any tree that passes the check
 abbrev pub CastsAgree : Type 0
 CastsAgree =
     (r : Ray) (m : Mesh) (t : Tree) (list stack : ℕ) → lengthsAdmitted (length (m .vertices)) (length (m .triangles)) ≡ true
-    → PassesCheck m t → roomFor m t list stack ≡ true → (l : Line) → lineOf r ≡ On l → OfKind l → NoOpenCase r m (planOf l m)
-    → ((number : ℕ) → rayMeshExactPlain r m ≡ stopped number → ⊥)
-    → Agree m l (rayMesh r m (m .vertices) t list stack) (rayMeshExactPlain r m)
+    → PassesCheck m t → roomFor m t list stack ≡ true → (l : Line) → lineOf r ≡ On l → OfKind l → WholeCandidates r m
+    → NoOpenCase r m (planOf l m) → Agree m l (rayMesh r m (m .vertices) t list stack) (rayMeshExactPlain r m)

@@ -77,7 +77,7 @@ is-hit (stopped number) f g = absurd (g number refl)
 
 module _ (r : Ray) (m : Mesh) (p : Plan) (b : Boards r m p) where
   -- ---- the ray is admitted and its segment's end is finite
-  ray-admitted : rayAdmitted r ≡ true
+  pub ray-admitted : rayAdmitted r ≡ true
   ray-admitted =
       admitted r (p .o) (p .direction) (p .maximum) 4096 (drawn-at 4096 _ _ (lit≤ tt) (b .origin))
       (drawn-at 1 _ _ (lit≤ tt) (b .direction)) (b .positive) (drawn 16384 _ _ (lit≤ tt) (b .maximum) .value)
