@@ -14,10 +14,11 @@ use Rattle.geometry.specs.declared.ray.Ray.{Ray}
 use Rattle.casts.specs.Nearest.{Indexed, hitAt, noHit, stopped}
 use Rattle.casts.proofs.AnswerLists.{hit-not-none}
 use Rattle.geometry.specs.Segment.{rayAdmitted}
+use Rattle.tree.specs.Layout.{Tree}
 use Rattle.tree.specs.Mesh.{Mesh, lengthsAdmitted}
 use lib.ListN.{length}
-use Rattle.mesh.specs.MeshCast.{rayMesh}
-use Rattle.mesh.specs.Demand3.{Candidate}
+use Rattle.mesh.specs.MeshCast.{roomFor, rayMesh}
+use Rattle.mesh.specs.Demand3.{PassesCheck, Candidate}
 use Rattle.tree_check.proofs.Answers.{yes-passes}
 use Rattle.mesh.proofs.Demand3.{listed-candidate}
 use Rattle.mesh_plain.proofs.Agreement.{triangles-fit}
@@ -39,7 +40,8 @@ use Rattle.whole_numbers.specs.Boards.{Plan, drawingOf, Missed, outside, behind
 use Rattle.whole_numbers.specs.Boards as Boards112
 use Rattle.whole_numbers.proofs.WholeMeshes.{ray-admitted, meshes-exact}
 use Rattle.exact_agreement.specs.Refusals.{Refusal, not-admitted, no-line, bad-lengths, no-box, not-whole}
-use Rattle.exact_agreement.specs.Agreement.{planOf, OfKind, WholeCandidates, Closed, NoOpenCase, SameDepth, Agree, CastsAgree}
+use Rattle.exact_agreement.specs.Agreement.{Closed, NoOpenCase, SameDepth, Agree}
+use Rattle.exact_agreement.proofs.Readings.{planOf, OfKind, WholeCandidates}
 use Rattle.exact_agreement.proofs.Points.{drawingAt, lies-crossing, crossing-lies, has-area}
 use Rattle.exact_agreement.proofs.Refusing.{refuses-only}
 use Rattle.exact_agreement.proofs.Plans.{far-whole, Whole, candidate-whole, drawn-boards}
@@ -257,7 +259,10 @@ answers-all r m ok l on lengths fit all number (bad-lengths h) = true≢false (s
 answers-all r m ok l on lengths fit all number (no-box h) = true≢false (sym fit ∙ h)
 answers-all r m ok l on lengths fit all number (not-whole i k h) = all i k h
 
-pub casts-agree : CastsAgree
+pub casts-agree : (r : Ray) (m : Mesh) (t : Tree) (list stack : ℕ)
+    → lengthsAdmitted (length (m .vertices)) (length (m .triangles)) ≡ true → PassesCheck m t → roomFor m t list stack ≡ true
+    → (l : Line) → lineOf r ≡ On l → OfKind l → WholeCandidates r m → NoOpenCase r m (planOf l m)
+    → Agree m l (rayMesh r m (m .vertices) t list stack) (rayMeshExactPlain r m)
 casts-agree r m t list stack lengths passes room l on kind all closed =
     let boards = drawn-boards r m all l on kind in
     let fit = triangles-fit m t (yes-passes m t (passes .marks) (passes .says-yes)) in

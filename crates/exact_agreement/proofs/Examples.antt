@@ -24,7 +24,6 @@ use Rattle.geometry.specs.declared.ray.Ray.{Ray}
 use Rattle.casts.specs.Surface.{facing}
 use Rattle.casts.specs.Triangle.{triangleNormal}
 use Rattle.casts.specs.Nearest.{hitAt, nextOf, foldFrom}
-use Rattle.casts.proofs.AnswerLists.{hit-not-stopped}
 use Rattle.lists.specs.Lists.{range, keep, every}
 use Rattle.tree.specs.Layout.{vectorAt}
 use Rattle.tree.specs.Mesh.{Mesh, lengthsAdmitted, cornersInside, cornerAt, cornersOf, triangleBox, candidates}
@@ -49,9 +48,11 @@ use Rattle.exact_triangle.specs.Exact.{facing as seenFrom, spotOf, depthOf, boa
 use Rattle.mesh_exact.specs.ExactCast.{triangleFits, trianglesFit, exactAnswer, overExact, exactCast, rayMeshExactPlain}
 use Rattle.whole_numbers.specs.Board.{Parallel, Crossing}
 use Rattle.whole_numbers.specs.Points as Points
-use Rattle.exact_agreement.specs.Agreement.{planOf, WholeCandidates, NoOpenCase, SameDepth, Agree}
+use Rattle.exact_agreement.specs.Agreement.{NoOpenCase, SameDepth, Agree}
+use Rattle.exact_agreement.proofs.Readings.{planOf, WholeCandidates}
 use Rattle.exact_agreement.proofs.Points.{drawingAt}
-use Rattle.exact_agreement.proofs.Agreeing.{casts-agree}
+use Rattle.exact_agreement.proofs.Plans.{drawn-boards}
+use Rattle.exact_agreement.proofs.BoardsAgreeing.{boards-agree}
 
 -- ---- one at height 0, one beside it, one below it
 abbrev vertices : List Float
@@ -210,13 +211,14 @@ whole (suc zero) c h = true≢false (sym (c .near) ∙ second-apart)
 whole (suc (suc zero)) c h = false≢true (ap isOff (sym (ap (λ (xs : List Board). getD xs 1 Off) boards-told) ∙ h))
 whole (suc (suc (suc j))) c h = omega (arith, c .triangle)
 
-pub odd-agrees : Agree mesh line (rayMesh ray mesh vertices oddTree 3 4) (rayMeshExactPlain ray mesh)
+pub odd-agrees : (l : Line)
+    × ((lineOf ray ≡ On l) × Agree mesh l (rayMesh ray mesh vertices oddTree 3 4) (rayMeshExactPlain ray mesh))
 unfolding lengthsAdmitted roomFor treeFits
 odd-agrees =
-    casts-agree ray mesh oddTree 3 4 refl (record { marks = 9; says-yes = odd-passes }) refl line line-told
-    (record { near = refl; maximum = lit≤ tt }) whole column-clear
+    boards-agree ray mesh oddTree 3 4 (planOf line mesh) refl (record { marks = 9; says-yes = odd-passes }) refl
+    (drawn-boards ray mesh whole line line-told (record { near = refl; maximum = lit≤ tt })) column-clear
 
--- .. in a depth of 1: the cast through the tree is a hit within 2^-51 of the exact cast's least depth
+-- .. in the depth: where the cast through the tree is a hit, its distance lies within 2^-51 of the least depth, and 1 is nearest to that
 pub odd-hit : (normal : Vec3) (distance : Float) (index : ℕ) → rayMesh ray mesh vertices oddTree 3 4 ≡ hitAt normal distance index
-    → SameDepth mesh line distance i
-odd-hit n d j h = odd-agrees .depth n d j h (record { x = o; y = o; z = i }) i 0 cast-told
+    → SameDepth mesh (odd-agrees .0) distance i
+odd-hit n d j h = odd-agrees .1 .1 .depth n d j h (record { x = o; y = o; z = i }) i 0 cast-told

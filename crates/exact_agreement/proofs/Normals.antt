@@ -1,18 +1,17 @@
 -- A triangle on whole millimetres with area has a normal, so that 7 never comes. Assumes nothing.
-use Prim.Native.Nat.{ℕ, _+_, _*_, _^_, _≤_, _<_}
-use mathlib.Core.Path.{_≡_, refl, sym, ap, _∙_, subst}
-use mathlib.Core.Logic.{_⊎_, inl, inr}
+use Prim.Native.Nat.{_+_, _*_, _<_}
+use mathlib.Core.Path.{_≡_, ap, _∙_}
+use mathlib.Core.Logic.{inl, inr}
 use mathlib.Core.Bool.{true}
 use mathlib.Core.List.{List}
 use native.Mathlib.Nat.{eq-zero-or-pos}
 use native.Mathlib.Omega.{arith}
 use lib.Dec.{lit≤}
 use lib.IntN.{ℤ, pos, negsuc, negℤ, natAbs, _+ℤ_, _-ℤ_, _*ℤ_}
-use lib.Ieee.{Float}
 use Rattle.geometry.specs.Vector.{subOf, crossOf, normalizable}
 use Rattle.geometry.specs.Box.{corner}
 use Rattle.geometry.specs.declared.vec3.Vec3.{Vec3}
-use Rattle.exact_depth.specs.FirstPoint.{turn, area, seenTurn, acrossPlot, upPlot}
+use Rattle.exact_depth.specs.FirstPoint.{turn, area}
 use Rattle.exact_depth.specs.Meeting.{HasArea}
 use Rattle.exact_depth.proofs.Polynomials.{own, own-pos, rep-sub, equal, ring}
 use Rattle.exact_depth.proofs.Order.{rep-same}
@@ -29,7 +28,7 @@ use Rattle.whole_numbers.specs.Points as Points
 use Rattle.whole_numbers.proofs.Drawings.{drawn-at}
 use Rattle.whole_numbers.proofs.Vectors.{sub-whole, cross-whole}
 use Rattle.whole_numbers.proofs.Casting.{whole-normalizable}
-use Rattle.exact_agreement.specs.Agreement.{drawn}
+use Rattle.exact_agreement.proofs.Readings.{drawn}
 use Rattle.exact_agreement.proofs.Crossings.{turns-seen}
 use Rattle.exact_agreement.proofs.Plans.{point-drawn}
 

@@ -1,16 +1,13 @@
 -- What the exact cast reads is drawn as M-112 asks, where it does not refuse. Assumes nothing.
 use Prim.Native.Nat.{ℕ, zero, suc, _≤_, _<_}
 use mathlib.Core.Path.{_≡_, refl, sym, ap, _∙_, subst}
-use mathlib.Core.Bool.{false, true≢false}
 use native.Mathlib.Omega.{arith}
 use lib.Dec.{lit≤}
 use lib.IntN.{ℤ, pos, natAbs}
 use lib.Ieee.{binary64, eq, ofInt}
-use Rattle.geometry.specs.Box.{touches}
-use Rattle.geometry.specs.Segment.{segmentBox}
 use Rattle.geometry.specs.declared.vec3.Vec3.{Vec3}
 use Rattle.geometry.specs.declared.ray.Ray.{Ray}
-use Rattle.tree.specs.Mesh.{Mesh, cornerAt, cornersOf, triangleBox, triangleCount}
+use Rattle.tree.specs.Mesh.{Mesh, cornerAt, cornersOf}
 use Rattle.mesh.specs.Demand3.{Candidate}
 use Rattle.exact_depth.proofs.Firsts.{whole-of}
 use Rattle.exact_triangle.specs.declared.whole.Point.{Point}
@@ -27,12 +24,11 @@ use Rattle.exact_triangle.specs.Exact.{boardOf}
 use Rattle.exact_triangle.specs.Surface.{along}
 use Rattle.exact_triangle.proofs.WholeLaws.{whole-told, whole-equals, range-of, point-near}
 use Rattle.exact_triangle.proofs.LineLaws.{line-parts, board-parts}
-use Rattle.mesh_exact.proofs.Headings.{EqualsAt, heading-equals}
-use Rattle.mesh_exact.proofs.Touching.{point-equals}
+use Rattle.exact_triangle.proofs.Headings.{EqualsAt, point-equals, heading-equals}
 use Rattle.whole_numbers.specs.Board.{DrawnAt}
 use Rattle.whole_numbers.specs.Board as Board112
 use Rattle.whole_numbers.specs.Boards.{Boards}
-use Rattle.exact_agreement.specs.Agreement.{drawn, heading, drawnCorner, planOf, OfKind, WholeCandidates}
+use Rattle.exact_agreement.proofs.Readings.{drawn, heading, drawnCorner, planOf, OfKind, WholeCandidates}
 
 pub point-drawn : (v : Vec3) (p : Point) → pointOf v ≡ Placed p → DrawnAt 4096 v (drawn p)
 point-drawn v p h =

@@ -18,7 +18,7 @@ use Rattle.whole_numbers.specs.Points.{crossP, dotP}
 use Rattle.whole_numbers.specs.Points as Points
 use Rattle.whole_numbers.specs.Board.{Drawing, Parallel, Crossing, firstEdge, secondEdge}
 use Rattle.whole_numbers.specs.Board as Drawn
-use Rattle.exact_agreement.specs.Agreement.{drawn, heading, drawnCorner}
+use Rattle.exact_agreement.proofs.Readings.{drawn, heading, drawnCorner}
 use Rattle.exact_agreement.proofs.Crossings.{crossed, met, turns-seen}
 
 -- the line and one triangle, drawn

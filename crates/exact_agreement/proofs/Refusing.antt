@@ -8,7 +8,7 @@ use lib.Ieee.{Float}
 use lib.ListN.{length}
 use Rattle.lists.proofs.JoinedTests.{and-first}
 use Rattle.lists.proofs.EveryLaws.{every-at}
-use Rattle.geometry.specs.Vector.{finiteVec, subOf, crossOf, dotOf, tryNormalize, dotTells, scaledToOne, overLength}
+use Rattle.geometry.specs.Vector.{finiteVec, subOf, crossOf, dotOf, tryNormalize}
 use Rattle.geometry.specs.Box.{corner, validBox}
 use Rattle.geometry.specs.Segment.{rayAdmitted, segmentEnd, segmentBox}
 use Rattle.geometry.specs.declared.vec3.Vec3.{Vec3}
@@ -20,9 +20,9 @@ use Rattle.geometry.proofs.NormalLaws.{normalized-where}
 use Rattle.casts.specs.Answer.{Answer, hit, none, refused, withNormal, noNormal, invalidInput, badShape, outOfBounds, overflow}
 use Rattle.casts.specs.Triangle.{triangleNormal}
 use Rattle.casts.specs.Surface.{facing}
-use Rattle.casts.specs.Nearest.{Indexed, stopped, nearestOf}
+use Rattle.casts.specs.Nearest.{stopped, nearestOf}
 use Rattle.casts.proofs.AnswerLists.{same-number}
-use Rattle.casts.proofs.NearestLaws.{LowestRefusal, stopped-by-lowest-refusal}
+use Rattle.casts.proofs.NearestLaws.{stopped-by-lowest-refusal}
 use Rattle.tree.specs.Mesh.{Mesh, thirds, lengthsAdmitted, cornersInside, cornersOf, triangleBox, triangleCount, candidates}
 use Rattle.mesh.specs.Demand3.{Candidate}
 use Rattle.mesh.proofs.Demand3.{listed-candidate}
@@ -36,7 +36,6 @@ use Rattle.exact_triangle.specs.declared.cast.Board.{Board}
 use Rattle.exact_triangle.specs.declared.cast.Board.the-variants.{At, Off as OffBoard}
 use Rattle.exact_triangle.specs.Line.{lineOf, withLine}
 use Rattle.exact_triangle.specs.Exact.{notWhole, boardOf, depthOf, distanceOf, depthTold, exactTriangle}
-use Rattle.exact_triangle.specs.Surface.{Apart}
 use Rattle.exact_triangle.proofs.Certainty.{depth-certain}
 use Rattle.mesh_exact.specs.ExactCast.{triangleFits, trianglesFit, exactAnswer, overExact, exactCast, rayMeshExactPlain}
 use Rattle.mesh_exact.proofs.Touching.{end-finite}

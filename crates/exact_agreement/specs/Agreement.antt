@@ -1,8 +1,8 @@
 -- The exact cast and the mesh cast through a tree, at a ray and a mesh on whole millimetres. Definitions only. Assumes nothing.
-use Prim.Native.Nat.{ℕ, zero, suc, _*_, _≤_}
+use Prim.Native.Nat.{ℕ, _*_}
 use mathlib.Core.Path.{_≡_}
 use mathlib.Core.Bool.{true}
-use lib.IntN.{ℤ, pos, natAbs, _+ℤ_}
+use lib.IntN.{ℤ, pos, _+ℤ_}
 use lib.Signed.{_≤ℤ_}
 use lib.Ieee.{Float}
 use lib.ListN.{length}
@@ -10,59 +10,16 @@ use Rattle.geometry.specs.declared.vec3.Vec3.{Vec3}
 use Rattle.geometry.specs.declared.ray.Ray.{Ray}
 use Rattle.casts.specs.Nearest.{Indexed, hitAt, noHit, stopped}
 use Rattle.tree.specs.Layout.{Tree}
-use Rattle.tree.specs.Mesh.{Mesh, lengthsAdmitted, cornersOf}
+use Rattle.tree.specs.Mesh.{Mesh, lengthsAdmitted}
 use Rattle.mesh.specs.MeshCast.{roomFor, rayMesh}
 use Rattle.mesh.specs.Demand3.{PassesCheck, Candidate}
-use Rattle.exact_triangle.specs.declared.whole.Point.{Point}
-use Rattle.exact_triangle.specs.declared.line.Axis.{Axis}
-use Rattle.exact_triangle.specs.declared.line.Axis.the-variants.{East, West, North, South, Upward, Downward}
 use Rattle.exact_triangle.specs.declared.line.Line.{Line}
 use Rattle.exact_triangle.specs.declared.line.Ruled.the-variants.{On}
-use Rattle.exact_triangle.specs.declared.cast.Board.{Board}
-use Rattle.exact_triangle.specs.declared.cast.Board.the-variants.{At, Off}
 use Rattle.exact_triangle.specs.Line.{lineOf}
-use Rattle.exact_triangle.specs.Exact.{boardOf}
 use Rattle.mesh_exact.specs.ExactCast.{rayMeshExactPlain}
 use Rattle.mesh_exact.specs.Certain.{LeastDepth}
-use Rattle.whole_numbers.specs.Points as Points
-use Rattle.whole_numbers.specs.Board as Drawn
 use Rattle.whole_numbers.specs.Board.{Parallel, Crossing, Within}
-use Rattle.whole_numbers.specs.Boards.{Plan, drawingOf}
-
--- ---- what the exact cast reads, as M-112 draws it
-abbrev pub drawn : Point → Points.Point
-drawn p = record { x = p .x; y = p .y; z = p .z }
-
-abbrev pub heading : Axis → Drawn.Axis
-heading East = Drawn.east
-heading West = Drawn.west
-heading North = Drawn.north
-heading South = Drawn.south
-heading Upward = Drawn.upward
-heading Downward = Drawn.downward
-
-abbrev pub drawnCorner : Board → ℕ → Points.Point
-drawnCorner (At a b c) zero = drawn a
-drawnCorner (At a b c) (suc zero) = drawn b
-drawnCorner (At a b c) (suc (suc k)) = drawn c
-drawnCorner Off k = record { x = pos 0; y = pos 0; z = pos 0 }
-
-abbrev pub planOf : Line → Mesh → Plan
-planOf l m = record {
-  o = drawn (l .origin);
-  direction = heading (l .axis);
-  maximum = natAbs (l .reach .far);
-  corner = λ (i : ℕ). drawnCorner (boardOf (cornersOf (m .vertices) (m .triangles) i));
-}
-
--- 'rays of M-112's kind': near 0, and the maximum from 1
-pub record OfKind (l : Line) : Type 0 where
-  pub near : l .reach .near ≡ pos 0
-  pub maximum : 1 ≤ natAbs (l .reach .far)
-
--- the candidates' corners are whole
-abbrev pub WholeCandidates : Ray → Mesh → Type 0
-WholeCandidates r m = (i : ℕ) → Candidate r m i → boardOf (cornersOf (m .vertices) (m .triangles) i) ≡ Off → ⊥
+use Rattle.whole_numbers.specs.Boards.{Plan, drawingOf, Boards}
 
 -- ---- the open cases
 -- the crossing lies in the closed triangle
@@ -95,9 +52,9 @@ pub record Agree (m : Mesh) (l : Line) (rounded exact : Indexed) : Type 0 where
       → (normal' : Vec3) (distance' : Float) (index' : ℕ) → exact ≡ hitAt normal' distance' index' → SameDepth m l distance distance'
 
 -- 'where `ray_mesh` answers a hit or none on such a board and no candidate's crossing lies on the side opposite its first corner or at the
--- maximum, and no candidate is parallel': through any tree that passes the check
-abbrev pub CastsAgree : Type 0
-CastsAgree =
-    (r : Ray) (m : Mesh) (t : Tree) (list stack : ℕ) → lengthsAdmitted (length (m .vertices)) (length (m .triangles)) ≡ true
-    → PassesCheck m t → roomFor m t list stack ≡ true → (l : Line) → lineOf r ≡ On l → OfKind l → WholeCandidates r m
-    → NoOpenCase r m (planOf l m) → Agree m l (rayMesh r m (m .vertices) t list stack) (rayMeshExactPlain r m)
+-- maximum, and no candidate is parallel': through any tree that passes the check, on M-112's boards, whose ray is a line of the exact cast
+abbrev pub BoardsAgree : Type 0
+BoardsAgree =
+    (r : Ray) (m : Mesh) (t : Tree) (list stack : ℕ) (p : Plan) → lengthsAdmitted (length (m .vertices)) (length (m .triangles)) ≡ true
+    → PassesCheck m t → roomFor m t list stack ≡ true → Boards r m p → NoOpenCase r m p
+    → (l : Line) × ((lineOf r ≡ On l) × Agree m l (rayMesh r m (m .vertices) t list stack) (rayMeshExactPlain r m))

@@ -10,8 +10,7 @@ use Rattle.casts.specs.Answer.{invalidInput, badShape, outOfBounds}
 use Rattle.casts.specs.Nearest.{stopped}
 use Rattle.tree.specs.Mesh.{Mesh, lengthsAdmitted, cornersOf}
 use Rattle.mesh.specs.Demand3.{Candidate}
-use Rattle.exact_triangle.specs.declared.line.Line.{Line}
-use Rattle.exact_triangle.specs.declared.line.Ruled.the-variants.{On, Off}
+use Rattle.exact_triangle.specs.declared.line.Ruled.the-variants.{Off}
 use Rattle.exact_triangle.specs.declared.cast.Board.the-variants.{Off as OffBoard}
 use Rattle.exact_triangle.specs.Line.{lineOf}
 use Rattle.exact_triangle.specs.Exact.{notWhole, boardOf}

@@ -2,6 +2,8 @@
 pub mod WholeLaws
 pub mod LineLaws
 pub mod SeenLaws
+pub mod Headings
+pub mod Admitting
 pub mod Certainty
 pub mod Distances
 pub mod Examples

@@ -7,7 +7,6 @@ pub mod OneCandidate
 pub mod Means
 pub mod Sides
 pub mod Ends
-pub mod Headings
 pub mod Touching
 pub mod Leasts
 pub mod Certainty

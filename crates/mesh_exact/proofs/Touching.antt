@@ -36,11 +36,11 @@ use Rattle.exact_triangle.specs.Whole.{wholeIn, pointOf}
 use Rattle.exact_triangle.specs.Line.{lineOf}
 use Rattle.exact_triangle.specs.Exact.{Near, boardOf}
 use Rattle.exact_triangle.specs.Surface.{along, Surface}
-use Rattle.exact_triangle.proofs.WholeLaws.{whole-told, whole-equals, range-of, point-parts, point-near}
+use Rattle.exact_triangle.proofs.WholeLaws.{whole-told, whole-equals, range-of, point-near}
 use Rattle.exact_triangle.proofs.LineLaws.{line-parts, near-positive, board-parts}
 use Rattle.exact_triangle.proofs.Distances.{surface-positive}
 use Rattle.exact_depth.proofs.Standing.{Stands, stands, is-finite}
-use Rattle.mesh_exact.proofs.Headings.{EqualsAt, heading-equals}
+use Rattle.exact_triangle.proofs.Headings.{EqualsAt, point-equals, heading-equals}
 use Rattle.mesh_exact.proofs.Sides.{ahead, behind, across}
 use Rattle.mesh_exact.proofs.Ends.{end-is}
 
@@ -49,15 +49,6 @@ record StandsAt (v : Vec3) (p : Point) : Type 0 where
   x : Stands (v .x) (p .x)
   y : Stands (v .y) (p .y)
   z : Stands (v .z) (p .z)
-
-pub point-equals : (v : Vec3) (p : Point) → pointOf v ≡ Placed p → EqualsAt v p
-point-equals v p h =
-    let q = point-parts v p h in
-    record {
-      x = whole-equals (v .x) (negsuc 4095) (pos 4096) (p .x) (q .x);
-      y = whole-equals (v .y) (negsuc 4095) (pos 4096) (p .y) (q .y);
-      z = whole-equals (v .z) (negsuc 4095) (pos 4096) (p .z) (q .z);
-    }
 
 point-stands : (v : Vec3) (p : Point) → EqualsAt v p → Near p → StandsAt v p
 point-stands v p e n = record {

@@ -1,27 +1,30 @@
--- A direction that is told to lie along an axis equals it, component by component. Assumes nothing.
+-- A point that is told, and a direction that is told to lie along an axis, equal it component by component. Assumes nothing.
 use mathlib.Core.Path.{_≡_, refl, ap, _∙_, subst}
 use mathlib.Core.Bool.{Bool, true, false, cond, false≢true}
 use lib.IntN.{ℤ, pos, negsuc}
 use lib.Ieee.{Float, binary64, span, climb, size, odd, units, round, ofInt, ofBits, ofFields, neg, eq}
 use Rattle.geometry.specs.Numbers.{zeroᶠ, oneᶠ}
 use Rattle.geometry.specs.declared.vec3.Vec3.{Vec3}
 use Rattle.exact_triangle.specs.declared.whole.Point.{Point}
+use Rattle.exact_triangle.specs.declared.whole.Placed.the-variants.{At}
 use Rattle.exact_triangle.specs.declared.line.Axis.{Axis}
 use Rattle.exact_triangle.specs.declared.line.Axis.the-variants.{East, West, North, South, Upward, Downward}
 use Rattle.exact_triangle.specs.declared.line.Heading.{Heading}
 use Rattle.exact_triangle.specs.declared.line.Heading.the-variants.{Along, Askew}
+use Rattle.exact_triangle.specs.Whole.{pointOf}
 use Rattle.exact_triangle.specs.Line.{senseOf, headingOf}
 use Rattle.exact_triangle.specs.Surface.{along}
+use Rattle.exact_triangle.proofs.WholeLaws.{whole-equals, point-parts}
 
-nought-is : ofInt binary64 (pos 0) ≡ zeroᶠ
+pub nought-is : ofInt binary64 (pos 0) ≡ zeroᶠ
 unfolding ofInt ofBits ofFields round units odd size climb span
 nought-is = refl
 
-one-is : ofInt binary64 (pos 1) ≡ oneᶠ
+pub one-is : ofInt binary64 (pos 1) ≡ oneᶠ
 unfolding ofInt ofBits ofFields round units odd size climb span
 one-is = refl
 
-minus-is : ofInt binary64 (negsuc 0) ≡ neg oneᶠ
+pub minus-is : ofInt binary64 (negsuc 0) ≡ neg oneᶠ
 unfolding ofInt ofBits ofFields neg round units odd size climb span
 minus-is = refl
 
@@ -36,6 +39,15 @@ pub record EqualsAt (v : Vec3) (p : Point) : Type 0 where
   pub x : Equals (v .x) (p .x)
   pub y : Equals (v .y) (p .y)
   pub z : Equals (v .z) (p .z)
+
+pub point-equals : (v : Vec3) (p : Point) → pointOf v ≡ At p → EqualsAt v p
+point-equals v p h =
+    let q = point-parts v p h in
+    record {
+      x = whole-equals (v .x) (negsuc 4095) (pos 4096) (p .x) (q .x);
+      y = whole-equals (v .y) (negsuc 4095) (pos 4096) (p .y) (q .y);
+      z = whole-equals (v .z) (negsuc 4095) (pos 4096) (p .z) (q .z);
+    }
 
 abbrev isAlong : Heading → Bool
 isAlong (Along axis) = true
