@@ -71,10 +71,15 @@ module _ (r : Ray) (m : Mesh) (p : Plan) (b : Boards r m p) where
     reach = record { near = pos 0; far = pos (p .maximum) };
   }
 
+  way : EqualsAt (r .direction) (along (towards (p .direction)))
+  way =
+      subst (EqualsAt (r .direction)) (same-way (p .direction))
+      (drawn-equals 1 (r .direction) (Board112.along (p .direction)) (b .direction))
+
   on : lineOf r ≡ On line
   on =
       line-admitted r (towards (p .direction)) (read (p .o)) 0 (p .maximum)
-      (subst (EqualsAt (r .direction)) (same-way (p .direction)) (drawn-equals 1 (r .direction) (Board112.along (p .direction)) (b .direction)))
+      way
       (drawn-near (r .origin) (p .o) (b .origin)) (drawn-equals 4096 (r .origin) (p .o) (b .origin)) (lit≤ tt) (b .near .equal)
       (b .maximum .bound) (b .maximum .equal)
 
