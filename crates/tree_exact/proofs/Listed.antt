@@ -1,4 +1,5 @@
--- The triangles of a list are folded one after another, whatever each of them answers: what is left of them gives the whole. Assumes nothing.
+-- The triangles of a list are folded one after another, whatever each of them answers: what is left of them gives the whole. Assumes
+-- nothing.
 use Prim.Native.Nat.{ℕ, suc, _+_, _<_, _≤_}
 use mathlib.Core.Path.{_≡_, ap, _∙_}
 use mathlib.Core.List.{List, _∷_}

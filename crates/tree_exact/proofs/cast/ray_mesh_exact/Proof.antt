@@ -50,7 +50,8 @@ abbrev admitted : tie.Start → Bool
 admitted s =
     let a = s .args in
     let count = length (a .triangles .now) in
-    lengthsAdmitted (length (a .vertices .now)) count && (lengthsAdmitted (length (a .pose .now)) count && leb (a .nodes) (2 * thirds count))
+    lengthsAdmitted (length (a .vertices .now)) count
+    && (lengthsAdmitted (length (a .pose .now)) count && leb (a .nodes) (2 * thirds count))
 
 shaped : (e : tie.Else2) → admitted (start₂ e) ≡ true
 unfolding start₂
@@ -86,7 +87,8 @@ second e = search
 -- refusal 1
 returns : tie.Need-returns
 returns c =
-    with-agreement _ _ _ _ _ _ _ _ (exact-invalid _ _ _ _ _ _ (test-failed (c .before .validate .ensures) (c .if1 .taken))) (λ _. (refl, refl))
+    with-agreement _ _ _ _ _ _ _ _ (exact-invalid _ _ _ _ _ _ (test-failed (c .before .validate .ensures) (c .if1 .taken)))
+    (λ _. (refl, refl))
 
 -- refusal 12
 returns-2 : tie.Need-returns-2
