@@ -30,7 +30,7 @@ module _ (m : Mesh) (t : Tree) (passes : treePasses m t ≡ true) where
   unfolding exactThrough exactCast overExact overListed
   casts-agree r l = simp (walk-lists-candidates m t (segmentBox r) passes, triangles-fit m t passes)
 
-  shape-admitted : lengthsAdmitted (length (m .vertices)) (length (m .triangles)) ≡ true → shapeAdmitted m (m .vertices) t ≡ true
+  pub shape-admitted : lengthsAdmitted (length (m .vertices)) (length (m .triangles)) ≡ true → shapeAdmitted m (m .vertices) t ≡ true
   unfolding shapeAdmitted
   shape-admitted h = simp (h, le-leb (t .nodeCount) (2 * triangleCount m t) (few-nodes m t passes))
 
