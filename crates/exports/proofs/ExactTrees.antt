@@ -92,7 +92,8 @@ module _ (hit : List Float) (index : List ℕ) where
     plain-told s true v Off e = simp (v, e)
     plain-told s true v (On l) e = simp (v, e, s)
 
-    pub tree-as-plain : (t : Tree) (list stack : ℕ) → ToldAsPlain r m t list stack hit index (treeTold r m (m .vertices) t list stack hit index)
+    pub tree-as-plain : (t : Tree) (list stack : ℕ)
+        → ToldAsPlain r m t list stack hit index (treeTold r m (m .vertices) t list stack hit index)
     unfolding treeTold
     tree-as-plain t list stack p room =
         let lengths = yes-lengths m t (p .marks) (p .says-yes) in
