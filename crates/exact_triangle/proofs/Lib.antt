@@ -4,4 +4,5 @@ pub mod LineLaws
 pub mod SeenLaws
 pub mod Certainty
 pub mod Distances
+pub mod Reaches
 pub mod Examples

@@ -9,16 +9,16 @@ use lib.Ieee.{Float}
 use lib.ListN.{length, take}
 use Rattle.geometry.specs.Vector.{finiteVec}
 use Rattle.geometry.specs.Segment.{rayAdmitted, segmentEnd, segmentBox}
-use Rattle.geometry.specs.declared.vec3.Vec3.{Vec3}
 use Rattle.geometry.specs.declared.aabb.Aabb.{Aabb}
 use Rattle.geometry.specs.declared.ray.Ray.{Ray}
 use Rattle.lists.proofs.RefusalLaws as Refusals
-use Rattle.casts.specs.Answer.{Answer, refused, invalidInput, badShape, noRoom, wrongPose, outOfBounds, overflow}
-use Rattle.casts.specs.Nearest.{Indexed, stopped, nearestOf}
+use Rattle.casts.specs.Answer.{invalidInput, badShape, noRoom, wrongPose, outOfBounds, overflow}
+use Rattle.casts.specs.Nearest.{Indexed, noHit, stopped, foldFrom, nearestOf}
 use Rattle.casts.proofs.SegmentBoxLaws.{segment-finite, segment-overflow}
 use Rattle.tree.specs.Layout.{Tree}
-use Rattle.tree.specs.Mesh.{Mesh, thirds, lengthsAdmitted, cornersInside, cornersOf}
-use Rattle.tree_walk.specs.Walk.{Walking, walking, broken, walkOf}
+use Rattle.lists.specs.Lists.{sortBy, sorted}
+use Rattle.tree.specs.Mesh.{Mesh, thirds, lengthsAdmitted}
+use Rattle.tree_walk.specs.Walk.{Walking, ended, walkOf}
 use Rattle.tree_walk.specs.Areas.{listed}
 use Rattle.tree_walk.specs.declared.step.Filled.{Filled}
 use Rattle.tree_walk.specs.declared.step.Filled.the-variants.{Count, Broken}
@@ -26,24 +26,10 @@ use Rattle.tree_query.specs.Query.{walkFits}
 use Rattle.exact_triangle.specs.declared.line.Line.{Line}
 use Rattle.exact_triangle.specs.declared.line.Ruled.the-variants.{On, Off}
 use Rattle.exact_triangle.specs.Line.{lineOf}
-use Rattle.exact_triangle.specs.Exact.{exactTriangle, notWhole}
+use Rattle.exact_triangle.specs.Exact.{notWhole}
 use Rattle.mesh.specs.MeshCast.{shapeAdmitted, roomFor}
 use Rattle.mesh_exact.specs.ExactCast.{exactAnswer}
 use Rattle.tree_exact.specs.ExactMesh.{overListed, exactThrough, exactTests, testsPass, rayMeshExact}
-
--- ---- one triangle
-module _ (r : Ray) (l : Line) (pose : List Float) (triangles : List ℕ) (i : ℕ) where
-  abbrev inside : Bool
-  inside = cornersInside (thirds (length pose)) triangles i
-
-  pub index-refused : inside ≡ false → refused outOfBounds ≡ exactAnswer r l pose triangles i
-  unfolding exactAnswer
-  index-refused h = simp h
-
-  pub corners-answer : inside ≡ true → (corners : List Vec3) → corners ≡ cornersOf pose triangles i
-      → (answer : Answer) → answer ≡ exactTriangle r l corners → answer ≡ exactAnswer r l pose triangles i
-  unfolding exactAnswer
-  corners-answer h corners c answer a = a ∙ ap (exactTriangle r l) c ∙ simp h
 
 -- ---- the cast past refusals 1, 12 and 2 to 4
 module _ (r : Ray) (l : Line) (triangles : List ℕ) (pose : List Float) (t : Tree) where
@@ -58,23 +44,28 @@ module _ (r : Ray) (l : Line) (triangles : List ℕ) (pose : List Float) (t : Tr
   through-overflow h = sym (segment-overflow stopped r (λ (box : Aabb). over (walkOf t n box)) h)
 
   module _ (v : rayAdmitted r ≡ true) (f : finiteVec (segmentEnd r) ≡ true) (box : Aabb) (b : box ≡ segmentBox r) (x : Filled)
-      (exit : List ℕ) (w : listed [] x exit ≡ walkOf t n box) where
+      (exit : List ℕ) (w : ended t n box (listed [] x exit) ≡ walkOf t n box) where
     -- both ends are finite, so the box is valid
-    over-walk : (y : Filled) → x ≡ y → over (listed [] y exit) ≡ exactThrough r l triangles pose t
+    over-walk : (y : Filled) → x ≡ y → over (ended t n box (listed [] y exit)) ≡ exactThrough r l triangles pose t
     unfolding exactThrough
     over-walk y e =
-        ap over (subst (λ (z : Filled). listed [] z exit ≡ walkOf t n box) e w)
+        ap over (subst (λ (z : Filled). ended t n box (listed [] z exit) ≡ walkOf t n box) e w)
         ∙ ap (λ (c : Aabb). over (walkOf t n c)) b
         ∙ sym (segment-finite stopped r (λ (c : Aabb). over (walkOf t n c)) v f)
 
     pub through-broken : x ≡ Broken → stopped outOfBounds ≡ exactThrough r l triangles pose t
-    unfolding overListed
+    unfolding overListed ended
     through-broken e = over-walk Broken e
 
-    pub through-nearest : (k : ℕ) → x ≡ Count k → (answer : Indexed) → answer ≡ nearestOf (exactAnswer r l pose triangles) (take k exit)
-        → answer ≡ exactThrough r l triangles pose t
-    unfolding overListed
+    pub through-nearest : (k : ℕ) → x ≡ Count k → (answer : Indexed)
+        → answer ≡ nearestOf (exactAnswer r l pose triangles) (sorted (take k exit)) → answer ≡ exactThrough r l triangles pose t
+    unfolding overListed ended
     through-nearest k e answer a = a ∙ over-walk (Count k) e
+
+    -- nothing is listed
+    pub through-empty : (k : ℕ) → x ≡ Count k → k ≡ 0 → noHit ≡ exactThrough r l triangles pose t
+    unfolding foldFrom sortBy
+    through-empty k e z = through-nearest k e noHit (rw z)
 
 -- ---- refusals 1, 12 and 2 to 4, in their order
 module _ (r : Ray) (m : Mesh) (pose : List Float) (t : Tree) (list stack : ℕ) where

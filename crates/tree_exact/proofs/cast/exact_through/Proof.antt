@@ -2,14 +2,13 @@
 -- list. Assumes nothing.
 use mathlib.Core.Path.{_≡_}
 use mathlib.Core.Bool.{true}
-use native.Mathlib.Omega.{arith}
 use borrow.Author.Tests.{not-true, not-false}
 use Rattle.geometry.specs.Segment.{segmentEnd}
 use Rattle.geometry.specs.Vector.{finiteVec}
 use Rattle.geometry.proofs.BoxLaws.{origin-finite}
 use Rattle.tree.specs.Layout.{Tree, treeOf}
 use Rattle.mesh.proofs.Casting.{end-is, list-inside}
-use Rattle.tree_exact.proofs.Casting.{through-overflow, through-broken, through-nearest}
+use Rattle.tree_exact.proofs.Casting.{through-overflow, through-broken, through-empty, through-nearest}
 use borrow.Author.Needs.{needs}
 use Rattle.tree_exact.proofs.cast.exact_through.Statement.{statement}
 use Rattle.tree_exact.proofs.cast.exact_through.Tie as tie
@@ -41,30 +40,39 @@ segment-box-requires c κs =
     let (s, n) : tie.Start × tie.After-segment-end = search in
     (origin-finite _ (s .pre .0), n .segment-end .ensures)
 
-walk-requires : tie.Need-walk-requires
-walk-requires c κs =
+gather-requires : tie.Need-gather-requires
+gather-requires c κs =
     let s : tie.Start = search in
-    (omega (arith, s .pre .1 .1 .0), s .pre .1 .1 .1)
+    s .pre .1 .1
 
 -- the walk met a 5
 returns-2 : tie.Need-returns-2
 unfolding start
 returns-2 c =
-    let (s, e, b, g) : tie.Start × tie.Else1 × tie.After-segment-box × tie.After-walk = search in
-    through-broken _ _ _ _ (tree s) (s .pre .0) (finite e) _ (b .segment-box .ensures) _ _ (g .walk .ensures .0) (c .enum-told .given .1)
+    let (s, e, b, g) : tie.Start × tie.Else1 × tie.After-segment-box × tie.After-gather = search in
+    through-broken _ _ _ _ (tree s) (s .pre .0) (finite e) _ (b .segment-box .ensures) _ _ (g .gather .ensures .0) (c .enum-told .given .1)
 
-nearest-exact-requires : tie.Need-nearest-exact-requires
-nearest-exact-requires c κs =
-    let (s, g, k) : tie.Start × tie.After-walk × tie.After-walked = search in
-    (s .pre .1 .0, list-inside _ _ _ _ _ (g .walk .ensures .1) (k .walked .given .1))
-
--- the nearest of those that it listed
+-- it listed nothing
 returns-3 : tie.Need-returns-3
 unfolding start
 returns-3 c =
-    let (e, b, g, k) : tie.Else1 × tie.After-segment-box × tie.After-walk × tie.After-walked = search in
-    through-nearest _ _ _ _ (tree (start e)) (start e .pre .0) (finite e) _ (b .segment-box .ensures) _ _ (g .walk .ensures .0) _
-    (k .walked .given .1) _ (c .nearest-exact .ensures)
+    let (s, e, b, g, k) : tie.Start × tie.Else1 × tie.After-segment-box × tie.After-gather × tie.After-walked = search in
+    through-empty _ _ _ _ (tree s) (s .pre .0) (finite e) _ (b .segment-box .ensures) _ _ (g .gather .ensures .0) _ (k .walked .given .1)
+    (c .if2 .taken)
+
+nearest-of-requires : tie.Need-nearest-of-requires
+unfolding start
+nearest-of-requires c κs =
+    let (e, g, k) : tie.Else1 × tie.After-gather × tie.After-walked = search in
+    (start e .pre .1 .0, list-inside _ _ _ _ _ (g .gather .ensures .1) (k .walked .given .1))
+
+-- the nearest of those that it listed
+returns-4 : tie.Need-returns-4
+unfolding start
+returns-4 c =
+    let (e, b, g, k) : tie.Else1 × tie.After-segment-box × tie.After-gather × tie.After-walked = search in
+    through-nearest _ _ _ _ (tree (start e)) (start e .pre .0) (finite e) _ (b .segment-box .ensures) _ _ (g .gather .ensures .0) _
+    (k .walked .given .1) _ (c .nearest-of .ensures)
 
 pub exact-through-spec : {M : Type 1} → statement M
 exact-through-spec =
@@ -74,13 +82,16 @@ exact-through-spec =
     (λ c κs. search needs)  -- is-finite-requires
     returns
     segment-box-requires
-    walk-requires
+    gather-requires
     (search needs)  -- enum-known-walked
     (search needs)  -- enum-told
     (search needs)  -- same-length
     (search needs)  -- same-length-2
     returns-2
-    nearest-exact-requires
     (search needs)  -- same-length-3
     (search needs)  -- same-length-4
-    returns-3)
+    returns-3
+    nearest-of-requires
+    (search needs)  -- same-length-5
+    (search needs)  -- same-length-6
+    returns-4)

@@ -133,10 +133,7 @@ unfolding start₁ startₗ start₂ start₃ first ruled second
 exact-through-requires c κs =
     let e : tie.Else3 = search in (
       valid (first e),
-      (
-        line-told _ _ (on (ruled e)),
-        (triangles-few _ _ _ _ (shaped (second e)), fits-room _ _ _ _ (nodes-few _ _ _ _ (shaped (second e))) (fits e)),
-      ),
+      (line-told _ _ (on (ruled e)), fits-room _ _ _ _ (nodes-few _ _ _ _ (shaped (second e))) (fits e)),
     )
 
 -- past them all
