@@ -1,8 +1,10 @@
 //! The static library beside the unchanged Rust and beside the model of what document
 //! 01 adds to it, on seeded inputs.
 
+pub mod boards;
 pub mod cabinets;
 pub mod calls;
+pub mod exact;
 pub mod lent;
 pub mod library;
 pub mod listing;

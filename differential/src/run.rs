@@ -3,7 +3,7 @@
 //! triangles.
 
 use crate::{
-    calls,
+    calls, exact,
     library::{Build, Cast, Check, Query},
     listing,
     log::Log,
@@ -107,6 +107,7 @@ pub fn compare(log: &mut Log, seed: u64, number: u64, mesh: &Mesh) {
     }
     shapes::compare(log, random, seed, number);
     plain::compare(log, seed, number, mesh);
+    exact::compare(log, seed, number, mesh);
     ranges::compare(log, random, seed, number);
     merge::compare(log, seed, number, mesh);
 }

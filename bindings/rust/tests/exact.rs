@@ -1,97 +1,9 @@
 //! The cast on whole millimetres beside a judge that decides every triangle in fractions, by its plane and its sides in
-//! space: random boards, rays at sides and corners, and rays along faces.
+//! space: random boards, rays at sides and corners, and rays along faces. tests/exact.sh has a million boards.
+mod judge;
+
+use judge::{dot, first_depth, nearest, normal, Depth, Point};
 use probe_rays::{Cast, PlainMesh, Ray};
-
-type Point = [i128; 3];
-
-fn minus(p: Point, q: Point) -> Point {
-    [p[0] - q[0], p[1] - q[1], p[2] - q[2]]
-}
-
-fn cross(p: Point, q: Point) -> Point {
-    [
-        p[1] * q[2] - p[2] * q[1],
-        p[2] * q[0] - p[0] * q[2],
-        p[0] * q[1] - p[1] * q[0],
-    ]
-}
-
-fn dot(p: Point, q: Point) -> i128 {
-    p[0] * q[0] + p[1] * q[1] + p[2] * q[2]
-}
-
-/// A depth as a fraction with a divisor above 0.
-type Depth = (i128, i128);
-
-fn fraction(over: i128, under: i128) -> Depth {
-    if under < 0 {
-        (-over, -under)
-    } else {
-        (over, under)
-    }
-}
-
-fn deeper(d: Depth, e: Depth) -> bool {
-    d.0 * e.1 > e.0 * d.1
-}
-
-/// The depths d where first + d · slope is not below 0, within those from low to high.
-fn clip(low: &mut Depth, high: &mut Depth, first: i128, slope: i128) -> bool {
-    if slope == 0 {
-        return first >= 0;
-    }
-    let at = fraction(-first, slope);
-    if slope > 0 && deeper(at, *low) {
-        *low = at;
-    }
-    if slope < 0 && deeper(*high, at) {
-        *high = at;
-    }
-    !deeper(*low, *high)
-}
-
-/// The first depth from near to far at which the line is in the closed triangle.
-fn first_depth(o: Point, d: Point, near: i128, far: i128, t: [Point; 3]) -> Option<Depth> {
-    let n = cross(minus(t[1], t[0]), minus(t[2], t[0]));
-    if n == [0, 0, 0] {
-        return None;
-    }
-    let (mut low, mut high) = ((near, 1), (far, 1));
-    // in the plane: not above it, and not below it
-    let (above, rise) = (dot(n, minus(o, t[0])), dot(n, d));
-    if !clip(&mut low, &mut high, above, rise) || !clip(&mut low, &mut high, -above, -rise) {
-        return None;
-    }
-    for k in 0..3 {
-        let (p, q) = (t[k], t[(k + 1) % 3]);
-        let side = minus(q, p);
-        if !clip(
-            &mut low,
-            &mut high,
-            dot(n, cross(side, minus(o, p))),
-            dot(n, cross(side, d)),
-        ) {
-            return None;
-        }
-    }
-    Some(low)
-}
-
-fn divisor(a: i128, b: i128) -> i128 {
-    if b == 0 {
-        a.abs()
-    } else {
-        divisor(b, a % b)
-    }
-}
-
-/// The float nearest to a depth: both numbers are exact once the fraction is reduced.
-fn nearest(d: Depth) -> f64 {
-    let k = divisor(d.0, d.1).max(1);
-    let (over, under) = (d.0 / k, d.1 / k);
-    assert!(over.abs() < 1 << 53 && under < 1 << 53);
-    over as f64 / under as f64
-}
 
 /// xorshift, so that a run can be had again.
 struct Random(u64);
@@ -147,7 +59,7 @@ fn as_a_judge_in_fractions_has_it() {
         for (index, t) in triangles.iter().enumerate() {
             if let Some(depth) = first_depth(origin, direction, near, far, *t) {
                 let distance = nearest(depth);
-                let flat = dot(cross(minus(t[1], t[0]), minus(t[2], t[0])), direction) == 0;
+                let flat = dot(normal(*t), direction) == 0;
                 if expected.map_or(true, |least| distance < least.0) {
                     expected = Some((distance, index as u32, depth, flat));
                 }
