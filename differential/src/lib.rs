@@ -16,3 +16,4 @@ pub mod plain;
 pub mod ranges;
 pub mod run;
 pub mod shapes;
+pub mod solids;
