@@ -130,6 +130,11 @@ pub fn plain(ray: &Ray, mesh: &Mesh, hit: &mut [f64; 4], index: &mut [u32; 1]) -
 }
 
 #[inline(always)]
+pub fn exact(ray: &Ray, mesh: &Mesh, hit: &mut [f64; 4], index: &mut [u32; 1]) -> u32 {
+    calls::ray_mesh_exact_plain(ray, &mesh.vertices, &mesh.triangles, hit, index)
+}
+
+#[inline(always)]
 pub fn query(bounds: &[f64; 6], triangles: usize, tree: &Tree, lent: &mut Lent) -> u32 {
     let [a, b, c, d, e, f] = *bounds;
     calls::query(

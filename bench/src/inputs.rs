@@ -260,6 +260,28 @@ pub fn over_the_edge(count: usize) -> Vec<Ray> {
     (0..count).map(ray).collect()
 }
 
+/// Rays along z into a drawer front, on whole millimetres.
+pub fn whole_front_rays(count: usize) -> Vec<Ray> {
+    let mut random = random(13);
+    let mut whole = |low: f64, high: f64| random.between(low, high).floor();
+    (0..count)
+        .map(|_| {
+            let origin = [whole(20.0, 577.0), whole(20.0, 120.0), 60.0];
+            Ray::new(origin, [0.0, 0.0, -1.0], 100.0)
+        })
+        .collect()
+}
+
+/// Rays along x that come over the edge of a drawer front, 1 mm above its face, on whole millimetres.
+pub fn whole_over_the_edge(count: usize) -> Vec<Ray> {
+    let mut random = random(14);
+    let ray = |_| {
+        let y = random.between(20.0, 120.0).floor();
+        Ray::new([-10.0, y, 20.0], [1.0, 0.0, 0.0], 20.0)
+    };
+    (0..count).map(ray).collect()
+}
+
 /// The rays into a drawer front, far off it.
 pub fn far_from_front(count: usize) -> Vec<Ray> {
     let mut rays = front_rays(count);

@@ -22,6 +22,7 @@ mod areas;
 mod clock;
 #[allow(dead_code)]
 mod collision;
+mod exact;
 mod inputs;
 mod listing;
 mod merge;

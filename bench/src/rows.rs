@@ -10,7 +10,7 @@ use crate::{
         mesh::{MeshQueryWorkspace, TriangleBvh},
         query::{QueryScratch, Ray as RustRay, timed},
     },
-    inputs, listing, merge, near, plain, ranges, records,
+    exact, inputs, listing, merge, near, plain, ranges, records,
     shape::{self, TriangleMesh},
     timing::Row,
 };
@@ -29,7 +29,7 @@ fn rust_ray(ray: &Ray) -> RustRay {
 }
 
 /// The Rust's answer as our call gives it: a number, and a hit's normal and distance.
-fn numbered(cast: timed::Cast) -> (u32, [f64; 4]) {
+pub fn numbered(cast: timed::Cast) -> (u32, [f64; 4]) {
     let refused = |number| (number, [0.0; 4]);
     match cast {
         Ok((Some(n), distance)) => (HIT, [n.x, n.y, n.z, distance]),
@@ -77,6 +77,17 @@ pub fn casts<A: 'static, B: 'static>(
         let number = ours(a, &mut hit);
         compare(name, wanted, (number, hit), numbered(rust(b)));
     }
+    turns(name, ours_items, rust_items, ours, rust)
+}
+
+/// The row itself, of items whose answers were compared.
+pub fn turns<A: 'static, B: 'static, C: 'static>(
+    name: &str,
+    ours_items: Vec<A>,
+    other_items: Vec<B>,
+    mut ours: impl FnMut(&A, &mut [f64; 4]) -> u32 + 'static,
+    mut other: impl FnMut(&B) -> C + 'static,
+) -> Row {
     Row {
         name: name.to_owned(),
         units: ours_items.len() as f64,
@@ -89,8 +100,8 @@ pub fn casts<A: 'static, B: 'static>(
             }
         }),
         rust: Some(Box::new(move || {
-            for item in black_box(&rust_items[..]) {
-                black_box(&rust(item));
+            for item in black_box(&other_items[..]) {
+                black_box(&other(item));
             }
         })),
     }
@@ -168,7 +179,7 @@ impl Both {
         })
     }
 
-    fn lent(&self) -> Lent {
+    pub fn lent(&self) -> Lent {
         Lent::for_tree(self.mesh.count(), self.tree.nodes)
     }
 }
@@ -537,6 +548,7 @@ pub fn all() -> Vec<Planned> {
         shapes(),
         meshes(),
         plain::rows(),
+        exact::rows(),
         merge::rows(),
         grids(),
         ranges::rows(),

@@ -1,0 +1,90 @@
+//! The cast on whole millimetres, and the rounded cast beside it, at the same part with the same rays along an axis. The
+//! Rust's side is its tree cast in both.
+
+use crate::{
+    areas::{self, Lent, Mesh, Ray},
+    collision::query::{QueryScratch, timed},
+    inputs,
+    rows::{Both, Planned, numbered, plan, rust_rays, turns},
+    timing::Row,
+};
+use probe_rays::sys::{HIT, NONE};
+use std::rc::Rc;
+
+fn exact(ray: &Ray, both: &Both, lent: &mut Lent) -> u32 {
+    areas::exact(ray, &both.mesh, &mut lent.hit, &mut lent.index)
+}
+
+fn rounded(ray: &Ray, both: &Both, lent: &mut Lent) -> u32 {
+    areas::plain(ray, &both.mesh, &mut lent.hit, &mut lent.index)
+}
+
+/// A part on whole millimetres, how rays meet it, and these rays.
+type Met = (&'static str, fn() -> Mesh, &'static str, u32, Vec<Ray>);
+
+fn met() -> [Met; 2] {
+    let (front, mesh): (_, fn() -> Mesh) = ("12 triangles (drawer front)", inputs::front);
+    [
+        (front, mesh, "hit", HIT, inputs::whole_front_rays(256)),
+        (
+            front,
+            mesh,
+            "miss near",
+            NONE,
+            inputs::whole_over_the_edge(256),
+        ),
+    ]
+}
+
+/// The same number, the same normal, and a distance that is the Rust's within its rounding (crates/whole_numbers: 2^-51).
+fn compare(name: &str, wanted: u32, ours: (u32, [f64; 4]), rust: (u32, [f64; 4])) {
+    assert_eq!((ours.0, rust.0), (wanted, wanted), "{name}");
+    let near = (ours.1[3] - rust.1[3]).abs() <= rust.1[3] * f64::EPSILON * 2.0;
+    let same = ours.1[..3] == rust.1[..3] && near;
+    assert!(ours.0 != HIT || same, "{name}: {ours:?}, {rust:?}");
+}
+
+/// A row of one of our casts, its hit in the lent areas.
+fn row(
+    name: &str,
+    wanted: u32,
+    both: &Rc<Both>,
+    rays: Vec<Ray>,
+    cast: impl Fn(&Ray, &Both, &mut Lent) -> u32 + 'static,
+) -> Row {
+    let (a, b) = (both.clone(), both.clone());
+    let (mut lent, mut scratch) = (both.lent(), QueryScratch::default());
+    let rust = rust_rays(&rays);
+    for (ray, rust_ray) in rays.iter().zip(&rust) {
+        let number = cast(ray, both, &mut lent);
+        let rust = timed::mesh(*rust_ray, &b.rust_mesh, &b.rust_tree, &mut scratch);
+        compare(name, wanted, (number, lent.hit), numbered(rust));
+    }
+    turns(
+        name,
+        rays,
+        rust,
+        move |ray, hit| {
+            let number = cast(ray, &a, &mut lent);
+            *hit = lent.hit;
+            number
+        },
+        move |ray| timed::mesh(*ray, &b.rust_mesh, &b.rust_tree, &mut scratch),
+    )
+}
+
+pub fn rows() -> Vec<Planned> {
+    let mut planned = Vec::new();
+    for (part, mesh, kind, wanted, rays) in met() {
+        let same = rays.clone();
+        planned.push(plan(
+            &format!("exact, no tree, {part}, {kind}"),
+            move |name: &str| row(name, wanted, &Both::of(mesh()), rays, exact),
+        ));
+        planned.push(plan(
+            &format!("rounded, no tree, {part}, {kind}"),
+            move |name: &str| row(name, wanted, &Both::of(mesh()), same, rounded),
+        ));
+    }
+    planned
+}
