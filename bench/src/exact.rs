@@ -22,24 +22,26 @@ fn rounded(ray: &Ray, both: &Both, lent: &mut Lent) -> u32 {
 /// A part on whole millimetres, how rays meet it, and these rays.
 type Met = (&'static str, fn() -> Mesh, &'static str, u32, Vec<Ray>);
 
-fn met() -> [Met; 2] {
-    let (front, mesh): (_, fn() -> Mesh) = ("12 triangles (drawer front)", inputs::front);
+fn met() -> [Met; 4] {
+    let (front, slanted) = (
+        "12 triangles (drawer front)",
+        "12 triangles (slanted front)",
+    );
+    let into = inputs::whole_front_rays(256);
+    let inside = inputs::whole_inside_front(256);
+    let side = |length| inputs::whole_at_slanted(256, length);
     [
-        (front, mesh, "hit", HIT, inputs::whole_front_rays(256)),
-        (
-            front,
-            mesh,
-            "miss near",
-            NONE,
-            inputs::whole_over_the_edge(256),
-        ),
+        (front, inputs::front, "hit", HIT, into),
+        (front, inputs::front, "miss near", NONE, inside),
+        (slanted, inputs::slanted_front, "hit", HIT, side(20.0)),
+        (slanted, inputs::slanted_front, "miss near", NONE, side(8.0)),
     ]
 }
 
-/// The same number, the same normal, and a distance that is the Rust's within its rounding (crates/whole_numbers: 2^-51).
+/// The same number, the same normal, and a distance that is the Rust's but for rounding (crates/whole_numbers: 2^-51, and ours).
 fn compare(name: &str, wanted: u32, ours: (u32, [f64; 4]), rust: (u32, [f64; 4])) {
     assert_eq!((ours.0, rust.0), (wanted, wanted), "{name}");
-    let near = (ours.1[3] - rust.1[3]).abs() <= rust.1[3] * f64::EPSILON * 2.0;
+    let near = (ours.1[3] - rust.1[3]).abs() <= rust.1[3] * f64::EPSILON * 3.0;
     let same = ours.1[..3] == rust.1[..3] && near;
     assert!(ours.0 != HIT || same, "{name}: {ours:?}, {rust:?}");
 }

@@ -272,14 +272,36 @@ pub fn whole_front_rays(count: usize) -> Vec<Ray> {
         .collect()
 }
 
-/// Rays along x that come over the edge of a drawer front, 1 mm above its face, on whole millimetres.
-pub fn whole_over_the_edge(count: usize) -> Vec<Ray> {
+/// Rays along z inside a drawer front, from 1 mm behind its front to 1 mm before its back, on whole millimetres.
+pub fn whole_inside_front(count: usize) -> Vec<Ray> {
+    let mut rays = whole_front_rays(count);
+    rays.iter_mut().for_each(|ray| {
+        ray.origin[2] = 18.0;
+        ray.max_distance = 17.0;
+    });
+    rays
+}
+
+/// A drawer front whose front is moved by 40 and 20 against its back.
+pub fn slanted_front() -> Mesh {
+    let mut mesh = front();
+    for corner in mesh.vertices.chunks_exact_mut(3).filter(|p| p[2] > 0.0) {
+        corner[0] += 40.0;
+        corner[1] += 20.0;
+    }
+    mesh
+}
+
+/// Rays along z at the slanted side of such a front, from 1 mm above its back, so long.
+pub fn whole_at_slanted(count: usize, length: f64) -> Vec<Ray> {
     let mut random = random(14);
-    let ray = |_| {
-        let y = random.between(20.0, 120.0).floor();
-        Ray::new([-10.0, y, 20.0], [1.0, 0.0, 0.0], 20.0)
-    };
-    (0..count).map(ray).collect()
+    let mut whole = |low: f64, high: f64| random.between(low, high).floor();
+    (0..count)
+        .map(|_| {
+            let origin = [whole(617.0, 637.0), whole(30.0, 120.0), 1.0];
+            Ray::new(origin, [0.0, 0.0, 1.0], length)
+        })
+        .collect()
 }
 
 /// The rays into a drawer front, far off it.
