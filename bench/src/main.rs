@@ -23,6 +23,7 @@ mod cgal;
 mod clock;
 #[allow(dead_code)]
 mod collision;
+mod conversion;
 mod exact;
 mod inputs;
 mod listing;

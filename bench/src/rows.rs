@@ -10,7 +10,7 @@ use crate::{
         mesh::{MeshQueryWorkspace, TriangleBvh},
         query::{QueryScratch, Ray as RustRay, timed},
     },
-    exact, inputs, listing, merge, near, plain, ranges, records,
+    conversion, exact, inputs, listing, merge, near, plain, ranges, records,
     shape::{self, TriangleMesh},
     timing::Row,
 };
@@ -553,6 +553,7 @@ pub fn all() -> Vec<Planned> {
         grids(),
         ranges::rows(),
         streams,
+        conversion::rows(),
     ];
     parts.into_iter().flatten().collect()
 }
