@@ -1,0 +1,6 @@
+-- The fold over the listed triangles, the exact cast through a tree refusal by refusal, its agreement with the one without a tree, and
+-- casts computed. Assumes nothing.
+pub mod Listed
+pub mod Casting
+pub mod Agreement
+pub mod Examples

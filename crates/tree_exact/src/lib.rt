@@ -1,0 +1,4 @@
+// The cast of an axis ray at a mesh on whole millimetres through its tree: a none is certain.
+
+// The public call.
+pub mod cast;
