@@ -4,6 +4,7 @@
 use crate::{
     boards::{self, Board, FARTHEST, LONGEST, met},
     calls::{Held, MODEL, SHORT_RESULT, answer_is, exact, run},
+    exact_tree,
     lent::Lent,
     library::{self, Fault, Hit, only_read, written},
     log::Log,
@@ -25,7 +26,7 @@ const CLOSED: &str = "a closed board, which every way in hits";
 /// Rays that are cast at one mesh.
 const RAYS: usize = 3;
 
-fn exact_cast(call: &PlainCast) -> Result<Hit, Fault> {
+pub(crate) fn exact_cast(call: &PlainCast) -> Result<Hit, Fault> {
     let vertices = Lent::new(call.vertices);
     let indices = Lent::new(call.indices);
     let mut hit = Lent::new(call.hit);
@@ -170,12 +171,15 @@ fn damage(random: &mut Random, mesh: &mut Mesh) {
     }
 }
 
-/// The mesh's own ray, and others at its corners and sides.
+/// The mesh's own ray, and others at its corners and sides, without a tree and through trees.
 fn casts(log: &mut Log, random: &mut Random, mesh: &Mesh) {
-    for k in 0..RAYS {
-        let aims = k > 0 && mesh.vertices.len() >= 3;
+    let mut rays = vec![mesh.ray];
+    if mesh.vertices.len() >= 3 {
+        rays.extend([(); RAYS - 1].map(|()| ray_at(random, mesh)));
+    }
+    for &ray in &rays {
         let call = PlainCast {
-            ray: if aims { ray_at(random, mesh) } else { mesh.ray },
+            ray,
             vertices: &mesh.vertices,
             indices: &mesh.indices,
             hit: &result(random, 4, Random::special),
@@ -183,6 +187,9 @@ fn casts(log: &mut Log, random: &mut Random, mesh: &Mesh) {
         };
         cast(log, &call);
     }
+    let first = random.below(rays.len());
+    rays.rotate_left(first);
+    exact_tree::compare(log, random, mesh, &rays);
 }
 
 /// The answer as the model has it, and that nothing else was written.
@@ -213,7 +220,7 @@ fn cast(log: &mut Log, call: &PlainCast) {
 }
 
 /// 1, 12 of the ray and 2 go before the result slices' 3; 12 of a candidate does not.
-fn before_results(ray: &Ray, answer: &Answer) -> Option<u32> {
+pub(crate) fn before_results(ray: &Ray, answer: &Answer) -> Option<u32> {
     match answer {
         Answer::Refused(number @ 1..=2) => Some(*number),
         Answer::Refused(12) if !mesh_exact::ray_is_whole(ray) => Some(12),
@@ -259,6 +266,7 @@ pub fn board(log: &mut Log, board: &Board) {
         let told = (done.number, &done.hit, &done.index);
         held.differs(format!("answers {told:?}, {JUDGE} {judged:?}"));
     }
+    exact_tree::board(log, call, &done);
 }
 
 /// A segment from outside of a closed board to a place in it: a hit, from near to the maximum.

@@ -5,6 +5,7 @@ pub mod boards;
 pub mod cabinets;
 pub mod calls;
 pub mod exact;
+pub mod exact_tree;
 pub mod lent;
 pub mod library;
 pub mod listing;

@@ -304,7 +304,7 @@ pub fn near_to(random: &mut Random, ray: &Ray, pose: &[f64], indices: &[u32]) ->
 }
 
 /// A list and a stack that hold anything.
-fn work_areas(random: &mut Random, n: usize, nodes: usize) -> [Vec<u32>; 2] {
+pub(crate) fn work_areas(random: &mut Random, n: usize, nodes: usize) -> [Vec<u32>; 2] {
     let lengths = [about(random, n), about(random, nodes.min(2 * n) + 1)];
     lengths.map(|length| filled(random, length))
 }

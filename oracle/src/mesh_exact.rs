@@ -226,31 +226,37 @@ pub fn ray_mesh_exact(
     if !ray_admitted(ray) {
         return Answer::Refused(1);
     }
+    let n = indices.len() / 3;
+    let admitted = vertices_admitted(vertices)
+        && vertices_admitted(cast_vertices)
+        && indices_admitted(indices)
+        && tree.node_count <= 2 * n;
+    if slipped(ExactTreeShape) && !admitted {
+        return Answer::Refused(2);
+    }
     let Some(line) = Line::of(ray) else {
         return Answer::Refused(12);
     };
-    let n = indices.len() / 3;
-    if !vertices_admitted(vertices)
-        || !vertices_admitted(cast_vertices)
-        || !indices_admitted(indices)
-        || tree.node_count > 2 * n
-    {
+    if !admitted {
         return Answer::Refused(2);
     }
-    if !tree.is_long_enough(n) || list_length < n || stack_length < tree.node_count + 1 {
+    let posed = vertices.len() == cast_vertices.len();
+    let short = !tree.is_long_enough(n) || list_length < n || stack_length < tree.node_count + 1;
+    if short && !(slipped(ExactTreePose) && !posed) {
         return Answer::Refused(3);
     }
-    if vertices.len() != cast_vertices.len() {
+    if !posed {
         return Answer::Refused(4);
     }
     let Some(segment) = segment_box(ray) else {
         return Answer::Refused(6);
     };
     match walk(tree, n, &segment) {
-        None => Answer::Refused(5),
+        None => or(ExactTreeWalk, Answer::Refused(5), Answer::None),
         Some(mut listed) => {
             listed.sort_unstable();
-            nearest(ray, &line, cast_vertices, indices, &listed)
+            let vertices = or(ExactTreeVertices, cast_vertices, vertices);
+            nearest(ray, &line, vertices, indices, &listed)
         }
     }
 }

@@ -160,6 +160,10 @@ slips! {
     ExactAll: "12 is looked for in every triangle",
     ExactLate: "12 of a candidate goes before 5",
     ExactShape: "2 goes before 12 of the ray",
+    ExactTreeShape: "through a tree 2 goes before 12 of the ray",
+    ExactTreePose: "through a tree 4 goes before 3",
+    ExactTreeWalk: "through a tree the walk's 5 is none",
+    ExactTreeVertices: "through a tree the mesh's own vertices are cast at",
     // the merge
     MergeNodes: "in a merge a node count above 2n is 2",
     MergeMarks: "a merge's marks for the larger board are room enough",
