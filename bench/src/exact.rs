@@ -1,5 +1,5 @@
-//! The cast on whole millimetres, and the rounded cast beside it, at the same part with the same rays along an axis. The
-//! Rust's side is its tree cast in both.
+//! The cast on whole millimetres, without a tree and through one, and the rounded casts beside them, at the same part with the
+//! same rays along an axis. The Rust's side is its tree cast in all.
 
 use crate::{
     areas::{self, Lent, Mesh, Ray},
@@ -19,23 +19,39 @@ fn rounded(ray: &Ray, both: &Both, lent: &mut Lent) -> u32 {
     areas::plain(ray, &both.mesh, &mut lent.hit, &mut lent.index)
 }
 
+fn exact_tree(ray: &Ray, both: &Both, lent: &mut Lent) -> u32 {
+    areas::exact_mesh(ray, &both.mesh, &both.tree, lent)
+}
+
+fn rounded_tree(ray: &Ray, both: &Both, lent: &mut Lent) -> u32 {
+    areas::mesh(ray, &both.mesh, &both.tree, lent)
+}
+
 /// A part on whole millimetres, how rays meet it, and these rays.
 type Met = (&'static str, fn() -> Mesh, &'static str, u32, Vec<Ray>);
 
-fn met() -> [Met; 4] {
+fn met() -> [Met; 6] {
     let (front, slanted) = (
         "12 triangles (drawer front)",
         "12 triangles (slanted front)",
     );
-    let into = inputs::whole_front_rays(256);
-    let inside = inputs::whole_inside_front(256);
+    let (plates, large): (_, fn() -> Mesh) = ("15,920 triangles", inputs::whole_plates);
+    let into = || inputs::whole_front_rays(256);
+    let inside = || inputs::whole_inside_front(256);
     let side = |length| inputs::whole_at_slanted(256, length);
     [
-        (front, inputs::front, "hit", HIT, into),
-        (front, inputs::front, "miss near", NONE, inside),
+        (front, inputs::front, "hit", HIT, into()),
+        (front, inputs::front, "miss near", NONE, inside()),
         (slanted, inputs::slanted_front, "hit", HIT, side(20.0)),
         (slanted, inputs::slanted_front, "miss near", NONE, side(8.0)),
+        (plates, large, "hit", HIT, into()),
+        (plates, large, "miss near", NONE, inside()),
     ]
+}
+
+/// A cast without a tree looks at every triangle, and is for parts of few.
+fn is_small(part: &str) -> bool {
+    part.starts_with("12 ")
 }
 
 /// The same number, the same normal, and a distance that is the Rust's but for rounding (crates/whole_numbers: 2^-51, and ours).
@@ -75,18 +91,26 @@ fn row(
     )
 }
 
+fn planned(
+    how: &str,
+    (part, mesh, kind, wanted, rays): &Met,
+    cast: impl Fn(&Ray, &Both, &mut Lent) -> u32 + 'static,
+) -> Planned {
+    let (mesh, wanted, rays) = (*mesh, *wanted, rays.clone());
+    plan(&format!("{how}, {part}, {kind}"), move |name: &str| {
+        row(name, wanted, &Both::of(mesh()), rays, cast)
+    })
+}
+
 pub fn rows() -> Vec<Planned> {
-    let mut planned = Vec::new();
-    for (part, mesh, kind, wanted, rays) in met() {
-        let same = rays.clone();
-        planned.push(plan(
-            &format!("exact, no tree, {part}, {kind}"),
-            move |name: &str| row(name, wanted, &Both::of(mesh()), rays, exact),
-        ));
-        planned.push(plan(
-            &format!("rounded, no tree, {part}, {kind}"),
-            move |name: &str| row(name, wanted, &Both::of(mesh()), same, rounded),
-        ));
+    let mut rows = Vec::new();
+    for met in &met() {
+        if is_small(met.0) {
+            rows.push(planned("exact, no tree", met, exact));
+            rows.push(planned("rounded, no tree", met, rounded));
+        }
+        rows.push(planned("exact, its tree", met, exact_tree));
+        rows.push(planned("rounded, its tree", met, rounded_tree));
     }
-    planned
+    rows
 }

@@ -292,6 +292,13 @@ pub fn slanted_front() -> Mesh {
     mesh
 }
 
+/// The front and the back of a drawer front in rectangles of 3 by 7: 15,920 triangles on whole millimetres.
+pub fn whole_plates() -> Mesh {
+    let mut mesh = plates(199, 20);
+    mesh.vertices.iter_mut().for_each(|x| *x = x.round());
+    mesh
+}
+
 /// Rays along z at the slanted side of such a front, from 1 mm above its back, so long.
 pub fn whole_at_slanted(count: usize, length: f64) -> Vec<Ray> {
     let mut random = random(14);
