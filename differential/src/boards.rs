@@ -94,6 +94,7 @@ const CORNER: &str = "hits at a corner";
 const FACE: &str = "hits of a face that the line runs along";
 const FACE_INSIDE: &str = "hits of such a face, already inside it at near";
 const ALONG_SIDE: &str = "hits of a side that the line runs along";
+const ORIGIN: &str = "hits at the origin itself";
 const NEAR: &str = "hits at near";
 const MAXIMUM: &str = "hits at the maximum";
 const POINT: &str = "hits of a segment of one point";
@@ -102,8 +103,8 @@ const EQUAL: &str = "hits of two triangles or more at one distance";
 const FACE_PASSED: &str = "nones beside a face that the line runs along";
 const NO_AREA: &str = "triangles without area";
 
-/// What a run over boards has to meet, each some thousand times in a million boards.
-pub const MET: [&str; 16] = [
+/// What a run over boards has to meet, each some thousands of times in a million boards.
+pub const MET: [&str; 17] = [
     HITS,
     NONES,
     INSIDE,
@@ -113,6 +114,7 @@ pub const MET: [&str; 16] = [
     FACE,
     FACE_INSIDE,
     ALONG_SIDE,
+    ORIGIN,
     NEAR,
     MAXIMUM,
     POINT,
@@ -155,6 +157,7 @@ pub fn met(board: &Board, judged: Option<&Judged>, mut count: impl FnMut(&'stati
         (face(t), FACE),
         (face(t) && at_near && on == [false; 3], FACE_INSIDE),
         (sides.contains(&(0, 0)), ALONG_SIDE),
+        (over == 0, ORIGIN),
         (at_near, NEAR),
         (over == line.far * under, MAXIMUM),
         (line.near == line.far, POINT),

@@ -43,7 +43,7 @@ impl Line {
         if (0..3).any(|other| other != axis && ray.direction[other] != 0.0) {
             return None;
         }
-        let longest = or(ExactReach, LONGEST, LONGEST + 1);
+        let longest = or(ExactReach, LONGEST, LONGEST + 1) - or(ExactReachAt, 0, 1);
         Some(Self {
             axis,
             sign: ray.direction[axis] as i128,
@@ -155,7 +155,7 @@ pub fn ray_is_whole(ray: &Ray) -> bool {
 
 /// A candidate's own answer: 12 where a corner is not whole.
 fn triangle(ray: &Ray, line: &Line, corners: [[f64; 3]; 3]) -> Answer {
-    let farthest = or(ExactCorner, FARTHEST, FARTHEST + 1);
+    let farthest = or(ExactCorner, FARTHEST, FARTHEST + 1) - or(ExactCornerAt, 0, 1);
     let [Some(a), Some(b), Some(c)] = corners.map(|corner| point(corner, farthest)) else {
         return Answer::Refused(12);
     };
