@@ -56,21 +56,13 @@ fn once(mut row: Row) {
     }
 }
 
-fn compared(rows: Vec<rows::Planned>) -> usize {
+fn smoke() {
+    let rows = rows::all();
     let count = rows.len();
     rows.into_iter()
         .for_each(|planned| once((planned.make)(&planned.name)));
-    count
-}
-
-fn smoke() {
-    let count = compared(rows::all());
     sizes(1_024).flat_map(rows::growth).for_each(once);
     println!("{count} rows, and growth to 1024 triangles: both sides agree");
-    match compared(cgal::rows()) {
-        0 => println!("CGAL is not installed: no row beside it"),
-        count => println!("and {count} rows beside CGAL"),
-    }
 }
 
 /// Measures and prints the rows whose names hold a text.
