@@ -1,4 +1,5 @@
 use casts::answer;
+use casts::answer::Cast;
 use casts::answer::Crossing;
 use casts::answer::Reach;
 use casts::nearest;
@@ -8,14 +9,19 @@ use casts::summary::Notes;
 use casts::summary::Outcome;
 use casts::triangle;
 use geometry::ray::Ray;
+use geometry::vec3::Vec3;
 use tree::mesh;
 ghost use mathlib.Core.Path.{_≡_};
 ghost use mathlib.Core.Bool.{true};
 ghost use Prim.Native.Nat.{_+_, _*_, _≤_};
 ghost use lib.ListN.{length, take};
+ghost use Rattle.geometry.specs.Box.{corner};
+ghost use Rattle.geometry.specs.Vector.{subOf};
+ghost use Rattle.casts.specs.Answer.{says};
 ghost use Rattle.casts.specs.Reach.{reachOf};
 ghost use Rattle.casts.specs.Nearest.{saysIndexed, nearestOf};
 ghost use Rattle.casts.specs.Summary.{nothing, summaryFrom, saysNotes};
+ghost use Rattle.casts.specs.Triangle.{triangleNormal};
 ghost use Rattle.lists.specs.Lists.{sorted, allBelow};
 ghost use Rattle.tree.specs.Mesh.{thirds, triangleAnswer};
 
@@ -64,6 +70,17 @@ fn note_all(ray: Ray, pose: &[f64], triangles: &[u32], list: &[u32], found: usiz
     notes
 }
 
+// The hit at the distance that the corners are reached at. It has one user, into which it is compiled: a call would be handed the corners
+// through memory.
+fn hit_on(ray: Ray, corners: [Vec3; 3], distance: f64) -> Cast
+    ensures { λ r. ⌜ says r ≡ triangleNormal ray (subOf (corner corners 1) (corner corners 0)) (subOf (corner corners 2) (corner corners 0)) distance ⌝ }
+{
+    let first = corners[0];
+    let second = corners[1];
+    let third = corners[2];
+    triangle::triangle_normal(ray, second.sub(first), third.sub(first), distance)
+}
+
 // The nearest hit of the triangles in the first places of a list, for an admitted ray: as if they stood there ascending, in whatever order they do. The notes hold the winner's number or distance, so only its normal is left to compute.
 pub fn nearest_of(
     ray: Ray,
@@ -86,7 +103,7 @@ pub fn nearest_of(
         }
         Outcome::Struck { index, distance } => {
             let corners = mesh::corners_of(pose, triangles, index as usize);
-            let hit = triangle::hit_at(ray, corners, distance);
+            let hit = hit_on(ray, corners, distance);
             return nearest::next(IndexedCast::None, index, hit);
         }
     }

@@ -1,8 +1,8 @@
--- `mesh_plain::cast::hit_on` meets its contract. Assumes nothing.
+-- `mesh::candidates::hit_on` meets its contract. Assumes nothing.
 use mathlib.Core.Path.{sym}
 use borrow.Author.Needs.{needs}
-use Rattle.mesh_plain.proofs.cast.hit_on.Statement.{statement}
-use Rattle.mesh_plain.proofs.cast.hit_on.Tie as tie
+use Rattle.mesh.proofs.candidates.hit_on.Statement.{statement}
+use Rattle.mesh.proofs.candidates.hit_on.Tie as tie
 
 returns : tie.Need-returns
 returns c =
