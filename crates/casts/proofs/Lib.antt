@@ -12,3 +12,4 @@ pub mod HitLaws
 pub mod SummaryOrder
 pub mod SummaryLaws
 pub mod SummaryMembers
+pub mod CrossedLaws

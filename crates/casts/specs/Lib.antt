@@ -8,4 +8,5 @@ pub mod Plane
 pub mod Triangle
 pub mod Crossing
 pub mod Nearest
+pub mod Crossed
 pub mod Summary

@@ -12,3 +12,5 @@ pub mod triangle;
 pub mod nearest;
 // The same in whatever order they come.
 pub mod summary;
+// The same with the edges' cross in place of the normal, whose root is left for the hit that wins.
+pub mod crossed;

@@ -39,7 +39,7 @@ fn size_from_one(v: Vec3) -> f64
 }
 
 // Whether the determinant is too small for the edges' scale.
-fn is_flat(determinant: f64, a: Vec3, b: Vec3) -> bool
+pub fn is_flat(determinant: f64, a: Vec3, b: Vec3) -> bool
     ensures { λ r. ⌜ r ≡ flat determinant a b ⌝ }
 {
     let scale = extremes::greater(size_from_one(a), size_from_one(b));

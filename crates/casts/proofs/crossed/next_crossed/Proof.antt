@@ -1,0 +1,46 @@
+-- `casts::crossed::next_crossed` meets its contract. Assumes nothing.
+use mathlib.Core.Path.{refl, sym, ap, _∙_}
+use Rattle.casts.specs.Answer.{refused}
+use Rattle.casts.specs.Nearest.{saysIndexed, nextOf}
+use Rattle.casts.specs.Crossed.{facedIndexed, directedIndexed}
+use Rattle.casts.proofs.ReachLaws.{next-none}
+use Rattle.casts.proofs.CrossedLaws.{next-faced, next-directed}
+use borrow.Author.Needs.{needs}
+use Rattle.casts.proofs.crossed.next_crossed.Statement.{statement}
+use Rattle.casts.proofs.crossed.next_crossed.Tie as tie
+
+-- the first test leaves the others
+returns : tie.Need-returns
+returns c =
+    let (k, e) : tie.After-crossing × tie.After-start = search in
+    (simp (sym (k .crossing .ensures), e .start .given .1, sym (c .next-within .ensures .0)), c .next-within .ensures .1)
+
+-- it misses
+returns-2 : tie.Need-returns-2
+returns-2 c =
+    let k : tie.After-crossing = search in
+    (simp (sym (k .crossing .ensures), c .enum-told .given .1, ← next-none), λ h. h)
+
+-- it refuses
+returns-3 : tie.Need-returns-3
+returns-3 c =
+    let (s, k, e) : tie.Start × tie.After-crossing × tie.After-start2 = search in
+    let (ray, best) : _ × _ = (s .args .ray, saysIndexed (s .args .best)) in (
+      ap (facedIndexed ray) (c .next .ensures) ∙ next-faced ray best (s .args .index) _
+          ∙ ap (nextOf _ _) (simp (sym (k .crossing .ensures), e .start2 .given .1)),
+      (λ h. ap directedIndexed (c .next .ensures) ∙ next-directed best (s .args .index) _ refl h),
+    )
+
+pub next-crossed-spec : {M : Type 1} → statement M
+next-crossed-spec =
+    tie.close
+    (tie.spec
+    (λ c κs. search needs)  -- crossing-requires
+    (search needs)  -- enum-known-start
+    (λ c κs. search needs)  -- next-within-requires
+    returns
+    (search needs)  -- enum-told
+    returns-2
+    (search needs)  -- enum-known-start-2
+    (λ c κs. search needs)  -- next-requires
+    returns-3)

@@ -1,0 +1,28 @@
+-- `mesh_plain::boxes::side_code` meets its contract. Assumes nothing.
+use mathlib.Core.Bool.{not}
+use native.Mathlib.Omega.{arith}
+use lib.Ieee.{le}
+use Rattle.mesh_plain.proofs.CodeLaws.{digit-small}
+use borrow.Author.Needs.{needs}
+use Rattle.mesh_plain.proofs.boxes.side_code.Statement.{statement}
+use Rattle.mesh_plain.proofs.boxes.side_code.Tie as tie
+
+mul-result : tie.Need-mul-result
+mul-result c =
+    let s : tie.Start = search in
+    omega (arith, digit-small (not (le (s .args .x) (s .args .to))))
+
+add-result : tie.Need-add-result
+add-result c =
+    let s : tie.Start = search in
+    omega (arith, digit-small (not (le (s .args .x) (s .args .to))), digit-small (not (le (s .args .from) (s .args .x))))
+
+pub side-code-spec : {M : Type 1} → statement M
+side-code-spec =
+    tie.close
+    (tie.spec
+    (search needs)  -- cast-result
+    mul-result
+    (search needs)  -- cast-result-2
+    add-result
+    (λ c. search needs))
