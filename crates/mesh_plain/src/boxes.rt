@@ -5,7 +5,7 @@ use tree::layout;
 use tree::mesh as triangle_mesh;
 ghost use mathlib.Core.Path.{_≡_};
 ghost use mathlib.Core.Bool.{true, false};
-ghost use Prim.Native.Nat.{_+_, _*_, _≤_};
+ghost use Prim.Native.Nat.{_+_, _*_, _<_, _≤_};
 ghost use lib.ListN.{length};
 ghost use Rattle.geometry.specs.Box.{cornersBox, touches};
 ghost use Rattle.tree.specs.Mesh.{mesh, thirds, cornersInside, cornersOf};
@@ -119,6 +119,7 @@ fn corners_touch(corners: [Vec3; 3], bounds: Aabb) -> bool
 // On which sides of an interval a number lies: 1 before it, 2 behind it, and both for NaN.
 fn side_code(x: f64, from: f64, to: f64) -> u64
     ensures { λ r. ⌜ r ≡ sideCode x from to ⌝ }
+    ensures { λ r. ⌜ r < 4 ⌝ }
 {
     !(x <= to) as u64 * 2 + !(from <= x) as u64
 }

@@ -10,37 +10,52 @@ use Rattle.mesh_plain.proofs.boxes.codes_touch.Tie as tie
 mul-first : tie.Need-mul-first
 mul-first c =
     let (s, v) : tie.Start × tie.After-word-at = search in
-    omega (arith, v .word-at .ensures, first-vertex _ _ _ _ _ (s .pre .1) (s .pre .0 .1), first-placed _ _ _ _ _ (s .pre .1) (s .pre .0 .1), s .good .0 .1)
+    let coded = s .pre .1 in
+    let inside = s .pre .0 .1 in
+    omega (arith, v .word-at .ensures, first-vertex _ _ _ _ _ coded inside, first-placed _ _ _ _ _ coded inside, s .good .0 .1)
 
 shared-slice-read-first : tie.Need-shared-slice-read-first
 shared-slice-read-first c =
     let (s, v) : tie.Start × tie.After-word-at = search in
-    omega (arith, v .word-at .ensures, first-vertex _ _ _ _ _ (s .pre .1) (s .pre .0 .1), first-placed _ _ _ _ _ (s .pre .1) (s .pre .0 .1))
+    let coded = s .pre .1 in
+    let inside = s .pre .0 .1 in
+    omega (arith, v .word-at .ensures, first-vertex _ _ _ _ _ coded inside, first-placed _ _ _ _ _ coded inside)
 
 mul-second : tie.Need-mul-second
 mul-second c =
     let (s, v) : tie.Start × tie.After-word-at2 = search in
-    omega (arith, v .word-at2 .ensures, second-placed _ _ _ _ _ (s .pre .1) (s .pre .0 .1), s .good .0 .1)
+    let coded = s .pre .1 in
+    let inside = s .pre .0 .1 in
+    omega (arith, v .word-at2 .ensures, second-placed _ _ _ _ _ coded inside, s .good .0 .1)
 
 shared-slice-read-second : tie.Need-shared-slice-read-second
 shared-slice-read-second c =
     let (s, v) : tie.Start × tie.After-word-at2 = search in
-    omega (arith, v .word-at2 .ensures, second-placed _ _ _ _ _ (s .pre .1) (s .pre .0 .1))
+    let coded = s .pre .1 in
+    let inside = s .pre .0 .1 in
+    omega (arith, v .word-at2 .ensures, second-placed _ _ _ _ _ coded inside)
 
 mul-third : tie.Need-mul-third
 mul-third c =
     let (s, v) : tie.Start × tie.After-word-at3 = search in
-    omega (arith, v .word-at3 .ensures, third-placed _ _ _ _ _ (s .pre .1) (s .pre .0 .1), s .good .0 .1)
+    let coded = s .pre .1 in
+    let inside = s .pre .0 .1 in
+    omega (arith, v .word-at3 .ensures, third-placed _ _ _ _ _ coded inside, s .good .0 .1)
 
 shared-slice-read-third : tie.Need-shared-slice-read-third
 shared-slice-read-third c =
     let (s, v) : tie.Start × tie.After-word-at3 = search in
-    omega (arith, v .word-at3 .ensures, third-placed _ _ _ _ _ (s .pre .1) (s .pre .0 .1))
+    let coded = s .pre .1 in
+    let inside = s .pre .0 .1 in
+    omega (arith, v .word-at3 .ensures, third-placed _ _ _ _ _ coded inside)
 
 returns : tie.Need-returns
 returns c =
     let (s, u, v, w) : tie.Start × tie.After-word-at × tie.After-word-at2 × tie.After-word-at3 = search in
-    simp (u .word-at .ensures ∙ first-vertex _ _ _ _ _ (s .pre .1) (s .pre .0 .1), v .word-at2 .ensures, w .word-at3 .ensures) (placed-touch _ _ _ _ _ (s .pre .1) (s .pre .0 .1))
+    let coded = s .pre .1 in
+    let inside = s .pre .0 .1 in
+    simp (u .word-at .ensures ∙ first-vertex _ _ _ _ _ coded inside, v .word-at2 .ensures, w .word-at3 .ensures)
+    (placed-touch _ _ _ _ _ coded inside)
 
 pub codes-touch-spec : {M : Type 1} → statement M
 codes-touch-spec =
