@@ -4,7 +4,10 @@ use mathlib.Core.Path.{_≡_, refl, sym, ap, _∙_}
 use mathlib.Core.Bool.{Bool, true, false, cond}
 use native.Mathlib.Omega.{arith}
 use lib.Ieee.{Float, lt}
-use Rattle.geometry.specs.Vector.{crossOf, normalizable, tryNormalize}
+use Rattle.arithmetic.specs.Basic.{isFinite}
+use Rattle.geometry.specs.Numbers.{minPositive}
+use Rattle.geometry.specs.Vector.{crossOf, dotOf, normalizable, overLength, tryNormalize}
+use Rattle.geometry.proofs.NormalLaws.{told-unit}
 use Rattle.geometry.specs.declared.vec3.Vec3.{Vec3}
 use Rattle.geometry.specs.declared.vec3.Normalized.{Normalized}
 use Rattle.geometry.specs.declared.vec3.Normalized.the-variants.{Unit as UnitOf, Degenerate}
@@ -12,7 +15,7 @@ use Rattle.geometry.specs.declared.ray.Ray.{Ray}
 use Rattle.casts.specs.Answer.{Answer, hit, none, refused, noNormal}
 use Rattle.casts.specs.Triangle.{triangleNormal}
 use Rattle.casts.specs.Nearest.{Indexed, hitAt, noHit, stopped, nextOf}
-use Rattle.casts.specs.Crossed.{unitOf, faced, facedAnswer, facedIndexed, directed, directedIndexed}
+use Rattle.casts.specs.Crossed.{unitOf, faced, facedAnswer, facedIndexed}
 
 -- ---- one triangle
 module _ (r : Ray) (a b : Vec3) (distance : Float) where
@@ -42,22 +45,6 @@ module _ (r : Ray) where
   next-faced (hitAt v d i) index none = refl
   next-faced (hitAt v d i) index (refused number) = refl
 
-directed-cond : (b : Bool) (v w : Vec3) (d e : Float) (i j : ℕ) → normalizable v ≡ true → normalizable w ≡ true
-    → directedIndexed (cond b (hitAt v d i) (hitAt w e j)) ≡ true
-directed-cond true v w d e i j h k = h
-directed-cond false v w d e i j h k = k
-
-pub next-directed : (best : Indexed) (index : ℕ) (answer : Answer) → directed answer ≡ true → directedIndexed best ≡ true
-    → directedIndexed (nextOf best index answer) ≡ true
-unfolding nextOf
-next-directed (stopped number) index answer h k = refl
-next-directed noHit index (hit cross distance) h k = h
-next-directed noHit index none h k = refl
-next-directed noHit index (refused number) h k = refl
-next-directed (hitAt v d i) index (hit cross distance) h k = directed-cond (lt distance d) cross v distance d index i h k
-next-directed (hitAt v d i) index none h k = k
-next-directed (hitAt v d i) index (refused number) h k = refl
-
 -- ---- the unit of a vector that has a direction
 module _ (v : Vec3) (h : normalizable v ≡ true) where
   told : tryNormalize v ≡ UnitOf (unitOf v)
@@ -72,3 +59,7 @@ module _ (v : Vec3) (h : normalizable v ≡ true) where
       let same : Degenerate ≡ UnitOf (unitOf v) = e ∙ told in
       let z : _≡_ {A = ℕ} 0 1 = cc in
       omega (arith, z)
+
+  -- where the dot tells the length
+  pub unit-by-length : (d : Float) → d ≡ dotOf v v → isFinite d ≡ true → lt d minPositive ≡ false → overLength v ≡ unitOf v
+  unit-by-length d e p q = unit-told (overLength v) (told-unit v d (overLength v) e p q refl)

@@ -1,13 +1,17 @@
 -- Inner contracts only: answers that have the edges' cross in place of the normal, and what they stand for. Definitions only. Assumes
 -- nothing.
 use Prim.Native.Nat.{ℕ}
-use mathlib.Core.Bool.{Bool, true, cond}
+use mathlib.Core.Path.{_≡_}
+use mathlib.Core.Bool.{true, cond}
+use lib.Ieee.{Float}
 use Rattle.geometry.specs.Vector.{dotOf, normalizable, dotTells, scaledToOne, overLength}
 use Rattle.geometry.specs.declared.vec3.Vec3.{Vec3}
 use Rattle.geometry.specs.declared.ray.Ray.{Ray}
 use Rattle.casts.specs.Answer.{Answer, hit, none, refused}
 use Rattle.casts.specs.Surface.{facing}
 use Rattle.casts.specs.Nearest.{Indexed, hitAt, noHit, stopped}
+use Rattle.casts.specs.declared.crossed.Near.{Near}
+use Rattle.casts.specs.declared.crossed.Near.the-variants.{Hit, None, Refused}
 
 -- the unit of a vector that has a direction
 abbrev pub unitOf : Vec3 → Vec3
@@ -27,13 +31,20 @@ facedIndexed r (hitAt cross distance index) = hitAt (faced r cross) distance ind
 facedIndexed r noHit = noHit
 facedIndexed r (stopped number) = stopped number
 
--- the cross of a hit has a direction
-abbrev pub directed : Answer → Bool
-directed (hit cross distance) = normalizable cross
-directed none = true
-directed (refused number) = true
+-- ---- what the pass holds
 
-abbrev pub directedIndexed : Indexed → Bool
-directedIndexed (hitAt cross distance index) = normalizable cross
-directedIndexed noHit = true
-directedIndexed (stopped number) = true
+-- what each case says: without the cross's dot with itself
+abbrev pub saysNear : Near → Indexed
+saysNear (Hit cross square distance index) = hitAt cross distance index
+saysNear None = noHit
+saysNear (Refused number) = stopped number
+
+-- a cross has a direction, and its dot with itself is known
+pub record Measured (cross : Vec3) (square : Float) : Type 0 where
+  pub directs : normalizable cross ≡ true
+  pub told : square ≡ dotOf cross cross
+
+abbrev pub Held : Near → Type 0
+Held (Hit cross square distance index) = Measured cross square
+Held None = true ≡ true
+Held (Refused number) = true ≡ true

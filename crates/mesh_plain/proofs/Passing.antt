@@ -15,7 +15,7 @@ use Rattle.geometry.specs.declared.ray.Ray.{Ray}
 use Rattle.casts.specs.Answer.{Answer, outOfBounds}
 use Rattle.casts.specs.Triangle.{triangleCast}
 use Rattle.casts.specs.Nearest.{Indexed, noHit, stopped, nextOf, foldFrom, nearestOf}
-use Rattle.casts.specs.Crossed.{facedIndexed, directedIndexed}
+use Rattle.casts.specs.Crossed.{facedIndexed}
 use Rattle.lists.specs.Lists.{range, keep, every}
 use Rattle.tree.specs.Mesh.{Mesh, thirds, cornersInside, cornersOf, triangleBox, triangleAnswer, candidates}
 use Rattle.lists.proofs.JoinedTests.{and-first, and-second}
@@ -86,14 +86,13 @@ module _ (r : Ray) (box : Aabb) (m : Mesh) where
   -- those near among the rest, on top of what was found so far, which has the cross in place of the normal
   pub record Passing (best : Indexed) (i : ℕ) : Type 0 where
     pub fitting : Fitting m i
-    pub directs : directedIndexed best ≡ true
     pub gives : foldFrom answer (facedIndexed r best) (keep near (from m i)) ≡ nearestOf answer (candidates m box)
 
   pub passing-begins : Passing noHit 0
   unfolding candidates
   passing-begins =
       let all : count m - 0 ≡ count m = omega arith in
-      record { fitting = fitting-begins m; directs = refl; gives = rw all refl }
+      record { fitting = fitting-begins m; gives = rw all refl }
 
   module _ (best : Indexed) (i : ℕ) (p : Passing best i) where
     module _ (h : i < count m) where
@@ -104,12 +103,11 @@ module _ (r : Ray) (box : Aabb) (m : Mesh) where
 
       -- one that is near
       pub passing-near : triangleFits m i ≡ true → near i ≡ true → (next : Indexed)
-          → facedIndexed r next ≡ nextOf (facedIndexed r best) i (answer i) → (directedIndexed best ≡ true → directedIndexed next ≡ true)
+          → facedIndexed r next ≡ nextOf (facedIndexed r best) i (answer i)
           → Passing next (i + 1)
       unfolding foldFrom
-      passing-near fit touching next e d = record {
+      passing-near fit touching next e = record {
         fitting = fitting-goes m i (p .fitting) h fit;
-        directs = d (p .directs);
         gives =
             ap (λ (s : Indexed). foldFrom answer s (keep near (from m (i + 1)))) e
             ∙ sym
@@ -123,7 +121,6 @@ module _ (r : Ray) (box : Aabb) (m : Mesh) where
       pub passing-far : triangleFits m i ≡ true → near i ≡ false → Passing best (i + 1)
       passing-far fit apart = record {
         fitting = fitting-goes m i (p .fitting) h fit;
-        directs = p .directs;
         gives =
             sym
             (ap (λ (b : Bool).

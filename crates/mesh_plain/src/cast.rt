@@ -1,6 +1,7 @@
 use crate::boxes;
 use casts::answer;
 use casts::crossed;
+use casts::crossed::Near;
 use casts::nearest::IndexedCast;
 use geometry::aabb::Aabb;
 use geometry::ray::Ray;
@@ -30,7 +31,7 @@ fn cast_all(
 {
     let limit = vertices.len() / 3;
     let count = triangles.len() / 3;
-    let mut best = IndexedCast::None;
+    let mut best = Near::None;
     let mut i: usize = 0;
     while i < count {
         if !triangle_mesh::corners_inside(limit, triangles, i) {

@@ -1,10 +1,9 @@
 -- `casts::crossed::next_crossed` meets its contract. Assumes nothing.
-use mathlib.Core.Path.{refl, sym, ap, _∙_}
-use Rattle.casts.specs.Answer.{refused}
-use Rattle.casts.specs.Nearest.{saysIndexed, nextOf}
-use Rattle.casts.specs.Crossed.{facedIndexed, directedIndexed}
+use mathlib.Core.Path.{sym, ap, _∙_}
+use Rattle.casts.specs.Nearest.{nextOf}
+use Rattle.casts.specs.Crossed.{saysNear, facedIndexed}
 use Rattle.casts.proofs.ReachLaws.{next-none}
-use Rattle.casts.proofs.CrossedLaws.{next-faced, next-directed}
+use Rattle.casts.proofs.CrossedLaws.{next-faced}
 use borrow.Author.Needs.{needs}
 use Rattle.casts.proofs.crossed.next_crossed.Statement.{statement}
 use Rattle.casts.proofs.crossed.next_crossed.Tie as tie
@@ -25,10 +24,10 @@ returns-2 c =
 returns-3 : tie.Need-returns-3
 returns-3 c =
     let (s, k, e) : tie.Start × tie.After-crossing × tie.After-start2 = search in
-    let (ray, best) : _ × _ = (s .args .ray, saysIndexed (s .args .best)) in (
-      ap (facedIndexed ray) (c .next .ensures) ∙ next-faced ray best (s .args .index) _
+    let index = s .args .index in (
+      ap (facedIndexed (s .args .ray)) (c .stopped .ensures .0 index) ∙ next-faced (s .args .ray) (saysNear (s .args .best)) index _
           ∙ ap (nextOf _ _) (simp (sym (k .crossing .ensures), e .start2 .given .1)),
-      (λ h. ap directedIndexed (c .next .ensures) ∙ next-directed best (s .args .index) _ refl h),
+      λ h. c .stopped .ensures .1,
     )
 
 pub next-crossed-spec : {M : Type 1} → statement M
@@ -42,5 +41,5 @@ next-crossed-spec =
     (search needs)  -- enum-told
     returns-2
     (search needs)  -- enum-known-start-2
-    (λ c κs. search needs)  -- next-requires
+    (λ c κs. search needs)  -- stopped-requires
     returns-3)

@@ -1,10 +1,7 @@
 -- `casts::crossed::next_within` meets its contract. Assumes nothing.
 use mathlib.Core.Path.{sym, ap, _∙_}
-use Rattle.casts.specs.Answer.{says}
-use Rattle.casts.specs.Nearest.{saysIndexed, nextOf}
-use Rattle.casts.specs.Crossed.{facedIndexed, directedIndexed}
+use Rattle.casts.specs.Nearest.{nextOf}
 use Rattle.casts.proofs.ReachLaws.{from-distance, no-distance, next-none}
-use Rattle.casts.proofs.CrossedLaws.{next-faced, next-directed}
 use borrow.Author.Needs.{needs}
 use Rattle.casts.proofs.crossed.next_within.Statement.{statement}
 use Rattle.casts.proofs.crossed.next_within.Tie as tie
@@ -20,13 +17,9 @@ returns c =
 returns-2 : tie.Need-returns-2
 returns-2 c =
     let (s, w, f) : tie.Start × tie.After-distance-within × tie.After-found = search in
-    let told = sym (w .distance-within .ensures) ∙ f .found .given .1 in
-    let k : tie.After-crossed-at = search in
-    let (ray, best) : _ × _ = (s .args .ray, saysIndexed (s .args .best)) in
-    let answer = says (k .crossed-at .result) in (
-      ap (facedIndexed ray) (c .next .ensures) ∙ next-faced ray best (s .args .index) answer
-          ∙ ap (nextOf _ _) (k .crossed-at .ensures .0 ray ∙ from-distance _ _ _ _ (s .args .determinant) _ _ _ told),
-      (λ h. ap directedIndexed (c .next .ensures) ∙ next-directed best (s .args .index) answer (k .crossed-at .ensures .1) h),
+    let told = sym (w .distance-within .ensures) ∙ f .found .given .1 in (
+      c .next-at .ensures .0 (s .args .ray) ∙ ap (nextOf _ _) (from-distance _ _ _ _ (s .args .determinant) _ _ _ told),
+      c .next-at .ensures .1,
     )
 
 pub next-within-spec : {M : Type 1} → statement M
@@ -37,6 +30,5 @@ next-within-spec =
     (search needs)  -- enum-known-found
     (search needs)  -- enum-told
     returns
-    (λ c κs. search needs)  -- crossed-at-requires
-    (λ c κs. search needs)  -- next-requires
+    (λ c κs. search needs)  -- next-at-requires
     returns-2)

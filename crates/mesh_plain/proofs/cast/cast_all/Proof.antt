@@ -1,12 +1,12 @@
 -- `mesh_plain::cast::cast_all` meets its contract. Assumes nothing.
 use Prim.Native.Nat.{_+_, _-_}
 use mathlib.Core.Bool.{true}
-use mathlib.Core.Path.{sym, ap, subst, _∙_}
+use mathlib.Core.Path.{refl, sym, ap, subst, _∙_}
 use mathlib.Core.Logic.{⊎-elim}
 use native.Mathlib.Omega.{arith}
 use lib.ListN.{length}
-use Rattle.casts.specs.Nearest.{saysIndexed, nextOf}
-use Rattle.casts.specs.Crossed.{facedIndexed, directedIndexed}
+use Rattle.casts.specs.Nearest.{nextOf}
+use Rattle.casts.specs.Crossed.{facedIndexed, saysNear, Held}
 use Rattle.tree.specs.Mesh.{Mesh, thirds, mesh}
 use Rattle.lists.proofs.JoinedTests.{test-passed, test-failed}
 use Rattle.mesh_plain.proofs.Passing.{Passing, passing-begins, passing-near, passing-far, passing-unfit, passing-ends}
@@ -17,7 +17,7 @@ use Rattle.mesh_plain.proofs.cast.cast_all.Tie as tie
 
 abbrev Inv-loop : tie.InvT-loop
 Inv-loop ray bounds vertices triangles told codes limit count best₀ i₀ best i =
-    Passing ray bounds (mesh vertices triangles) (saysIndexed best) i
+    Passing ray bounds (mesh vertices triangles) (saysNear best) i × Held best
 
 abbrev μ-loop : tie.MeasureT-loop
 μ-loop ray bounds vertices triangles told codes limit count best₀ i₀ best i = thirds (length triangles) - i
@@ -45,7 +45,7 @@ abbrev own : Start → Mesh
 own s = mesh (s .args .vertices .now) (s .args .triangles .now)
 
 loop-holds : tie.Need-loop-holds Inv-loop μ-loop
-loop-holds c = passing-begins _ _ _
+loop-holds c = (passing-begins _ _ _, refl)
 
 corners-inside-requires : tie.Need-corners-inside-requires Inv-loop μ-loop
 corners-inside-requires c κs = omega (arith, c .loop-test .taken)
@@ -55,7 +55,7 @@ returns : tie.Need-returns Inv-loop μ-loop
 returns c =
     let (s, l, t) : Start × Turn × Tested = search in
     let outside = test-failed (c .before .corners-inside .ensures) (c .if1 .taken) in
-    passing-unfit _ _ (own s) _ _ (l .loop .inv) (t .loop-test .taken) (index-unfit (own s) (l .loop .i) outside)
+    passing-unfit _ _ (own s) _ _ (l .loop .inv .0) (t .loop-test .taken) (index-unfit (own s) (l .loop .i) outside)
 
 triangle-touches-requires : tie.Need-triangle-touches-requires Inv-loop μ-loop
 triangle-touches-requires c κs =
@@ -81,23 +81,26 @@ loop-again c =
     let fit = box-tells (own s) (l .loop .i) inside true valid in
     let near = b .triangle-touches .ensures ∙ corners-near (own s) (l .loop .i) (s .args .ray) (s .args .bounds) in
     ⊎-elim
-    (λ w.
-    passing-near _ _ (own s) _ _ (l .loop .inv) (t .loop-test .taken) fit (sym near ∙ w .0 .taken) (saysIndexed (c .if2 .best))
-    (ap (λ x. facedIndexed (s .args .ray) (saysIndexed x)) (w .3) ∙ w .2 .ensures .0
-    ∙ ap (nextOf _ _) (corners-cast (own s) (l .loop .i) inside _ (w .1 .ensures) (s .args .ray) (s .args .bounds)))
-    (λ h. ap (λ x. directedIndexed (saysIndexed x)) (w .3) ∙ w .2 .ensures .1 h))
-    (λ w.
-    subst (λ x. Passing (s .args .ray) (s .args .bounds) (own s) (saysIndexed x) (l .loop .i + 1)) (sym (w .1))
-    (passing-far _ _ (own s) _ _ (l .loop .inv) (t .loop-test .taken) fit (sym near ∙ w .0 .left)))
+    (λ w. (
+      passing-near _ _ (own s) _ _ (l .loop .inv .0) (t .loop-test .taken) fit (sym near ∙ w .0 .taken) (saysNear (c .if2 .best))
+          (ap (λ x. facedIndexed (s .args .ray) (saysNear x)) (w .3) ∙ w .2 .ensures .0
+          ∙ ap (nextOf _ _) (corners-cast (own s) (l .loop .i) inside _ (w .1 .ensures) (s .args .ray) (s .args .bounds))),
+      subst Held (sym (w .3)) (w .2 .ensures .1 (l .loop .inv .1)),
+    ))
+    (λ w. (
+      subst (λ x. Passing (s .args .ray) (s .args .bounds) (own s) (saysNear x) (l .loop .i + 1)) (sym (w .1))
+          (passing-far _ _ (own s) _ _ (l .loop .inv .0) (t .loop-test .taken) fit (sym near ∙ w .0 .left)),
+      subst Held (sym (w .1)) (l .loop .inv .1),
+    ))
     (c .if2 .came)
 
 with-normal-requires : tie.Need-with-normal-requires Inv-loop μ-loop
-with-normal-requires c κs = c .before .loop .inv .directs
+with-normal-requires c κs = c .before .loop .inv .1
 
 returns-2 : tie.Need-returns-2 Inv-loop μ-loop
 returns-2 c =
     let (l, x) : Turn × tie.After-loop Inv-loop μ-loop = search in
-    passing-ends _ _ _ _ _ (l .loop .inv) (x .loop-test .left) _ (c .with-normal .ensures)
+    passing-ends _ _ _ _ _ (l .loop .inv .0) (x .loop-test .left) _ (c .with-normal .ensures)
 
 pub cast-all-spec : {M : Type 1} → statement M
 cast-all-spec =
