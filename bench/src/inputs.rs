@@ -343,6 +343,13 @@ pub fn across(count: usize, wide: f64) -> Vec<Ray> {
     (0..count).map(ray).collect()
 }
 
+/// The same high over the grid, above all its heights.
+pub fn above(count: usize, wide: f64) -> Vec<Ray> {
+    let mut rays = across(count, wide);
+    rays.iter_mut().for_each(|ray| ray.origin[2] += 8.0);
+    rays
+}
+
 /// Distances to a sphere of radius 1 about the middle of a grid that runs from -1.5 to 1.5.
 pub fn ball(side: usize) -> Distances {
     let step = 3.0 / (side - 1) as f64;

@@ -515,12 +515,16 @@ fn meshes() -> Vec<Planned> {
 fn grids() -> Vec<Planned> {
     let short = inputs::from_above(1_024, 255.0, 255.0);
     let long = inputs::across(4, 255.0);
+    let above = inputs::above(4, 255.0);
     let through = inputs::at_ball(256, 0.0, 0.9);
     let beside = inputs::at_ball(256, 1.1, 1.4);
     vec![
         plan("height grid, short probes", |name| height(name, HIT, short)),
         plan("height grid, long oblique rays", |name| {
             height(name, HIT, long)
+        }),
+        plan("height grid, long rays above", |name| {
+            height(name, NONE, above)
         }),
         plan("distance grid, hit", |name| distance(name, HIT, through)),
         plan("distance grid, miss", |name| distance(name, NONE, beside)),
