@@ -88,7 +88,7 @@ half-finite lower upper triangle = either-finite (eqb triangle 0) lower upper
 
 -- the corners of a cell's triangles are among its vertices
 module _ (v00 v10 v01 v11 : Vec3) (finite : allFinite v00 v10 v01 v11 ≡ true) where
-  each-finite : (finiteVec v00 ≡ true) × ((finiteVec v10 ≡ true) × ((finiteVec v01 ≡ true) × (finiteVec v11 ≡ true)))
+  pub each-finite : (finiteVec v00 ≡ true) × ((finiteVec v10 ≡ true) × ((finiteVec v01 ≡ true) × (finiteVec v11 ≡ true)))
   unfolding allFinite
   each-finite =
       let a = finiteVec v00 in
@@ -133,7 +133,7 @@ module _ (f : Field) (heights : List Float) (row column : ℕ) (within : column 
       ∙ ap (λ (n : ℕ). cornersAt f heights row n (feature % 2)) (column-of-cell f row column within)
       ∙ ap (λ (n : ℕ). cornersAt f heights row column n) which
 
-  finite-cell : cellFinite f heights (cellRow f (cellAt f row column)) (cellColumn f (cellAt f row column)) ≡ cellFinite f heights row
+  pub finite-cell : cellFinite f heights (cellRow f (cellAt f row column)) (cellColumn f (cellAt f row column)) ≡ cellFinite f heights row
       column
   finite-cell =
       ap (λ (n : ℕ). cellFinite f heights n (cellColumn f (cellAt f row column))) (row-of-cell f row column within)

@@ -6,7 +6,7 @@ use mathlib.Core.Bool.{true, cond}
 use mathlib.Core.List.{List}
 use lib.Dec.{eqb}
 use lib.Ieee.{Float}
-use Rattle.geometry.specs.Vector.{finiteVec}
+use Rattle.geometry.specs.Vector.{finiteVec, minOf, maxOf}
 use Rattle.geometry.specs.Box.{touches, corner, cornersBox}
 use Rattle.geometry.specs.declared.vec3.Vec3.{Vec3}
 use Rattle.geometry.specs.declared.aabb.Aabb.{Aabb}
@@ -51,6 +51,11 @@ pub record FiniteCorners (corners : List Vec3) : Type 0 where
   pub first : finiteVec (corner corners 0) ≡ true
   pub second : finiteVec (corner corners 1) ≡ true
   pub third : finiteVec (corner corners 2) ≡ true
+
+-- the box around a cell's vertices, which holds those of both triangles
+unfoldable pub aroundCell : Vec3 → Vec3 → Vec3 → Vec3 → Aabb
+aroundCell v00 v10 v01 v11 =
+    record { min = minOf (minOf v00 v10) (minOf v01 v11); max = maxOf (maxOf v00 v10) (maxOf v01 v11) }
 
 -- a triangle with its corners counts where its box touches
 unfoldable pub passTriangle : Ray → Aabb → List Vec3 → ℕ → Indexed → Indexed

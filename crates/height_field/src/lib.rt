@@ -6,6 +6,8 @@ pub mod field;
 pub mod cells;
 // The cells that a box visits.
 pub mod visited;
+// The cells that a pass goes over without looking at their triangles.
+pub mod apart;
 // The pass over the cells: what is listed, and the nearest hit so far.
 pub mod pass;
 // The public call.

@@ -1,3 +1,4 @@
+use crate::apart;
 use crate::field;
 use crate::field::Field;
 use casts::answer;
@@ -23,10 +24,13 @@ pub enum Pass {
     Ended(u32),
 }
 
-// Whether the four vertices of a cell are finite.
+// Whether the four vertices of a cell are finite: nearly always their sum tells.
 fn all_finite(v00: Vec3, v10: Vec3, v01: Vec3, v11: Vec3) -> bool
     ensures { λ r. ⌜ r ≡ allFinite v00 v10 v01 v11 ⌝ }
 {
+    if apart::sum_finite(v00, v10, v01, v11) {
+        return true;
+    }
     if !v00.is_finite() {
         return false;
     }
@@ -136,11 +140,13 @@ fn pass_row(
     let mut best = start;
     let mut column = first;
     while column <= last {
-        let cell = pass_cell(ray, bounds, field, heights, row, column, best);
-        let Pass::Going(found) = cell else {
-            return cell;
-        };
-        best = found;
+        if !apart::is_apart(bounds, field, heights, row, column) {
+            let cell = pass_cell(ray, bounds, field, heights, row, column, best);
+            let Pass::Going(found) = cell else {
+                return cell;
+            };
+            best = found;
+        }
         column += 1;
     }
     Pass::Going(best)

@@ -3,13 +3,16 @@
 use Prim.Native.Nat.{_+_, _-_}
 use mathlib.Core.Path.{_≡_, refl, sym, ap, _∙_}
 use mathlib.Core.List.{map}
+use mathlib.Core.Logic.{⊎-elim}
 use native.Mathlib.Omega.{arith}
+use borrow.Author.Tests.{not-false}
 use Rattle.casts.specs.Nearest.{saysIndexed}
+use Rattle.casts.specs.declared.nearest.IndexedCast.{IndexedCast}
 use Rattle.height_field.specs.Grid.{cellAt}
 use Rattle.height_field.specs.Cells.{run}
 use Rattle.height_field.specs.Listing.{listCell, listAll}
 use Rattle.height_field.specs.Cast.{answerOf}
-use Rattle.height_field.specs.Pass.{saysPass, passFrom}
+use Rattle.height_field.specs.Pass.{going, saysPass, passFrom}
 use Rattle.height_field.proofs.ListingPass.{pass-goes, pass-ends, pass-done, row-cons, row-none}
 use borrow.Author.Needs.{needs}
 use Rattle.height_field.proofs.pass.pass_row.Statement.{statement}
@@ -27,6 +30,12 @@ abbrev μ-loop : tie.MeasureT-loop
 
 loop-holds : tie.Need-loop-holds Inv-loop μ-loop
 loop-holds c = refl
+
+is-apart-requires : tie.Need-is-apart-requires Inv-loop μ-loop
+is-apart-requires c κs =
+    let start : tie.Start Inv-loop μ-loop = search in
+    let s = start in
+    (s .pre .0, (omega (arith, s .pre), omega (arith, s .pre)))
 
 pass-cell-requires : tie.Need-pass-cell-requires Inv-loop μ-loop
 pass-cell-requires c κs =
@@ -53,14 +62,22 @@ add-column c =
 
 loop-again : tie.Need-loop-again Inv-loop μ-loop
 loop-again c =
-    let (s, turn, at-pass-cell) :
-    (tie.Start Inv-loop μ-loop) × (tie.In-loop Inv-loop μ-loop) × (tie.After-pass-cell Inv-loop μ-loop) = search in
+    let (s, turn, at-is-apart) :
+    (tie.Start Inv-loop μ-loop) × (tie.In-loop Inv-loop μ-loop) × (tie.After-is-apart Inv-loop μ-loop) = search in
     let a = s .args in
     let at = turn .before .loop in
-    sym (pass-goes (answerOf (a .ray) (a .field) (a .heights .now)) (saysIndexed (at .best)) _ _ _
-    (saysPass (at-pass-cell .pass-cell .result))
-    (row-cons (listCell (a .field) (a .heights .now) (a .bounds)) (a .field) (a .row) (at .column) (a .last) (turn .loop-test .taken))
-    (at-pass-cell .pass-cell .ensures) _ (ap saysPass (c .before .cell .given .1))) ∙ at .inv
+    let answer = answerOf (a .ray) (a .field) (a .heights .now) in
+    let best = saysIndexed (at .best) in
+    let onward = pass-goes answer best _ _ _ in
+    let list = listCell (a .field) (a .heights .now) (a .bounds) in
+    let split = row-cons list (a .field) (a .row) (at .column) (a .last) (turn .loop-test .taken) in
+    let says : (r q : IndexedCast) → r ≡ q → going (saysIndexed q) ≡ going (saysIndexed r) = λ r q e. ap (λ (x : IndexedCast). going
+    (saysIndexed x)) (sym e) in
+    ⊎-elim
+    (λ w. sym (onward (saysPass (w .1 .result)) split (w .1 .ensures) _ (ap saysPass (w .3 .given .1) ∙ says _ _ (w .5))) ∙ at .inv)
+    (λ w. let nothing = at-is-apart .is-apart .ensures (not-false (at-is-apart .is-apart .result) (w .0 .left)) in
+    sym (onward (going best) split (sym (pass-done answer best _ nothing)) _ (says _ _ (w .1))) ∙ at .inv)
+    (c .if1 .came)
 
 returns-2 : tie.Need-returns-2 Inv-loop μ-loop
 returns-2 c =
@@ -79,6 +96,7 @@ pass-row-spec =
     Inv-loop
     μ-loop
     loop-holds
+    is-apart-requires
     pass-cell-requires
     (search needs)  -- enum-known-cell
     (search needs)  -- enum-told
