@@ -46,7 +46,7 @@ pub fn float_of(n: usize) -> f64
     requires { ⌜ n ≤ 1024 ⌝ }
     ensures { λ r. ⌜ r ≡ floatOf n ⌝ }
 {
-    n as f64
+    (n as i64) as f64
 }
 
 // The vertex of a row and a column, finite or not. Callers show that it is in the grid.
