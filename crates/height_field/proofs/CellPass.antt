@@ -15,15 +15,31 @@ use Rattle.geometry.specs.declared.aabb.Aabb.{Aabb}
 use Rattle.geometry.specs.declared.ray.Ray.{Ray}
 use Rattle.lists.proofs.JoinedTests.{and-first, and-second}
 use Rattle.geometry.proofs.BoxLaws.{corners-box-valid}
-use Rattle.casts.specs.Answer.{Answer, outOfBounds, overflow}
-use Rattle.casts.specs.Nearest.{Indexed, nextOf, foldFrom}
+use Rattle.casts.specs.Answer.{Answer, hit, none, refused, outOfBounds, overflow}
+use Rattle.casts.specs.Nearest.{Indexed, hitAt, noHit, stopped, nextOf, givesWay, foldFrom}
 use Rattle.height_field.specs.declared.field.Field.{Field}
 use Rattle.height_field.specs.Grid.{cellAt, cellRow, cellColumn, cornersAt, featureCorners}
 use Rattle.height_field.specs.Listing.{listed, unlisted, allFinite, cellFinite, featureBox, listCell}
 use Rattle.lists.specs.Lists.{keep}
 use Rattle.height_field.specs.Cast.{answerOf}
-use Rattle.height_field.specs.Pass.{Passed, going, ended, passFrom, FiniteCorners, halfOf, passTriangle, passTriangles}
+use Rattle.height_field.specs.Pass.{Passed, going, ended, passFrom, FiniteCorners, isStopped, nearerOf}
+use Rattle.height_field.specs.Pass.{halfOf, passTriangle, passTriangles}
 use Rattle.height_field.proofs.Sizes.{row-of-cell, column-of-cell}
+
+-- ---- one triangle
+
+-- its answer on top of what was found is its answer alone, compared with what was found
+pub nearer-next : (best : Indexed) (index : ℕ) (x : Answer) → nearerOf best (nextOf noHit index x) ≡ nextOf best index x
+unfolding nearerOf nextOf givesWay isStopped
+nearer-next (hitAt n d i) index (hit normal distance) = refl
+nearer-next (hitAt n d i) index none = refl
+nearer-next (hitAt n d i) index (refused number) = refl
+nearer-next noHit index (hit normal distance) = refl
+nearer-next noHit index none = refl
+nearer-next noHit index (refused number) = refl
+nearer-next (stopped k) index (hit normal distance) = refl
+nearer-next (stopped k) index none = refl
+nearer-next (stopped k) index (refused number) = refl
 
 -- ---- two triangles
 

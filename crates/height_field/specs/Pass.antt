@@ -2,7 +2,7 @@
 -- Assumes nothing.
 use Prim.Native.Nat.{ℕ, zero, suc, _+_}
 use mathlib.Core.Path.{_≡_}
-use mathlib.Core.Bool.{true, cond}
+use mathlib.Core.Bool.{Bool, true, false, cond}
 use mathlib.Core.List.{List}
 use lib.Dec.{eqb}
 use lib.Ieee.{Float}
@@ -13,7 +13,7 @@ use Rattle.geometry.specs.declared.aabb.Aabb.{Aabb}
 use Rattle.geometry.specs.declared.ray.Ray.{Ray}
 use Rattle.casts.specs.Answer.{Answer, refused}
 use Rattle.casts.specs.Triangle.{triangleCast}
-use Rattle.casts.specs.Nearest.{Indexed, noHit, saysIndexed, nextOf, foldFrom, withoutIndex}
+use Rattle.casts.specs.Nearest.{Indexed, hitAt, noHit, stopped, saysIndexed, nextOf, givesWay, foldFrom, withoutIndex}
 use Rattle.height_field.specs.declared.field.Field.{Field}
 use Rattle.height_field.specs.declared.pass.Pass.{Pass}
 use Rattle.height_field.specs.declared.pass.Pass.the-variants.{Going, Ended}
@@ -60,6 +60,18 @@ aroundCell v00 v10 v01 v11 =
 -- a triangle with its corners counts where its box touches
 unfoldable pub passTriangle : Ray → Aabb → List Vec3 → ℕ → Indexed → Indexed
 passTriangle ray box corners feature best = cond (touches (cornersBox corners) box) (nextOf best feature (triangleCast ray corners)) best
+
+-- a triangle's refusal
+unfoldable pub isStopped : Indexed → Bool
+isStopped (hitAt normal distance index) = false
+isStopped noHit = false
+isStopped (stopped number) = true
+
+-- what was found so far, and what one more triangle came to alone
+unfoldable pub nearerOf : Indexed → Indexed → Indexed
+nearerOf best (hitAt normal distance index) = cond (givesWay best distance) (hitAt normal distance index) best
+nearerOf best noHit = best
+nearerOf best (stopped number) = cond (isStopped best) best (stopped number)
 
 -- the corners of triangle 0, or else of triangle 1
 unfoldable pub halfOf : List Vec3 → List Vec3 → ℕ → List Vec3

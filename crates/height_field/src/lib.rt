@@ -8,6 +8,8 @@ pub mod cells;
 pub mod visited;
 // The cells that a pass goes over without looking at their triangles.
 pub mod apart;
+// What was found so far, and one more triangle.
+pub mod nearer;
 // The pass over the cells: what is listed, and the nearest hit so far.
 pub mod pass;
 // The public call.

@@ -1,6 +1,7 @@
 use crate::apart;
 use crate::field;
 use crate::field::Field;
+use crate::nearer;
 use casts::answer;
 use casts::nearest;
 use casts::nearest::IndexedCast;
@@ -65,7 +66,8 @@ fn pass_triangle(
     ensures { λ r. ⌜ saysIndexed r ≡ passTriangle ray bounds corners feature (saysIndexed best) ⌝ }
 {
     if Aabb::around(corners).touches(bounds) {
-        return nearest::next_triangle(best, feature, ray, corners);
+        let found = nearest::next_triangle(IndexedCast::None, feature, ray, corners);
+        return nearer::nearer(best, found);
     }
     best
 }
