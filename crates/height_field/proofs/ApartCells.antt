@@ -1,5 +1,5 @@
--- A cell whose vertices are finite lists nothing where the box around them does not touch; and they are finite where their sum is. Assumes
--- nothing.
+-- A cell whose vertices are finite lists nothing where the box around them does not touch, and where it does each triangle's box touches on
+-- x and y; and the vertices are finite where their sum is. Assumes nothing.
 use Prim.Native.Nat.{ℕ, _+_, _*_, _<_}
 use mathlib.Core.Path.{_≡_, refl, sym, ap, _∙_}
 use mathlib.Core.Bool.{Bool, true, false, _&&_, false≢true}
@@ -15,18 +15,18 @@ use Rattle.arithmetic.proofs.ExtremesOrder.{minimum-one, maximum-one, minimum-f
 use Rattle.arithmetic.proofs.ExtremesOrder.{minimum-below-first, minimum-below-second, maximum-above-first, maximum-above-second}
 use Rattle.geometry.specs.Numbers.{_+ᶠ_}
 use Rattle.geometry.specs.Vector.{finiteVec, addOf, minOf, maxOf}
-use Rattle.geometry.specs.Box.{withinSide, encloses, touches, cornersBox, corner}
+use Rattle.geometry.specs.Box.{touchSide, withinSide, encloses, touches, cornersBox, corner}
 use Rattle.geometry.specs.declared.vec3.Vec3.{Vec3}
 use Rattle.geometry.specs.declared.aabb.Aabb.{Aabb}
-use Rattle.lists.proofs.JoinedTests.{and-both, and-three}
+use Rattle.lists.proofs.JoinedTests.{and-both, and-first, and-second, and-three}
 use Rattle.lists.specs.Lists.{keep}
 use Rattle.geometry.proofs.BoxLaws.{touches-grows}
 use Rattle.geometry.proofs.FiniteVectors.{finite-x, finite-y, finite-z}
 use Rattle.height_field.specs.declared.field.Field.{Field}
 use Rattle.height_field.specs.Grid.{vertexAt, cellAt, cornersAt}
 use Rattle.height_field.specs.Listing.{listed, allFinite, cellFinite, featureBox, listCell}
-use Rattle.height_field.specs.Pass.{aroundCell}
-use Rattle.height_field.proofs.CellPass.{each-finite, feature-valid, corners-of-feature, finite-cell}
+use Rattle.height_field.specs.Pass.{aroundCell, cellTouches, NearCorners}
+use Rattle.height_field.proofs.CellPass.{each-finite, lower-finite, upper-finite, feature-valid, corners-of-feature, finite-cell}
 
 -- ---- a sum that is finite
 
@@ -225,6 +225,70 @@ module _ (v00 v10 v01 v11 : Vec3) (finite : allFinite v00 v10 v01 v11 ≡ true) 
   upper-apart : (box : Aabb) → touches around box ≡ false → touches (cornersBox (v00 ∷ v11 ∷ v01 ∷ [])) box ≡ false
   upper-apart box = corners-apart around box (v00 ∷ v11 ∷ v01 ∷ []) (inside v00 on-v00) (inside v11 on-v11) (inside v01 on-v01)
 
+-- ---- a triangle's side on an axis where its corners take both of two numbers
+
+-- boxes that touch do so on x and on y
+flat-sides : (b c : Aabb) → touches b c ≡ true
+    → (touchSide (b .min .x) (b .max .x) (c .min .x) (c .max .x) ≡ true)
+    × (touchSide (b .min .y) (b .max .y) (c .min .y) (c .max .y) ≡ true)
+unfolding touches
+flat-sides b c h =
+    let x = touchSide (b .min .x) (b .max .x) (c .min .x) (c .max .x) in
+    let y = touchSide (b .min .y) (b .max .y) (c .min .y) (c .max .y) in
+    let z = touchSide (b .min .z) (b .max .z) (c .min .z) (c .max .z) in
+    (and-first x (y && z) h, and-first y z (and-second x (y && z) h))
+
+grown-side : (low high low′ high′ from to : Float) → le low low′ ≡ true → le high′ high ≡ true → touchSide low′ high′ from to ≡ true
+    → touchSide low high from to ≡ true
+unfolding touchSide
+grown-side low high low′ high′ from to p q h =
+    and-both (le low to) (le from high) (le-transitive low low′ to p (and-first (le low′ to) (le from high′) h))
+    (le-transitive from high′ high (and-second (le low′ to) (le from high′) h) q)
+
+-- each of three finite numbers stands between their least and their greatest
+module _ (p q r : Float) (fp : isFinite p ≡ true) (fq : isFinite q ≡ true) (fr : isFinite r ≡ true) where
+  abbrev low3 : Float
+  low3 = minimumOf (minimumOf p q) r
+
+  abbrev high3 : Float
+  high3 = maximumOf (maximumOf p q) r
+
+  of-pair : (x : Float) → Between (minimumOf p q) (maximumOf p q) x → Between low3 high3 x
+  of-pair x h =
+      let low = finite-number (minimumOf p q) (minimum-finite p q fp fq) in
+      let high = finite-number (maximumOf p q) (maximum-finite p q fp fq) in
+      let third = finite-number r fr in
+      record {
+        below = le-transitive low3 (minimumOf p q) x (minimum-below-first (minimumOf p q) r low third) (h .below);
+        above = le-transitive x (maximumOf p q) high3 (h .above) (maximum-above-first (maximumOf p q) r high third);
+      }
+
+  first-of-three : Between low3 high3 p
+  first-of-three = of-pair p (pair-first p q fp fq)
+
+  second-of-three : Between low3 high3 q
+  second-of-three = of-pair q (pair-second p q fp fq)
+
+  third-of-three : Between low3 high3 r
+  third-of-three =
+      let low = finite-number (minimumOf p q) (minimum-finite p q fp fq) in
+      let high = finite-number (maximumOf p q) (maximum-finite p q fp fq) in
+      let third = finite-number r fr in
+      record { below = minimum-below-second (minimumOf p q) r low third; above = maximum-above-second (maximumOf p q) r high third }
+
+-- where the side of four numbers touches, so does one that holds all four
+all-four : (low high a b c d from to : Float) → Between low high a → Between low high b → Between low high c → Between low high d
+    → touchSide (minimumOf (minimumOf a b) (minimumOf c d)) (maximumOf (maximumOf a b) (maximumOf c d)) from to ≡ true
+    → touchSide low high from to ≡ true
+all-four low high a b c d from to ha hb hc hd =
+    grown-side low high (minimumOf (minimumOf a b) (minimumOf c d)) (maximumOf (maximumOf a b) (maximumOf c d)) from to
+    (below-both low (minimumOf a b) (minimumOf c d)
+    (below-both low a b (ha .below) (hb .below))
+    (below-both low c d (hc .below) (hd .below)))
+    (above-both high (maximumOf a b) (maximumOf c d)
+    (above-both high a b (ha .above) (hb .above))
+    (above-both high c d (hc .above) (hd .above)))
+
 -- ---- the cell of a row and a column
 
 module _ (f : Field) (heights : List Float) (row column : ℕ) (within : column + 1 < f .columns) where
@@ -240,9 +304,49 @@ module _ (f : Field) (heights : List Float) (row column : ℕ) (within : column 
   abbrev v11 : Vec3
   v11 = vertexAt f heights (row + 1) (column + 1)
 
-  pub apart-lists-nothing : (box : Aabb) → allFinite v00 v10 v01 v11 ≡ true → touches (aroundCell v00 v10 v01 v11) box ≡ false
+  -- both triangles reach over the whole cell on x and on y
+  module _ (box : Aabb) (finite : cellFinite f heights row column ≡ true) (near : cellTouches f heights box row column ≡ true) where
+    pub lower-near : NearCorners box (cornersAt f heights row column 0)
+    unfolding cellFinite cellTouches cornersAt aroundCell minOf maxOf cornersBox touches vertexAt
+    lower-near =
+        let e = each-finite v00 v10 v01 v11 finite in
+        let a = finite-x v00 (e .0) in
+        let b = finite-x v10 (e .1 .0) in
+        let c = finite-y v00 (e .0) in
+        let d = finite-y v11 (e .1 .1 .1) in
+        let x = first-of-three (v00 .x) (v10 .x) (v11 .x) a b b in
+        let x′ = second-of-three (v00 .x) (v10 .x) (v11 .x) a b b in
+        let y = first-of-three (v00 .y) (v10 .y) (v11 .y) c c d in
+        let y′ = third-of-three (v00 .y) (v10 .y) (v11 .y) c c d in
+        let flat = flat-sides (aroundCell v00 v10 v01 v11) box near in
+        record {
+          finite = lower-finite v00 v10 v01 v11 finite;
+          across = all-four _ _ (v00 .x) (v10 .x) (v01 .x) (v11 .x) _ _ x x′ x x′ (flat .0);
+          along = all-four _ _ (v00 .y) (v10 .y) (v01 .y) (v11 .y) _ _ y y y′ y′ (flat .1);
+        }
+
+    pub upper-near : NearCorners box (cornersAt f heights row column 1)
+    unfolding cellFinite cellTouches cornersAt aroundCell minOf maxOf cornersBox touches vertexAt
+    upper-near =
+        let e = each-finite v00 v10 v01 v11 finite in
+        let a = finite-x v00 (e .0) in
+        let b = finite-x v11 (e .1 .1 .1) in
+        let c = finite-y v00 (e .0) in
+        let d = finite-y v11 (e .1 .1 .1) in
+        let x = first-of-three (v00 .x) (v11 .x) (v01 .x) a b a in
+        let x′ = second-of-three (v00 .x) (v11 .x) (v01 .x) a b a in
+        let y = first-of-three (v00 .y) (v11 .y) (v01 .y) c d d in
+        let y′ = second-of-three (v00 .y) (v11 .y) (v01 .y) c d d in
+        let flat = flat-sides (aroundCell v00 v10 v01 v11) box near in
+        record {
+          finite = upper-finite v00 v10 v01 v11 finite;
+          across = all-four _ _ (v00 .x) (v10 .x) (v01 .x) (v11 .x) _ _ x x′ x x′ (flat .0);
+          along = all-four _ _ (v00 .y) (v10 .y) (v01 .y) (v11 .y) _ _ y y y′ y′ (flat .1);
+        }
+
+  pub apart-lists-nothing : (box : Aabb) → cellFinite f heights row column ≡ true → cellTouches f heights box row column ≡ false
       → listCell f heights box (cellAt f row column) ≡ listed []
-  unfolding listCell featureBox cellFinite cornersAt keep
+  unfolding listCell featureBox cellFinite cellTouches cornersAt keep
   apart-lists-nothing box finite apart =
       let cell = cellAt f row column in
       let whole = finite-cell f heights row column within ∙ finite in

@@ -7,7 +7,7 @@ use mathlib.Core.List.{List}
 use lib.Dec.{eqb}
 use lib.Ieee.{Float}
 use Rattle.geometry.specs.Vector.{finiteVec, minOf, maxOf}
-use Rattle.geometry.specs.Box.{touches, corner, cornersBox}
+use Rattle.geometry.specs.Box.{touchSide, touches, corner, cornersBox}
 use Rattle.geometry.specs.declared.vec3.Vec3.{Vec3}
 use Rattle.geometry.specs.declared.aabb.Aabb.{Aabb}
 use Rattle.geometry.specs.declared.ray.Ray.{Ray}
@@ -17,6 +17,7 @@ use Rattle.casts.specs.Nearest.{Indexed, hitAt, noHit, stopped, saysIndexed, ne
 use Rattle.height_field.specs.declared.field.Field.{Field}
 use Rattle.height_field.specs.declared.pass.Pass.{Pass}
 use Rattle.height_field.specs.declared.pass.Pass.the-variants.{Going, Ended}
+use Rattle.height_field.specs.Grid.{vertexAt}
 use Rattle.height_field.specs.Listing.{Listing, listed, unlisted, gridListing}
 use Rattle.height_field.specs.Cast.{answerOf}
 
@@ -56,6 +57,18 @@ pub record FiniteCorners (corners : List Vec3) : Type 0 where
 unfoldable pub aroundCell : Vec3 → Vec3 → Vec3 → Vec3 → Aabb
 aroundCell v00 v10 v01 v11 =
     record { min = minOf (minOf v00 v10) (minOf v01 v11); max = maxOf (maxOf v00 v10) (maxOf v01 v11) }
+
+unfoldable pub cellTouches : Field → List Float → Aabb → ℕ → ℕ → Bool
+cellTouches f heights box row column =
+    touches
+    (aroundCell (vertexAt f heights row column) (vertexAt f heights row (column + 1)) (vertexAt f heights (row + 1) column)
+    (vertexAt f heights (row + 1) (column + 1))) box
+
+-- three corners that are finite, whose box touches on x and on y
+pub record NearCorners (box : Aabb) (corners : List Vec3) : Type 0 where
+  pub finite : FiniteCorners corners
+  pub across : touchSide (cornersBox corners .min .x) (cornersBox corners .max .x) (box .min .x) (box .max .x) ≡ true
+  pub along : touchSide (cornersBox corners .min .y) (cornersBox corners .max .y) (box .min .y) (box .max .y) ≡ true
 
 -- a triangle with its corners counts where its box touches
 unfoldable pub passTriangle : Ray → Aabb → List Vec3 → ℕ → Indexed → Indexed

@@ -5,11 +5,10 @@ use geometry::aabb::Aabb;
 use geometry::vec3::Vec3;
 ghost use mathlib.Core.Path.{_≡_};
 ghost use mathlib.Core.Bool.{true};
-ghost use mathlib.Core.List.{[]};
 ghost use Prim.Native.Nat.{_+_, _<_};
-ghost use Rattle.height_field.specs.Grid.{Sized, cellAt};
-ghost use Rattle.height_field.specs.Listing.{allFinite, listed, listCell};
-ghost use Rattle.height_field.specs.Pass.{aroundCell};
+ghost use Rattle.height_field.specs.Grid.{Sized};
+ghost use Rattle.height_field.specs.Listing.{allFinite, cellFinite};
+ghost use Rattle.height_field.specs.Pass.{aroundCell, cellTouches};
 
 // Whether the sum of all numbers of a cell's vertices is finite: then each of them is. Only a yes is promised to be right: after a no, which a
 // sum that overflows gives too, each vertex is looked at.
@@ -31,18 +30,15 @@ fn around_cell(v00: Vec3, v10: Vec3, v01: Vec3, v11: Vec3) -> Aabb
     }
 }
 
-// Whether a cell is passed over: its vertices are finite and the box around them does not touch, so that neither triangle's does. Only a yes
-// is promised to be right: after a no the cell is looked at. Callers show that it is in the grid.
-pub fn is_apart(bounds: Aabb, field: Field, heights: &[f64], row: usize, column: usize) -> bool
-    requires { ⌜ Sized field (now heights) ⌝ ∗ ⌜ row + 1 < field .rows ⌝ ∗ ⌜ column + 1 < field .columns ⌝ }
-    ensures { λ r. ⌜ (r ≡ true → listCell field (now (heights .entry)) bounds (cellAt field row column) ≡ listed []) ⌝ }
+// Whether the box around a cell's vertices touches; where it does not, neither triangle's does. Callers show that the cell is in the grid and
+// that its vertices are finite.
+pub fn cell_touches(bounds: Aabb, field: Field, heights: &[f64], row: usize, column: usize) -> bool
+    requires { ⌜ Sized field (now heights) ⌝ ∗ ⌜ row + 1 < field .rows ⌝ ∗ ⌜ column + 1 < field .columns ⌝ ∗ ⌜ cellFinite field (now heights) row column ≡ true ⌝ }
+    ensures { λ r. ⌜ r ≡ cellTouches field (now (heights .entry)) bounds row column ⌝ }
 {
     let v00 = field::field_vertex(field, heights, row, column);
     let v10 = field::field_vertex(field, heights, row, column + 1);
     let v01 = field::field_vertex(field, heights, row + 1, column);
     let v11 = field::field_vertex(field, heights, row + 1, column + 1);
-    if !sum_finite(v00, v10, v01, v11) {
-        return false;
-    }
-    !around_cell(v00, v10, v01, v11).touches(bounds)
+    around_cell(v00, v10, v01, v11).touches(bounds)
 }
