@@ -50,7 +50,7 @@
  *
  * Or one of the codes PROBE_HIT, PROBE_NONE, PROBE_YES, PROBE_NO, PROBE_DONE, PROBE_CLEAR and PROBE_POSSIBLE, which no
  * refusal has.
- * Numbers from 12 on may be added to the refusals; all stay below 256.
+ * Numbers from 13 on may be added to the refusals; all stay below 256.
  *
  * Tested are 1, 2, 3 and 4 in this order, then the others as the cast meets them. The result slices hit, index, nodes
  * (of probe_build), found and cell are lent slices like the others: one that is too short is 3, after 1 and 2.
@@ -505,6 +505,50 @@ uint32_t probe_ray_mesh_exact_plain(
     size_t vertices_length,
     const uint32_t *triangles,
     size_t triangles_length,
+    double *hit,
+    size_t hit_length,
+    uint32_t *index,
+    size_t index_length
+);
+
+/* The same through a tree: the arguments are probe_ray_mesh_near's. Of the triangles that the tree lists for the box of
+ * the ray's segment, at the vertices `pose`, a hit is the first point of the segment in any of them. At the mesh's own
+ * vertices, through a tree for which probe_tree_check says PROBE_YES, it answers what probe_ray_mesh_exact_plain answers:
+ * that the two agree is proved. Through any other tree the call ends too, but a surface may be missed.
+ *
+ * Answers PROBE_HIT, PROBE_NONE, or refuses with 1, 12 (the ray), 2, 3, 4 or 5 (the tree is broken where the walk meets
+ * it), tested in this order, and then as the listed triangle of the lowest index that refuses: 5 where an index of it is
+ * past the vertices, 12 where a corner is not whole from -4,096 to 4,096. The list and the stack are unchanged after 1,
+ * 12 for the ray, 2, 3 and 4, and hold anything after any other answer.
+ */
+uint32_t probe_ray_mesh_exact(
+    double origin_x,
+    double origin_y,
+    double origin_z,
+    double direction_x,
+    double direction_y,
+    double direction_z,
+    double max_distance,
+    double near_distance,
+    const double *vertices,
+    size_t vertices_length,
+    const uint32_t *triangles,
+    size_t triangles_length,
+    const double *pose,
+    size_t pose_length,
+    size_t nodes,
+    const double *node_boxes,
+    size_t node_boxes_length,
+    const double *triangle_boxes,
+    size_t triangle_boxes_length,
+    const uint32_t *node_words,
+    size_t node_words_length,
+    const uint32_t *order,
+    size_t order_length,
+    uint32_t *list,
+    size_t list_length,
+    uint32_t *stack,
+    size_t stack_length,
     double *hit,
     size_t hit_length,
     uint32_t *index,

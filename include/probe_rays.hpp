@@ -710,6 +710,34 @@ public:
         return detail::cast_of(answer, places.of_mesh());
     }
 
+    /* Along an axis and on whole millimetres, decided in whole numbers: what PlainMesh::cast_exact answers, through the tree;
+     * that the two agree is proved. Refuses with 1, or with 12 for the ray or a corner of a triangle whose box touches the
+     * segment's. */
+    Cast<MeshHit> cast_exact(const Ray &ray) { return cast_exact(ray, scratch_); }
+
+    Cast<MeshHit> cast_exact(const Ray &ray, Scratch &scratch) const { return cast_exact_at(ray, shape_.vertices, scratch); }
+
+    /* The same at other vertices, as `cast_at` has them. */
+    Cast<MeshHit> cast_exact_at(const Ray &ray, const std::vector<Vec3> &pose, Scratch &scratch) const
+    {
+        return cast_exact_at(ray, Shape::flat(pose), scratch);
+    }
+
+    Cast<MeshHit> cast_exact_at(const Ray &ray, const std::vector<double> &pose, Scratch &scratch) const
+    {
+        scratch.fit(shape_.triangle_count(), tree_.nodes);
+        detail::Places places;
+        const std::uint32_t answer = probe_ray_mesh_exact(
+            ray.origin.x, ray.origin.y, ray.origin.z, ray.direction.x, ray.direction.y, ray.direction.z, ray.max_distance,
+            ray.near_distance, detail::from(shape_.vertices), shape_.vertices.size(), detail::from(shape_.triangles),
+            shape_.triangles.size(), detail::from(pose), pose.size(), tree_.nodes, detail::from(tree_.node_boxes),
+            tree_.node_boxes.size(), detail::from(tree_.triangle_boxes), tree_.triangle_boxes.size(),
+            detail::from(tree_.node_words), tree_.node_words.size(), detail::from(tree_.order), tree_.order.size(),
+            detail::into(scratch.list), scratch.list.size(), detail::into(scratch.stack), scratch.stack.size(),
+            places.hit.data(), places.hit.size(), places.index.data(), places.index.size());
+        return detail::cast_of(answer, places.of_mesh());
+    }
+
     /* Every triangle that a ray hits, each once, in order of depth, of equally near ones the lower index first. The hit of
      * `cast` is the first of them, and there are none exactly where it answers none. */
     Result<std::vector<MeshHit>> cast_all(const Ray &ray) { return cast_all(ray, scratch_); }

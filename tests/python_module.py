@@ -509,6 +509,7 @@ class WholeMillimetres(Case):
     def as_in_fractions(self, board, ray):
         """Compares an answer with that in fractions, divided once; whether it is a hit."""
         hit, expected = PlainMesh(*board).cast_exact(ray), first_point(board, ray)
+        self.assertEqual(Mesh(*board).cast_exact(ray), hit)
         if expected is None:
             self.assertIsNone(hit)
             return False
@@ -556,6 +557,21 @@ class WholeMillimetres(Case):
             for y in range(6):
                 self.hits(board.cast_exact(down(x, y, 9, 20)), 5)
         self.assertIsNone(board.cast_exact(down(7, 5, 9, 20)))
+
+    def test_through_a_tree(self):
+        mesh = Mesh([(0, 0, 0), (31, 0, 0), (0, 31, 0), (31, 31, 0)], [(0, 1, 2), (3, 2, 1)])
+        ray = down(1, 30, 1, 2)
+        self.assertIsNone(mesh.cast(ray))
+        self.hits(mesh.cast_exact(ray), 1)
+        moved = lambda z: [(x, y, z) for x, y, _ in mesh.vertices.tolist()]
+        self.hits(mesh.cast_exact(ray, pose=moved(-1)), 2)
+        self.assertIsNone(mesh.cast_exact(ray, pose=moved(-2)))
+        self.refuses(12, lambda: mesh.cast_exact(ray, pose=moved(0.5)))
+        # 1, 12 of the ray, then 4
+        short = moved(0)[:3]
+        self.refuses(1, lambda: mesh.cast_exact(down(0.5, 30, 1, -1), pose=short))
+        self.refuses(12, lambda: mesh.cast_exact(down(0.5, 30, 1, 2), pose=short))
+        self.refuses(4, lambda: mesh.cast_exact(ray, pose=short))
 
     def test_not_whole(self):
         vertices, triangles = SQUARE

@@ -10,9 +10,9 @@ pointer its size, and its fields' names, types and offsets. The proved source de
 
   crates/exports/src/*.rt       the calls, the version, and the codes
   crates/casts/src/answer.rt    the refusals, and that of the ranges in crates/height_ranges/src/answer.rt,
-                                of a limit in crates/cabinet/src/cast.rt, of a float that is not held in
-                                crates/conversion/src/forms.rt, and of what is not whole in crates/exact_triangle/src/cast.rt
-  crates/cabinet/src/part.rt    the structs; crates/geometry/src/vec3.rt has the vector in them
+                                of a limit in crates/cabinet_cast/src/cast.rt, of a float that is not held in
+                                crates/float_forms/src/forms.rt, and of what is not whole in crates/exact_triangle/src/cast.rt
+  crates/cabinet/src/part.rt    the structs; crates/vectors/src/vec3.rt has the vector in them
   crates/tree/src/lib.rt        the table of areas
   include/probe_rays.h          for C and C++
   bindings/rust/src/sys.rs      for Rust; src/lent.rs has the lengths
@@ -28,11 +28,11 @@ CODES = "crates/results/src/lib.rt"
 REFUSALS = [
     "crates/casts/src/answer.rt",
     "crates/height_ranges/src/answer.rt",
-    "crates/conversion/src/forms.rt",
+    "crates/float_forms/src/forms.rt",
     "crates/exact_triangle/src/cast.rt",
-    "crates/cabinet/src/cast.rt",
+    "crates/cabinet_cast/src/cast.rt",
 ]
-STRUCTS = ["crates/cabinet/src/part.rt", "crates/geometry/src/vec3.rt"]
+STRUCTS = ["crates/cabinet/src/part.rt", "crates/vectors/src/vec3.rt"]
 AREAS = "crates/tree/src/lib.rt"
 HEADER = "include/probe_rays.h"
 RUST = "bindings/rust/src/sys.rs"

@@ -129,7 +129,7 @@ def self_test(home):
         "a quotation taken out": ({**specs, box: [line.replace('"', "") for line in specs[box]]}, scope),
         "a call that is gone": (specs, scope.replace("| `center` |", "| `centre_of` |")),
         "a request without a table": (specs, scope.replace(row, row[:-2] + "M-999 |")),
-        "a row that waits though its request has landed": (specs, scope.replace("`record_bytes/Text.printedBits` | `printed_bits` | |", "waits | | |")),
+        "a row that waits though its request has landed": (specs, scope.replace("`record_text/Text.printedBits` | `printed_bits` | |", "waits | | |")),
         "a row of three cells": (specs, scope.replace(row, "|".join(row.split("|")[:4]) + "|")),
     }
     before = set(compare(specs, functions, scope, landed)[0])

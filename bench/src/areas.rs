@@ -125,8 +125,28 @@ pub fn mesh(ray: &Ray, mesh: &Mesh, tree: &Tree, lent: &mut Lent) -> u32 {
 }
 
 #[inline(always)]
+pub fn exact_mesh(ray: &Ray, mesh: &Mesh, tree: &Tree, lent: &mut Lent) -> u32 {
+    calls::ray_mesh_exact(
+        ray,
+        &mesh.vertices,
+        &mesh.triangles,
+        &mesh.vertices,
+        &tree.lent(),
+        &mut lent.list,
+        &mut lent.stack,
+        &mut lent.hit,
+        &mut lent.index,
+    )
+}
+
+#[inline(always)]
 pub fn plain(ray: &Ray, mesh: &Mesh, hit: &mut [f64; 4], index: &mut [u32; 1]) -> u32 {
     calls::ray_mesh_plain(ray, &mesh.vertices, &mesh.triangles, hit, index)
+}
+
+#[inline(always)]
+pub fn exact(ray: &Ray, mesh: &Mesh, hit: &mut [f64; 4], index: &mut [u32; 1]) -> u32 {
+    calls::ray_mesh_exact_plain(ray, &mesh.vertices, &mesh.triangles, hit, index)
 }
 
 #[inline(always)]

@@ -260,6 +260,57 @@ pub fn over_the_edge(count: usize) -> Vec<Ray> {
     (0..count).map(ray).collect()
 }
 
+/// Rays along z into a drawer front, on whole millimetres.
+pub fn whole_front_rays(count: usize) -> Vec<Ray> {
+    let mut random = random(13);
+    let mut whole = |low: f64, high: f64| random.between(low, high).floor();
+    (0..count)
+        .map(|_| {
+            let origin = [whole(20.0, 577.0), whole(20.0, 120.0), 60.0];
+            Ray::new(origin, [0.0, 0.0, -1.0], 100.0)
+        })
+        .collect()
+}
+
+/// Rays along z inside a drawer front, from 1 mm behind its front to 1 mm before its back, on whole millimetres.
+pub fn whole_inside_front(count: usize) -> Vec<Ray> {
+    let mut rays = whole_front_rays(count);
+    rays.iter_mut().for_each(|ray| {
+        ray.origin[2] = 18.0;
+        ray.max_distance = 17.0;
+    });
+    rays
+}
+
+/// A drawer front whose front is moved by 40 and 20 against its back.
+pub fn slanted_front() -> Mesh {
+    let mut mesh = front();
+    for corner in mesh.vertices.chunks_exact_mut(3).filter(|p| p[2] > 0.0) {
+        corner[0] += 40.0;
+        corner[1] += 20.0;
+    }
+    mesh
+}
+
+/// The front and the back of a drawer front in rectangles of 3 by 7: 15,920 triangles on whole millimetres.
+pub fn whole_plates() -> Mesh {
+    let mut mesh = plates(199, 20);
+    mesh.vertices.iter_mut().for_each(|x| *x = x.round());
+    mesh
+}
+
+/// Rays along z at the slanted side of such a front, from 1 mm above its back, so long.
+pub fn whole_at_slanted(count: usize, length: f64) -> Vec<Ray> {
+    let mut random = random(14);
+    let mut whole = |low: f64, high: f64| random.between(low, high).floor();
+    (0..count)
+        .map(|_| {
+            let origin = [whole(617.0, 637.0), whole(30.0, 120.0), 1.0];
+            Ray::new(origin, [0.0, 0.0, 1.0], length)
+        })
+        .collect()
+}
+
 /// The rays into a drawer front, far off it.
 pub fn far_from_front(count: usize) -> Vec<Ray> {
     let mut rays = front_rays(count);
@@ -341,6 +392,13 @@ pub fn across(count: usize, wide: f64) -> Vec<Ray> {
         )
     };
     (0..count).map(ray).collect()
+}
+
+/// The same high over the grid, above all its heights.
+pub fn above(count: usize, wide: f64) -> Vec<Ray> {
+    let mut rays = across(count, wide);
+    rays.iter_mut().for_each(|ray| ray.origin[2] += 8.0);
+    rays
 }
 
 /// Distances to a sphere of radius 1 about the middle of a grid that runs from -1.5 to 1.5.

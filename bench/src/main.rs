@@ -19,9 +19,12 @@ mod stubs;
 pub(crate) use stubs::{collider, transform, world};
 
 mod areas;
+mod cgal;
 mod clock;
 #[allow(dead_code)]
 mod collision;
+mod conversion;
+mod exact;
 mod inputs;
 mod listing;
 mod merge;
@@ -62,11 +65,18 @@ fn smoke() {
     println!("{count} rows, and growth to 1024 triangles: both sides agree");
 }
 
-fn table(only: &str) -> Vec<Measured> {
+/// Measures and prints the rows whose names hold a text.
+fn table(rows: Vec<rows::Planned>, other: &str, only: &str) -> Vec<Measured> {
     let wanted = |planned: &rows::Planned| planned.name.contains(only);
-    let rows = rows::all().into_iter().filter(wanted);
-    let measured = measure(rows.map(|planned| (planned.make)(&planned.name)));
-    println!("{}", report::head());
+    let rows: Vec<rows::Planned> = rows.into_iter().filter(wanted).collect();
+    if rows.is_empty() {
+        return Vec::new();
+    }
+    let measured = measure(
+        rows.into_iter()
+            .map(|planned| (planned.make)(&planned.name)),
+    );
+    println!("{}", report::head(other));
     measured
         .iter()
         .for_each(|row| println!("{}", report::line(row)));
@@ -84,13 +94,14 @@ fn growth() -> Vec<Grown> {
 }
 
 fn full() {
-    let measured = table("");
+    let measured = table(rows::all(), report::RUST, "");
+    let beside_cgal = table(cgal::rows(), report::CGAL, "");
     let growth = growth();
     println!("\n{}", report::GROWTH_HEAD.join("  "));
     growth
         .iter()
         .for_each(|size| println!("{}", size.cells().join("  ")));
-    report::write("docs/BENCHMARKS.md", &measured, &growth);
+    report::write("docs/BENCHMARKS.md", &measured, &beside_cgal, &growth);
     std::fs::write("docs/growth.svg", plot::svg(&growth)).expect("docs/growth.svg");
 }
 
@@ -99,7 +110,10 @@ fn main() {
     match words.iter().map(String::as_str).collect::<Vec<_>>()[..] {
         [] => full(),
         ["--smoke"] => smoke(),
-        ["--only", text] => drop(table(text)),
+        ["--only", text] => {
+            table(rows::all(), report::RUST, text);
+            table(cgal::rows(), report::CGAL, text);
+        }
         _ => {
             eprintln!("{USAGE}");
             std::process::exit(2);

@@ -52,16 +52,10 @@ fn ended(mut rays: Vec<Ray>) -> Vec<Ray> {
     rays
 }
 
-/// Rays high over the grid, from one corner to the other.
-fn raised(mut rays: Vec<Ray>) -> Vec<Ray> {
-    rays.iter_mut().for_each(|ray| ray.origin[2] += 8.0);
-    rays
-}
-
 pub fn rows() -> Vec<Planned> {
     let short = inputs::from_above(1_024, 255.0, 255.0);
     let ending = ended(short.clone());
-    let over = raised(inputs::across(4, 255.0));
+    let over = inputs::above(4, 255.0);
     vec![
         plan("height ranges, short probes, possible", |name| {
             row(name, POSSIBLE, short)

@@ -32,15 +32,16 @@ fn cells(m: &Measured) -> [String; 7] {
     [m.name.clone(), a, b, c, d, e, f]
 }
 
-const HEAD: [&str; 7] = [
-    "one call of",
-    "ours, least",
-    "Rust, least",
-    "ratio",
-    "ours, median",
-    "Rust, median",
-    "ratio",
-];
+/// Whose times stand beside ours.
+pub const RUST: &str = "Rust";
+pub const CGAL: &str = "CGAL";
+
+fn heading(other: &str) -> [String; 7] {
+    let of = |kind: &str| [format!("ours, {kind}"), format!("{other}, {kind}")];
+    let ([a, b], [c, d]) = (of("least"), of("median"));
+    let ratio = || "ratio".to_owned();
+    ["one call of".to_owned(), a, b, ratio(), c, d, ratio()]
+}
 
 fn padded(cells: [String; 7]) -> String {
     let [name, rest @ ..] = cells;
@@ -48,8 +49,8 @@ fn padded(cells: [String; 7]) -> String {
     format!("{name:42}{rest}")
 }
 
-pub fn head() -> String {
-    padded(HEAD.map(str::to_owned))
+pub fn head(other: &str) -> String {
+    padded(heading(other))
 }
 
 pub fn line(m: &Measured) -> String {
@@ -60,8 +61,8 @@ fn row(cells: &[String]) -> String {
     format!("| {} |\n", cells.join(" | "))
 }
 
-fn table(head: &[&str], rows: impl Iterator<Item = Vec<String>>) -> String {
-    let mut text = row(&head.iter().map(|&cell| cell.to_owned()).collect::<Vec<_>>());
+fn table(head: &[String], rows: impl Iterator<Item = Vec<String>>) -> String {
+    let mut text = row(head);
     text += &format!("|---|{}\n", "---:|".repeat(head.len() - 1));
     rows.for_each(|cells| text += &row(&cells));
     text
@@ -132,17 +133,30 @@ fn machine() -> String {
     )
 }
 
+/// The table beside CGAL, where there is one.
+fn beside_cgal(measured: &[Measured]) -> String {
+    if measured.is_empty() {
+        return String::new();
+    }
+    let rows = table(&heading(CGAL), measured.iter().map(|m| cells(m).to_vec()));
+    format!("Beside CGAL:\n\n{rows}\n")
+}
+
 /// Puts the measured part between its marks.
-pub fn write(path: &str, measured: &[Measured], grown: &[Grown]) {
+pub fn write(path: &str, measured: &[Measured], cgal: &[Measured], grown: &[Grown]) {
     let text = std::fs::read_to_string(path).expect("docs/BENCHMARKS.md");
     let (before, rest) = text.split_once(BEGIN).expect("the mark before");
     let (_, after) = rest.split_once(END).expect("the mark after");
-    let rows = table(&HEAD, measured.iter().map(|m| cells(m).to_vec()));
-    let growth = table(&GROWTH_HEAD, grown.iter().map(Grown::cells));
+    let rows = table(&heading(RUST), measured.iter().map(|m| cells(m).to_vec()));
+    let growth = table(
+        &GROWTH_HEAD.map(str::to_owned),
+        grown.iter().map(Grown::cells),
+    );
     let part = format!(
-        "\n{}Least and median of {} repetitions, the sides taking turns; ratio below 1: ours is faster.\n\n{rows}\nGrowth, least times of one call:\n\n{growth}\n",
+        "\n{}Least and median of {} repetitions, the sides taking turns; ratio below 1: ours is faster.\n\n{rows}\n{}Growth, least times of one call:\n\n{growth}\n",
         machine(),
-        PASSES * REPETITIONS
+        PASSES * REPETITIONS,
+        beside_cgal(cgal)
     );
     std::fs::write(path, format!("{before}{BEGIN}{part}{END}{after}")).expect("docs/BENCHMARKS.md");
 }

@@ -10,7 +10,7 @@ use crate::{
         mesh::{MeshQueryWorkspace, TriangleBvh},
         query::{QueryScratch, Ray as RustRay, timed},
     },
-    inputs, listing, merge, near, plain, ranges, records,
+    conversion, exact, inputs, listing, merge, near, plain, ranges, records,
     shape::{self, TriangleMesh},
     timing::Row,
 };
@@ -29,7 +29,7 @@ fn rust_ray(ray: &Ray) -> RustRay {
 }
 
 /// The Rust's answer as our call gives it: a number, and a hit's normal and distance.
-fn numbered(cast: timed::Cast) -> (u32, [f64; 4]) {
+pub fn numbered(cast: timed::Cast) -> (u32, [f64; 4]) {
     let refused = |number| (number, [0.0; 4]);
     match cast {
         Ok((Some(n), distance)) => (HIT, [n.x, n.y, n.z, distance]),
@@ -77,6 +77,17 @@ pub fn casts<A: 'static, B: 'static>(
         let number = ours(a, &mut hit);
         compare(name, wanted, (number, hit), numbered(rust(b)));
     }
+    turns(name, ours_items, rust_items, ours, rust)
+}
+
+/// The row itself, of items whose answers were compared.
+pub fn turns<A: 'static, B: 'static, C: 'static>(
+    name: &str,
+    ours_items: Vec<A>,
+    other_items: Vec<B>,
+    mut ours: impl FnMut(&A, &mut [f64; 4]) -> u32 + 'static,
+    mut other: impl FnMut(&B) -> C + 'static,
+) -> Row {
     Row {
         name: name.to_owned(),
         units: ours_items.len() as f64,
@@ -89,8 +100,8 @@ pub fn casts<A: 'static, B: 'static>(
             }
         }),
         rust: Some(Box::new(move || {
-            for item in black_box(&rust_items[..]) {
-                black_box(&rust(item));
+            for item in black_box(&other_items[..]) {
+                black_box(&other(item));
             }
         })),
     }
@@ -168,7 +179,7 @@ impl Both {
         })
     }
 
-    fn lent(&self) -> Lent {
+    pub fn lent(&self) -> Lent {
         Lent::for_tree(self.mesh.count(), self.tree.nodes)
     }
 }
@@ -515,12 +526,16 @@ fn meshes() -> Vec<Planned> {
 fn grids() -> Vec<Planned> {
     let short = inputs::from_above(1_024, 255.0, 255.0);
     let long = inputs::across(4, 255.0);
+    let above = inputs::above(4, 255.0);
     let through = inputs::at_ball(256, 0.0, 0.9);
     let beside = inputs::at_ball(256, 1.1, 1.4);
     vec![
         plan("height grid, short probes", |name| height(name, HIT, short)),
         plan("height grid, long oblique rays", |name| {
             height(name, HIT, long)
+        }),
+        plan("height grid, long rays above", |name| {
+            height(name, NONE, above)
         }),
         plan("distance grid, hit", |name| distance(name, HIT, through)),
         plan("distance grid, miss", |name| distance(name, NONE, beside)),
@@ -537,10 +552,12 @@ pub fn all() -> Vec<Planned> {
         shapes(),
         meshes(),
         plain::rows(),
+        exact::rows(),
         merge::rows(),
         grids(),
         ranges::rows(),
         streams,
+        conversion::rows(),
     ];
     parts.into_iter().flatten().collect()
 }

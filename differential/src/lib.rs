@@ -1,8 +1,11 @@
 //! The static library beside the unchanged Rust and beside the model of what document
 //! 01 adds to it, on seeded inputs.
 
+pub mod boards;
 pub mod cabinets;
 pub mod calls;
+pub mod exact;
+pub mod exact_tree;
 pub mod lent;
 pub mod library;
 pub mod listing;
@@ -14,3 +17,4 @@ pub mod plain;
 pub mod ranges;
 pub mod run;
 pub mod shapes;
+pub mod solids;

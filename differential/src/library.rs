@@ -227,7 +227,24 @@ pub fn query(call: &Query) -> Result<Queried, Fault> {
     })
 }
 
+/// A mesh cast of the library through a tree.
+pub type MeshCast = fn(
+    &probe_rays::Ray,
+    &[f64],
+    &[u32],
+    &[f64],
+    &TreeRef<'_>,
+    &mut [u32],
+    &mut [u32],
+    &mut [f64],
+    &mut [u32],
+) -> u32;
+
 pub fn cast(call: &Cast) -> Result<Hit, Fault> {
+    cast_by(calls::ray_mesh, call)
+}
+
+pub fn cast_by(by: MeshCast, call: &Cast) -> Result<Hit, Fault> {
     let vertices = Lent::new(call.vertices);
     let indices = Lent::new(call.indices);
     let pose = Lent::new(call.pose);
@@ -236,7 +253,7 @@ pub fn cast(call: &Cast) -> Result<Hit, Fault> {
     let mut stack = Lent::new(call.stack);
     let mut hit = Lent::new(call.hit);
     let mut index = Lent::new(call.index);
-    let number = calls::ray_mesh(
+    let number = by(
         &ray(&call.ray),
         vertices.contents(),
         indices.contents(),

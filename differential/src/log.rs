@@ -84,6 +84,10 @@ impl Log {
         *self.other.entry(what).or_default() += 1;
     }
 
+    pub fn counted(&self, what: &'static str) -> u64 {
+        self.other.get(what).copied().unwrap_or_default()
+    }
+
     /// How many calls of the library were compared.
     pub fn calls(&self) -> u64 {
         self.answers.values().sum()

@@ -110,10 +110,14 @@ fn casts(log: &mut Log, random: &mut Random, mesh: &Mesh) {
 
 /// The tree that the library builds, if it does.
 pub(crate) fn library_tree(mesh: &Mesh) -> Option<FlatTree> {
-    let n = mesh.indices.len() / 3;
+    built_tree(&mesh.vertices, &mesh.indices)
+}
+
+pub(crate) fn built_tree(vertices: &[f64], indices: &[u32]) -> Option<FlatTree> {
+    let n = indices.len() / 3;
     let build = Build {
-        vertices: &mesh.vertices,
-        indices: &mesh.indices,
+        vertices,
+        indices,
         areas: &FlatTree::default().padded(n),
         work: &vec![0; n],
         nodes: &[0],

@@ -3,7 +3,7 @@
 //! triangles.
 
 use crate::{
-    calls,
+    calls, exact,
     library::{Build, Cast, Check, Query},
     listing,
     log::Log,
@@ -107,6 +107,7 @@ pub fn compare(log: &mut Log, seed: u64, number: u64, mesh: &Mesh) {
     }
     shapes::compare(log, random, seed, number);
     plain::compare(log, seed, number, mesh);
+    exact::compare(log, seed, number, mesh);
     ranges::compare(log, random, seed, number);
     merge::compare(log, seed, number, mesh);
 }
@@ -303,7 +304,7 @@ pub fn near_to(random: &mut Random, ray: &Ray, pose: &[f64], indices: &[u32]) ->
 }
 
 /// A list and a stack that hold anything.
-fn work_areas(random: &mut Random, n: usize, nodes: usize) -> [Vec<u32>; 2] {
+pub(crate) fn work_areas(random: &mut Random, n: usize, nodes: usize) -> [Vec<u32>; 2] {
     let lengths = [about(random, n), about(random, nodes.min(2 * n) + 1)];
     lengths.map(|length| filled(random, length))
 }

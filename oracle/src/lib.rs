@@ -16,6 +16,7 @@ pub mod height_ranges;
 pub mod listing;
 pub mod math;
 pub mod merge;
+pub mod mesh_exact;
 pub mod mesh_plain;
 pub mod model;
 pub mod plain;

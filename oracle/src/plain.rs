@@ -420,16 +420,25 @@ fn triangle_cast(ray: &Ray, corners: [Vec3; 3]) -> Step<(Vec3, f64)> {
             return refuse(or(NanSeven, 6, 7));
         }
     }
+    Ok((facing(direction, across)?, distance))
+}
+
+/// A triangle's normal by the cross of its edges, turned to the ray.
+fn facing(direction: Vec3, across: Vec3) -> Step<Vec3> {
     let normal = normalised(across).ok_or(Stop::Refused(7))?;
     let faces_away = dot(direction, normal) > 0.0 && !slipped(TriangleNormal);
-    Ok((
-        if faces_away {
-            turned(TriangleTurned, normal)
-        } else {
-            normal
-        },
-        distance,
-    ))
+    Ok(if faces_away {
+        turned(TriangleTurned, normal)
+    } else {
+        normal
+    })
+}
+
+/// The hit of a triangle at a distance that was found before.
+pub(crate) fn hit_at(ray: &Ray, corners: [[f64; 3]; 3], distance: f64) -> Answer {
+    let [first, second, third] = corners.map(Vec3::from_array);
+    let across = (second - first).cross(third - first);
+    told(facing(Vec3::from_array(ray.direction), across).map(|normal| (normal, distance)))
 }
 
 /// The first refusal, else the first strictly least distance, over triangles in their order.

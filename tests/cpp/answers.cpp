@@ -398,8 +398,12 @@ bool as_in_fractions(const Whole &o, const Whole &d, std::int64_t most, const st
         for (const Whole &corner : t)
             corners.push_back(floats(corner));
     }
-    const Cast<MeshHit> cast = PlainMesh(corners, triangles).cast_exact(Ray{floats(o), floats(d), double(most)});
+    const Ray ray{floats(o), floats(d), double(most)};
+    const PlainMesh part(corners, triangles);
+    const Cast<MeshHit> cast = part.cast_exact(ray), through = part.build().value().cast_exact(ray);
     met[least ? 0 : 1]++;
+    if (through.is_none() != cast.is_none() || (!cast.is_none() && through.hit().distance != cast.hit().distance))
+        return false;
     if (cast.is_none() || !least)
         return cast.is_none() && !least;
     return cast.hit().triangle == first && cast.hit().distance == double(least->over) / double(least->under);
@@ -415,6 +419,12 @@ void whole_millimetres()
     CHECK(hits_at(square.cast_exact(from(1, 30, 1, 1)), 1) && hits_at(square.cast_exact(from(1, 30, 1, 2).with_near(1)), 1));
     CHECK(square.cast_exact(from(1, 30, 2, 1)).is_none() && square.cast_exact(from(1, 30, 1, 3).with_near(2)).is_none());
     CHECK(square.cast_exact(from(32, 0, 1, 2)).is_none());
+    Mesh built = square.build().value();
+    Scratch scratch;
+    CHECK(built.cast(from(1, 30, 1, 2)).is_none() && hits_at(built.cast_exact(from(1, 30, 1, 2)), 1));
+    const std::vector<Vec3> lower{{0, 0, -1}, {31, 0, -1}, {0, 31, -1}, {31, 31, -1}};
+    CHECK(hits_at(built.cast_exact_at(from(1, 30, 1, 2), lower, scratch), 2));
+    CHECK(built.cast_exact_at(from(1, 30, 1, 1), lower, scratch).is_none());
     int met[2] = {0, 0};
     // document 02's M-112, its open side: the crossing lies on the side opposite the first corner, u = 6/91 and v = 85/91
     CHECK(PlainMesh({{0, 0, 0}, {1, 0, 0}, {92, 91, 0}}, {{0, 1, 2}}).cast(from(86, 85, 5, 10)).is_none());

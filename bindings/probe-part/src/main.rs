@@ -20,8 +20,8 @@ probe-part probes a part in an STL file, binary or ASCII, in millimetres.
   probe-part cast FILE [--all | --careful] [--rays FILE] [X Y Z  DX DY DZ  MAX]...
       what rays hit: origin, direction of any length, how far; --rays reads them from a file, one a line (- is standard
       input; # begins a comment); --all tells every depth along a ray; --careful casts three more a hair beside each
-      ray and tells the nearest hit; a part of up to 256 triangles on whole millimetres is cast at in whole numbers by
-      rays along an axis from a whole origin to a whole maximum, but for --all: 'exact' stands behind such an answer
+      ray and tells the nearest hit; a part on whole millimetres, of up to 65,536 triangles, is cast at in whole numbers
+      by rays along an axis from a whole origin to a whole maximum, but for --all: 'exact' stands behind such an answer
   probe-part bores FILE [--face NAME]... [--step MM] [--from-corner] [--csv]
       the bores and pockets of the part's faces: outline, size, depth, through or not, middle; --face asks for some faces
       alone; the faces are probed every MM (1); --from-corner counts x, y, z from the least corner of the part; --csv

@@ -2,8 +2,7 @@
 use crate::kinds::kind_of;
 use probe_rays::stl::{self, Corners};
 use probe_rays::{
-    careful, Batch, Cabinet, Cast, Mesh, MeshHit, PartHit, PlainMesh, Ray, Refusal, Scratch, HAIR,
-    MAX_COUNT,
+    careful, Batch, Cabinet, Cast, Mesh, MeshHit, PartHit, Ray, Refusal, Scratch, HAIR, MAX_COUNT,
 };
 use std::fs;
 
@@ -14,11 +13,8 @@ pub struct Shape {
     triangles: Vec<[u32; 3]>,
     meshes: Vec<Piece>,
     cabinet: Cabinet,
-    whole: Option<PlainMesh>,
+    whole: bool,
 }
-
-/// The exact cast has no tree, and looks at every triangle: it is for parts of at most so many.
-pub const FEW: usize = 256;
 
 /// An answer, and whether it was decided in whole numbers.
 #[derive(Clone, Debug, PartialEq)]
@@ -71,19 +67,18 @@ impl Shape {
             return Err("no triangles".into());
         }
         let (vertices, triangles) = stl::merged(facets);
-        let few = (triangles.len() <= FEW)
-            .then(|| PlainMesh::new(vertices.as_slice(), triangles.as_slice()));
         let mut shape = Shape {
             vertices,
             triangles,
             meshes: Vec::new(),
             cabinet: Cabinet::new(),
-            whole: few.filter(PlainMesh::is_whole),
+            whole: false,
         };
         let all = (0..facets.len() as u32).collect();
         shape
             .add(facets, all, most)
             .map_err(|why| why.to_string())?;
+        shape.whole = shape.meshes.iter().all(|piece| piece.mesh.is_whole());
         if shape.meshes.len() > 1 {
             for piece in &shape.meshes {
                 shape.cabinet.push(&piece.mesh, [0.0; 3]);
@@ -209,10 +204,16 @@ impl Shape {
         careful(ray, HAIR, |ray| self.cast(ray, scratch))
     }
 
-    /// The exact cast, where the part has at most [`FEW`] triangles, all on whole millimetres, and the ray is one that
-    /// [`PlainMesh::cast_exact`] admits; else nothing.
-    pub fn cast_exact(&self, ray: &Ray) -> Option<Cast<MeshHit>> {
-        match self.whole.as_ref()?.cast_exact(ray) {
+    /// The exact cast, where the part is one mesh, all on whole millimetres, and the ray is one that
+    /// [`Mesh::cast_exact`] admits; else nothing.
+    pub fn cast_exact(&self, ray: &Ray, scratch: &mut Scratch) -> Option<Cast<MeshHit>> {
+        let [piece] = self.meshes.as_slice() else {
+            return None;
+        };
+        if !self.whole {
+            return None;
+        }
+        match piece.mesh.cast_exact_with(ray, scratch) {
             Cast::Refused(_) => None,
             answer => Some(answer),
         }
@@ -243,7 +244,7 @@ impl Shape {
 
     /// The answer of each ray, in their order, over the machine's threads: that of the exact cast where there is one.
     pub fn cast_many(&self, rays: &[Ray], with_care: bool) -> Vec<Answer> {
-        Batch::new().run(rays, |ray, scratch| match self.cast_exact(ray) {
+        Batch::new().run(rays, |ray, scratch| match self.cast_exact(ray, scratch) {
             Some(cast) => Answer { cast, exact: true },
             None if with_care => Answer {
                 cast: self.cast_careful(ray, scratch),

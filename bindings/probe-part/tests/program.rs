@@ -321,8 +321,8 @@ fn whole_millimetres_are_exact() {
             [at("4.000 mm, point (1.000, 2.000, 0.000)", 0)]
         );
     }
-    // of 128 triangles and of 512, all on whole millimetres
-    for (times, exact) in [(3, true), (4, false)] {
+    // of 128 triangles, of 512 and of 2,048, all on whole millimetres; of 8,192, whose corners are not
+    for (times, exact) in [(3, true), (4, true), (5, true), (6, false)] {
         let of = lines(&finer(&square(32.0), times), &[], first);
         assert!(
             of[0].starts_with("hit at 4.000 mm") && of[0].ends_with(", exact") == exact,

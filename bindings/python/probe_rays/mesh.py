@@ -210,6 +210,23 @@ class Mesh:
         )
         return settled(answer, place.met)
 
+    def cast_exact(self, ray, pose=None):
+        """What PlainMesh.cast_exact answers, through the tree: that the two agree is proved. With a pose it casts at those
+        vertices, as `cast` does.
+
+        >>> from probe_rays import Mesh, Ray
+        >>> part = Mesh([(0, 0, 0), (31, 0, 0), (0, 31, 0), (31, 31, 0)], [(0, 1, 2), (3, 2, 1)])
+        >>> part.cast_exact(Ray((1, 30, 1), (0, 0, -1), 2)).distance
+        1.0
+
+        Raises Refused with 1, or with 12 where the ray or a corner of a triangle whose box touches the segment's is not whole."""
+        pose = self._vertices if pose is None else owned(pose, "d", 3, "pose")
+        place = _Place()
+        answer = library.probe_ray_mesh_exact(
+            *ray.numbers(), *self._mesh, *lent(pose), *self._areas, *self._scratch().lent, *place.lent
+        )
+        return settled(answer, place.met)
+
     def cast_careful(self, ray, hair=HAIR):
         """The cast and three more a hair beside it, as `careful` has it: a guard, and no proof."""
         return careful(ray, self.cast, hair)

@@ -272,6 +272,58 @@ pub fn ray_mesh_exact_plain(
     }
 }
 
+/// The mesh cast on whole millimetres, through a tree; `index` has one place.
+#[allow(clippy::too_many_arguments)]
+#[inline]
+pub fn ray_mesh_exact(
+    ray: &Ray,
+    vertices: &[f64],
+    triangles: &[u32],
+    pose: &[f64],
+    tree: &TreeRef<'_>,
+    list: &mut [u32],
+    stack: &mut [u32],
+    hit: &mut [f64],
+    index: &mut [u32],
+) -> u32 {
+    // SAFETY: every pointer and length is a slice's, and Rust lets no mutable one overlap another.
+    unsafe {
+        sys::probe_ray_mesh_exact(
+            ray.origin[0],
+            ray.origin[1],
+            ray.origin[2],
+            ray.direction[0],
+            ray.direction[1],
+            ray.direction[2],
+            ray.max_distance,
+            ray.near_distance,
+            vertices.as_ptr(),
+            vertices.len(),
+            triangles.as_ptr(),
+            triangles.len(),
+            pose.as_ptr(),
+            pose.len(),
+            tree.nodes,
+            tree.node_boxes.as_ptr(),
+            tree.node_boxes.len(),
+            tree.triangle_boxes.as_ptr(),
+            tree.triangle_boxes.len(),
+            tree.node_words.as_ptr(),
+            tree.node_words.len(),
+            tree.order.as_ptr(),
+            tree.order.len(),
+            list.as_mut_ptr(),
+            list.len(),
+            stack.as_mut_ptr(),
+            stack.len(),
+            hit.as_mut_ptr(),
+            hit.len(),
+            index.as_mut_ptr(),
+            index.len(),
+        )
+    }
+}
+
 /// The build; `nodes` has one place, the node count.
 #[inline]
 pub fn build(

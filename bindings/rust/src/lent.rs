@@ -258,6 +258,36 @@ pub fn ray_mesh_exact_plain(ray: &Ray, vertices: &[f64], triangles: &[u32]) -> C
     Cast::of(answer, || mesh_hit(&places, &index))
 }
 
+/// The same through a tree, at the vertices `pose`: the arguments are those of [`ray_mesh`].
+///
+/// At the mesh's own vertices, through a tree that passes [`tree_check`], it answers what [`ray_mesh_exact_plain`]
+/// answers: that the two agree is proved. Refuses with 1, 12 (the ray), 2, 3, 4, 5 (the tree is broken where the walk
+/// meets it), and then as the listed triangle of the lowest index that refuses, with 5 or 12.
+pub fn ray_mesh_exact(
+    ray: &Ray,
+    vertices: &[f64],
+    triangles: &[u32],
+    pose: &[f64],
+    tree: &TreeRef<'_>,
+    list: &mut [u32],
+    stack: &mut [u32],
+) -> Cast<MeshHit> {
+    let mut places: Places = [0.0; 4];
+    let mut index = [0_u32];
+    let answer = calls::ray_mesh_exact(
+        ray,
+        vertices,
+        triangles,
+        pose,
+        tree,
+        list,
+        stack,
+        &mut places,
+        &mut index,
+    );
+    Cast::of(answer, || mesh_hit(&places, &index))
+}
+
 /// Glues two boards into one and gives its node count: the first's vertices, triangles, nodes, triangle boxes and order,
 /// then the second's moved up, and a new root over both trees unless one has no triangles. Places past the result are
 /// unchanged. The areas are as long as for a mesh of both together, and `marks` is [`marks_length`] of its triangles.

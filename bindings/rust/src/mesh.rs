@@ -1,6 +1,7 @@
 //! A mesh that owns its tree.
 use crate::answer::{Cast, MeshHit, Refusal};
 use crate::lent::{self, BoardRef, TreeAreas, TreeRef};
+use crate::plain::are_whole;
 use crate::{Ray, MAX_COUNT};
 use std::error::Error;
 use std::fmt;
@@ -285,6 +286,69 @@ impl Mesh {
             &mut scratch.list,
             &mut scratch.stack,
         )
+    }
+
+    /// The first point of a ray along an axis in a closed triangle of a mesh on whole millimetres, decided in whole
+    /// numbers, with the mesh's own work areas: a none is certain, and a ray down a side, through a corner or along a
+    /// face is a hit. It answers what [`PlainMesh::cast_exact`](crate::PlainMesh::cast_exact) answers: that the two agree
+    /// is proved.
+    ///
+    /// The origin is whole from -4,096 to 4,096, the direction one of the six axis directions, near and maximum whole
+    /// from 0 to 16,384, else 12, as where a triangle whose box touches the segment's has a corner that is not whole from
+    /// -4,096 to 4,096. A ray that [`cast`](Mesh::cast) refuses with 1 is refused so here, before 12.
+    ///
+    /// ```
+    /// use probe_rays::{Cast, Mesh, Ray, Refusal};
+    ///
+    /// // a square of 31 in two triangles, bored on the side between them, where the rounded cast passes
+    /// let square = [[0.0, 0.0, 0.0], [31.0, 0.0, 0.0], [0.0, 31.0, 0.0], [31.0, 31.0, 0.0]];
+    /// let mut part = Mesh::build(square, [[0, 1, 2], [3, 2, 1]])?;
+    /// let down = Ray::new([1.0, 30.0, 1.0], [0.0, 0.0, -1.0], 2.0);
+    /// assert_eq!(part.cast(&down), Cast::None);
+    /// let Cast::Hit(hit) = part.cast_exact(&down) else { panic!() };
+    /// assert_eq!((hit.distance, hit.triangle), (1.0, 0));
+    ///
+    /// // half a millimetre beside the grid
+    /// let beside = Ray::new([0.5, 30.0, 1.0], [0.0, 0.0, -1.0], 2.0);
+    /// assert_eq!(part.cast_exact(&beside), Cast::Refused(Refusal::NotWhole));
+    /// # Ok::<(), Refusal>(())
+    /// ```
+    pub fn cast_exact(&mut self, ray: &Ray) -> Cast<MeshHit> {
+        let mut scratch = std::mem::take(&mut self.scratch);
+        let answer = self.cast_exact_with(ray, &mut scratch);
+        self.scratch = scratch;
+        answer
+    }
+
+    /// The same with work areas of the caller's, so that threads may share the mesh.
+    pub fn cast_exact_with(&self, ray: &Ray, scratch: &mut Scratch) -> Cast<MeshHit> {
+        self.cast_exact_at(ray, &self.vertices, scratch)
+    }
+
+    /// The same at other vertices, as [`cast_at`](Mesh::cast_at) has them; the vertices of the triangles cast at are to be
+    /// whole there.
+    pub fn cast_exact_at(
+        &self,
+        ray: &Ray,
+        pose: &[[f64; 3]],
+        scratch: &mut Scratch,
+    ) -> Cast<MeshHit> {
+        scratch.fit(self.triangles.len(), self.tree.nodes);
+        lent::ray_mesh_exact(
+            ray,
+            self.vertices.as_flattened(),
+            self.triangles.as_flattened(),
+            pose.as_flattened(),
+            &self.tree.as_lent(),
+            &mut scratch.list,
+            &mut scratch.stack,
+        )
+    }
+
+    /// Whether every vertex is whole from -4,096 to 4,096: [`cast_exact`](Mesh::cast_exact) refuses with 12 for the ray
+    /// alone then.
+    pub fn is_whole(&self) -> bool {
+        are_whole(&self.vertices)
     }
 
     /// Every triangle that a ray hits, with the mesh's own work areas: each once, in order of depth, of equally near

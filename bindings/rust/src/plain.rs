@@ -56,7 +56,8 @@ impl PlainMesh {
     }
 
     /// The first point of a ray along an axis in a closed triangle of a mesh on whole millimetres, decided in whole
-    /// numbers: a none is certain, and a ray down a side, through a corner or along a face is a hit.
+    /// numbers: a none is certain, and a ray down a side, through a corner or along a face is a hit. [`Mesh::cast_exact`]
+    /// answers the same through a tree.
     ///
     /// The origin is whole from -4,096 to 4,096, the direction one of the six axis directions, near and maximum whole
     /// from 0 to 16,384, else 12; then 2 and 5 as [`PlainMesh::cast`] has them, and 12 where a triangle whose box touches
@@ -99,8 +100,7 @@ impl PlainMesh {
     /// assert!(!others.iter().any(|&x| PlainMesh::new(corners(x), [[0, 1, 2]]).is_whole()));
     /// ```
     pub fn is_whole(&self) -> bool {
-        let whole = |part: &f64| part.abs() <= 4096.0 && part.fract() == 0.0;
-        self.vertices.as_flattened().iter().all(whole)
+        are_whole(&self.vertices)
     }
 
     /// The same mesh with a tree, as [`Mesh::build`] builds it.
@@ -117,4 +117,10 @@ impl PlainMesh {
     pub fn triangles(&self) -> &[[u32; 3]] {
         &self.triangles
     }
+}
+
+/// Whether every coordinate is whole from -4,096 to 4,096.
+pub(crate) fn are_whole(vertices: &[[f64; 3]]) -> bool {
+    let whole = |part: &f64| part.abs() <= 4096.0 && part.fract() == 0.0;
+    vertices.as_flattened().iter().all(whole)
 }

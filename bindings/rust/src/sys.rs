@@ -186,6 +186,41 @@ extern "C" {
         index_length: usize,
     ) -> u32;
 
+    /// Casts a ray along an axis at a mesh on whole millimetres, through its tree.
+    pub fn probe_ray_mesh_exact(
+        origin_x: f64,
+        origin_y: f64,
+        origin_z: f64,
+        direction_x: f64,
+        direction_y: f64,
+        direction_z: f64,
+        max_distance: f64,
+        near_distance: f64,
+        vertices: *const f64,
+        vertices_length: usize,
+        triangles: *const u32,
+        triangles_length: usize,
+        pose: *const f64,
+        pose_length: usize,
+        nodes: usize,
+        node_boxes: *const f64,
+        node_boxes_length: usize,
+        triangle_boxes: *const f64,
+        triangle_boxes_length: usize,
+        node_words: *const u32,
+        node_words_length: usize,
+        order: *const u32,
+        order_length: usize,
+        list: *mut u32,
+        list_length: usize,
+        stack: *mut u32,
+        stack_length: usize,
+        hit: *mut f64,
+        hit_length: usize,
+        index: *mut u32,
+        index_length: usize,
+    ) -> u32;
+
     /// Lists every triangle of a mesh that a ray hits.
     pub fn probe_ray_mesh_all(
         origin_x: f64,

@@ -1,97 +1,10 @@
 //! The cast on whole millimetres beside a judge that decides every triangle in fractions, by its plane and its sides in
-//! space: random boards, rays at sides and corners, and rays along faces.
-use probe_rays::{Cast, PlainMesh, Ray};
+//! space: random boards, rays at sides and corners, and rays along faces; and the same cast through a tree. tests/exact.sh
+//! has a million boards.
+mod judge;
 
-type Point = [i128; 3];
-
-fn minus(p: Point, q: Point) -> Point {
-    [p[0] - q[0], p[1] - q[1], p[2] - q[2]]
-}
-
-fn cross(p: Point, q: Point) -> Point {
-    [
-        p[1] * q[2] - p[2] * q[1],
-        p[2] * q[0] - p[0] * q[2],
-        p[0] * q[1] - p[1] * q[0],
-    ]
-}
-
-fn dot(p: Point, q: Point) -> i128 {
-    p[0] * q[0] + p[1] * q[1] + p[2] * q[2]
-}
-
-/// A depth as a fraction with a divisor above 0.
-type Depth = (i128, i128);
-
-fn fraction(over: i128, under: i128) -> Depth {
-    if under < 0 {
-        (-over, -under)
-    } else {
-        (over, under)
-    }
-}
-
-fn deeper(d: Depth, e: Depth) -> bool {
-    d.0 * e.1 > e.0 * d.1
-}
-
-/// The depths d where first + d · slope is not below 0, within those from low to high.
-fn clip(low: &mut Depth, high: &mut Depth, first: i128, slope: i128) -> bool {
-    if slope == 0 {
-        return first >= 0;
-    }
-    let at = fraction(-first, slope);
-    if slope > 0 && deeper(at, *low) {
-        *low = at;
-    }
-    if slope < 0 && deeper(*high, at) {
-        *high = at;
-    }
-    !deeper(*low, *high)
-}
-
-/// The first depth from near to far at which the line is in the closed triangle.
-fn first_depth(o: Point, d: Point, near: i128, far: i128, t: [Point; 3]) -> Option<Depth> {
-    let n = cross(minus(t[1], t[0]), minus(t[2], t[0]));
-    if n == [0, 0, 0] {
-        return None;
-    }
-    let (mut low, mut high) = ((near, 1), (far, 1));
-    // in the plane: not above it, and not below it
-    let (above, rise) = (dot(n, minus(o, t[0])), dot(n, d));
-    if !clip(&mut low, &mut high, above, rise) || !clip(&mut low, &mut high, -above, -rise) {
-        return None;
-    }
-    for k in 0..3 {
-        let (p, q) = (t[k], t[(k + 1) % 3]);
-        let side = minus(q, p);
-        if !clip(
-            &mut low,
-            &mut high,
-            dot(n, cross(side, minus(o, p))),
-            dot(n, cross(side, d)),
-        ) {
-            return None;
-        }
-    }
-    Some(low)
-}
-
-fn divisor(a: i128, b: i128) -> i128 {
-    if b == 0 {
-        a.abs()
-    } else {
-        divisor(b, a % b)
-    }
-}
-
-/// The float nearest to a depth: both numbers are exact once the fraction is reduced.
-fn nearest(d: Depth) -> f64 {
-    let k = divisor(d.0, d.1).max(1);
-    let (over, under) = (d.0 / k, d.1 / k);
-    assert!(over.abs() < 1 << 53 && under < 1 << 53);
-    over as f64 / under as f64
-}
+use judge::{dot, first_depth, nearest, normal, Depth, Point};
+use probe_rays::{Cast, Mesh, PlainMesh, Ray, Refusal, Scratch};
 
 /// xorshift, so that a run can be had again.
 struct Random(u64);
@@ -147,7 +60,7 @@ fn as_a_judge_in_fractions_has_it() {
         for (index, t) in triangles.iter().enumerate() {
             if let Some(depth) = first_depth(origin, direction, near, far, *t) {
                 let distance = nearest(depth);
-                let flat = dot(cross(minus(t[1], t[0]), minus(t[2], t[0])), direction) == 0;
+                let flat = dot(normal(*t), direction) == 0;
                 if expected.map_or(true, |least| distance < least.0) {
                     expected = Some((distance, index as u32, depth, flat));
                 }
@@ -158,7 +71,10 @@ fn as_a_judge_in_fractions_has_it() {
             .map(|k| [3 * k, 3 * k + 1, 3 * k + 2])
             .collect();
         let ray = Ray::new(floats(origin), floats(direction), far as f64).with_near(near as f64);
-        let answer = PlainMesh::new(vertices, indices).cast_exact(&ray);
+        let board_of = PlainMesh::new(vertices, indices);
+        let answer = board_of.cast_exact(&ray);
+        let mut with_tree = board_of.build().unwrap();
+        assert_eq!(with_tree.cast_exact(&ray), answer, "board {board}: a tree");
         match (expected, &answer) {
             (None, Cast::None) => seen[1] += 1,
             (Some((distance, index, depth, flat)), Cast::Hit(hit)) => {
@@ -197,6 +113,8 @@ fn every_ray_into_a_closed_board_hits() {
         .flat_map(|f| [[f[0], f[1], f[2]], [f[0], f[2], f[3]]])
         .collect();
     let cube = PlainMesh::new(vertices, triangles);
+    let with_tree = cube.clone().build().unwrap();
+    let scratch = &mut Scratch::new();
     for axis in 0..3 {
         for side in [-1.0, 1.0] {
             for place in 0..81 {
@@ -206,11 +124,94 @@ fn every_ray_into_a_closed_board_hits() {
                 origin[(axis + 2) % 3] = f64::from(place / 9);
                 let mut direction = [0.0; 3];
                 direction[axis] = side;
-                let Cast::Hit(hit) = cube.cast_exact(&Ray::new(origin, direction, 20.0)) else {
+                let ray = Ray::new(origin, direction, 20.0);
+                let answer = cube.cast_exact(&ray);
+                assert_eq!(with_tree.cast_exact_with(&ray, scratch), answer);
+                let Cast::Hit(hit) = answer else {
                     panic!("from {origin:?}")
                 };
                 assert_eq!(hit.distance, 3.0);
             }
         }
     }
+}
+
+/// A board of 64 by 64 squares with a hole, 8,190 triangles: every place of the grid, as without a tree.
+#[test]
+fn a_large_board_through_its_tree() {
+    let side = 64_u32;
+    let corner = |k: u32| [f64::from(k % (side + 1)), f64::from(k / (side + 1)), 0.0];
+    let vertices: Vec<[f64; 3]> = (0..(side + 1) * (side + 1)).map(corner).collect();
+    let (hole_x, hole_y) = (20, 41);
+    let mut triangles: Vec<[u32; 3]> = Vec::new();
+    for y in 0..side {
+        for x in 0..side {
+            if (x, y) != (hole_x, hole_y) {
+                let at = y * (side + 1) + x;
+                triangles.push([at, at + 1, at + side + 1]);
+                triangles.push([at + side + 2, at + side + 1, at + 1]);
+            }
+        }
+    }
+    let plain = PlainMesh::new(vertices, triangles);
+    let mut board = plain.clone().build().unwrap();
+    for place in 0..(side + 3) * (side + 3) {
+        let (x, y) = (place % (side + 3), place / (side + 3));
+        let ray = Ray::new(
+            [f64::from(x) - 1.0, f64::from(y) - 1.0, 7.0],
+            [0.0, 0.0, -1.0],
+            9.0,
+        );
+        let answer = board.cast_exact(&ray);
+        assert_eq!(answer, plain.cast_exact(&ray));
+        let on = |p: u32| (1..=side + 1).contains(&p);
+        assert_eq!(matches!(answer, Cast::Hit(_)), on(x) && on(y));
+    }
+    // along the board, down a side of the hole
+    let inside = Ray::new(
+        [f64::from(hole_x), f64::from(hole_y) + 1.0, 0.0],
+        [0.0, -1.0, 0.0],
+        1.0,
+    );
+    assert_eq!(board.cast_exact(&inside), plain.cast_exact(&inside));
+}
+
+#[test]
+fn refusals_and_moved_vertices_through_a_tree() {
+    let square = [
+        [0.0, 0.0, 0.0],
+        [31.0, 0.0, 0.0],
+        [0.0, 31.0, 0.0],
+        [31.0, 31.0, 0.0],
+    ];
+    let part = Mesh::build(square, [[0, 1, 2], [3, 2, 1]]).unwrap();
+    let scratch = &mut Scratch::new();
+    let down = |x: f64, far: f64| Ray::new([x, 30.0, 1.0], [0.0, 0.0, -1.0], far);
+    // 12 after 1, and before 4 and 2
+    assert_eq!(
+        part.cast_exact_with(&down(0.5, -1.0), scratch),
+        Cast::Refused(Refusal::InvalidInput)
+    );
+    assert_eq!(
+        part.cast_exact_at(&down(0.5, 2.0), &square[..3], scratch),
+        Cast::Refused(Refusal::NotWhole)
+    );
+    assert_eq!(
+        part.cast_exact_at(&down(1.0, 2.0), &square[..3], scratch),
+        Cast::Refused(Refusal::WrongPose)
+    );
+    // moved down by 2, past the segment; by 1, at its end; by half a millimetre, not whole
+    let moved = |z: f64| square.map(|[x, y, _]| [x, y, z]);
+    assert_eq!(
+        part.cast_exact_at(&down(1.0, 2.0), &moved(-2.0), scratch),
+        Cast::None
+    );
+    let Cast::Hit(hit) = part.cast_exact_at(&down(1.0, 2.0), &moved(-1.0), scratch) else {
+        panic!()
+    };
+    assert_eq!((hit.distance, hit.triangle), (2.0, 0));
+    assert_eq!(
+        part.cast_exact_at(&down(1.0, 2.0), &moved(0.5), scratch),
+        Cast::Refused(Refusal::NotWhole)
+    );
 }

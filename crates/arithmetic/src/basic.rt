@@ -46,7 +46,8 @@ fn at_most(x: f64, max: f64) -> f64
     x
 }
 
-// Rust's f64::clamp: below min gives min, then above max gives max. Where min is above max, or one is NaN, Rust panics; here the two steps decide.
+// Rust's f64::clamp: below min gives min, then above max gives max. Where min is above max, or one is NaN, Rust panics; here the two steps
+// decide.
 pub fn clamp(x: f64, min: f64, max: f64) -> f64
     ensures { λ r. ⌜ r ≡ clampTo x min max ⌝ }
 {

@@ -29,7 +29,8 @@ pub fn maximum(x: f64, y: f64) -> f64
     x
 }
 
-// The minimum where the first operand is no NaN, as callers show, and again no NaN: one comparison, which the processor makes in one instruction, tells it.
+// The minimum where the first operand is no NaN, as callers show, and again no NaN: one comparison, which the processor makes in one
+// instruction, tells it.
 pub fn lesser(x: f64, y: f64) -> f64
     requires { ⌜ isNan x ≡ false ⌝ }
     ensures { λ r. ⌜ (r ≡ minimumOf x y) × (isNan r ≡ false) ⌝ }
@@ -40,7 +41,7 @@ pub fn lesser(x: f64, y: f64) -> f64
     x
 }
 
-// The maximum where the first operand is no NaN, and again none.
+// The maximum where the first operand is no NaN, and again none. Callers show that the first is none.
 pub fn greater(x: f64, y: f64) -> f64
     requires { ⌜ isNan x ≡ false ⌝ }
     ensures { λ r. ⌜ (r ≡ maximumOf x y) × (isNan r ≡ false) ⌝ }

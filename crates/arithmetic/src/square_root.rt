@@ -6,7 +6,7 @@ ghost use lib.Ieee.{Float, binary64, ofBits};
 ghost use lib.Ieee.Exact.{HasValue};
 ghost use Rattle.arithmetic.specs.Root.{rootOf, NearestRoot, CloseRoot};
 
-// Whether t * t is at most m * 2^54. The halves of t keep each product within 64 digits.
+// Whether t * t is at most m * 2^54. The halves of t keep each product within 64 digits. Callers show that t is no larger.
 fn square_at_most(t: u64, m: u64) -> bool
     requires { ⌜ t ≤ 2 ^ 54 ⌝ }
     ensures { λ r. ⌜ r ≡ leb (t * t) (m * 2 ^ 54) ⌝ }
@@ -20,6 +20,7 @@ fn square_at_most(t: u64, m: u64) -> bool
 }
 
 // The whole number nearest to the root of m * 2^52, by halving an interval that holds the root of m * 2^54, which is twice as large.
+// Callers show that m has 53 or 54 digits.
 fn halved_root(m: u64) -> u64
     requires { ⌜ (2 ^ 52 ≤ m) × (m < 2 ^ 54) ⌝ }
     ensures { λ r. ⌜ NearestRoot (m * 2 ^ 52) r ⌝ }
@@ -38,6 +39,7 @@ fn halved_root(m: u64) -> u64
 }
 
 // The root of the float whose value is m * 2^52 * 4^k in units of 2^-2148. The leading digit of the root adds one to the exponent's field.
+// Callers show that m has 53 or 54 digits and that the root is a float.
 fn scaled_root(m: u64, k: u64) -> f64
     requires { ⌜ (2 ^ 52 ≤ m) × (m ≤ 2 ^ 54 - 2) × (k ≤ 1533) ⌝ }
     ensures { λ r. ⌜ ((x : Float) → HasValue x false (m * 2 ^ 52 * (2 ^ k * 2 ^ k)) (2 ^ 2148) → r ≡ rootOf x) ⌝ }
@@ -45,7 +47,7 @@ fn scaled_root(m: u64, k: u64) -> f64
     f64::from_bits(k * 4503599627370496 + halved_root(m))
 }
 
-// The root of the subnormal number with the pattern b.
+// The root of the subnormal number with the pattern b. Callers show that it is one.
 fn subnormal_root(b: u64) -> f64
     requires { ⌜ (0 < b) × (b < 2 ^ 52) ⌝ }
     ensures { λ r. ⌜ r ≡ rootOf (ofBits binary64 b) ⌝ }
@@ -60,6 +62,7 @@ fn subnormal_root(b: u64) -> f64
 }
 
 // The digits of a normal number, the leading one included, twice if the lowest digit of its exponent, the highest of c, is set.
+// Callers show that c has at most 53 digits.
 fn even_digits(c: u64) -> u64
     requires { ⌜ c < 2 ^ 53 ⌝ }
     ensures { λ r. ⌜ r ≡ (c % 2 ^ 52 + 2 ^ 52) * (1 + c / 2 ^ 52) ⌝ }
@@ -70,7 +73,9 @@ fn even_digits(c: u64) -> u64
     c + c
 }
 
-// The root of the number with the pattern b, by halving. With 1021 added to the exponent's field of a normal number, half of that is the root's.
+// The root of the number with the pattern b, by halving. With 1021 added to the exponent's field of a normal number, half of that is the
+// root's.
+// Callers show that the number is above 0 and finite.
 fn careful_root(b: u64) -> f64
     requires { ⌜ (0 < b) × (b < 2047 * 2 ^ 52) ⌝ }
     ensures { λ r. ⌜ r ≡ rootOf (ofBits binary64 b) ⌝ }
@@ -88,7 +93,8 @@ fn careful_root(b: u64) -> f64
 // a + b * x + c * x²
 struct Parabola(f64, f64, f64);
 
-// Near 1/sqrt(x) on a piece, of sixteen from 1 to 2 and sixteen from 2 to 4. A match is compiled to a table. An array would be copied at each call.
+// Near 1/sqrt(x) on a piece, of sixteen from 1 to 2 and sixteen from 2 to 4. A match is compiled to a table. An array would be copied at
+// each call.
 fn near_parabola(piece: u64) -> Parabola {
     match piece {
         0 => Parabola(1.84676996, -1.19417993, 0.34740777),
@@ -126,8 +132,8 @@ fn near_parabola(piece: u64) -> Parabola {
     }
 }
 
-// A guess at the root of the float x, from 1 to 4, with the pattern b: y is near 1/sqrt(x), and x * y is mended by two terms of the series in
-// 1 - x * y². It is nearly always less than 2^-52 off. Nothing rests on that.
+// A guess at the root of the float x, from 1 to 4, with the pattern b: y is near 1/sqrt(x), and x * y is mended by two terms of the series
+// in 1 - x * y². It is nearly always less than 2^-52 off. Nothing rests on that. Callers show that x lies there.
 fn guessed_root(b: u64) -> f64
     requires { ⌜ (0x3ff0_0000_0000_0000 ≤ b) × (b < 0x3ff0_0000_0000_0000 + 2 ^ 53) ⌝ }
 {
@@ -139,8 +145,8 @@ fn guessed_root(b: u64) -> f64
     s + s * e * (0.5 + 0.375 * e)
 }
 
-// The whole number nearest to the root of m * 2^52, if that is q or one of the two numbers above it; else 0. rest is m * 2^52 - q * q, of which
-// the lowest 64 digits are enough, since q is close. The halves of q keep each product within them.
+// The whole number nearest to the root of m * 2^52, if that is q or one of the two numbers above it; else 0. rest is m * 2^52 - q * q, of
+// which the lowest 64 digits are enough, since q is close. The halves of q keep each product within them. Callers show that q is close.
 fn mended_root(m: u64, q: u64) -> u64
     requires { ⌜ (0 < m) × CloseRoot m q ⌝ }
     ensures { λ r. ⌜ (0 < r → NearestRoot (m * 2 ^ 52) r) ⌝ }
@@ -155,8 +161,9 @@ fn mended_root(m: u64, q: u64) -> u64
     q + (rest > q) as u64 + (rest > 3 * q + 2) as u64
 }
 
-// The whole number nearest to the root of m * 2^52, or 0 where the guess is too far off. The guess has the pattern g. From 1 to 2 its digits are
-// the pattern less 1022 * 2^52, and one less is seldom above the exact root; where it is, the answer is 0.
+// The whole number nearest to the root of m * 2^52, or 0 where the guess is too far off. The guess has the pattern g. From 1 to 2 its
+// digits are the pattern less 1022 * 2^52, and one less is seldom above the exact root; where it is, the answer is 0.
+// Callers show that a guess of 53 digits is close.
 fn close_root(m: u64, g: u64) -> u64
     requires { ⌜ (0 < m) × ((q : ℕ) → g ≡ q + 0x3fe0_0000_0000_0001 → 2 ^ 52 ≤ q + 1 → q + 1 ≤ 2 ^ 53 → CloseRoot m q) ⌝ }
     ensures { λ r. ⌜ (0 < r → NearestRoot (m * 2 ^ 52) r) ⌝ }
@@ -168,10 +175,12 @@ fn close_root(m: u64, g: u64) -> u64
     mended_root(m, digits + 4503599627370495)
 }
 
-// The whole number nearest to the root of m * 2^52, or 0 where the guess is too far off. The guess is taken from the float with the pattern b,
-// which is m * 2^-52. Its square, rounded, must be less than 2^-43 from that, which 2^-86 tells of the distance's square.
+// The whole number nearest to the root of m * 2^52, or 0 where the guess is too far off. The guess is taken from the float with the pattern
+// b, which is m * 2^-52. Its square, rounded, must be less than 2^-43 from that, which 2^-86 tells of the distance's square.
+// Callers show that m and b are the digits and the pattern of one float from 1 to 4.
 fn quick_root(m: u64, b: u64) -> u64
-    requires { ⌜ (2 ^ 52 ≤ m) × (m < 2 ^ 54) × (0x3ff0_0000_0000_0000 ≤ b) × (b < 0x3ff0_0000_0000_0000 + 2 ^ 53) × HasValue (ofBits binary64 b) false m (2 ^ 52) ⌝ }
+    requires { ⌜ (2 ^ 52 ≤ m) × (m < 2 ^ 54) × (0x3ff0_0000_0000_0000 ≤ b) × (b < 0x3ff0_0000_0000_0000 + 2 ^ 53)
+        × HasValue (ofBits binary64 b) false m (2 ^ 52) ⌝ }
     ensures { λ r. ⌜ (0 < r → NearestRoot (m * 2 ^ 52) r) ⌝ }
 {
     let guess = guessed_root(b);
@@ -182,7 +191,7 @@ fn quick_root(m: u64, b: u64) -> u64
     0
 }
 
-// The root of the normal number with the pattern b: by a guess, and with care where that fails.
+// The root of the normal number with the pattern b: by a guess, and with care where that fails. Callers show that it is one.
 fn normal_root(b: u64) -> f64
     requires { ⌜ (2 ^ 52 ≤ b) × (b < 2047 * 2 ^ 52) ⌝ }
     ensures { λ r. ⌜ r ≡ rootOf (ofBits binary64 b) ⌝ }

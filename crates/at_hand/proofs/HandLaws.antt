@@ -10,7 +10,7 @@ use lib.ListN.{length, getD, take, drop, length-append, length-drop}
 use lib.Seq.{length-take-le, take-at, take-add, take-all, drop-at, sets, sets-eq, length-sets, drop-drop}
 use Rattle.conversion.specs.Convert.{widened}
 use Rattle.record_bytes.specs.Parse.{wellFormed, parse}
-use Rattle.record_bytes.specs.Text.{Put, Written}
+use Rattle.record_text.specs.Text.{Put, Written}
 use Rattle.records.specs.Lines.{lineOf, badLine, parsedText, recordText}
 use Rattle.record_bytes.specs.Stream.{nextOf, longBody, bodyOf}
 use Rattle.record_bytes.specs.declared.stream.Found.{Found}

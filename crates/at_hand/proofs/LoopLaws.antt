@@ -8,7 +8,7 @@ use borrow.Author.Tests.{leb-true, leb-false, lt-leb, le-leb}
 use lib.Dec.{leb}
 use lib.ListN.{length, take, drop, length-append, length-drop}
 use lib.Seq.{length-take-le, take-at, sets, sets-eq, length-sets, drop-drop}
-use Rattle.record_bytes.specs.Text.{Put}
+use Rattle.record_text.specs.Text.{Put}
 use Rattle.record_bytes.specs.Stream.{nextOf}
 use Rattle.record_bytes.specs.declared.stream.Found.{Found}
 use Rattle.record_bytes.specs.declared.stream.Found.the-variants.{Record, Cut, End}

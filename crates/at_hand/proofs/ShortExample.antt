@@ -7,23 +7,26 @@ use lib.Ieee.{span, climb, size, odd, units, round, neg, sum, add, sub, mul, div
 use lib.Ieee.{ofBits, toBits}
 use Rattle.arithmetic.specs.Basic.{isFinite, absolute, negative}
 use Rattle.arithmetic.specs.Root.{rootDigits, wholeRoot, rootRound, rootOf}
-use Rattle.geometry.specs.Vector.{finiteVec, negOf, dotOf, checkedDot, lengthOf}
+use Rattle.vectors.specs.Vector.{finiteVec, negOf, dotOf, checkedDot, lengthOf}
 use Rattle.geometry.specs.Segment.{unitLength, rayAdmitted}
 use Rattle.casts.specs.Surface.{outOfRange, facing}
 use Rattle.casts.specs.Plane.{planeAdmitted, planeAt, planeCast, rayPlane}
-use Rattle.conversion.specs.declared.forms.Converted.the-variants.{Written, Refused}
-use Rattle.conversion.specs.Bytes.{wordOf, numbersOf, numbersBytes, numberOf, numberBytes, patternOf, patternBytes, wordsOf}
-use Rattle.conversion.specs.Bytes as bytes
-use Rattle.conversion.specs.Records.{manyCounts, manyNumbers, manyIndices, bodyLength, countsOf, saidOf, fieldsBytes, recordBytes}
-use Rattle.conversion.specs.Records as records
-use Rattle.conversion.specs.Convert.{every, everySaid, held, converted, widened, toShort, toLong}
+use Rattle.float_forms.specs.declared.forms.Converted.the-variants.{Written, Refused}
+use Rattle.float_forms.specs.Bytes.{wordOf, numbersOf, numbersBytes, numberOf, numberBytes, patternOf, patternBytes, wordsOf}
+use Rattle.float_forms.specs.Bytes as bytes
+use Rattle.record_forms.specs.Records.{manyCounts, manyNumbers, manyIndices, bodyLength, countsOf, saidOf, fieldsBytes, recordBytes}
+use Rattle.record_forms.specs.Records as records
+use Rattle.float_forms.specs.Holding.{every, held}
+use Rattle.record_forms.specs.Writing.{everySaid}
+use Rattle.conversion.specs.Convert.{converted, widened, toShort, toLong}
 use Rattle.record_bytes.specs.Bytes.{wordAt, bitsAt, floatAt, vectorAt}
 use Rattle.record_bytes.specs.Fields.{isVersion, nearOf, shapePlace, rayOf, planeOf}
 use Rattle.record_bytes.specs.Parse.{filled, wellFormed, shapeOf, parse}
 use Rattle.record_bytes.specs.Encode.{wordBytes, bitsBytes, floatBytes, vectorBytes, rayBytes, nearBytes, kindByte, shapeBytes, bodyBytes}
 use Rattle.record_bytes.specs.Encode.{framed}
-use Rattle.record_bytes.specs.Text.{glyph, digits, placesOf, decimal, hexadecimal, printedBits}
-use Rattle.records.specs.Lines.{floatText, hitText, answerText, shapeText, parsedText, lineWith}
+use Rattle.record_text.specs.Text.{glyph, digits, placesOf, decimal, hexadecimal, printedBits}
+use Rattle.record_text.specs.AnswerText.{floatText, hitText, answerText}
+use Rattle.records.specs.Lines.{shapeText, parsedText, lineWith}
 use Rattle.record_bytes.specs.Stream.{nextOf, longBody}
 use Rattle.records.specs.Output.{linesFrom, outputOf}
 use Rattle.records.specs.WorkedExample.{exampleRecords, exampleOutput}

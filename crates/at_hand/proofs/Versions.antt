@@ -10,27 +10,30 @@ use lib.ListN.{length, getD, take, drop, length-drop}
 use lib.Seq.{take-at}
 use Rattle.geometry.specs.declared.ray.Ray.{Ray}
 use Rattle.tree.specs.Mesh.{thirds}
-use Rattle.conversion.specs.declared.forms.Form.{Form}
-use Rattle.conversion.specs.declared.forms.Form.the-variants.{Long, Short}
-use Rattle.conversion.specs.declared.forms.Converted.the-variants.{Written, Refused}
-use Rattle.conversion.specs.Bytes.{IsBytes, numbersBytes, numberBytes, patternBytes}
-use Rattle.conversion.specs.Bytes as bytes
-use Rattle.conversion.specs.Records.{Said, manyCounts, manyNumbers, manyIndices, bodyLength, saidOf, isKind, fieldsBytes, recordBytes}
-use Rattle.conversion.specs.Records as records
-use Rattle.conversion.specs.Convert.{withoutNan, saidFits, saidHeld, Outcome, turned, converted, widened, toShort, toLong}
-use Rattle.conversion.proofs.RunLaws.{AllWords, none, more}
-use Rattle.conversion.proofs.Parts.{formed, well-formed}
-use Rattle.conversion.proofs.RoundTrip.{Measured, Fitting, written-length, written-formed, said-back}
+use Rattle.float_forms.specs.declared.forms.Form.{Form}
+use Rattle.float_forms.specs.declared.forms.Form.the-variants.{Long, Short}
+use Rattle.float_forms.specs.declared.forms.Converted.the-variants.{Written, Refused}
+use Rattle.float_forms.specs.Bytes.{IsBytes, numbersBytes, numberBytes, patternBytes}
+use Rattle.float_forms.specs.Bytes as bytes
+use Rattle.record_forms.specs.Records.{Said, manyCounts, manyNumbers, manyIndices, bodyLength, saidOf, isKind, fieldsBytes, recordBytes}
+use Rattle.record_forms.specs.Records as records
+use Rattle.conversion.specs.Convert.{withoutNan, saidHeld, Outcome, converted, widened, toShort, toLong}
+use Rattle.record_forms.specs.Writing.{saidFits, turned}
+use Rattle.float_forms.proofs.RunLaws.{AllWords, none, more}
+use Rattle.record_forms.proofs.Parts.{formed, well-formed}
+use Rattle.record_forms.proofs.Lengths.{Measured, written-length}
+use Rattle.conversion_laws.proofs.RoundTrip.{Fitting, written-formed, said-back}
 use Rattle.conversion.proofs.Held.{held-fits, long-fits-said}
-use Rattle.conversion.proofs.Outcomes.{success, Success, succeeded, succeeds}
-use Rattle.conversion.proofs.Theorems.{turned-well-formed, widened-is, widened-well-formed, widened-back, from-short-succeeds}
+use Rattle.conversion_laws.proofs.Outcomes.{success, Success, succeeded, succeeds}
+use Rattle.conversion_laws.proofs.Theorems.{turned-well-formed, widened-well-formed, widened-back, from-short-succeeds}
+use Rattle.conversion.proofs.Widening.{widened-is}
 use Rattle.record_bytes.specs.Parse.{Shape, plane, triangle, mesh, heights, distances, Parsed, says, parse, longest}
 use Rattle.record_bytes.specs.Encode.{wordBytes, bitsBytes, floatBytes, vectorBytes, rayBytes, kindByte, floatsBytes, wordsBytes, eachBytes}
 use Rattle.record_bytes.specs.Encode.{countsBytes, fieldBytes, gridBytes, shapeBytes, nearBytes, bodyBytes, RayFits, ShapeFits, WordFits}
 use Rattle.record_bytes.specs.Encode.{EachFits}
 use Rattle.records.specs.Lines.{lineOf}
 use Rattle.record_bytes.specs.Stream.{longBody}
-use Rattle.record_bytes.proofs.RoundTrip.{parse-encoded-2}
+use Rattle.records.proofs.RoundTrip.{parse-encoded-2}
 use Rattle.at_hand.specs.Versions.{recordLine, shapeCounts, shapeNumbers, shapeIndices, saidFor}
 
 -- ---- the body that is read

@@ -6,7 +6,7 @@ use lib.Dec.{leb}
 use mathlib.Core.List.{List, [], _∷_, _++_}
 use lib.ListN.{length, take, drop}
 use Rattle.record_bytes.specs.Parse.{wellFormed}
-use Rattle.record_bytes.specs.Text.{Put}
+use Rattle.record_text.specs.Text.{Put}
 use Rattle.records.specs.Lines.{lineOf, badLine}
 use Rattle.record_bytes.specs.Stream.{nextOf, bodyOf}
 use Rattle.records.specs.Output.{linesFrom}

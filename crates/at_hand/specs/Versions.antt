@@ -3,11 +3,11 @@ use Prim.Native.Nat.{ℕ}
 use mathlib.Core.List.{List, [], _∷_, _++_}
 use lib.Ieee.{Float, binary64, ofBits}
 use lib.ListN.{length, replicate}
-use Rattle.geometry.specs.Numbers.{zeroᶠ, oneᶠ}
-use Rattle.geometry.specs.declared.vec3.Vec3.{Vec3}
+use Rattle.vectors.specs.Numbers.{zeroᶠ, oneᶠ}
+use Rattle.vectors.specs.declared.vec3.Vec3.{Vec3}
 use Rattle.geometry.specs.declared.ray.Ray.{Ray}
 use Rattle.tree.specs.Mesh.{thirds}
-use Rattle.conversion.specs.Records.{Said}
+use Rattle.record_forms.specs.Records.{Said}
 use Rattle.record_bytes.specs.Parse.{Shape, plane, triangle, mesh, heights, distances}
 use Rattle.record_bytes.specs.Encode.{kindByte, bodyBytes, framed}
 use Rattle.records.specs.Lines.{lineOf}

@@ -2,13 +2,13 @@ use conversion::convert;
 use record_bytes::parse;
 use record_bytes::stream;
 use record_bytes::stream::Found;
-use record_bytes::text;
+use record_text::text;
 use records::lines;
 ghost use mathlib.Core.Path.{_≡_};
 ghost use mathlib.Core.Bool.{false};
 ghost use Prim.Native.Nat.{_+_, _<_, _≤_};
 ghost use lib.ListN.{length, take, drop};
-ghost use Rattle.record_bytes.specs.Text.{Put};
+ghost use Rattle.record_text.specs.Text.{Put};
 ghost use Rattle.records.specs.Lines.{lineOf, badLine};
 ghost use Rattle.record_bytes.specs.Stream.{nextOf};
 ghost use Rattle.at_hand.specs.AtHand.{turnBy, turnOf, Turned, Answered, goesOn};
@@ -25,7 +25,7 @@ pub struct AtHand {
     pub over: bool,
 }
 
-// The line of a record's body, in the output area from a place on; returns the place behind it.
+// The line of a record's body, in the output area from a place on; returns the place behind it. Callers show that a line has room.
 fn put_line(
     number: u64,
     body: &[u8],
@@ -60,7 +60,7 @@ fn put_line(
     text::put_text(output, filled, &line[..count])
 }
 
-// The line of a record that is cut short or over length.
+// The line of a record that is cut short or over length. Callers show that a line has room.
 fn put_bad(number: u64, output: &mut [u8], filled: usize) -> usize
     requires { ⌜ filled + 114 ≤ length (now output) ⌝ }
     ensures { λ r. ⌜ Put (now (output .entry)) filled (badLine number) (now (output .exit)) r ⌝ }
@@ -71,6 +71,7 @@ fn put_bad(number: u64, output: &mut [u8], filled: usize) -> usize
 }
 
 // After a record of that many bytes at the front of what is left: itself, or what it is widened to.
+// Callers show that the record has its length bytes, a line has room, and neither the numbers nor the places run out.
 fn body_turn(
     s: AtHand,
     whole: &[u8],
@@ -113,6 +114,8 @@ fn body_turn(
 }
 
 // After the record of that many bytes at the front of what is left. One of version 3 is read as version 2, in an area of its own.
+// Callers show that the record is there, a line has room, the area holds the longest record, and neither the numbers nor the places run
+// out.
 fn record_turn(
     s: AtHand,
     rest: &[u8],
@@ -168,6 +171,7 @@ fn record_turn(
 }
 
 // After the record at the front of what is left, whatever stands there.
+// Callers show that the place is in the input, a line has room, and the numbers do not run out.
 fn turn(
     s: AtHand,
     input: &[u8],
@@ -228,6 +232,7 @@ fn turn(
 }
 
 // Whether another record is answered: no malformed one or end was met, a line has room, and a whole record is at hand.
+// Callers show that both places are within their areas.
 fn goes_on(s: AtHand, ended: bool, length: usize, room: usize) -> bool
     requires { ⌜ (s .filled ≤ room) × (s .used ≤ length) ⌝ }
     ensures { λ r. ⌜ r ≡ goesOn s ended length room ⌝ }

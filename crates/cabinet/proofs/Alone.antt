@@ -7,11 +7,11 @@ use mathlib.Core.List.{List, [], _∷_}
 use native.Mathlib.Omega.{arith}
 use borrow.Author.Tests.{eq-eqb}
 use lib.ListN.{length}
-use Rattle.geometry.specs.Vector.{finiteVec, subOf}
+use Rattle.vectors.specs.Vector.{finiteVec, subOf}
 use Rattle.geometry.specs.Segment.{rayAdmitted, segmentEnd, segmentBox}
-use Rattle.geometry.specs.declared.vec3.Vec3.{Vec3}
+use Rattle.vectors.specs.declared.vec3.Vec3.{Vec3}
 use Rattle.geometry.specs.declared.ray.Ray.{Ray}
-use Rattle.casts.specs.Nearest.{Indexed}
+use Rattle.nearest_hit.specs.Nearest.{Indexed}
 use Rattle.tree.specs.Layout.{Tree}
 use Rattle.tree.specs.Mesh.{Mesh, thirds, candidates}
 use Rattle.lists.proofs.JoinedTests.{and-first, and-second}

@@ -9,7 +9,7 @@ use Rattle.casts.specs.Answer.{badShape, noRoom}
 use Rattle.tree.specs.Layout.{Tree}
 use Rattle.tree.specs.Mesh.{Mesh, thirds, lengthsAdmitted}
 use Rattle.tree_query.specs.Query.{walkFits}
-use Rattle.geometry.specs.declared.vec3.Vec3.{Vec3}
+use Rattle.vectors.specs.declared.vec3.Vec3.{Vec3}
 use Rattle.cabinet.specs.declared.part.Part.{Part}
 use Rattle.cabinet.specs.declared.part.State.{State}
 use Rattle.cabinet.specs.Parts.{Areas, meshOf, treeOfPart, rangesInside}

@@ -4,11 +4,9 @@ pub mod Limits
 pub mod Alone
 pub mod Numbers
 pub mod Promises
-pub mod PartWalks
 pub mod PartSteps
 pub mod Idle
 pub mod LastAnswer
 pub mod Passes
-pub mod Again
 pub mod CabinetExamples
 pub mod NearestParts

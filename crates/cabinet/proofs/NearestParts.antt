@@ -10,15 +10,15 @@ use borrow.Author.Tests.{lt-ltb}
 use lib.Dec.{ltb}
 use lib.Ieee.{Float, lt}
 use lib.ListN.{length, getD}
-use Rattle.geometry.specs.Vector.{finiteVec, subOf}
-use Rattle.geometry.specs.declared.vec3.Vec3.{Vec3}
+use Rattle.vectors.specs.Vector.{finiteVec, subOf}
+use Rattle.vectors.specs.declared.vec3.Vec3.{Vec3}
 use Rattle.geometry.specs.declared.ray.Ray.{Ray}
 use Rattle.casts.specs.Answer.{Answer, hit, refused, overflow}
-use Rattle.casts.specs.Nearest.{Indexed, hitAt, noHit, stopped, nextOf, foldFrom, nearestOf, withoutIndex}
-use Rattle.casts.proofs.NearestLaws.{LowestRefusal, LowestNearest, stopped-by-lowest-refusal, hit-of-lowest-nearest}
+use Rattle.nearest_hit.specs.Nearest.{Indexed, hitAt, noHit, stopped, nextOf, foldFrom, nearestOf, withoutIndex}
+use Rattle.nearest_hit.proofs.NearestLaws.{LowestRefusal, LowestNearest, stopped-by-lowest-refusal, hit-of-lowest-nearest}
 use Rattle.lists.proofs.Members.{Each}
 use Rattle.casts.proofs.AnswerLists.{HitSuch, IsNumber}
-use Rattle.casts.proofs.HitLaws.{OfIndexedHit, stopped-such, cond-such, without-index-such}
+use Rattle.nearest_hit.proofs.IndexedHits.{OfIndexedHit, stopped-such, cond-such, without-index-such}
 use Rattle.lists.specs.Lists.{range}
 use Rattle.lists.proofs.SortLaws.{range-ascends}
 use Rattle.mesh.specs.MeshCast.{rayMesh}

@@ -6,20 +6,20 @@ use mathlib.Core.List.{List, [], _∷_}
 use lib.Dec.{eqb}
 use lib.Ieee.{Float, lt, le, isNan}
 use lib.ListN.{length}
-use Rattle.geometry.specs.Numbers.{_+ᶠ_, _*ᶠ_, _/ᶠ_, zeroᶠ, oneᶠ}
-use Rattle.geometry.specs.Vector.{finiteVec, subOf, crossOf, dotOf, checkedDot, tryNormalize}
+use Rattle.vectors.specs.Numbers.{_+ᶠ_, _*ᶠ_, _/ᶠ_, zeroᶠ, oneᶠ}
+use Rattle.vectors.specs.Vector.{finiteVec, subOf, crossOf, dotOf, checkedDot, tryNormalize}
 use Rattle.geometry.specs.Box.{validBox}
 use Rattle.geometry.specs.Segment.{segmentEnd, segmentBox}
-use Rattle.geometry.specs.declared.vec3.Vec3.{Vec3}
-use Rattle.geometry.specs.declared.vec3.Checked.{Checked}
-use Rattle.geometry.specs.declared.vec3.Checked.the-variants.{Value, Overflow}
-use Rattle.geometry.specs.declared.vec3.Normalized.{Normalized}
-use Rattle.geometry.specs.declared.vec3.Normalized.the-variants.{Unit as UnitOf, Degenerate}
+use Rattle.vectors.specs.declared.vec3.Vec3.{Vec3}
+use Rattle.vectors.specs.declared.vec3.Checked.{Checked}
+use Rattle.vectors.specs.declared.vec3.Checked.the-variants.{Value, Overflow}
+use Rattle.vectors.specs.declared.vec3.Normalized.{Normalized}
+use Rattle.vectors.specs.declared.vec3.Normalized.the-variants.{Unit as UnitOf, Degenerate}
 use Rattle.geometry.specs.declared.ray.Ray.{Ray}
 use Rattle.casts.specs.Answer.{Answer, hit, none, refused, withValue, withNormal, noNormal, outOfBounds, overflow}
 use Rattle.casts.specs.Surface.{outOfRange, facing}
-use Rattle.casts.specs.Triangle.{flat, triangleNormal, triangleAbove, triangleAt, triangleOf}
-use Rattle.casts.specs.Nearest.{Indexed, hitAt, noHit, stopped, nextOf, foldFrom}
+use Rattle.triangle_cast.specs.Triangle.{flat, triangleNormal, triangleAbove, triangleAt, triangleOf}
+use Rattle.nearest_hit.specs.Nearest.{Indexed, hitAt, noHit, stopped, nextOf, foldFrom}
 use Rattle.tree.specs.Layout.{Tree}
 use Rattle.tree.specs.Mesh.{Mesh, thirds, cornersInside, cornerAt, triangleAnswer}
 use Rattle.tree_walk.specs.Walk.{Walking, walking, broken, walkOf}

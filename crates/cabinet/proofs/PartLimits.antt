@@ -8,14 +8,14 @@ use native.Mathlib.Omega.{arith}
 use borrow.Author.Tests.{le-leb, lt-leb, leb-true, leb-false}
 use lib.Dec.{leb}
 use lib.ListN.{length}
-use Rattle.geometry.specs.Vector.{finiteVec, subOf}
+use Rattle.vectors.specs.Vector.{finiteVec, subOf}
 use Rattle.geometry.specs.Box.{validBox}
 use Rattle.geometry.specs.Segment.{unitLength, rangeAdmitted, rayAdmitted, segmentEnd, segmentBox}
-use Rattle.geometry.specs.declared.vec3.Vec3.{Vec3}
+use Rattle.vectors.specs.declared.vec3.Vec3.{Vec3}
 use Rattle.geometry.specs.declared.ray.Ray.{Ray}
 use Rattle.geometry.proofs.BoxLaws.{segment-box-valid}
 use Rattle.casts.specs.Answer.{overflow}
-use Rattle.casts.specs.Nearest.{Indexed, stopped}
+use Rattle.nearest_hit.specs.Nearest.{Indexed, stopped}
 use Rattle.tree.specs.Layout.{Tree}
 use Rattle.tree.specs.Mesh.{Mesh, thirds}
 use Rattle.lists.proofs.JoinedTests.{and-first, and-second}

@@ -8,9 +8,9 @@ use borrow.Author.Tests.{leb-true, leb-false, le-leb, lt-leb}
 use lib.Dec.{leb, eqb}
 use lib.Ieee.{Float}
 use lib.ListN.{length, take, drop}
-use Rattle.geometry.specs.declared.vec3.Vec3.{Vec3}
+use Rattle.vectors.specs.declared.vec3.Vec3.{Vec3}
 use Rattle.casts.specs.Answer.{badShape, noRoom}
-use Rattle.casts.specs.Nearest.{saysIndexed}
+use Rattle.nearest_hit.specs.Nearest.{saysIndexed}
 use Rattle.tree.specs.Layout.{Tree, treeOf}
 use Rattle.tree.specs.Mesh.{Mesh, thirds, lengthsAdmitted, mesh}
 use Rattle.lists.proofs.JoinedTests.{and-first, and-second}
@@ -20,7 +20,7 @@ use Rattle.cabinet.specs.declared.part.Part.{Part}
 use Rattle.cabinet.specs.declared.part.Found.{Found}
 use Rattle.cabinet.specs.declared.part.Progress.{Progress}
 use Rattle.cabinet.specs.declared.part.State.{State}
-use Rattle.cabinet.specs.declared.cast.CastCost.{CastCost}
+use Rattle.cabinet.specs.declared.part.CastCost.{CastCost}
 use Rattle.cabinet.specs.Parts.{Areas, floatsAt, wordsAt, meshOf, treeOfPart, staysIn, rangesInside}
 use Rattle.cabinet.specs.PartCast.{Costed, castMoved}
 use Rattle.cabinet.specs.Cabinet.{isRefused, foundNext, nextPart, afterPart}

@@ -4,12 +4,12 @@ use mathlib.Core.Path.{_≡_}
 use mathlib.Core.Bool.{Bool, true, cond}
 use mathlib.Core.List.{List, [], _∷_}
 use lib.Ieee.{Float}
-use Rattle.geometry.specs.Vector.{finiteVec, subOf}
+use Rattle.vectors.specs.Vector.{finiteVec, subOf}
 use Rattle.geometry.specs.Segment.{rayAdmitted}
-use Rattle.geometry.specs.declared.vec3.Vec3.{Vec3}
+use Rattle.vectors.specs.declared.vec3.Vec3.{Vec3}
 use Rattle.geometry.specs.declared.ray.Ray.{Ray}
 use Rattle.casts.specs.Answer.{overflow}
-use Rattle.casts.specs.Nearest.{Indexed, stopped}
+use Rattle.nearest_hit.specs.Nearest.{Indexed, stopped}
 use Rattle.tree.specs.Layout.{Tree}
 use Rattle.tree.specs.Mesh.{Mesh}
 use Rattle.mesh.specs.MeshCast.{rayMesh}

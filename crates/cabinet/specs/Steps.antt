@@ -8,10 +8,10 @@ use lib.Dec.{leb, ltb, eqb}
 use lib.Ieee.{Float, nan}
 use lib.ListN.{length}
 use Rattle.geometry.specs.Segment.{rayAdmitted}
-use Rattle.geometry.specs.declared.vec3.Vec3.{Vec3}
+use Rattle.vectors.specs.declared.vec3.Vec3.{Vec3}
 use Rattle.geometry.specs.declared.ray.Ray.{Ray}
 use Rattle.casts.specs.Answer.{invalidInput, badShape, noRoom}
-use Rattle.casts.specs.Nearest.{saysIndexed}
+use Rattle.nearest_hit.specs.Nearest.{saysIndexed}
 use Rattle.tree.specs.Layout.{Tree}
 use Rattle.tree.specs.Mesh.{Mesh, thirds, lengthsAdmitted}
 use Rattle.tree_query.specs.Query.{walkFits}
@@ -20,7 +20,7 @@ use Rattle.cabinet.specs.declared.part.Found.{Found}
 use Rattle.cabinet.specs.declared.part.Found.the-variants.{Nothing, Hit, Refused}
 use Rattle.cabinet.specs.declared.part.Progress.{Progress}
 use Rattle.cabinet.specs.declared.part.State.{State}
-use Rattle.cabinet.specs.declared.cast.CastCost.{CastCost}
+use Rattle.cabinet.specs.declared.part.CastCost.{CastCost}
 use Rattle.cabinet.specs.Parts.{Areas, meshOf, treeOfPart, rangesInside}
 use Rattle.cabinet.specs.PartCast.{Costed, costing, castMoved}
 use Rattle.cabinet.specs.Cabinet.{Answer, hitIn, noneAfter, refused, refusedAfter, answerOf, plainly, isRefused, afterPart}

@@ -1,5 +1,6 @@
 use geometry::ray::Ray;
-use geometry::vec3::Vec3;
+use nearest_hit::nearest::IndexedCast;
+use vectors::vec3::Vec3;
 
 // A range of an area, in elements. Laid out as C does, as Part is.
 #[repr(C)]
@@ -19,6 +20,12 @@ pub struct Part {
     pub triangle_boxes: Span,
     pub node_words: Span,
     pub order: Span,
+}
+
+// A part's answer with the nodes spent on it.
+pub struct CastCost {
+    pub spent: usize,
+    pub cast: IndexedCast,
 }
 
 // The nearest hit so far, or the first refusal.

@@ -4,9 +4,8 @@ use mathlib.Core.Path.{_≡_}
 use mathlib.Core.Bool.{true, false}
 use native.Mathlib.Omega.{arith}
 use lib.Ieee.{Float, lt, le, isNan}
-use Rattle.geometry.specs.declared.vec3.Vec3.{Vec3}
+use Rattle.vectors.specs.declared.vec3.Vec3.{Vec3}
 use Rattle.casts.specs.Answer.{Answer, hit, none, refused}
-use Rattle.casts.specs.Nearest.{hitAt, noHit, stopped}
 
 -- ---- what answers are
 
@@ -37,15 +36,6 @@ abbrev pub Farther : Float → Float → Type 0
 Farther d distance = lt d distance ≡ true
 
 -- ---- the cases of an answer tell each other apart
-pub stopped-not-none : (number : ℕ) → stopped number ≡ noHit → ⊥
-stopped-not-none number h = let z : _≡_ {A = ℕ} 0 1 = cc in omega arith
-
-pub hit-not-none : (n : Vec3) (d : Float) (i : ℕ) → hitAt n d i ≡ noHit → ⊥
-hit-not-none n d i h = let z : _≡_ {A = ℕ} 0 1 = cc in omega arith
-
-pub hit-not-stopped : (n : Vec3) (d : Float) (i number : ℕ) → hitAt n d i ≡ stopped number → ⊥
-hit-not-stopped n d i number h = let z : _≡_ {A = ℕ} 0 1 = cc in omega arith
-
 pub none-not-refused : (a : Answer) (number : ℕ) → a ≡ none → a ≡ refused number → ⊥
 none-not-refused a number h k = let z : _≡_ {A = ℕ} 0 1 = cc in omega arith
 
@@ -57,6 +47,3 @@ none-not-hit a n d h k = let z : _≡_ {A = ℕ} 0 1 = cc in omega arith
 
 pub same-distance : (a : Answer) (n n' : Vec3) (d d' : Float) → a ≡ hit n d → a ≡ hit n' d' → d ≡ d'
 same-distance a n n' d d' h k = cc
-
-pub same-number : (k number : ℕ) → stopped k ≡ stopped number → k ≡ number
-same-number k number h = cc

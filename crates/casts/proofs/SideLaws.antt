@@ -10,9 +10,9 @@ use lib.Ieee.Exact.{HasValue}
 use lib.IntN.{ℤ}
 use Rattle.arithmetic.proofs.ValueOrder.{mul-values}
 use Rattle.arithmetic.proofs.OwnRounding.{own-rounding}
-use Rattle.geometry.specs.Numbers.{_*ᶠ_, oneᶠ}
-use Rattle.geometry.specs.Vector.{negOf, vector}
-use Rattle.geometry.specs.declared.vec3.Vec3.{Vec3}
+use Rattle.vectors.specs.Numbers.{_*ᶠ_, oneᶠ}
+use Rattle.vectors.specs.Vector.{negOf, vector}
+use Rattle.vectors.specs.declared.vec3.Vec3.{Vec3}
 
 one-value : HasValue oneᶠ false 1 1
 unfolding ofBits

@@ -1,11 +1,11 @@
 -- "A cast answers a hit with a unit normal and a distance, or none, or a refusal number." Definitions only. Assumes nothing.
 use Prim.Native.Nat.{ℕ}
 use lib.Ieee.{Float}
-use Rattle.geometry.specs.declared.vec3.Vec3.{Vec3}
-use Rattle.geometry.specs.declared.vec3.Checked.{Checked}
-use Rattle.geometry.specs.declared.vec3.Checked.the-variants.{Value, Overflow}
-use Rattle.geometry.specs.declared.vec3.Normalized.{Normalized}
-use Rattle.geometry.specs.declared.vec3.Normalized.the-variants.{Unit as UnitOf, Degenerate}
+use Rattle.vectors.specs.declared.vec3.Vec3.{Vec3}
+use Rattle.vectors.specs.declared.vec3.Checked.{Checked}
+use Rattle.vectors.specs.declared.vec3.Checked.the-variants.{Value, Overflow}
+use Rattle.vectors.specs.declared.vec3.Normalized.{Normalized}
+use Rattle.vectors.specs.declared.vec3.Normalized.the-variants.{Unit as UnitOf, Degenerate}
 use Rattle.casts.specs.declared.answer.Cast.{Cast}
 use Rattle.casts.specs.declared.answer.Cast.the-variants.{Hit, None, Refused}
 

@@ -2,8 +2,8 @@
 use mathlib.Core.Bool.{Bool, _&&_, cond}
 use lib.Ieee.{Float, binary64, ofBits, le}
 use Rattle.arithmetic.specs.Basic.{isFinite, absolute}
-use Rattle.geometry.specs.Numbers.{_-ᶠ_, _/ᶠ_}
-use Rattle.geometry.specs.Vector.{checkedDot}
+use Rattle.vectors.specs.Numbers.{_-ᶠ_, _/ᶠ_}
+use Rattle.vectors.specs.Vector.{checkedDot}
 use Rattle.geometry.specs.Segment.{closeToUnitLength, rayAdmitted}
 use Rattle.geometry.specs.declared.ray.Ray.{Ray}
 use Rattle.casts.specs.Answer.{Answer, hit, none, refused, withValue, invalidInput, badShape, overflow}

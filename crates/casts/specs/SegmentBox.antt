@@ -1,7 +1,7 @@
 -- What every cast with a segment's box asks before it looks at anything. Definitions only. Assumes nothing.
 use Prim.Native.Nat.{ℕ}
 use mathlib.Core.Bool.{cond}
-use Rattle.geometry.specs.Vector.{finiteVec}
+use Rattle.vectors.specs.Vector.{finiteVec}
 use Rattle.geometry.specs.Box.{validBox}
 use Rattle.geometry.specs.Segment.{segmentEnd, segmentBox}
 use Rattle.geometry.specs.declared.aabb.Aabb.{Aabb}

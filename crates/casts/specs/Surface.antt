@@ -1,9 +1,9 @@
 -- What the casts share: the range of a distance and the side that a normal faces. Definitions only. Assumes nothing.
 use mathlib.Core.Bool.{Bool, _||_, cond}
 use lib.Ieee.{Float, lt}
-use Rattle.geometry.specs.Numbers.{zeroᶠ}
-use Rattle.geometry.specs.Vector.{negOf}
-use Rattle.geometry.specs.declared.vec3.Vec3.{Vec3}
+use Rattle.vectors.specs.Numbers.{zeroᶠ}
+use Rattle.vectors.specs.Vector.{negOf}
+use Rattle.vectors.specs.declared.vec3.Vec3.{Vec3}
 use Rattle.geometry.specs.declared.ray.Ray.{Ray}
 
 -- "Every cast treats a distance below near as it treated one below 0"; "above the maximum" is out of range too, and NaN is neither

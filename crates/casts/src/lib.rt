@@ -1,4 +1,4 @@
-// The answer of a cast, the casts at a plane and at a triangle, and the nearest of many triangles.
+// The answer of a cast, what casts share, and the cast at a plane.
 
 // Cast, the answer, and the numbers of the refusals.
 pub mod answer;
@@ -6,9 +6,3 @@ pub mod answer;
 pub mod surface;
 // The cast at a plane.
 pub mod plane;
-// The cast at a triangle.
-pub mod triangle;
-// The nearest of many triangles.
-pub mod nearest;
-// The same in whatever order they come.
-pub mod summary;

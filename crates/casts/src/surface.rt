@@ -1,9 +1,9 @@
 use geometry::ray::Ray;
-use geometry::vec3::Vec3;
+use vectors::vec3::Vec3;
 ghost use mathlib.Core.Path.{_≡_};
 ghost use mathlib.Core.Bool.{cond};
 ghost use lib.Ieee.{lt, neg};
-ghost use Rattle.geometry.specs.Numbers.{zeroᶠ, oneᶠ};
+ghost use Rattle.vectors.specs.Numbers.{zeroᶠ, oneᶠ};
 ghost use Rattle.casts.specs.Surface.{outOfRange, facing};
 
 // Whether a distance is below near or above the maximum; NaN is neither.

@@ -1,6 +1,6 @@
 -- Which floats a form holds. Assumes nothing.
-use Prim.Native.Nat.{ℕ, zero, suc, _+_, _*_}
-use mathlib.Core.Bool.{Bool, true, false, not, _&&_}
+use Prim.Native.Nat.{ℕ, zero, suc}
+use mathlib.Core.Bool.{Bool, true, not}
 use mathlib.Core.List.{List, [], _∷_}
 use mathlib.Core.Path.{_≡_, sym, subst}
 use lib.Dec.{T}
@@ -8,15 +8,26 @@ use lib.Ieee.{Float, isNan, fits}
 use lib.Ieee.Bits.{is-true}
 use lib.Ieee.Fits.{and-i, and-l, and-r, fits-widens}
 use lib.ListN.{drop}
-use Rattle.conversion.specs.declared.forms.Form.{Form}
-use Rattle.conversion.specs.declared.forms.Form.the-variants.{Long, Short}
-use Rattle.conversion.specs.Forms.{sizeOf, formatOf}
-use Rattle.conversion.specs.Bytes.{numberOf, numbersOf}
-use Rattle.conversion.specs.Records.{Said, kindOf, countsOf, manyNumbers, numbersPlace, saidOf}
-use Rattle.conversion.specs.Convert.{every, everySaid, isNumber, withoutNan, fitsIn, saidFits, held, saidHeld}
-use Rattle.conversion.proofs.Numbers.{number-fits}
-use Rattle.conversion.proofs.RunLaws.{number-held, fits-held, first-of, rest-of}
-use Rattle.conversion.proofs.RoundTrip.{ray-of, numbers-of}
+use Rattle.float_forms.specs.declared.forms.Form.{Form}
+use Rattle.float_forms.specs.declared.forms.Form.the-variants.{Long, Short}
+use Rattle.float_forms.specs.Forms.{sizeOf, formatOf}
+use Rattle.float_forms.specs.Bytes.{numberOf, numbersOf}
+use Rattle.record_forms.specs.Records.{Said, kindOf, countsOf, manyNumbers, numbersPlace, saidOf}
+use Rattle.float_forms.specs.Holding.{every, isNumber, fitsIn, held}
+use Rattle.record_forms.specs.Writing.{everySaid, saidFits}
+use Rattle.conversion.specs.Convert.{withoutNan, saidHeld}
+use Rattle.float_forms.proofs.Numbers.{number-fits}
+use Rattle.float_forms.proofs.RunLaws.{number-held, fits-held, first-of, rest-of}
+
+-- what every float passes, the ray's do, and the shape's
+module _ (test : Float → Bool) (s : Said) (h : T (everySaid test s)) where
+  pub ray-of : T (every test (s .ray))
+  unfolding everySaid
+  ray-of = and-l (every test (s .ray)) (every test (s .numbers)) h
+
+  pub numbers-of : T (every test (s .numbers))
+  unfolding everySaid
+  numbers-of = and-r (every test (s .ray)) (every test (s .numbers)) h
 
 -- ---- a test of each float
 

@@ -2,19 +2,25 @@
 use Prim.Native.Nat.{ℕ, _+_, _<_, _≤_}
 use mathlib.Core.Path.{_≡_, refl, sym, ap, subst, _∙_}
 use mathlib.Core.Bool.{Bool, true, false, cond}
-use mathlib.Core.List.{List, [], _∷_, _++_}
+use mathlib.Core.List.{List, [], _++_}
 use native.Mathlib.Omega.{arith}
 use lib.Dec.{T, eqb}
+use lib.Ieee.Bits.{is-true}
 use lib.ListN.{length, getD, take, drop, length-drop, List·getD-eq-default}
 use lib.Seq.{sets, sets-eq, take-at, drop-append-le}
-use Rattle.conversion.specs.declared.forms.Form.the-variants.{Long, Short}
-use Rattle.conversion.specs.declared.shape.Plan.{Plan}
-use Rattle.conversion.specs.declared.shape.Planned.the-variants.{Is, Malformed}
-use Rattle.conversion.specs.Records.{wellFormed}
-use Rattle.conversion.specs.Convert.{turned, widened}
-use Rattle.conversion.specs.Plans.{planOf, planned, Known, sizeFor}
-use Rattle.conversion.proofs.ConvertLaws.{sizes, size-is, size-below}
-use Rattle.conversion.proofs.Theorems.{widened-is}
+use Rattle.float_forms.specs.declared.forms.Form.the-variants.{Long, Short}
+use Rattle.record_forms.specs.declared.shape.Plan.{Plan}
+use Rattle.record_forms.specs.declared.shape.Planned.the-variants.{Is, Malformed}
+use Rattle.record_forms.specs.Records.{wellFormed}
+use Rattle.record_forms.specs.Writing.{turned}
+use Rattle.conversion.specs.Convert.{widened}
+use Rattle.record_forms.specs.Plans.{planOf, planned, Known, sizeFor}
+use Rattle.record_forms.proofs.WritingLaws.{sizes, size-below}
+use Rattle.conversion.proofs.ConvertLaws.{size-is}
+
+pub widened-is : (l : List ℕ) → T (wellFormed Short l) → widened l ≡ turned Short Long l
+unfolding widened
+widened-is l w = rw (is-true (wellFormed Short l) w)
 
 pub no-version : (l : List ℕ) → length l < 5 → false ≡ eqb (getD l 4 0) 3
 no-version l h = sym (ap (λ (n : ℕ). eqb n 3) (List·getD-eq-default l 0 {n = 4} (omega (arith, h))))

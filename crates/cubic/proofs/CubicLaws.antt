@@ -10,7 +10,7 @@ use Rattle.arithmetic.specs.Extremes.{maximumOf}
 use Rattle.arithmetic.specs.Ordering.{totalOrder}
 use Rattle.arithmetic.proofs.Order.{lt-asymmetric}
 use Rattle.arithmetic.proofs.TotalOrder.{lesser-before}
-use Rattle.geometry.specs.Numbers.{_-ᶠ_, _*ᶠ_, _/ᶠ_, zeroᶠ, oneᶠ, epsilon}
+use Rattle.vectors.specs.Numbers.{_-ᶠ_, _*ᶠ_, _/ᶠ_, zeroᶠ, oneᶠ, epsilon}
 use Rattle.cubic.specs.Polynomial.{twoᶠ, threeᶠ, fourᶠ}
 use Rattle.cubic.specs.Turns.{listed, betweenEnds, keptPoint, keptPoints, vertex, turningBy, turningPoints, extrema, AllBetween}
 use Rattle.cubic.specs.Turns.{none-left, one-more}

@@ -14,7 +14,7 @@ use lib.Ieee.Bits.{is-true}
 use Rattle.arithmetic.specs.Basic.{isFinite, absolute, signPositive}
 use Rattle.arithmetic.proofs.Order.{not-lt-of-le}
 use Rattle.arithmetic.proofs.Bounds.{plain, round-plain}
-use Rattle.geometry.specs.Numbers.{_+ᶠ_, _*ᶠ_, zeroᶠ, oneᶠ, halfᶠ}
+use Rattle.vectors.specs.Numbers.{_+ᶠ_, _*ᶠ_, zeroᶠ, oneᶠ, halfᶠ}
 use Rattle.cubic.specs.Polynomial.{cubicBy, cubicOf, evaluate, finiteCubic}
 use Rattle.cubic.specs.Turns.{betweenEnds}
 use Rattle.cubic.specs.Halving.{middleOf, halveAt, halve}

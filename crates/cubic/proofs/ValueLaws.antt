@@ -14,7 +14,7 @@ use Rattle.arithmetic.specs.Basic.{isFinite}
 use Rattle.arithmetic.proofs.Exactness.{fits-parts, scaled-exact}
 use Rattle.arithmetic.proofs.Numbers.{finite-number}
 use Rattle.arithmetic.proofs.RoundedNumbers.{round-number, sum-number}
-use Rattle.geometry.specs.Numbers.{_+ᶠ_, _*ᶠ_}
+use Rattle.vectors.specs.Numbers.{_+ᶠ_, _*ᶠ_}
 use Rattle.cubic.specs.Polynomial.{evaluate, finiteCubic}
 use Rattle.cubic.specs.declared.polynomial.Cubic.{Cubic}
 use Rattle.lists.proofs.JoinedTests.{and-first, and-second}

@@ -3,7 +3,7 @@ use Prim.Native.Nat.{ℕ, zero, suc}
 use mathlib.Core.Bool.{cond, Bool·beq}
 use lib.Ieee.{Float, le}
 use Rattle.arithmetic.specs.Basic.{absolute, signPositive}
-use Rattle.geometry.specs.Numbers.{_+ᶠ_, _*ᶠ_, halfᶠ}
+use Rattle.vectors.specs.Numbers.{_+ᶠ_, _*ᶠ_, halfᶠ}
 use Rattle.cubic.specs.Polynomial.{evaluate}
 use Rattle.cubic.specs.declared.polynomial.Cubic.{Cubic}
 use Rattle.cubic.specs.declared.halving.Halving.{Halving}

@@ -6,7 +6,7 @@ use lib.Ieee.{Float, lt, le, ne, neg}
 use Rattle.arithmetic.specs.Basic.{absolute}
 use Rattle.arithmetic.specs.Extremes.{maximumOf}
 use Rattle.arithmetic.specs.Root.{rootOf}
-use Rattle.geometry.specs.Numbers.{_+ᶠ_, _-ᶠ_, _*ᶠ_, _/ᶠ_, zeroᶠ, oneᶠ, epsilon}
+use Rattle.vectors.specs.Numbers.{_+ᶠ_, _-ᶠ_, _*ᶠ_, _/ᶠ_, zeroᶠ, oneᶠ, epsilon}
 use Rattle.cubic.specs.Polynomial.{twoᶠ, threeᶠ, fourᶠ}
 use Rattle.cubic.specs.declared.polynomial.Cubic.{Cubic}
 use Rattle.cubic.specs.declared.turns.Turns.{Turns}

@@ -7,7 +7,7 @@ use arithmetic::basic;
 use arithmetic::ordering;
 ghost use mathlib.Core.Path.{_≡_};
 ghost use mathlib.Core.List.{[], _∷_};
-ghost use Rattle.geometry.specs.Numbers.{zeroᶠ, oneᶠ};
+ghost use Rattle.vectors.specs.Numbers.{zeroᶠ, oneᶠ};
 ghost use Rattle.cubic.specs.Turns.{listed, AllBetween};
 ghost use Rattle.cubic.specs.Roots.{rootBetween, searchOn, points, searchList, rootOfCubic, firstCubicRoot};
 

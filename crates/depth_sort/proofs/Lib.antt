@@ -1,5 +1,4 @@
 -- Laws about hits sorted by depth. Assumes nothing.
-pub mod OrderLaws
 pub mod Copying
 pub mod Merging
 pub mod Sorting

@@ -1,3 +1,2 @@
--- Hits along a ray in order of depth. Definitions only. Assumes nothing.
-pub mod Order
+-- What the areas hold while hits along a ray are sorted by depth. Definitions only. Assumes nothing.
 pub mod SortRows

@@ -1,4 +1,4 @@
 // Hits along a ray sorted by depth, then by index (document 02, M-111).
 
-// The order, and the sort of two areas at once.
+// The sort of two areas at once.
 pub mod order;

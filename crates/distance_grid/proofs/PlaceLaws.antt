@@ -11,14 +11,14 @@ use Rattle.arithmetic.proofs.Exactness.{ofInt-is, ofInt-value}
 use Rattle.arithmetic.proofs.Order.{le-of-lt, le-of-not-lt, not-lt-of-le, le-transitive}
 use Rattle.arithmetic.proofs.QuotientOrder.{between-finite}
 use Rattle.arithmetic.proofs.RoundedOrder.{plain-mono}
-use Rattle.geometry.specs.Numbers.{_-ᶠ_, _/ᶠ_, zeroᶠ, oneᶠ}
-use Rattle.geometry.specs.Vector.{finiteVec}
+use Rattle.vectors.specs.Numbers.{_-ᶠ_, _/ᶠ_, zeroᶠ, oneᶠ}
+use Rattle.vectors.specs.Vector.{finiteVec}
 use Rattle.lists.proofs.JoinedTests.{and-first, and-second}
-use Rattle.geometry.specs.declared.vec3.Vec3.{Vec3}
+use Rattle.vectors.specs.declared.vec3.Vec3.{Vec3}
 use Rattle.distance_grid.specs.Grid.{whole, lastNode, SideStands, SidesStand}
 use Rattle.distance_grid.specs.Places.{topOf, drawnTo, drawn, stays, inBox, drawnPoint, upTo, floorCell, guessHolds, cellBelow}
 use Rattle.distance_grid.specs.Places.{placeOf, placeAt, locateAxis, withPlace, locateInside, locate}
-use Rattle.distance_grid.specs.Valued.{isFraction, Fractions}
+use Rattle.distance_grid.specs.Places.{isFraction, Fractions}
 use Rattle.distance_grid.specs.declared.grid.Sides.{Sides}
 use Rattle.distance_grid.specs.declared.grid.Grid.{Grid}
 use Rattle.distance_grid.specs.declared.places.Place.{Place}

@@ -7,9 +7,9 @@ use lib.Dec.{leb, eqb}
 use lib.IntN.{pos}
 use lib.Ieee.{Float, binary64, ofInt}
 use lib.ListN.{length}
-use Rattle.geometry.specs.Numbers.{_+ᶠ_, _*ᶠ_}
-use Rattle.geometry.specs.Vector.{finiteVec, minOf, maxOf}
-use Rattle.geometry.specs.declared.vec3.Vec3.{Vec3}
+use Rattle.vectors.specs.Numbers.{_+ᶠ_, _*ᶠ_}
+use Rattle.vectors.specs.Vector.{finiteVec, minOf, maxOf}
+use Rattle.vectors.specs.declared.vec3.Vec3.{Vec3}
 use Rattle.geometry.specs.declared.aabb.Aabb.{Aabb}
 use Rattle.grids.specs.Spacing.{spacingAdmitted}
 use Rattle.distance_grid.specs.declared.grid.Sides.{Sides}

@@ -1,14 +1,15 @@
 -- The cell at a point of the grid, and where in it the point lies. Definitions only. Assumes nothing.
 use Prim.Native.Nat.{ℕ, _+_, _-_}
+use mathlib.Core.Path.{_≡_}
 use mathlib.Core.Bool.{Bool, true, false, _&&_, cond}
 use lib.Dec.{ltb}
 use lib.Ieee.{Float, lt, le}
 use Rattle.arithmetic.specs.Basic.{isFinite, clampTo}
 use Rattle.arithmetic.specs.Below.{justBelow}
 use Rattle.arithmetic.specs.Rounding.{floorOf, wholeOf}
-use Rattle.geometry.specs.Numbers.{_-ᶠ_, _/ᶠ_, zeroᶠ, oneᶠ}
-use Rattle.geometry.specs.Vector.{finiteVec}
-use Rattle.geometry.specs.declared.vec3.Vec3.{Vec3}
+use Rattle.vectors.specs.Numbers.{_-ᶠ_, _/ᶠ_, zeroᶠ, oneᶠ}
+use Rattle.vectors.specs.Vector.{finiteVec}
+use Rattle.vectors.specs.declared.vec3.Vec3.{Vec3}
 use Rattle.casts.specs.Answer.{overflow}
 use Rattle.distance_grid.specs.Grid.{whole, lastNode}
 use Rattle.distance_grid.specs.declared.grid.Grid.{Grid}
@@ -93,3 +94,12 @@ locateInside g p =
 -- "a point that is not finite is still 6": before any coordinate is drawn
 unfoldable pub locate : Grid → Vec3 → Located
 locate g p = cond (finiteVec p) (locateInside g (drawnPoint g p)) (Refused overflow)
+
+-- what holds of the place in a cell: from 0 to 1 on each axis
+unfoldable pub isFraction : Float → Bool
+isFraction t = le zeroᶠ t && le t oneᶠ
+
+pub record Fractions (at : Vec3) : Type 0 where
+  pub on-x : isFraction (at .x) ≡ true
+  pub on-y : isFraction (at .y) ≡ true
+  pub on-z : isFraction (at .z) ≡ true

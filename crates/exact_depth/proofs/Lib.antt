@@ -12,3 +12,4 @@ pub mod Planes
 pub mod Beside
 pub mod FirstPoints
 pub mod DepthSizes
+pub mod Standing

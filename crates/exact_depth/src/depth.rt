@@ -8,7 +8,8 @@ ghost use mathlib.Core.Path.{_≡_};
 ghost use Rattle.exact_depth.specs.Sizes.{Close, Turned, Range};
 ghost use Rattle.exact_depth.specs.FirstPoint.{crossing, byWeights, firstPoint};
 
-// The line crosses the plane at the weights a, b and c of the corners, whose depths are x, y and z.
+// The line crosses the plane at the weights a, b and c of the corners, whose depths are x, y and z. Callers show that the numbers are
+// small.
 fn crossing(a: i64, b: i64, c: i64, x: i64, y: i64, z: i64, near: i64, far: i64) -> Depth
     requires { ⌜ (Turned a × (Turned b × Turned c)) × ((Range x × (Range y × Range z)) × (Range near × Range far)) ⌝ }
     ensures { λ r. ⌜ r ≡ crossing a b c x y z near far ⌝ }
@@ -29,6 +30,7 @@ fn crossing(a: i64, b: i64, c: i64, x: i64, y: i64, z: i64, near: i64, far: i64)
     spots::kept(at, near, far)
 }
 
+// The same by the weights of the corners, turned so that their sum is not below 0. Callers show that the numbers are small.
 fn by_weights(
     a: Spot,
     b: Spot,
@@ -61,7 +63,8 @@ fn by_weights(
     plane::beside(a, b, c, near, far)
 }
 
-// The first depth from near to far at which the line is in the triangle, its sides and corners included. Callers show that the numbers are small.
+// The first depth from near to far at which the line is in the triangle, its sides and corners included. Callers show that the numbers are
+// small.
 pub fn first_point(a: Spot, b: Spot, c: Spot, near: i64, far: i64) -> Depth
     requires { ⌜ (Close a × (Close b × Close c)) × (Range near × Range far) ⌝ }
     ensures { λ r. ⌜ r ≡ firstPoint a b c near far ⌝ }

@@ -6,7 +6,8 @@ use crate::spots::Spot;
 ghost use mathlib.Core.Path.{_≡_};
 ghost use lib.IntN.{_+ℤ_};
 ghost use Rattle.exact_depth.specs.Sizes.{Close, Flat, Bounded, Shallow, Range};
-ghost use Rattle.exact_depth.specs.FirstPoint.{acrossPlot, upPlot, sideOf, heightOf, putOff, later, inside, area, alongPlane, inPlane, beside};
+ghost use Rattle.exact_depth.specs.FirstPoint.{acrossPlot, upPlot, sideOf, heightOf, putOff, later, inside, area, alongPlane};
+ghost use Rattle.exact_depth.specs.FirstPoint.{inPlane, beside};
 
 // A corner in a plane that the line lies in: the line is u = 0.
 pub struct Plot {
@@ -20,6 +21,7 @@ pub struct Side {
     pub fall: i64,
 }
 
+// The side of the line from one corner to another. Callers show that the corners are small.
 fn side_of(p: Plot, q: Plot) -> Side
     requires { ⌜ Flat p × Flat q ⌝ }
     ensures { λ r. ⌜ r ≡ sideOf p q ⌝ }
@@ -30,6 +32,7 @@ fn side_of(p: Plot, q: Plot) -> Side
     }
 }
 
+// A side's own test of a depth: below 0 is outside. Callers show that the numbers are small.
 fn height(side: Side, at: Fraction) -> i64
     requires { ⌜ Bounded side × Shallow at ⌝ }
     ensures { λ r. ⌜ r ≡ heightOf side at ⌝ }
@@ -37,6 +40,7 @@ fn height(side: Side, at: Fraction) -> i64
     numbers::turn(side.level, side.fall, at.t, at.w)
 }
 
+// The depth, or where it is outside a side, that at which the line comes over the side. Callers show that the numbers are small.
 fn put_off(at: Fraction, side: Side) -> Fraction
     requires { ⌜ Bounded side × Shallow at ⌝ }
     ensures { λ r. ⌜ r ≡ putOff at side ⌝ }
@@ -51,7 +55,7 @@ fn put_off(at: Fraction, side: Side) -> Fraction
     at
 }
 
-// A depth before the line comes over a side is put off until there.
+// A depth before the line comes over a side is put off until there. Callers show that the numbers are small.
 fn later(at: Fraction, side: Side) -> Fraction
     requires { ⌜ Bounded side × Shallow at ⌝ }
     ensures { λ r. ⌜ r ≡ later at side ⌝ }
@@ -62,6 +66,7 @@ fn later(at: Fraction, side: Side) -> Fraction
     at
 }
 
+// Whether a depth is outside of no side. Callers show that the numbers are small.
 fn inside(first: Side, second: Side, third: Side, at: Fraction) -> bool
     requires { ⌜ (Bounded first × (Bounded second × Bounded third)) × Shallow at ⌝ }
     ensures { λ r. ⌜ r ≡ inside first second third at ⌝ }
@@ -78,7 +83,7 @@ fn inside(first: Side, second: Side, third: Side, at: Fraction) -> bool
     three >= 0
 }
 
-// A triangle whose corners turn to the left.
+// A triangle whose corners turn to the left. Callers show that they do and are small.
 fn along(a: Plot, b: Plot, c: Plot, near: i64, far: i64) -> Depth
     requires { ⌜ (Flat a × (Flat b × Flat c)) × (Range near × Range far) ⌝ }
     ensures { λ r. ⌜ r ≡ alongPlane a b c near far ⌝ }
@@ -96,6 +101,7 @@ fn along(a: Plot, b: Plot, c: Plot, near: i64, far: i64) -> Depth
     spots::kept(at, near, far)
 }
 
+// Twice the triangle's area, with its turn's sign. Callers show that the corners are small.
 fn area_of(a: Plot, b: Plot, c: Plot) -> i64
     requires { ⌜ Flat a × (Flat b × Flat c) ⌝ }
     ensures { λ r. ⌜ r ≡ area a b c ⌝ }
@@ -106,7 +112,7 @@ fn area_of(a: Plot, b: Plot, c: Plot) -> i64
     numbers::total(first, second, third)
 }
 
-// A triangle whose corners turn either way; where they do not turn the answer is another's.
+// A triangle whose corners turn either way; where they do not turn the answer is another's. Callers show that they are small.
 fn in_plane(a: Plot, b: Plot, c: Plot, near: i64, far: i64, other: Depth) -> Depth
     requires { ⌜ (Flat a × (Flat b × Flat c)) × (Range near × Range far) ⌝ }
     ensures { λ r. ⌜ r ≡ inPlane a b c near far other ⌝ }
@@ -140,6 +146,7 @@ fn up_plot(s: Spot) -> Plot
 }
 
 // The line lies in the triangle's plane. A plane that is no wider across is looked at from the side.
+// Callers show that it does and that the corners are small.
 pub fn beside(a: Spot, b: Spot, c: Spot, near: i64, far: i64) -> Depth
     requires { ⌜ (Close a × (Close b × Close c)) × (Range near × Range far) ⌝ }
     ensures { λ r. ⌜ r ≡ beside a b c near far ⌝ }

@@ -21,7 +21,7 @@ pub enum Depth {
     Miss,
 }
 
-// A depth from near to far, both included.
+// A depth from near to far, both included. Callers show that the numbers are small.
 pub fn kept(at: Fraction, near: i64, far: i64) -> Depth
     requires { ⌜ Held (at .t) × (Small (at .w) × (Small near × Small far)) ⌝ }
     ensures { λ r. ⌜ r ≡ kept at near far ⌝ }

@@ -5,14 +5,15 @@ use Prim.Native.Nat.{ℕ, zero, suc, _+_, _*_, _^_, _≤_, _<_}
 use native.Mathlib.Nat.{mul-pos, zero-lt-suc, mul-le-mul-right, le-of-mul-le-mul-right, le-trans}
 use native.Mathlib.Omega.{arith}
 use lib.Dec.{eqb, lit≤}
-use lib.IntN.{ℤ, pos, natAbs, _*ℤ_}
+use lib.IntN.{ℤ, pos, negsuc, natAbs, _*ℤ_}
 use lib.Signed.{ltZ, leZ}
-use lib.Ieee.{Float, nan, inf, fin, binary64, up, down, round, ofInt, div, unlike}
+use lib.Ieee.{Float, nan, inf, fin, binary64, up, down, round, ofInt, div, unlike, isNan}
 use lib.Ieee.Fits.{down-pos}
 use lib.Ieee.Exact.{HasValue}
 use lib.Ieee.Back.{round-whole}
 use lib.Ieee.Scale.{round-same}
 use borrow.Author.Tests.{ne-eqb}
+use Rattle.arithmetic.proofs.RoundedNumbers.{round-number}
 use Rattle.exact_depth.specs.declared.spots.Fraction.{Fraction}
 use Rattle.exact_depth.specs.declared.spots.Depth.the-variants.{At}
 use Rattle.exact_depth.specs.Sizes.{Sized}
@@ -20,11 +21,11 @@ use Rattle.exact_depth.proofs.Integers.{pp, np}
 use Rattle.exact_depth.proofs.Polynomials.{own, own-pos, rep-mul}
 use Rattle.exact_depth.proofs.Order.{rep-le, rep-same, nlt-rep}
 use Rattle.exact_depth.proofs.Firsts.{whole-of}
-use Rattle.exact_depth.proofs.DepthSizes.{Exact, first-point-exact}
+use Rattle.exact_depth.proofs.DepthSizes.{first-point-exact}
 use Rattle.exact_triangle.specs.declared.whole.Point.{Point}
 use Rattle.exact_triangle.specs.declared.line.Line.{Line}
 use Rattle.exact_triangle.specs.Exact.{Near, Ruled, spotOf, depthOf, distanceOf}
-use Rattle.exact_triangle.specs.Surface.{FirstSurface, NearestDepth}
+use Rattle.exact_triangle.specs.Surface.{Surface, FirstSurface, NearestDepth}
 use Rattle.exact_triangle.proofs.SeenLaws.{spot-close}
 use Rattle.exact_triangle.proofs.Certainty.{depth-certain}
 
@@ -66,21 +67,27 @@ distance-is f n W e d p l m =
     (λ i. div binary64 (ofInt binary64 (e i)) (ofInt binary64 (d i)))
     ∙ quotient-is (ofInt binary64 (pos n)) (ofInt binary64 (pos W)) n W (whole-value n l) (whole-value W m) p
 
--- ---- the first depth is not below 0, since near is not
+-- ---- no depth is below 0, since near is not
+pub surface-positive : (l : Line) (a b c : Point) (D : ℕ) (t : ℤ) → ltZ (l .reach .near) (pos 0) ≡ false → Surface l a b c D t
+    → t ≡ pos (pp t)
+surface-positive l a b c D t h s =
+    let n = pp (l .reach .near) in
+    let near : leZ (pos n *ℤ pos D) t ≡ true =
+    ap (λ (z : ℤ). leZ (z *ℤ pos D) t) (sym (whole-of (l .reach .near) h)) ∙ s .least in
+    let m = rep-le (rep-mul (own-pos n) (own-pos D)) (own t) near in
+    whole-of t (nlt-rep (own t) (own-pos 0) (omega (arith, m)))
+
 first-positive : (l : Line) (a b c : Point) (f : Fraction) → ltZ (l .reach .near) (pos 0) ≡ false → FirstSurface l a b c f
     → f .t ≡ pos (pp (f .t))
 first-positive l a b c f h s =
     let D = s .D in
     let W = s .W in
-    let t = s .t in
-    let n = pp (l .reach .near) in
-    let e = rep-same (rep-mul (own t) (own-pos W)) (rep-mul (own (f .t)) (own-pos D)) (s .same) in
-    let near : leZ (pos n *ℤ pos D) t ≡ true =
-    ap (λ (z : ℤ). leZ (z *ℤ pos D) t) (sym (whole-of (l .reach .near) h)) ∙ s .on .least in
-    let m = rep-le (rep-mul (own-pos n) (own-pos D)) (own t) near in
-    let m' : np t ≤ pp t = omega (arith, m) in
-    let k : np t * W ≤ pp t * W = mul-le-mul-right W m' in
-    let g : np (f .t) ≤ pp (f .t) = le-of-mul-le-mul-right (omega (arith, e, k)) (s .on .positive) in
+    let n = pp (s .t) in
+    let whole = surface-positive l a b c D (s .t) h (s .on) in
+    let e =
+    rep-same (rep-mul (own-pos n) (own-pos W)) (rep-mul (own (f .t)) (own-pos D))
+    (ap (λ (z : ℤ). z *ℤ pos W) (sym whole) ∙ s .same) in
+    let g : np (f .t) ≤ pp (f .t) = le-of-mul-le-mul-right (omega (arith, e)) (s .on .positive) in
     whole-of (f .t) (nlt-rep (own (f .t)) (own-pos 0) (omega (arith, g)))
 
 -- ---- both
@@ -105,3 +112,35 @@ depth-nearest l a b c f r ha hb hc h e =
           distance-is f (pp (f .t)) (s .W) t (s .denominator) (s .positive) (sized-pos (f .t) (pp (f .t)) t (x .t f e))
           (sized-pos (f .w) (s .W) (s .denominator) (x .w f e));
     }
+
+-- ---- a hit's distance is a number, whatever near is
+quotient-number : (x y : Float) (s : Bool) (n W : ℕ) → HasValue x s n 1 → HasValue y false W 1 → 0 < W → isNan (div binary64 x y) ≡ false
+quotient-number nan y s n W v w p = absurd v
+quotient-number (inf t) y s n W v w p = absurd v
+quotient-number (fin t m e) nan s n W v w p = absurd w
+quotient-number (fin t m e) (inf u) s n W v w p = absurd w
+quotient-number (fin t m e) (fin u zero d) s n W v w p = let q = mul-pos p (down-pos d) in absurd (omega (arith, w .1, q))
+quotient-number (fin t m e) (fin u (suc k) d) s n W v w p =
+    ap isNan (quotient-at t u m e k d) ∙ round-number binary64 (unlike t u) (m * up e * down d) (suc k * up d * down e)
+
+whole-quotient : (z : ℤ) (W : ℕ) → natAbs z ≤ 9007199254740992 → W ≤ 9007199254740992 → 0 < W
+    → isNan (div binary64 (ofInt binary64 z) (ofInt binary64 (pos W))) ≡ false
+unfolding ofInt
+whole-quotient (pos n) W l m p =
+    quotient-number (round binary64 false n 1) (round binary64 false W 1) false n W (round-whole binary64 false n l)
+    (round-whole binary64 false W m) p
+whole-quotient (negsuc n) W l m p =
+    quotient-number (round binary64 true (suc n) 1) (round binary64 false W 1) true (suc n) W (round-whole binary64 true (suc n) l)
+    (round-whole binary64 false W m) p
+
+pub distance-number : (l : Line) (a b c : Point) (f : Fraction) → Ruled l → Near a → Near b → Near c → depthOf l a b c ≡ At f
+    → isNan (distanceOf f) ≡ false
+unfolding depthOf distanceOf
+distance-number l a b c f r ha hb hc e =
+    let s = depth-certain l a b c .first f e in
+    let x =
+    first-point-exact (spotOf (l .axis) (l .origin) a) (spotOf (l .axis) (l .origin) b) (spotOf (l .axis) (l .origin) c)
+    (l .reach .near) (l .reach .far) (spot-close (l .axis) (l .origin) a _ (r .origin) ha refl)
+    (spot-close (l .axis) (l .origin) b _ (r .origin) hb refl) (spot-close (l .axis) (l .origin) c _ (r .origin) hc refl) (r .near) in
+    ap (λ (w : ℤ). isNan (div binary64 (ofInt binary64 (f .t)) (ofInt binary64 w))) (s .denominator)
+    ∙ whole-quotient (f .t) (s .W) (x .t f e .size) (sized-pos (f .w) (s .W) (s .denominator) (x .w f e)) (s .positive)

@@ -2,6 +2,9 @@
 pub mod WholeLaws
 pub mod LineLaws
 pub mod SeenLaws
+pub mod Headings
+pub mod Admitting
 pub mod Certainty
 pub mod Distances
+pub mod Reaches
 pub mod Examples

@@ -1,12 +1,12 @@
 -- A ray that is told to be a line is one on whole millimetres. Assumes nothing.
-use mathlib.Core.Path.{_≡_, refl, sym, ap, _∙_, subst}
-use mathlib.Core.Bool.{Bool, true, false, true≢false, false≢true}
+use mathlib.Core.Path.{_≡_, refl, ap, _∙_, subst}
+use mathlib.Core.Bool.{Bool, true, false, false≢true}
 use mathlib.Core.List.{List}
 use lib.IntN.{ℤ, pos}
+use lib.Signed.{ltZ}
 use Rattle.geometry.specs.Box.{corner}
-use Rattle.geometry.specs.declared.vec3.Vec3.{Vec3}
+use Rattle.vectors.specs.declared.vec3.Vec3.{Vec3}
 use Rattle.geometry.specs.declared.ray.Ray.{Ray}
-use Rattle.exact_depth.specs.Sizes.{Sized}
 use Rattle.exact_triangle.specs.declared.whole.Whole.{Whole}
 use Rattle.exact_triangle.specs.declared.whole.Whole.the-variants.{Is, Not as NotWhole}
 use Rattle.exact_triangle.specs.declared.whole.Point.{Point}
@@ -75,25 +75,20 @@ abbrev reachOf : Ranged → Reach
 reachOf (From reach) = reach
 reachOf Not = record { near = pos 0; far = pos 0 }
 
-pub record Reaching (reach : Reach) : Type 0 where
-  pub near : Sized 16384 (reach .near)
-  pub far : Sized 16384 (reach .far)
+pub record RangeParts (r : Ray) (reach : Reach) : Type 0 where
+  pub near : ranged r ≡ Is (reach .near)
+  pub far : bounded r ≡ Is (reach .far)
 
-pub range-told : (r : Ray) (reach : Reach) → rangeOf r ≡ From reach → Reaching reach
+pub range-parts : (r : Ray) (reach : Reach) → rangeOf r ≡ From reach → RangeParts r reach
 unfolding rangeOf
-range-told r reach h = go (ranged r) (bounded r) refl refl h
+range-parts r reach h = go (ranged r) (bounded r) refl refl h
   where
     go : (a b : Whole) → ranged r ≡ a → bounded r ≡ b
-        → withWhole a Not (λ (near : ℤ). withWhole b Not (λ (far : ℤ). From (record { near = near; far = far }))) ≡ From reach → Reaching
-        reach
+        → withWhole a Not (λ (near : ℤ). withWhole b Not (λ (far : ℤ). From (record { near = near; far = far }))) ≡ From reach
+        → RangeParts r reach
     go NotWhole b a' b' h = absurd (false≢true (ap isFrom h))
     go (Is near) NotWhole a' b' h = absurd (false≢true (ap isFrom h))
-    go (Is near) (Is far) a' b' h =
-        subst Reaching (ap reachOf h)
-        (record {
-          near = range-of near (whole-told (r .near) (pos 0) (pos 16384) near a');
-          far = range-of far (whole-told (r .«max_distance») (pos 0) (pos 16384) far b');
-        })
+    go (Is near) (Is far) a' b' h = subst (RangeParts r) (ap reachOf h) (record { near = a'; far = b' })
 
 abbrev isOn : Ruled → Bool
 isOn (On l) = true
@@ -103,24 +98,38 @@ abbrev lineIn : Line → Ruled → Line
 lineIn l (On m) = m
 lineIn l Off = l
 
-line-of-parts : (r : Ray) (axis : Axis) (o : Point) (reach : Reach) → pointOf (r .origin) ≡ At o → rangeOf r ≡ From reach
-    → Exact.Ruled (record { axis = axis; origin = o; reach = reach })
-line-of-parts r axis o reach p q =
-    let t = range-told r reach q in
-    record { origin = point-near (r .origin) o p; near = t .near; far = t .far }
+-- the parts of a line that is told
+pub record LineParts (r : Ray) (l : Line) : Type 0 where
+  pub axis : headingOf (r .direction) ≡ Along (l .axis)
+  pub origin : pointOf (r .origin) ≡ At (l .origin)
+  pub reach : RangeParts r (l .reach)
 
-pub line-told : (r : Ray) (l : Line) → lineOf r ≡ On l → Exact.Ruled l
+pub line-parts : (r : Ray) (l : Line) → lineOf r ≡ On l → LineParts r l
 unfolding lineOf
-line-told r l h = go (headingOf (r .direction)) (pointOf (r .origin)) (rangeOf r) refl refl h
+line-parts r l h = go (headingOf (r .direction)) (pointOf (r .origin)) (rangeOf r) refl refl refl h
   where
-    go : (a : Heading) (b : Placed) (c : Ranged) → pointOf (r .origin) ≡ b → rangeOf r ≡ c
+    go : (a : Heading) (b : Placed) (c : Ranged) → headingOf (r .direction) ≡ a → pointOf (r .origin) ≡ b → rangeOf r ≡ c
         → withHeading a Off (λ (axis : Axis). withPoint b Off (λ (o : Point). withRange c Off
         (λ (reach : Reach). On (record { axis = axis; origin = o; reach = reach })))) ≡ On l
-        → Exact.Ruled l
-    go Askew b c p q h = absurd (false≢true (ap isOn h))
-    go (Along axis) OffPoint c p q h = absurd (false≢true (ap isOn h))
-    go (Along axis) (At o) Not p q h = absurd (false≢true (ap isOn h))
-    go (Along axis) (At o) (From reach) p q h = subst Exact.Ruled (ap (lineIn l) h) (line-of-parts r axis o reach p q)
+        → LineParts r l
+    go Askew b c d p q h = absurd (false≢true (ap isOn h))
+    go (Along axis) OffPoint c d p q h = absurd (false≢true (ap isOn h))
+    go (Along axis) (At o) Not d p q h = absurd (false≢true (ap isOn h))
+    go (Along axis) (At o) (From reach) d p q h =
+        subst (LineParts r) (ap (lineIn l) h) (record { axis = d; origin = p; reach = range-parts r reach q })
+
+pub line-told : (r : Ray) (l : Line) → lineOf r ≡ On l → Exact.Ruled l
+line-told r l h =
+    let p = line-parts r l h in
+    let reach = l .reach in
+    record {
+      origin = point-near (r .origin) (l .origin) (p .origin);
+      near = range-of (reach .near) (whole-told (r .near) (pos 0) (pos 16384) (reach .near) (p .reach .near));
+      far = range-of (reach .far) (whole-told (r .«max_distance») (pos 0) (pos 16384) (reach .far) (p .reach .far));
+    }
+
+pub near-positive : (r : Ray) (l : Line) → lineOf r ≡ On l → ltZ (l .reach .near) (pos 0) ≡ false
+near-positive r l on = whole-told (r .near) (pos 0) (pos 16384) (l .reach .near) (line-parts r l on .reach .near) .least
 
 -- ---- the corners
 abbrev isBoard : Board → Bool
@@ -157,18 +166,31 @@ pub on-board : (vs : List Vec3) (a b c : Point) → pointOf (corner vs 0) ≡ At
 unfolding boardOf
 on-board vs a b c h g k = simp (h, g, k)
 
-pub board-near : (vs : List Vec3) (a b c : Point) → boardOf vs ≡ Boarded a b c → Near a × (Near b × Near c)
+pub record BoardParts (vs : List Vec3) (a b c : Point) : Type 0 where
+  pub first : pointOf (corner vs 0) ≡ At a
+  pub second : pointOf (corner vs 1) ≡ At b
+  pub third : pointOf (corner vs 2) ≡ At c
+
+pub board-parts : (vs : List Vec3) (a b c : Point) → boardOf vs ≡ Boarded a b c → BoardParts vs a b c
 unfolding boardOf
-board-near vs a b c h = go (pointOf (corner vs 0)) (pointOf (corner vs 1)) (pointOf (corner vs 2)) refl refl refl h
+board-parts vs a b c h = go (pointOf (corner vs 0)) (pointOf (corner vs 1)) (pointOf (corner vs 2)) refl refl refl h
   where
     go : (x y z : Placed) → pointOf (corner vs 0) ≡ x → pointOf (corner vs 1) ≡ y → pointOf (corner vs 2) ≡ z
         → withPoint x OffBoard (λ (a : Point). withPoint y OffBoard (λ (b : Point). withPoint z OffBoard
         (λ (c : Point). Boarded a b c))) ≡ Boarded a b c
-        → Near a × (Near b × Near c)
+        → BoardParts vs a b c
     go OffPoint y z p q r h = absurd (false≢true (ap isBoard h))
     go (At x) OffPoint z p q r h = absurd (false≢true (ap isBoard h))
     go (At x) (At y) OffPoint p q r h = absurd (false≢true (ap isBoard h))
-    go (At x) (At y) (At z) p q r h = (
-      subst Near (ap (firstOf a) h) (point-near (corner vs 0) x p),
-      (subst Near (ap (secondOf a) h) (point-near (corner vs 1) y q), subst Near (ap (thirdOf a) h) (point-near (corner vs 2) z r)),
+    go (At x) (At y) (At z) p q r h = record {
+      first = p ∙ ap At (ap (firstOf a) h);
+      second = q ∙ ap At (ap (secondOf a) h);
+      third = r ∙ ap At (ap (thirdOf a) h);
+    }
+
+pub board-near : (vs : List Vec3) (a b c : Point) → boardOf vs ≡ Boarded a b c → Near a × (Near b × Near c)
+board-near vs a b c h =
+    let q = board-parts vs a b c h in (
+      point-near (corner vs 0) a (q .first),
+      (point-near (corner vs 1) b (q .second), point-near (corner vs 2) c (q .third)),
     )

@@ -1,13 +1,12 @@
 -- A float that is told to be a whole number is one, within its range. Assumes nothing.
 use mathlib.Core.Path.{_≡_, refl, sym, ap, _∙_, subst}
 use mathlib.Core.Bool.{Bool, true, false, cond, true≢false, false≢true}
-use Prim.Native.Nat.{ℕ, suc, _≤_}
 use native.Mathlib.Omega.{arith}
-use lib.IntN.{ℤ, pos, negsuc, natAbs}
+use lib.IntN.{ℤ, pos, negsuc}
 use lib.Signed.{ltZ}
-use lib.Ieee.{Float, binary64, ofInt, toSigned, le, lt, ne}
-use borrow.Author.Tests.{ltb-false}
-use Rattle.geometry.specs.declared.vec3.Vec3.{Vec3}
+use lib.Ieee.{Float, binary64, ofInt, toSigned, le, lt, eq, ne}
+use borrow.Author.Tests.{ltb-false, not-false}
+use Rattle.vectors.specs.declared.vec3.Vec3.{Vec3}
 use Rattle.exact_depth.specs.Sizes.{Sized}
 use Rattle.exact_triangle.specs.declared.whole.Whole.{Whole}
 use Rattle.exact_triangle.specs.declared.whole.Whole.the-variants.{Is, Not}
@@ -87,6 +86,33 @@ whole-told y low high x h = go (le least y) (lt y past) (ne y (ofInt binary64 (t
     go true true true h = absurd (false≢true (ap isWhole h))
     go true true false h = within-told (toSigned 63 y) low high x h
 
+-- it equals that number
+within-is : (n low high z : ℤ) → within n low high ≡ Is z → n ≡ z
+unfolding within
+within-is n low high z h = go (ltZ n low) (ltZ high n) h
+  where
+    go : (p q : Bool) → cond p Not (cond q Not (Is n)) ≡ Is z → n ≡ z
+    go true q h = absurd (false≢true (ap isWhole h))
+    go false true h = absurd (false≢true (ap isWhole h))
+    go false false h = ap numberOf h
+
+equals : (x y : Float) → ne x y ≡ false → eq x y ≡ true
+unfolding ne
+equals x y h = not-false (eq x y) h
+
+pub whole-equals : (x : Float) (low high z : ℤ) → wholeIn x low high ≡ Is z → eq x (ofInt binary64 z) ≡ true
+unfolding wholeIn
+whole-equals x low high z h = go (le least x) (lt x past) (ne x (ofInt binary64 (toSigned 63 x))) refl h
+  where
+    go : (p q s : Bool) → ne x (ofInt binary64 (toSigned 63 x)) ≡ s
+        → cond p (cond q (cond s Not (within (toSigned 63 x) low high)) Not) Not ≡ Is z → eq x (ofInt binary64 z) ≡ true
+    go false q s e h = absurd (false≢true (ap isWhole h))
+    go true false s e h = absurd (false≢true (ap isWhole h))
+    go true true true e h = absurd (false≢true (ap isWhole h))
+    go true true false e h =
+        ap (λ (k : ℤ). eq x (ofInt binary64 k)) (sym (within-is (toSigned 63 x) low high z h))
+        ∙ equals x (ofInt binary64 (toSigned 63 x)) e
+
 near-of : (x : ℤ) → Between (negsuc 4095) (pos 4096) x → Sized 4096 x
 near-of (pos n) b = let m = ltb-false 4096 n (b .most) in record { size = m }
 near-of (negsuc n) b = let m = ltb-false 4095 n (b .least) in record { size = omega (arith, m) }
@@ -107,16 +133,29 @@ abbrev placeOf : Placed → Point
 placeOf (At p) = p
 placeOf Off = record { x = pos 0; y = pos 0; z = pos 0 }
 
-pub point-near : (v : Vec3) (p : Point) → pointOf v ≡ At p → Near p
+-- the coordinates of a point that is told
+pub record PointParts (v : Vec3) (p : Point) : Type 0 where
+  pub x : coordinate (v .x) ≡ Is (p .x)
+  pub y : coordinate (v .y) ≡ Is (p .y)
+  pub z : coordinate (v .z) ≡ Is (p .z)
+
+pub point-parts : (v : Vec3) (p : Point) → pointOf v ≡ At p → PointParts v p
 unfolding pointOf
-point-near v p h = go (coordinate (v .x)) (coordinate (v .y)) (coordinate (v .z)) refl refl refl h
+point-parts v p h = go (coordinate (v .x)) (coordinate (v .y)) (coordinate (v .z)) refl refl refl h
   where
     go : (a b c : Whole) → coordinate (v .x) ≡ a → coordinate (v .y) ≡ b → coordinate (v .z) ≡ c
         → withWhole a Off (λ (x : ℤ). withWhole b Off (λ (y : ℤ). withWhole c Off (λ (z : ℤ). At (record { x = x; y = y; z = z })))) ≡ At p
-        → Near p
+        → PointParts v p
     go Not b c a' b' c' h = absurd (false≢true (ap isAt h))
     go (Is x) Not c a' b' c' h = absurd (false≢true (ap isAt h))
     go (Is x) (Is y) Not a' b' c' h = absurd (false≢true (ap isAt h))
-    go (Is x) (Is y) (Is z) a' b' c' h =
-        subst Near (ap placeOf h)
-        (record { x = coordinate-near (v .x) x a'; y = coordinate-near (v .y) y b'; z = coordinate-near (v .z) z c' })
+    go (Is x) (Is y) (Is z) a' b' c' h = subst (PointParts v) (ap placeOf h) (record { x = a'; y = b'; z = c' })
+
+pub point-near : (v : Vec3) (p : Point) → pointOf v ≡ At p → Near p
+point-near v p h =
+    let q = point-parts v p h in
+    record {
+      x = coordinate-near (v .x) (p .x) (q .x);
+      y = coordinate-near (v .y) (p .y) (q .y);
+      z = coordinate-near (v .z) (p .z) (q .z);
+    }

@@ -3,13 +3,13 @@ use Prim.Native.Nat.{ℕ}
 use mathlib.Core.List.{List}
 use lib.IntN.{ℤ, negℤ, _-ℤ_}
 use lib.Ieee.{Float, binary64, ofInt}
-use Rattle.geometry.specs.Numbers.{_/ᶠ_}
-use Rattle.geometry.specs.Vector.{subOf}
+use Rattle.vectors.specs.Numbers.{_/ᶠ_}
+use Rattle.vectors.specs.Vector.{subOf}
 use Rattle.geometry.specs.Box.{corner}
-use Rattle.geometry.specs.declared.vec3.Vec3.{Vec3}
+use Rattle.vectors.specs.declared.vec3.Vec3.{Vec3}
 use Rattle.geometry.specs.declared.ray.Ray.{Ray}
 use Rattle.casts.specs.Answer.{Answer, none, refused}
-use Rattle.casts.specs.Triangle.{triangleNormal}
+use Rattle.triangle_cast.specs.Triangle.{triangleNormal}
 use Rattle.exact_depth.specs.declared.spots.Spot.{Spot}
 use Rattle.exact_depth.specs.declared.spots.Fraction.{Fraction}
 use Rattle.exact_depth.specs.declared.spots.Depth.{Depth}

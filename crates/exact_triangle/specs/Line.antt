@@ -2,8 +2,8 @@
 use mathlib.Core.Bool.{cond}
 use lib.IntN.{ℤ, pos}
 use lib.Ieee.{Float, eq, neg}
-use Rattle.geometry.specs.Numbers.{zeroᶠ, oneᶠ}
-use Rattle.geometry.specs.declared.vec3.Vec3.{Vec3}
+use Rattle.vectors.specs.Numbers.{zeroᶠ, oneᶠ}
+use Rattle.vectors.specs.declared.vec3.Vec3.{Vec3}
 use Rattle.geometry.specs.declared.ray.Ray.{Ray}
 use Rattle.exact_triangle.specs.declared.whole.Whole.{Whole}
 use Rattle.exact_triangle.specs.declared.whole.Point.{Point}

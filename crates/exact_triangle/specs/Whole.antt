@@ -3,7 +3,7 @@ use mathlib.Core.Bool.{cond}
 use lib.IntN.{ℤ, pos, negsuc}
 use lib.Signed.{ltZ}
 use lib.Ieee.{Float, binary64, ofBits, ofInt, toSigned, le, lt, ne}
-use Rattle.geometry.specs.declared.vec3.Vec3.{Vec3}
+use Rattle.vectors.specs.declared.vec3.Vec3.{Vec3}
 use Rattle.exact_triangle.specs.declared.whole.Whole.{Whole}
 use Rattle.exact_triangle.specs.declared.whole.Whole.the-variants.{Is, Not}
 use Rattle.exact_triangle.specs.declared.whole.Point.{Point}

@@ -3,14 +3,21 @@ use crate::seen;
 use crate::whole;
 use crate::whole::Placed;
 use crate::whole::Point;
+use casts::answer;
 use casts::answer::Cast;
-use casts::triangle;
+use casts::answer::Reach;
 use exact_depth::spots::Depth;
 use exact_depth::spots::Fraction;
 use geometry::ray::Ray;
-use geometry::vec3::Vec3;
+use triangle_cast::triangle;
+use vectors::vec3::Vec3;
 ghost use mathlib.Core.Path.{_≡_};
+ghost use Rattle.vectors.specs.Vector.{subOf};
+ghost use Rattle.geometry.specs.Box.{corner};
+ghost use Rattle.geometry.specs.declared.ray.Ray.{Ray as AnyRay};
 ghost use Rattle.casts.specs.Answer.{says};
+ghost use Rattle.casts.specs.Reach.{reachOf};
+ghost use Rattle.triangle_cast.specs.Triangle.{hasNormal};
 ghost use Rattle.exact_triangle.specs.Exact.{boardOf, distanceOf, exactTriangle, Ruled};
 
 // Refusal 12, 'not whole', beyond document 01's table.
@@ -61,4 +68,34 @@ pub fn exact_triangle(ray: Ray, line: Line, corners: [Vec3; 3]) -> Cast
         return Cast::None;
     };
     triangle::hit_at(ray, corners, distance(at))
+}
+
+// Whether the corners' normal can be told: decided by the edges' cross alone, without the root.
+fn has_normal(corners: [Vec3; 3]) -> bool
+    ensures { λ r. ⌜ r ≡ hasNormal (subOf (corner corners 1) (corner corners 0)) (subOf (corner corners 2) (corner corners 0)) ⌝ }
+{
+    let first = corners[0];
+    let second = corners[1];
+    let third = corners[2];
+    second.sub(first).cross(third.sub(first)).has_direction()
+}
+
+// What such a ray reaches the corners at, without the normal, and so without its root: the same for every ray on the line. Callers show
+// that it is a line on whole millimetres.
+pub fn exact_reach(line: Line, corners: [Vec3; 3]) -> Reach
+    requires { ⌜ Ruled line ⌝ }
+    ensures { λ r. ⌜ ((ray : AnyRay) → r ≡ reachOf (exactTriangle ray line corners)) ⌝ }
+{
+    let board = board_of(corners);
+    let Board::At { a, b, c } = board else {
+        return Reach::Refused(NOT_WHOLE);
+    };
+    let depth = seen::depth_of(line, a, b, c);
+    let Depth::At(at) = depth else {
+        return Reach::Miss;
+    };
+    if !has_normal(corners) {
+        return Reach::Refused(answer::NO_NORMAL);
+    }
+    Reach::At(distance(at))
 }

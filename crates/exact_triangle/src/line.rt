@@ -3,7 +3,7 @@ use crate::whole::Placed;
 use crate::whole::Point;
 use crate::whole::Whole;
 use geometry::ray::Ray;
-use geometry::vec3::Vec3;
+use vectors::vec3::Vec3;
 ghost use mathlib.Core.Path.{_≡_};
 ghost use Rattle.exact_triangle.specs.Line.{senseOf, headingOf, rangeOf, lineOf};
 

@@ -9,7 +9,7 @@ ghost use mathlib.Core.Path.{_≡_};
 ghost use Rattle.exact_depth.specs.Sizes.{Small};
 ghost use Rattle.exact_triangle.specs.Exact.{facing, spotOf, depthOf, Near, Ruled};
 
-// What lies x, y and z from the origin, as a line along an axis sees it.
+// What lies x, y and z from the origin, as a line along an axis sees it. Callers show that they are small.
 fn facing(axis: Axis, x: i64, y: i64, z: i64) -> Spot
     requires { ⌜ Small x × (Small y × Small z) ⌝ }
     ensures { λ r. ⌜ r ≡ facing axis x y z ⌝ }
@@ -60,6 +60,7 @@ fn facing(axis: Axis, x: i64, y: i64, z: i64) -> Spot
     }
 }
 
+// A corner as the line from the origin sees it. Callers show that both are near.
 fn spot_of(axis: Axis, origin: Point, p: Point) -> Spot
     requires { ⌜ Near origin × Near p ⌝ }
     ensures { λ r. ⌜ r ≡ spotOf axis origin p ⌝ }
@@ -70,7 +71,7 @@ fn spot_of(axis: Axis, origin: Point, p: Point) -> Spot
     facing(axis, x, y, z)
 }
 
-// The first depth of the line in the triangle.
+// The first depth of the line in the triangle. Callers show that line and corners are on whole millimetres and near.
 pub fn depth_of(line: Line, a: Point, b: Point, c: Point) -> Depth
     requires { ⌜ Ruled line × (Near a × (Near b × Near c)) ⌝ }
     ensures { λ r. ⌜ r ≡ depthOf line a b c ⌝ }

@@ -1,4 +1,4 @@
-use geometry::vec3::Vec3;
+use vectors::vec3::Vec3;
 ghost use mathlib.Core.Path.{_≡_};
 ghost use Rattle.exact_triangle.specs.Whole.{within, wholeIn, pointOf};
 

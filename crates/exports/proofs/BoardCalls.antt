@@ -10,11 +10,11 @@ use lib.ListN.{length}
 use lib.Seq.{sets, getD-set-same}
 use Rattle.casts.specs.Answer.{badShape, noRoom, outOfBounds}
 use Rattle.tree.specs.Layout.{wordAt}
-use Rattle.merge.specs.Merge.{Answer, nodes, refused, Board, Areas, Outcome, shapesAdmitted, areasFit, treesPass}
-use Rattle.merge.specs.Merge.{mergedCount, mergedOver, testsPass, mergeOf}
-use Rattle.merge.specs.Promises.{Glued}
-use Rattle.merge.proofs.MergePasses.{merged-trees-pass}
-use Rattle.merge.proofs.MergeCasts.{merged-casts-glue}
+use Rattle.board_tests.specs.Merge.{Answer, nodes, refused, Board, Areas, Outcome, shapesAdmitted, areasFit, treesPass}
+use Rattle.board_tests.specs.Merge.{mergedCount, mergedOver, testsPass, mergeOf}
+use Rattle.board_glue.specs.Promises.{Glued}
+use Rattle.board_glue.proofs.MergePasses.{merged-trees-pass}
+use Rattle.board_glue.proofs.MergeCasts.{merged-casts-glue}
 use Rattle.results.specs.Results.{Counted, doneCode}
 use Rattle.exports.specs.Boards.{toldMerged, MergeTold, mergeRefused, mergeTold}
 

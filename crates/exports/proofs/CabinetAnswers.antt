@@ -9,7 +9,7 @@ use lib.Dec.{leb, eqb}
 use lib.Ieee.{Float}
 use lib.Seq.{sets}
 use Rattle.lists.proofs.JoinedTests.{and-first, and-second}
-use Rattle.geometry.specs.declared.vec3.Vec3.{Vec3}
+use Rattle.vectors.specs.declared.vec3.Vec3.{Vec3}
 use Rattle.geometry.specs.declared.ray.Ray.{Ray}
 use Rattle.casts.specs.Answer.{noRoom}
 use Rattle.cabinet.specs.declared.part.Part.{Part}

@@ -9,15 +9,15 @@ use lib.Dec.{leb}
 use lib.ListN.{length}
 use lib.Seq.{sets}
 use Rattle.casts.specs.Answer.{badShape, noRoom}
-use Rattle.conversion.specs.declared.forms.Form.{Form}
-use Rattle.conversion.specs.declared.forms.Converted.{Converted}
-use Rattle.conversion.specs.declared.forms.Converted.the-variants.{Written, Refused}
-use Rattle.conversion.specs.declared.shape.Plan.{Plan}
-use Rattle.conversion.specs.declared.shape.Planned.{Planned}
-use Rattle.conversion.specs.declared.shape.Planned.the-variants.{Is, Malformed}
-use Rattle.conversion.specs.Records.{wellFormed}
+use Rattle.float_forms.specs.declared.forms.Form.{Form}
+use Rattle.float_forms.specs.declared.forms.Converted.{Converted}
+use Rattle.float_forms.specs.declared.forms.Converted.the-variants.{Written, Refused}
+use Rattle.record_forms.specs.declared.shape.Plan.{Plan}
+use Rattle.record_forms.specs.declared.shape.Planned.{Planned}
+use Rattle.record_forms.specs.declared.shape.Planned.the-variants.{Is, Malformed}
+use Rattle.record_forms.specs.Records.{wellFormed}
 use Rattle.conversion.specs.Convert.{Outcome, converted}
-use Rattle.conversion.specs.Plans.{planOf, planned}
+use Rattle.record_forms.specs.Plans.{planOf, planned}
 use Rattle.results.specs.Results.{Counted, doneCode}
 use Rattle.exports.specs.Conversions.{toldConverted, withoutPlace, ConvertTold, convertTold}
 

@@ -9,7 +9,7 @@ use lib.ListN.{length}
 use Rattle.geometry.specs.Segment.{rayAdmitted}
 use Rattle.geometry.specs.declared.ray.Ray.{Ray}
 use Rattle.casts.specs.Answer.{invalidInput, badShape, noRoom}
-use Rattle.casts.specs.Nearest.{Indexed}
+use Rattle.nearest_hit.specs.Nearest.{Indexed}
 use Rattle.tree.specs.Mesh.{Mesh, lengthsAdmitted}
 use Rattle.exact_triangle.specs.declared.line.Line.{Line}
 use Rattle.exact_triangle.specs.declared.line.Ruled.the-variants.{On, Off}

@@ -9,21 +9,23 @@ use lib.Dec.{leb}
 use lib.Ieee.{Float}
 use lib.ListN.{length}
 use lib.Seq.{sets, getD-set-same}
+use Rattle.geometry.specs.Segment.{rayAdmitted}
 use Rattle.geometry.specs.declared.ray.Ray.{Ray}
 use Rattle.tree.specs.Layout.{Tree}
 use Rattle.tree.specs.Mesh.{Mesh}
 use Rattle.tree_query.specs.Query.{Listing, count, refused}
 use Rattle.mesh.specs.MeshCast.{shapeAdmitted}
-use Rattle.mesh_hits.specs.Listing.{HitArea, Outcome, rayMeshAll}
+use Rattle.hit_area.specs.HitArea.{HitArea, Outcome}
+use Rattle.mesh_hits.specs.Listing.{rayMeshAll}
 use Rattle.mesh_hits.specs.Promise.{KeepsPromises}
 use Rattle.mesh_hits.proofs.RefusalNumbers.{refusals-small}
-use Rattle.results.specs.Results.{Counted, doneCode, toldFound}
+use Rattle.results.specs.Results.{Counted, doneCode, shortOf, toldFound}
 use Rattle.exports.specs.AllHits.{ListingTold, withoutPlace, allTold, foundTold}
 
 module _ (r : Ray) (m : Mesh) (pose : List Float) (t : Tree) (list stack : ℕ) (area : HitArea) (place : List ℕ) where
-  pub short-told : (number : ℕ) → length place < 1 → number ≡ withoutPlace r (shapeAdmitted m pose t)
+  pub short-told : (number : ℕ) → length place < 1 → number ≡ shortOf (rayAdmitted r) (shapeAdmitted m pose t)
       → record { told = record { number = number; count = place }; area = area } ≡ allTold r m pose t list stack area place
-  unfolding allTold
+  unfolding allTold withoutPlace
   short-told number short e = simp (lt-leb 1 (length place) short, e)
 
   module _ (there : 1 ≤ length place) (o : Outcome) (is : o ≡ rayMeshAll r m pose t list stack area)

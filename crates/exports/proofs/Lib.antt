@@ -10,3 +10,4 @@ pub mod FoundHits
 pub mod BoardCalls
 pub mod ConversionCalls
 pub mod ExactCalls
+pub mod ExactTrees

@@ -12,7 +12,8 @@ use Rattle.tree.specs.Layout.{Tree, wordAt}
 use Rattle.tree.specs.Mesh.{Mesh}
 use Rattle.tree_query.specs.Query as Query
 use Rattle.mesh.specs.MeshCast.{shapeAdmitted}
-use Rattle.mesh_hits.specs.Listing.{HitArea, rayMeshAll}
+use Rattle.hit_area.specs.HitArea.{HitArea}
+use Rattle.mesh_hits.specs.Listing.{rayMeshAll}
 use Rattle.results.specs.Results.{doneCode, Counted, toldFound}
 
 -- the number and the slice of the count, and the hit area

@@ -6,7 +6,7 @@ use lib.Dec.{leb}
 use lib.ListN.{length}
 use lib.Seq.{sets}
 use Rattle.casts.specs.Answer.{badShape, noRoom}
-use Rattle.merge.specs.Merge.{Answer, nodes, refused, Board, Areas, shapesAdmitted, mergeOf}
+use Rattle.board_tests.specs.Merge.{Answer, nodes, refused, Board, Areas, shapesAdmitted, mergeOf}
 use Rattle.results.specs.Results.{Counted, doneCode}
 
 unfoldable pub toldMerged : Answer → List ℕ → Counted

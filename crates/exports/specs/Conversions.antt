@@ -6,10 +6,10 @@ use lib.Dec.{leb}
 use lib.ListN.{length}
 use lib.Seq.{sets}
 use Rattle.casts.specs.Answer.{badShape, noRoom}
-use Rattle.conversion.specs.declared.forms.Form.{Form}
-use Rattle.conversion.specs.declared.forms.Converted.{Converted}
-use Rattle.conversion.specs.declared.forms.Converted.the-variants.{Written, Refused}
-use Rattle.conversion.specs.Records.{wellFormed}
+use Rattle.float_forms.specs.declared.forms.Form.{Form}
+use Rattle.float_forms.specs.declared.forms.Converted.{Converted}
+use Rattle.float_forms.specs.declared.forms.Converted.the-variants.{Written, Refused}
+use Rattle.record_forms.specs.Records.{wellFormed}
 use Rattle.conversion.specs.Convert.{converted}
 use Rattle.results.specs.Results.{Counted, doneCode}
 

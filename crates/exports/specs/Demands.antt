@@ -8,7 +8,7 @@ use lib.Ieee.{Float}
 use lib.ListN.{length}
 use lib.Seq.{sets}
 use Rattle.geometry.specs.declared.ray.Ray.{Ray}
-use Rattle.casts.specs.Nearest.{Indexed}
+use Rattle.nearest_hit.specs.Nearest.{Indexed}
 use Rattle.tree.specs.Layout.{Tree, Areas, treeIn}
 use Rattle.tree.specs.Mesh.{Mesh, thirds}
 use Rattle.tree_build.specs.Build.{nodes, buildOf}

@@ -7,3 +7,4 @@ pub mod AllHits
 pub mod Boards
 pub mod Conversions
 pub mod ExactResults
+pub mod Calls

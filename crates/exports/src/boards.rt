@@ -1,15 +1,15 @@
+use board_tests::merged::Merged;
+use board_tests::testing;
 use casts::answer;
 use merge::merging;
-use merge::merging::Merged;
-use merge::testing;
 ghost use mathlib.Core.Path.{_≡_};
 ghost use mathlib.Core.Bool.{false, _&&_};
 ghost use Prim.Native.Nat.{_≤_};
 ghost use lib.Dec.{leb};
 ghost use lib.ListN.{length};
 ghost use Rattle.tree.specs.Layout.{wordAt};
-ghost use Rattle.merge.specs.Merge.{says, boardOf, areasOf, testsPass};
-ghost use Rattle.merge.specs.Promises.{Glued};
+ghost use Rattle.board_tests.specs.Merge.{says, boardOf, areasOf, testsPass};
+ghost use Rattle.board_glue.specs.Promises.{Glued};
 ghost use Rattle.results.specs.Results.{doneCode};
 ghost use Rattle.exports.specs.Boards.{toldMerged, mergeTold};
 
@@ -29,7 +29,8 @@ fn put_merged(merged: Merged, nodes: &mut [usize]) -> u32
     }
 }
 
-// Glues two boards, each a mesh with its tree, into one and writes its node count. The marks are a work area: unchanged after refusals 2 and 3.
+// Glues two boards, each a mesh with its tree, into one and writes its node count. The marks are a work area: unchanged after refusals 2
+// and 3.
 // The third clause: where it is done, the tree check says yes to the result, and a cast on it is the two boards' casts glued.
 #[no_mangle]
 pub extern "C" fn probe_merge(
@@ -56,9 +57,33 @@ pub extern "C" fn probe_merge(
     marks: &mut [u32],
     nodes: &mut [usize],
 ) -> u32
-    ensures { λ r. ⌜ record { told = record { number = r; count = now (nodes .exit) }; after = (areasOf (now (vertices .exit)) (now (triangles .exit)) (now («node_boxes» .exit)) (now («triangle_boxes» .exit)) (now («node_words» .exit)) (now (order .exit))) } ≡ mergeTold (boardOf (now («first_vertices» .entry)) (now («first_triangles» .entry)) «first_nodes» (now («first_node_boxes» .entry)) (now («first_triangle_boxes» .entry)) (now («first_node_words» .entry)) (now («first_order» .entry))) (boardOf (now («second_vertices» .entry)) (now («second_triangles» .entry)) «second_nodes» (now («second_node_boxes» .entry)) (now («second_triangle_boxes» .entry)) (now («second_node_words» .entry)) (now («second_order» .entry))) (areasOf (now (vertices .entry)) (now (triangles .entry)) (now («node_boxes» .entry)) (now («triangle_boxes» .entry)) (now («node_words» .entry)) (now (order .entry))) (length (now (marks .entry))) (now (nodes .entry)) ⌝ }
-    ensures { λ r. ⌜ ((leb 1 (length (now (nodes .entry))) && testsPass (boardOf (now («first_vertices» .entry)) (now («first_triangles» .entry)) «first_nodes» (now («first_node_boxes» .entry)) (now («first_triangle_boxes» .entry)) (now («first_node_words» .entry)) (now («first_order» .entry))) (boardOf (now («second_vertices» .entry)) (now («second_triangles» .entry)) «second_nodes» (now («second_node_boxes» .entry)) (now («second_triangle_boxes» .entry)) (now («second_node_words» .entry)) (now («second_order» .entry))) (areasOf (now (vertices .entry)) (now (triangles .entry)) (now («node_boxes» .entry)) (now («triangle_boxes» .entry)) (now («node_words» .entry)) (now (order .entry))) (length (now (marks .entry)))) ≡ false → now (marks .exit) ≡ now (marks .entry)) ⌝ }
-    ensures { λ r. ⌜ (r ≡ doneCode → Glued (boardOf (now («first_vertices» .entry)) (now («first_triangles» .entry)) «first_nodes» (now («first_node_boxes» .entry)) (now («first_triangle_boxes» .entry)) (now («first_node_words» .entry)) (now («first_order» .entry))) (boardOf (now («second_vertices» .entry)) (now («second_triangles» .entry)) «second_nodes» (now («second_node_boxes» .entry)) (now («second_triangle_boxes» .entry)) (now («second_node_words» .entry)) (now («second_order» .entry))) (wordAt (now (nodes .exit)) 0) (areasOf (now (vertices .exit)) (now (triangles .exit)) (now («node_boxes» .exit)) (now («triangle_boxes» .exit)) (now («node_words» .exit)) (now (order .exit)))) ⌝ }
+    ensures { λ r. ⌜ record {
+      told = record { number = r; count = now (nodes .exit) };
+      after = (areasOf (now (vertices .exit)) (now (triangles .exit)) (now («node_boxes» .exit)) (now («triangle_boxes» .exit))
+          (now («node_words» .exit)) (now (order .exit)));
+    }
+        ≡ mergeTold (boardOf (now («first_vertices» .entry)) (now («first_triangles» .entry)) «first_nodes»
+        (now («first_node_boxes» .entry)) (now («first_triangle_boxes» .entry)) (now («first_node_words» .entry))
+        (now («first_order» .entry))) (boardOf (now («second_vertices» .entry)) (now («second_triangles» .entry)) «second_nodes»
+        (now («second_node_boxes» .entry)) (now («second_triangle_boxes» .entry)) (now («second_node_words» .entry))
+        (now («second_order» .entry))) (areasOf (now (vertices .entry)) (now (triangles .entry)) (now («node_boxes» .entry))
+        (now («triangle_boxes» .entry)) (now («node_words» .entry)) (now (order .entry))) (length (now (marks .entry)))
+        (now (nodes .entry)) ⌝ }
+    ensures { λ r. ⌜ ((leb 1 (length (now (nodes .entry)))
+        && testsPass (boardOf (now («first_vertices» .entry)) (now («first_triangles» .entry)) «first_nodes»
+        (now («first_node_boxes» .entry)) (now («first_triangle_boxes» .entry)) (now («first_node_words» .entry))
+        (now («first_order» .entry))) (boardOf (now («second_vertices» .entry)) (now («second_triangles» .entry)) «second_nodes»
+        (now («second_node_boxes» .entry)) (now («second_triangle_boxes» .entry)) (now («second_node_words» .entry))
+        (now («second_order» .entry))) (areasOf (now (vertices .entry)) (now (triangles .entry)) (now («node_boxes» .entry))
+        (now («triangle_boxes» .entry)) (now («node_words» .entry)) (now (order .entry))) (length (now (marks .entry)))) ≡ false
+        → now (marks .exit) ≡ now (marks .entry)) ⌝ }
+    ensures { λ r. ⌜ (r ≡ doneCode → Glued (boardOf (now («first_vertices» .entry)) (now («first_triangles» .entry)) «first_nodes»
+        (now («first_node_boxes» .entry)) (now («first_triangle_boxes» .entry)) (now («first_node_words» .entry))
+        (now («first_order» .entry))) (boardOf (now («second_vertices» .entry)) (now («second_triangles» .entry)) «second_nodes»
+        (now («second_node_boxes» .entry)) (now («second_triangle_boxes» .entry)) (now («second_node_words» .entry))
+        (now («second_order» .entry))) (wordAt (now (nodes .exit)) 0)
+        (areasOf (now (vertices .exit)) (now (triangles .exit)) (now («node_boxes» .exit)) (now («triangle_boxes» .exit))
+        (now («node_words» .exit)) (now (order .exit)))) ⌝ }
 {
     if !testing::shapes_fit(
         first_vertices.len(),

@@ -1,10 +1,10 @@
 use cabinet::part::Found;
 use cabinet::part::Part;
 use cabinet::part::State;
-use cabinet::pass;
+use cabinet_passes::pass;
 use casts::answer;
 use geometry::ray::Ray;
-use geometry::vec3::Vec3;
+use vectors::vec3::Vec3;
 ghost use mathlib.Core.Path.{_≡_};
 ghost use mathlib.Core.Bool.{false};
 ghost use lib.ListN.{length};
@@ -46,7 +46,8 @@ fn begin(
     part: usize,
     spent: usize,
 ) -> State
-    ensures { λ r. ⌜ r ≡ begun (rayFrom «origin_x» «origin_y» «origin_z» «direction_x» «direction_y» «direction_z» «max_distance» «near_distance») limit (cabinetFits hit index part spent) ⌝ }
+    ensures { λ r. ⌜ r ≡ begun (rayFrom «origin_x» «origin_y» «origin_z» «direction_x» «direction_y» «direction_z» «max_distance»
+        «near_distance») limit (cabinetFits hit index part spent) ⌝ }
 {
     let ray = Ray {
         origin: Vec3 {
@@ -74,7 +75,10 @@ fn put_cabinet(
     part: &mut [usize],
     spent: &mut [usize],
 ) -> u32
-    ensures { λ r. ⌜ cabinetTold r (now (hit .exit)) (now (index .exit)) (now (part .exit)) (now (spent .exit)) ≡ toldCabinet (withResults (cabinetFits (length (now (hit .entry))) (length (now (index .entry))) (length (now (part .entry))) (length (now (spent .entry)))) (lastAnswer (end .at))) (now (hit .entry)) (now (index .entry)) (now (part .entry)) (now (spent .entry)) ⌝ }
+    ensures { λ r. ⌜ cabinetTold r (now (hit .exit)) (now (index .exit)) (now (part .exit)) (now (spent .exit))
+        ≡ toldCabinet (withResults (cabinetFits (length (now (hit .entry))) (length (now (index .entry))) (length (now (part .entry)))
+        (length (now (spent .entry)))) (lastAnswer (end .at))) (now (hit .entry)) (now (index .entry)) (now (part .entry))
+        (now (spent .entry)) ⌝ }
 {
     let at = end.at;
     let found = at.found;
@@ -115,7 +119,8 @@ fn put_cabinet(
     }
 }
 
-// The cast at a cabinet of many parts under one limit of nodes. The list and the stack are work areas: unchanged until 1, 2 and 3 have let the call pass, and then they may hold anything.
+// The cast at a cabinet of many parts under one limit of nodes. The list and the stack are work areas: unchanged until 1, 2 and 3 have let
+// the call pass, and then they may hold anything.
 // The third clause is what is promised of the limit.
 #[no_mangle]
 pub extern "C" fn probe_ray_cabinet(
@@ -142,7 +147,25 @@ pub extern "C" fn probe_ray_cabinet(
     part: &mut [usize],
     spent: &mut [usize],
 ) -> u32
-    ensures { λ r. ⌜ (cabinetTold r (now (hit .exit)) (now (index .exit)) (now (part .exit)) (now (spent .exit)) ≡ toldCabinet (withResults (cabinetFits (length (now (hit .entry))) (length (now (index .entry))) (length (now (part .entry))) (length (now (spent .entry)))) (castCabinet (rayFrom «origin_x» «origin_y» «origin_z» «direction_x» «direction_y» «direction_z» «max_distance» «near_distance») (areas (now (vertices .entry)) (now (triangles .entry)) (now («node_boxes» .entry)) (now («triangle_boxes» .entry)) (now («node_words» .entry)) (now (order .entry))) (length (now (list .entry))) (length (now (stack .entry))) limit (now (parts .entry)))) (now (hit .entry)) (now (index .entry)) (now (part .entry)) (now (spent .entry))) × (testsPass (rayFrom «origin_x» «origin_y» «origin_z» «direction_x» «direction_y» «direction_z» «max_distance» «near_distance») (areas (now (vertices .entry)) (now (triangles .entry)) (now («node_boxes» .entry)) (now («triangle_boxes» .entry)) (now («node_words» .entry)) (now (order .entry))) (length (now (list .entry))) (length (now (stack .entry))) (cabinetFits (length (now (hit .entry))) (length (now (index .entry))) (length (now (part .entry))) (length (now (spent .entry)))) (now (parts .entry)) ≡ false → (now (list .exit) ≡ now (list .entry)) × (now (stack .exit) ≡ now (stack .entry))) × (Passes (rayFrom «origin_x» «origin_y» «origin_z» «direction_x» «direction_y» «direction_z» «max_distance» «near_distance») (areas (now (vertices .entry)) (now (triangles .entry)) (now («node_boxes» .entry)) (now («triangle_boxes» .entry)) (now («node_words» .entry)) (now (order .entry))) (length (now (list .entry))) (length (now (stack .entry))) (now (parts .entry)) → LimitPromises (rayFrom «origin_x» «origin_y» «origin_z» «direction_x» «direction_y» «direction_z» «max_distance» «near_distance») (areas (now (vertices .entry)) (now (triangles .entry)) (now («node_boxes» .entry)) (now («triangle_boxes» .entry)) (now («node_words» .entry)) (now (order .entry))) (length (now (list .entry))) (length (now (stack .entry))) (now (parts .entry))) ⌝ }
+    ensures { λ r. ⌜ (cabinetTold r (now (hit .exit)) (now (index .exit)) (now (part .exit)) (now (spent .exit))
+        ≡ toldCabinet (withResults (cabinetFits (length (now (hit .entry))) (length (now (index .entry))) (length (now (part .entry)))
+        (length (now (spent .entry)))) (castCabinet
+        (rayFrom «origin_x» «origin_y» «origin_z» «direction_x» «direction_y» «direction_z» «max_distance» «near_distance»)
+        (areas (now (vertices .entry)) (now (triangles .entry)) (now («node_boxes» .entry)) (now («triangle_boxes» .entry))
+        (now («node_words» .entry)) (now (order .entry))) (length (now (list .entry))) (length (now (stack .entry))) limit
+        (now (parts .entry)))) (now (hit .entry)) (now (index .entry)) (now (part .entry)) (now (spent .entry)))
+        × (testsPass (rayFrom «origin_x» «origin_y» «origin_z» «direction_x» «direction_y» «direction_z» «max_distance» «near_distance»)
+        (areas (now (vertices .entry)) (now (triangles .entry)) (now («node_boxes» .entry)) (now («triangle_boxes» .entry))
+        (now («node_words» .entry)) (now (order .entry))) (length (now (list .entry))) (length (now (stack .entry)))
+        (cabinetFits (length (now (hit .entry))) (length (now (index .entry))) (length (now (part .entry))) (length (now (spent .entry))))
+        (now (parts .entry)) ≡ false → (now (list .exit) ≡ now (list .entry)) × (now (stack .exit) ≡ now (stack .entry)))
+        × (Passes (rayFrom «origin_x» «origin_y» «origin_z» «direction_x» «direction_y» «direction_z» «max_distance» «near_distance»)
+        (areas (now (vertices .entry)) (now (triangles .entry)) (now («node_boxes» .entry)) (now («triangle_boxes» .entry))
+        (now («node_words» .entry)) (now (order .entry))) (length (now (list .entry))) (length (now (stack .entry))) (now (parts .entry))
+        → LimitPromises (rayFrom «origin_x» «origin_y» «origin_z» «direction_x» «direction_y» «direction_z» «max_distance» «near_distance»)
+        (areas (now (vertices .entry)) (now (triangles .entry)) (now («node_boxes» .entry)) (now («triangle_boxes» .entry))
+        (now («node_words» .entry)) (now (order .entry))) (length (now (list .entry))) (length (now (stack .entry)))
+        (now (parts .entry))) ⌝ }
 {
     let start = begin(
         origin_x,

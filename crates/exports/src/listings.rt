@@ -1,37 +1,17 @@
-use casts::answer;
 use geometry::ray::Ray;
-use geometry::vec3::Vec3;
-use mesh::cast;
 use mesh_hits::listing;
-ghost use mathlib.Core.Path.{_≡_};
-ghost use mathlib.Core.Bool.{false, _&&_};
-ghost use Prim.Native.Nat.{_*_, _≤_};
-ghost use lib.Dec.{leb};
-ghost use lib.ListN.{length};
-ghost use Rattle.tree.specs.Mesh.{thirds, lengthsAdmitted, mesh};
+use results::short;
+use vectors::vec3::Vec3;
+ghost use Rattle.tree.specs.Mesh.{mesh};
 ghost use Rattle.tree.specs.Layout.{treeOf};
-ghost use Rattle.mesh.specs.MeshCast.{testsPass};
-ghost use Rattle.mesh_hits.specs.Listing.{hitArea};
-ghost use Rattle.mesh_hits.specs.Promise.{KeepsPromises};
+ghost use Rattle.hit_area.specs.HitArea.{hitArea};
 ghost use Rattle.results.specs.Results.{rayFrom};
-ghost use Rattle.exports.specs.AllHits.{withoutPlace, allTold, foundTold};
-
-// What is answered where the place of the count is missing: 1 and 2 go before that 3.
-fn without_place(ray: Ray, vertices: usize, triangles: usize, pose: usize, nodes: usize) -> u32
-    ensures { λ r. ⌜ r ≡ withoutPlace ray (lengthsAdmitted vertices triangles && (lengthsAdmitted pose triangles && leb nodes (2 * thirds triangles))) ⌝ }
-{
-    if !ray.validate() {
-        return answer::INVALID_INPUT;
-    }
-    if !cast::shape_admitted(vertices, triangles, pose, nodes) {
-        return answer::BAD_SHAPE;
-    }
-    answer::NO_ROOM
-}
+ghost use Rattle.exports.specs.Calls.{ListingCall, listedTold};
 
 // Every hit of a ray at a mesh: indices and numbers are the hit area, and the count is written into found.
-// The list and the stack are work areas: unchanged until the place of the count and refusals 1 to 4 have let the call pass, and then they may hold anything.
-// The third clause is what a user finds, where the place of the count is there.
+// The list and the stack are work areas: unchanged until the place of the count and refusals 1 to 4 have let the call pass, and then they
+// may hold anything.
+// What `ListingCall` says last is what a user finds, where the place of the count is there.
 #[no_mangle]
 pub extern "C" fn probe_ray_mesh_all(
     origin_x: f64,
@@ -56,9 +36,13 @@ pub extern "C" fn probe_ray_mesh_all(
     numbers: &mut [f64],
     found: &mut [usize],
 ) -> u32
-    ensures { λ r. ⌜ record { told = record { number = r; count = now (found .exit) }; area = hitArea (now (indices .exit)) (now (numbers .exit)) } ≡ allTold (rayFrom «origin_x» «origin_y» «origin_z» «direction_x» «direction_y» «direction_z» «max_distance» «near_distance») (mesh (now (vertices .entry)) (now (triangles .entry))) (now (pose .entry)) (treeOf nodes (now («node_boxes» .entry)) (now («triangle_boxes» .entry)) (now («node_words» .entry)) (now (order .entry))) (length (now (list .entry))) (length (now (stack .entry))) (hitArea (now (indices .entry)) (now (numbers .entry))) (now (found .entry)) ⌝ }
-    ensures { λ r. ⌜ ((leb 1 (length (now (found .entry))) && testsPass (rayFrom «origin_x» «origin_y» «origin_z» «direction_x» «direction_y» «direction_z» «max_distance» «near_distance») (mesh (now (vertices .entry)) (now (triangles .entry))) (now (pose .entry)) (treeOf nodes (now («node_boxes» .entry)) (now («triangle_boxes» .entry)) (now («node_words» .entry)) (now (order .entry))) (length (now (list .entry))) (length (now (stack .entry)))) ≡ false → (now (list .exit) ≡ now (list .entry)) × (now (stack .exit) ≡ now (stack .entry))) ⌝ }
-    ensures { λ r. ⌜ (1 ≤ length (now (found .entry)) → KeepsPromises (rayFrom «origin_x» «origin_y» «origin_z» «direction_x» «direction_y» «direction_z» «max_distance» «near_distance») (mesh (now (vertices .entry)) (now (triangles .entry))) (now (pose .entry)) (treeOf nodes (now («node_boxes» .entry)) (now («triangle_boxes» .entry)) (now («node_words» .entry)) (now (order .entry))) (length (now (list .entry))) (length (now (stack .entry))) (record { answer = foundTold r (now (found .exit)); area = hitArea (now (indices .exit)) (now (numbers .exit)) })) ⌝ }
+    ensures { λ r. ⌜ ListingCall (rayFrom «origin_x» «origin_y» «origin_z» «direction_x» «direction_y» «direction_z» «max_distance»
+        «near_distance»)
+        (mesh (now (vertices .entry)) (now (triangles .entry))) (now (pose .entry))
+        (treeOf nodes (now («node_boxes» .entry)) (now («triangle_boxes» .entry)) (now («node_words» .entry)) (now (order .entry)))
+        (now (list .entry)) (now (list .exit)) (now (stack .entry)) (now (stack .exit))
+        (hitArea (now (indices .entry)) (now (numbers .entry))) (now (found .entry))
+        (listedTold r (now (found .exit)) (hitArea (now (indices .exit)) (now (numbers .exit)))) ⌝ }
 {
     let ray = Ray {
         origin: Vec3 {
@@ -75,7 +59,7 @@ pub extern "C" fn probe_ray_mesh_all(
         near: near_distance,
     };
     if found.len() < 1 {
-        return without_place(ray, vertices.len(), triangles.len(), pose.len(), nodes);
+        return short::short_cast(ray, vertices.len(), triangles.len(), pose.len(), nodes);
     }
     let listed = listing::ray_mesh_all(
         ray,

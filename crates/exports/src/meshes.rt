@@ -1,38 +1,19 @@
 use casts::answer;
 use geometry::aabb::Aabb;
-use geometry::ray::Ray;
-use geometry::vec3::Vec3;
 use mesh::cast;
+use results::short;
 use tree_build::build;
 use tree_check::check;
 use tree_query::query;
+use vectors::vec3::Vec3;
 ghost use mathlib.Core.Path.{_≡_};
-ghost use mathlib.Core.Bool.{false, _&&_};
-ghost use Prim.Native.Nat.{_*_};
-ghost use lib.Dec.{leb};
 ghost use lib.ListN.{length};
 ghost use Rattle.geometry.specs.Box.{validBox};
-ghost use Rattle.geometry.specs.Segment.{rayAdmitted};
-ghost use Rattle.tree.specs.Mesh.{thirds, lengthsAdmitted, mesh};
+ghost use Rattle.tree.specs.Mesh.{mesh};
 ghost use Rattle.tree.specs.Layout.{areas, treeOf};
-ghost use Rattle.tree_build.specs.Build.{testsPass as buildTestsPass};
-ghost use Rattle.tree_query.specs.Query.{countsAdmitted, testsPass as queryTestsPass};
-ghost use Rattle.tree_check.specs.Verdict.{checkOf, marksAfter};
-ghost use Rattle.mesh.specs.MeshCast.{testsPass};
-ghost use Rattle.results.specs.Results.{rayFrom, rayOf, boxOf, shortOf, resultsFit, answeredMesh, buildTold, queryTold, toldVerdict};
-
-// The mesh cast's number where a result slice is too short: 1 and 2 go before 3.
-fn short_cast(ray: Ray, vertices: usize, triangles: usize, pose: usize, nodes: usize) -> u32
-    ensures { λ r. ⌜ r ≡ shortOf (rayAdmitted ray) (lengthsAdmitted vertices triangles && (lengthsAdmitted pose triangles && leb nodes (2 * thirds triangles))) ⌝ }
-{
-    if !ray.validate() {
-        return answer::INVALID_INPUT;
-    }
-    if !cast::shape_admitted(vertices, triangles, pose, nodes) {
-        return answer::BAD_SHAPE;
-    }
-    answer::NO_ROOM
-}
+ghost use Rattle.tree_query.specs.Query.{countsAdmitted};
+ghost use Rattle.results.specs.Results.{rayFrom, rayOf, boxOf, shortOf};
+ghost use Rattle.exports.specs.Calls.{MeshCall, BuildCall, QueryCall, CheckCall, builtTold};
 
 // The mesh cast with its answer in the result slices. The list and the stack are unchanged until these and refusals 1 to 4 have let the
 // call pass.
@@ -65,8 +46,12 @@ fn told_mesh(
     index: &mut [u32],
 ) -> u32
     requires { ⌜ places ≡ length (now index) ⌝ }
-    ensures { λ r. ⌜ record { number = r; hit = now (hit .exit); index = now (index .exit) } ≡ answeredMesh (rayFrom «origin_x» «origin_y» «origin_z» «direction_x» «direction_y» «direction_z» «max_distance» «near_distance») (mesh (now (vertices .entry)) (now (triangles .entry))) (now (pose .entry)) (treeOf nodes (now («node_boxes» .entry)) (now («triangle_boxes» .entry)) (now («node_words» .entry)) (now (order .entry))) (length (now (list .entry))) (length (now (stack .entry))) (now (hit .entry)) (now (index .entry)) ⌝ }
-    ensures { λ r. ⌜ ((resultsFit (now (hit .entry)) (now (index .entry)) && testsPass (rayFrom «origin_x» «origin_y» «origin_z» «direction_x» «direction_y» «direction_z» «max_distance» «near_distance») (mesh (now (vertices .entry)) (now (triangles .entry))) (now (pose .entry)) (treeOf nodes (now («node_boxes» .entry)) (now («triangle_boxes» .entry)) (now («node_words» .entry)) (now (order .entry))) (length (now (list .entry))) (length (now (stack .entry)))) ≡ false → (now (list .exit) ≡ now (list .entry)) × (now (stack .exit) ≡ now (stack .entry))) ⌝ }
+    ensures { λ r. ⌜ MeshCall (rayFrom «origin_x» «origin_y» «origin_z» «direction_x» «direction_y» «direction_z» «max_distance»
+        «near_distance»)
+        (mesh (now (vertices .entry)) (now (triangles .entry))) (now (pose .entry))
+        (treeOf nodes (now («node_boxes» .entry)) (now («triangle_boxes» .entry)) (now («node_words» .entry)) (now (order .entry)))
+        (now (list .entry)) (now (list .exit)) (now (stack .entry)) (now (stack .exit)) (now (hit .entry)) (now (index .entry))
+        (record { number = r; hit = now (hit .exit); index = now (index .exit) }) ⌝ }
 {
     let ray = results::ray_from(
         origin_x,
@@ -79,10 +64,10 @@ fn told_mesh(
         near_distance,
     );
     if hit.len() < 4 {
-        return short_cast(ray, vertices.len(), triangles.len(), pose.len(), nodes);
+        return short::short_cast(ray, vertices.len(), triangles.len(), pose.len(), nodes);
     }
     if places < 1 {
-        return short_cast(ray, vertices.len(), triangles.len(), pose.len(), nodes);
+        return short::short_cast(ray, vertices.len(), triangles.len(), pose.len(), nodes);
     }
     let found = cast::ray_mesh(
         ray,
@@ -125,8 +110,11 @@ pub extern "C" fn probe_ray_mesh(
     hit: &mut [f64],
     index: &mut [u32],
 ) -> u32
-    ensures { λ r. ⌜ record { number = r; hit = now (hit .exit); index = now (index .exit) } ≡ answeredMesh (rayOf «origin_x» «origin_y» «origin_z» «direction_x» «direction_y» «direction_z» «max_distance») (mesh (now (vertices .entry)) (now (triangles .entry))) (now (pose .entry)) (treeOf nodes (now («node_boxes» .entry)) (now («triangle_boxes» .entry)) (now («node_words» .entry)) (now (order .entry))) (length (now (list .entry))) (length (now (stack .entry))) (now (hit .entry)) (now (index .entry)) ⌝ }
-    ensures { λ r. ⌜ ((resultsFit (now (hit .entry)) (now (index .entry)) && testsPass (rayOf «origin_x» «origin_y» «origin_z» «direction_x» «direction_y» «direction_z» «max_distance») (mesh (now (vertices .entry)) (now (triangles .entry))) (now (pose .entry)) (treeOf nodes (now («node_boxes» .entry)) (now («triangle_boxes» .entry)) (now («node_words» .entry)) (now (order .entry))) (length (now (list .entry))) (length (now (stack .entry)))) ≡ false → (now (list .exit) ≡ now (list .entry)) × (now (stack .exit) ≡ now (stack .entry))) ⌝ }
+    ensures { λ r. ⌜ MeshCall (rayOf «origin_x» «origin_y» «origin_z» «direction_x» «direction_y» «direction_z» «max_distance»)
+        (mesh (now (vertices .entry)) (now (triangles .entry))) (now (pose .entry))
+        (treeOf nodes (now («node_boxes» .entry)) (now («triangle_boxes» .entry)) (now («node_words» .entry)) (now (order .entry)))
+        (now (list .entry)) (now (list .exit)) (now (stack .entry)) (now (stack .exit)) (now (hit .entry)) (now (index .entry))
+        (record { number = r; hit = now (hit .exit); index = now (index .exit) }) ⌝ }
 {
     told_mesh(
         index.len(),
@@ -177,8 +165,12 @@ pub extern "C" fn probe_ray_mesh_near(
     hit: &mut [f64],
     index: &mut [u32],
 ) -> u32
-    ensures { λ r. ⌜ record { number = r; hit = now (hit .exit); index = now (index .exit) } ≡ answeredMesh (rayFrom «origin_x» «origin_y» «origin_z» «direction_x» «direction_y» «direction_z» «max_distance» «near_distance») (mesh (now (vertices .entry)) (now (triangles .entry))) (now (pose .entry)) (treeOf nodes (now («node_boxes» .entry)) (now («triangle_boxes» .entry)) (now («node_words» .entry)) (now (order .entry))) (length (now (list .entry))) (length (now (stack .entry))) (now (hit .entry)) (now (index .entry)) ⌝ }
-    ensures { λ r. ⌜ ((resultsFit (now (hit .entry)) (now (index .entry)) && testsPass (rayFrom «origin_x» «origin_y» «origin_z» «direction_x» «direction_y» «direction_z» «max_distance» «near_distance») (mesh (now (vertices .entry)) (now (triangles .entry))) (now (pose .entry)) (treeOf nodes (now («node_boxes» .entry)) (now («triangle_boxes» .entry)) (now («node_words» .entry)) (now (order .entry))) (length (now (list .entry))) (length (now (stack .entry)))) ≡ false → (now (list .exit) ≡ now (list .entry)) × (now (stack .exit) ≡ now (stack .entry))) ⌝ }
+    ensures { λ r. ⌜ MeshCall (rayFrom «origin_x» «origin_y» «origin_z» «direction_x» «direction_y» «direction_z» «max_distance»
+        «near_distance»)
+        (mesh (now (vertices .entry)) (now (triangles .entry))) (now (pose .entry))
+        (treeOf nodes (now («node_boxes» .entry)) (now («triangle_boxes» .entry)) (now («node_words» .entry)) (now (order .entry)))
+        (now (list .entry)) (now (list .exit)) (now (stack .entry)) (now (stack .exit)) (now (hit .entry)) (now (index .entry))
+        (record { number = r; hit = now (hit .exit); index = now (index .exit) }) ⌝ }
 {
     told_mesh(
         index.len(),
@@ -219,8 +211,11 @@ pub extern "C" fn probe_build(
     work: &mut [u32],
     nodes: &mut [usize],
 ) -> u32
-    ensures { λ r. ⌜ record { told = record { number = r; count = now (nodes .exit) }; after = areas (now («node_boxes» .exit)) (now («triangle_boxes» .exit)) (now («node_words» .exit)) (now (order .exit)) } ≡ buildTold (mesh (now (vertices .entry)) (now (triangles .entry))) (areas (now («node_boxes» .entry)) (now («triangle_boxes» .entry)) (now («node_words» .entry)) (now (order .entry))) (length (now (work .entry))) (now (nodes .entry)) ⌝ }
-    ensures { λ r. ⌜ ((leb 1 (length (now (nodes .entry))) && buildTestsPass (mesh (now (vertices .entry)) (now (triangles .entry))) (areas (now («node_boxes» .entry)) (now («triangle_boxes» .entry)) (now («node_words» .entry)) (now (order .entry))) (length (now (work .entry)))) ≡ false → now (work .exit) ≡ now (work .entry)) ⌝ }
+    ensures { λ r. ⌜ BuildCall (mesh (now (vertices .entry)) (now (triangles .entry)))
+        (areas (now («node_boxes» .entry)) (now («triangle_boxes» .entry)) (now («node_words» .entry)) (now (order .entry)))
+        (now (work .entry)) (now (work .exit)) (now (nodes .entry))
+        (builtTold r (now (nodes .exit))
+        (areas (now («node_boxes» .exit)) (now («triangle_boxes» .exit)) (now («node_words» .exit)) (now (order .exit)))) ⌝ }
 {
     if nodes.len() < 1 {
         return results::short_build(vertices.len(), triangles.len());
@@ -270,8 +265,10 @@ pub extern "C" fn probe_query(
     stack: &mut [u32],
     found: &mut [usize],
 ) -> u32
-    ensures { λ r. ⌜ record { told = record { number = r; count = now (found .exit) }; list = now (list .exit) } ≡ queryTold (boxOf «min_x» «min_y» «min_z» «max_x» «max_y» «max_z») triangles (treeOf nodes (now («node_boxes» .entry)) (now («triangle_boxes» .entry)) (now («node_words» .entry)) (now (order .entry))) (now (list .entry)) (length (now (stack .entry))) (now (found .entry)) ⌝ }
-    ensures { λ r. ⌜ ((leb 1 (length (now (found .entry))) && queryTestsPass (boxOf «min_x» «min_y» «min_z» «max_x» «max_y» «max_z») triangles (treeOf nodes (now («node_boxes» .entry)) (now («triangle_boxes» .entry)) (now («node_words» .entry)) (now (order .entry))) (length (now (list .entry))) (length (now (stack .entry)))) ≡ false → now (stack .exit) ≡ now (stack .entry)) ⌝ }
+    ensures { λ r. ⌜ QueryCall (boxOf «min_x» «min_y» «min_z» «max_x» «max_y» «max_z») triangles
+        (treeOf nodes (now («node_boxes» .entry)) (now («triangle_boxes» .entry)) (now («node_words» .entry)) (now (order .entry)))
+        (now (list .entry)) (now (stack .entry)) (now (stack .exit)) (now (found .entry))
+        (record { told = record { number = r; count = now (found .exit) }; list = now (list .exit) }) ⌝ }
 {
     let bounds = Aabb {
         min: Vec3 {
@@ -314,8 +311,9 @@ pub extern "C" fn probe_tree_check(
     order: &[u32],
     marks: &mut [u32],
 ) -> u32
-    ensures { λ r. ⌜ r ≡ toldVerdict (checkOf (mesh (now (vertices .entry)) (now (triangles .entry))) (treeOf nodes (now («node_boxes» .entry)) (now («triangle_boxes» .entry)) (now («node_words» .entry)) (now (order .entry))) (length (now (marks .entry)))) ⌝ }
-    ensures { λ r. ⌜ now (marks .exit) ≡ marksAfter (checkOf (mesh (now (vertices .entry)) (now (triangles .entry))) (treeOf nodes (now («node_boxes» .entry)) (now («triangle_boxes» .entry)) (now («node_words» .entry)) (now (order .entry))) (length (now (marks .entry)))) (now (marks .entry)) (now (marks .exit)) ⌝ }
+    ensures { λ r. ⌜ CheckCall (mesh (now (vertices .entry)) (now (triangles .entry)))
+        (treeOf nodes (now («node_boxes» .entry)) (now («triangle_boxes» .entry)) (now («node_words» .entry)) (now (order .entry)))
+        (now (marks .entry)) (now (marks .exit)) r ⌝ }
 {
     results::verdict_number(check::check(
         vertices,

@@ -1,21 +1,22 @@
 use casts::plane;
 use casts::plane::Plane;
-use casts::triangle;
 use distance_grid::grid::Grid;
 use distance_grid::grid::Sides;
-use geometry::vec3::Vec3;
 use height_field::cast;
 use height_field::field::Field;
 use level_set::walk;
+use triangle_cast::triangle;
+use vectors::vec3::Vec3;
 ghost use mathlib.Core.Path.{_≡_};
 ghost use Rattle.casts.specs.Plane.{rayPlane};
-ghost use Rattle.casts.specs.Triangle.{rayTriangle};
+ghost use Rattle.triangle_cast.specs.Triangle.{rayTriangle};
 ghost use Rattle.height_field.specs.Cast.{rayHeightField};
 ghost use Rattle.level_set.specs.Walk.{rayLevelSet};
 ghost use Rattle.results.specs.Results.{rayFrom, planeOf, cornersOf, fieldOf, gridOf, answered};
 
 // The cast by its numbers, the near distance among them: one function for both calls, so that the cast is compiled into it.
-// No two numbers stand side by side here that do so in the calls: they would be handed on by pairs, and a read of a pair waits for its two writes.
+// No two numbers stand side by side here that do so in the calls: they would be handed on by pairs, and a read of a pair waits for its two
+// writes.
 pub fn told_plane(
     origin_x: f64,
     origin_y: f64,
@@ -31,7 +32,10 @@ pub fn told_plane(
     normal_y: f64,
     hit: &mut [f64],
 ) -> u32
-    ensures { λ r. ⌜ record { number = r; hit = now (hit .exit) } ≡ answered (rayPlane (planeOf «normal_x» «normal_y» «normal_z» distance) (rayFrom «origin_x» «origin_y» «origin_z» «direction_x» «direction_y» «direction_z» «max_distance» «near_distance»)) (now (hit .entry)) ⌝ }
+    ensures { λ r. ⌜ record { number = r; hit = now (hit .exit) }
+        ≡ answered (rayPlane (planeOf «normal_x» «normal_y» «normal_z» distance)
+        (rayFrom «origin_x» «origin_y» «origin_z» «direction_x» «direction_y» «direction_z» «max_distance» «near_distance»))
+        (now (hit .entry)) ⌝ }
 {
     let ray = results::ray_from(
         origin_x,
@@ -71,7 +75,10 @@ pub extern "C" fn probe_ray_plane_near(
     distance: f64,
     hit: &mut [f64],
 ) -> u32
-    ensures { λ r. ⌜ record { number = r; hit = now (hit .exit) } ≡ answered (rayPlane (planeOf «normal_x» «normal_y» «normal_z» distance) (rayFrom «origin_x» «origin_y» «origin_z» «direction_x» «direction_y» «direction_z» «max_distance» «near_distance»)) (now (hit .entry)) ⌝ }
+    ensures { λ r. ⌜ record { number = r; hit = now (hit .exit) }
+        ≡ answered (rayPlane (planeOf «normal_x» «normal_y» «normal_z» distance)
+        (rayFrom «origin_x» «origin_y» «origin_z» «direction_x» «direction_y» «direction_z» «max_distance» «near_distance»))
+        (now (hit .entry)) ⌝ }
 {
     told_plane(
         origin_x,
@@ -112,7 +119,9 @@ pub fn told_triangle(
     c_z: f64,
     hit: &mut [f64],
 ) -> u32
-    ensures { λ r. ⌜ record { number = r; hit = now (hit .exit) } ≡ answered (rayTriangle (rayFrom «origin_x» «origin_y» «origin_z» «direction_x» «direction_y» «direction_z» «max_distance» «near_distance») (cornersOf «a_x» «a_y» «a_z» «b_x» «b_y» «b_z» «c_x» «c_y» «c_z»)) (now (hit .entry)) ⌝ }
+    ensures { λ r. ⌜ record { number = r; hit = now (hit .exit) }
+        ≡ answered (rayTriangle (rayFrom «origin_x» «origin_y» «origin_z» «direction_x» «direction_y» «direction_z» «max_distance»
+        «near_distance») (cornersOf «a_x» «a_y» «a_z» «b_x» «b_y» «b_z» «c_x» «c_y» «c_z»)) (now (hit .entry)) ⌝ }
 {
     let ray = results::ray_from(
         origin_x,
@@ -164,7 +173,9 @@ pub extern "C" fn probe_ray_triangle_near(
     c_z: f64,
     hit: &mut [f64],
 ) -> u32
-    ensures { λ r. ⌜ record { number = r; hit = now (hit .exit) } ≡ answered (rayTriangle (rayFrom «origin_x» «origin_y» «origin_z» «direction_x» «direction_y» «direction_z» «max_distance» «near_distance») (cornersOf «a_x» «a_y» «a_z» «b_x» «b_y» «b_z» «c_x» «c_y» «c_z»)) (now (hit .entry)) ⌝ }
+    ensures { λ r. ⌜ record { number = r; hit = now (hit .exit) }
+        ≡ answered (rayTriangle (rayFrom «origin_x» «origin_y» «origin_z» «direction_x» «direction_y» «direction_z» «max_distance»
+        «near_distance») (cornersOf «a_x» «a_y» «a_z» «b_x» «b_y» «b_z» «c_x» «c_y» «c_z»)) (now (hit .entry)) ⌝ }
 {
     told_triangle(
         origin_x,
@@ -205,7 +216,9 @@ pub fn told_height_field(
     heights: &[f64],
     hit: &mut [f64],
 ) -> u32
-    ensures { λ r. ⌜ record { number = r; hit = now (hit .exit) } ≡ answered (rayHeightField (rayFrom «origin_x» «origin_y» «origin_z» «direction_x» «direction_y» «direction_z» «max_distance» «near_distance») (fieldOf rows columns «spacing_x» «spacing_y») (now (heights .entry))) (now (hit .entry)) ⌝ }
+    ensures { λ r. ⌜ record { number = r; hit = now (hit .exit) }
+        ≡ answered (rayHeightField (rayFrom «origin_x» «origin_y» «origin_z» «direction_x» «direction_y» «direction_z» «max_distance»
+        «near_distance») (fieldOf rows columns «spacing_x» «spacing_y») (now (heights .entry))) (now (hit .entry)) ⌝ }
 {
     let ray = results::ray_from(
         origin_x,
@@ -244,7 +257,9 @@ pub extern "C" fn probe_ray_height_field_near(
     heights: &[f64],
     hit: &mut [f64],
 ) -> u32
-    ensures { λ r. ⌜ record { number = r; hit = now (hit .exit) } ≡ answered (rayHeightField (rayFrom «origin_x» «origin_y» «origin_z» «direction_x» «direction_y» «direction_z» «max_distance» «near_distance») (fieldOf rows columns «spacing_x» «spacing_y») (now (heights .entry))) (now (hit .entry)) ⌝ }
+    ensures { λ r. ⌜ record { number = r; hit = now (hit .exit) }
+        ≡ answered (rayHeightField (rayFrom «origin_x» «origin_y» «origin_z» «direction_x» «direction_y» «direction_z» «max_distance»
+        «near_distance») (fieldOf rows columns «spacing_x» «spacing_y») (now (heights .entry))) (now (hit .entry)) ⌝ }
 {
     told_height_field(
         origin_x,
@@ -286,7 +301,10 @@ pub fn told_level_set(
     values: &[f64],
     hit: &mut [f64],
 ) -> u32
-    ensures { λ r. ⌜ record { number = r; hit = now (hit .exit) } ≡ answered (rayLevelSet (rayFrom «origin_x» «origin_y» «origin_z» «direction_x» «direction_y» «direction_z» «max_distance» «near_distance») (gridOf «side_x» «side_y» «side_z» «grid_x» «grid_y» «grid_z» «spacing_x» «spacing_y» «spacing_z») (now (values .entry))) (now (hit .entry)) ⌝ }
+    ensures { λ r. ⌜ record { number = r; hit = now (hit .exit) }
+        ≡ answered (rayLevelSet (rayFrom «origin_x» «origin_y» «origin_z» «direction_x» «direction_y» «direction_z» «max_distance»
+        «near_distance») (gridOf «side_x» «side_y» «side_z» «grid_x» «grid_y» «grid_z» «spacing_x» «spacing_y» «spacing_z»)
+        (now (values .entry))) (now (hit .entry)) ⌝ }
 {
     let ray = results::ray_from(
         origin_x,
@@ -341,7 +359,10 @@ pub extern "C" fn probe_ray_level_set_near(
     values: &[f64],
     hit: &mut [f64],
 ) -> u32
-    ensures { λ r. ⌜ record { number = r; hit = now (hit .exit) } ≡ answered (rayLevelSet (rayFrom «origin_x» «origin_y» «origin_z» «direction_x» «direction_y» «direction_z» «max_distance» «near_distance») (gridOf «side_x» «side_y» «side_z» «grid_x» «grid_y» «grid_z» «spacing_x» «spacing_y» «spacing_z») (now (values .entry))) (now (hit .entry)) ⌝ }
+    ensures { λ r. ⌜ record { number = r; hit = now (hit .exit) }
+        ≡ answered (rayLevelSet (rayFrom «origin_x» «origin_y» «origin_z» «direction_x» «direction_y» «direction_z» «max_distance»
+        «near_distance») (gridOf «side_x» «side_y» «side_z» «grid_x» «grid_y» «grid_z» «spacing_x» «spacing_y» «spacing_z»)
+        (now (values .entry))) (now (hit .entry)) ⌝ }
 {
     told_level_set(
         origin_x,

@@ -23,8 +23,12 @@ pub extern "C" fn probe_ray_mesh_plain(
     hit: &mut [f64],
     index: &mut [u32],
 ) -> u32
-    ensures { λ r. ⌜ record { number = r; hit = now (hit .exit); index = now (index .exit) } ≡ plainTold (rayFrom «origin_x» «origin_y» «origin_z» «direction_x» «direction_y» «direction_z» «max_distance» «near_distance») (mesh (now (vertices .entry)) (now (triangles .entry))) (now (hit .entry)) (now (index .entry)) ⌝ }
-    ensures { λ r. ⌜ ToldByTrees (rayFrom «origin_x» «origin_y» «origin_z» «direction_x» «direction_y» «direction_z» «max_distance» «near_distance») (mesh (now (vertices .entry)) (now (triangles .entry))) (now (hit .entry)) (now (index .entry)) (record { number = r; hit = now (hit .exit); index = now (index .exit) }) ⌝ }
+    ensures { λ r. ⌜ record { number = r; hit = now (hit .exit); index = now (index .exit) }
+        ≡ plainTold (rayFrom «origin_x» «origin_y» «origin_z» «direction_x» «direction_y» «direction_z» «max_distance» «near_distance»)
+        (mesh (now (vertices .entry)) (now (triangles .entry))) (now (hit .entry)) (now (index .entry)) ⌝ }
+    ensures { λ r. ⌜ ToldByTrees (rayFrom «origin_x» «origin_y» «origin_z» «direction_x» «direction_y» «direction_z» «max_distance»
+        «near_distance») (mesh (now (vertices .entry)) (now (triangles .entry))) (now (hit .entry)) (now (index .entry))
+        (record { number = r; hit = now (hit .exit); index = now (index .exit) }) ⌝ }
 {
     let ray = results::ray_from(
         origin_x,

@@ -73,8 +73,12 @@ pub extern "C" fn probe_ray_height_ranges(
     highs: &[f64],
     cell: &mut [u32],
 ) -> u32
-    ensures { λ r. ⌜ record { number = r; cell = now (cell .exit) } ≡ answeredCell (rayHeightRanges (rayFrom «origin_x» «origin_y» «origin_z» «direction_x» «direction_y» «direction_z» «max_distance» «near_distance») (fieldOf rows columns «spacing_x» «spacing_y») (now (lows .entry)) (now (highs .entry))) (now (cell .entry)) ⌝ }
-    ensures { λ r. ⌜ KeepsPromise (rayFrom «origin_x» «origin_y» «origin_z» «direction_x» «direction_y» «direction_z» «max_distance» «near_distance») (fieldOf rows columns «spacing_x» «spacing_y») (now (lows .entry)) (now (highs .entry)) (now (cell .entry)) (record { number = r; cell = now (cell .exit) }) ⌝ }
+    ensures { λ r. ⌜ record { number = r; cell = now (cell .exit) }
+        ≡ answeredCell (rayHeightRanges (rayFrom «origin_x» «origin_y» «origin_z» «direction_x» «direction_y» «direction_z» «max_distance»
+        «near_distance») (fieldOf rows columns «spacing_x» «spacing_y») (now (lows .entry)) (now (highs .entry))) (now (cell .entry)) ⌝ }
+    ensures { λ r. ⌜ KeepsPromise (rayFrom «origin_x» «origin_y» «origin_z» «direction_x» «direction_y» «direction_z» «max_distance»
+        «near_distance») (fieldOf rows columns «spacing_x» «spacing_y») (now (lows .entry)) (now (highs .entry)) (now (cell .entry))
+        (record { number = r; cell = now (cell .exit) }) ⌝ }
 {
     let ray = results::ray_from(
         origin_x,

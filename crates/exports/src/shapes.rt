@@ -1,7 +1,7 @@
 use crate::near;
 ghost use mathlib.Core.Path.{_≡_};
 ghost use Rattle.casts.specs.Plane.{rayPlane};
-ghost use Rattle.casts.specs.Triangle.{rayTriangle};
+ghost use Rattle.triangle_cast.specs.Triangle.{rayTriangle};
 ghost use Rattle.height_field.specs.Cast.{rayHeightField};
 ghost use Rattle.level_set.specs.Walk.{rayLevelSet};
 ghost use Rattle.results.specs.Results.{version, rayOf, planeOf, cornersOf, fieldOf, gridOf, answered};
@@ -30,7 +30,9 @@ pub extern "C" fn probe_ray_plane(
     distance: f64,
     hit: &mut [f64],
 ) -> u32
-    ensures { λ r. ⌜ record { number = r; hit = now (hit .exit) } ≡ answered (rayPlane (planeOf «normal_x» «normal_y» «normal_z» distance) (rayOf «origin_x» «origin_y» «origin_z» «direction_x» «direction_y» «direction_z» «max_distance»)) (now (hit .entry)) ⌝ }
+    ensures { λ r. ⌜ record { number = r; hit = now (hit .exit) }
+        ≡ answered (rayPlane (planeOf «normal_x» «normal_y» «normal_z» distance)
+        (rayOf «origin_x» «origin_y» «origin_z» «direction_x» «direction_y» «direction_z» «max_distance»)) (now (hit .entry)) ⌝ }
 {
     near::told_plane(
         origin_x,
@@ -71,7 +73,9 @@ pub extern "C" fn probe_ray_triangle(
     c_z: f64,
     hit: &mut [f64],
 ) -> u32
-    ensures { λ r. ⌜ record { number = r; hit = now (hit .exit) } ≡ answered (rayTriangle (rayOf «origin_x» «origin_y» «origin_z» «direction_x» «direction_y» «direction_z» «max_distance») (cornersOf «a_x» «a_y» «a_z» «b_x» «b_y» «b_z» «c_x» «c_y» «c_z»)) (now (hit .entry)) ⌝ }
+    ensures { λ r. ⌜ record { number = r; hit = now (hit .exit) }
+        ≡ answered (rayTriangle (rayOf «origin_x» «origin_y» «origin_z» «direction_x» «direction_y» «direction_z» «max_distance»)
+        (cornersOf «a_x» «a_y» «a_z» «b_x» «b_y» «b_z» «c_x» «c_y» «c_z»)) (now (hit .entry)) ⌝ }
 {
     near::told_triangle(
         origin_x,
@@ -112,7 +116,9 @@ pub extern "C" fn probe_ray_height_field(
     heights: &[f64],
     hit: &mut [f64],
 ) -> u32
-    ensures { λ r. ⌜ record { number = r; hit = now (hit .exit) } ≡ answered (rayHeightField (rayOf «origin_x» «origin_y» «origin_z» «direction_x» «direction_y» «direction_z» «max_distance») (fieldOf rows columns «spacing_x» «spacing_y») (now (heights .entry))) (now (hit .entry)) ⌝ }
+    ensures { λ r. ⌜ record { number = r; hit = now (hit .exit) }
+        ≡ answered (rayHeightField (rayOf «origin_x» «origin_y» «origin_z» «direction_x» «direction_y» «direction_z» «max_distance»)
+        (fieldOf rows columns «spacing_x» «spacing_y») (now (heights .entry))) (now (hit .entry)) ⌝ }
 {
     near::told_height_field(
         origin_x,
@@ -154,7 +160,10 @@ pub extern "C" fn probe_ray_level_set(
     values: &[f64],
     hit: &mut [f64],
 ) -> u32
-    ensures { λ r. ⌜ record { number = r; hit = now (hit .exit) } ≡ answered (rayLevelSet (rayOf «origin_x» «origin_y» «origin_z» «direction_x» «direction_y» «direction_z» «max_distance») (gridOf «side_x» «side_y» «side_z» «grid_x» «grid_y» «grid_z» «spacing_x» «spacing_y» «spacing_z») (now (values .entry))) (now (hit .entry)) ⌝ }
+    ensures { λ r. ⌜ record { number = r; hit = now (hit .exit) }
+        ≡ answered (rayLevelSet (rayOf «origin_x» «origin_y» «origin_z» «direction_x» «direction_y» «direction_z» «max_distance»)
+        (gridOf «side_x» «side_y» «side_z» «grid_x» «grid_y» «grid_z» «spacing_x» «spacing_y» «spacing_z») (now (values .entry)))
+        (now (hit .entry)) ⌝ }
 {
     near::told_level_set(
         origin_x,

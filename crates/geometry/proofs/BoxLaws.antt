@@ -13,16 +13,16 @@ use Rattle.arithmetic.specs.Extremes.{minimumOf, maximumOf}
 use Rattle.arithmetic.proofs.Numbers.{finite-number}
 use Rattle.arithmetic.proofs.Order.{le-of-eq, le-transitive}
 use Rattle.arithmetic.proofs.ExtremesOrder.{minimum-finite, maximum-finite, minimum-below-second, maximum-above-second}
-use Rattle.geometry.specs.Numbers.{zeroᶠ}
-use Rattle.geometry.specs.Vector.{finiteVec, minOf, maxOf}
+use Rattle.vectors.specs.Numbers.{zeroᶠ}
+use Rattle.vectors.specs.Vector.{finiteVec, minOf, maxOf}
 use Rattle.geometry.specs.Box.{everySides, validSide, validBox, touchSide, touches, withinSide, encloses, sameSide, sameBox, unionOf}
 use Rattle.geometry.specs.Box.{corner, cornersBox}
 use Rattle.geometry.specs.Segment.{rayAdmitted, rangeAdmitted, unitLength, segmentEnd, segmentBox}
-use Rattle.geometry.specs.declared.vec3.Vec3.{Vec3}
+use Rattle.vectors.specs.declared.vec3.Vec3.{Vec3}
 use Rattle.geometry.specs.declared.aabb.Aabb.{Aabb}
 use Rattle.geometry.specs.declared.ray.Ray.{Ray}
 use Rattle.lists.proofs.JoinedTests.{and-both, and-first, and-second, and-three}
-use Rattle.geometry.proofs.FiniteVectors.{finite-x, finite-y, finite-z, min-finite, max-finite}
+use Rattle.vectors.proofs.FiniteVectors.{finite-x, finite-y, finite-z, min-finite, max-finite}
 
 -- ---- equal numbers are at most the same, and at least the same
 level-symmetric : (s : Bool) (a : ℕ) (t : Bool) (b : ℕ) → level s a t b ≡ true → level t b s a ≡ true

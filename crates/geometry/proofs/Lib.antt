@@ -1,6 +1,4 @@
--- Laws about the geometry's definitions. Assumes nothing.
-pub mod FiniteVectors
+-- Laws about the definitions of boxes and rays. Assumes nothing.
 pub mod BoxLaws
 pub mod UnitLength
 pub mod RangeLaws
-pub mod NormalLaws

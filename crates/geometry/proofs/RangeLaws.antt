@@ -5,7 +5,7 @@ use lib.Ieee.{Float, nan, inf, fin, ofBits, lt, le, isNan}
 use Rattle.arithmetic.specs.Basic.{isFinite}
 use Rattle.arithmetic.proofs.Order.{le-transitive, not-lt-of-le, lt-of-not-le}
 use Rattle.arithmetic.proofs.Numbers.{finite-number}
-use Rattle.geometry.specs.Numbers.{zeroᶠ}
+use Rattle.vectors.specs.Numbers.{zeroᶠ}
 use Rattle.geometry.specs.Segment.{rangeAdmitted}
 use Rattle.geometry.specs.declared.ray.Ray.{Ray}
 

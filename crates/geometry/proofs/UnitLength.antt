@@ -3,7 +3,7 @@
 -- So two squares decide, 1 - 2e-12 and 1 + 2e-12 as floats. Their roots and those of the next floats outside are computed. Assumes nothing.
 use mathlib.Core.Path.{_≡_, refl, sym, ap, _∙_, subst}
 use mathlib.Core.Bool.{Bool, true, false, not, _&&_, true≢false, and-assoc, and-false}
-use Prim.Native.Nat.{zero, suc, _≤_}
+use Prim.Native.Nat.{zero, suc}
 use native.Mathlib.Nat.{zero-lt-suc}
 use lib.IntN.{ℤ, pos}
 use lib.Dec.{T, lit≤, lt→ltb}
@@ -11,7 +11,7 @@ use lib.Ieee.{Float, nan, inf, fin, binary64, ofBits, size, units, sub, lt, le, 
 use lib.Ieee.Fits.{add-fits}
 use lib.Ieee.Bits.{is-true, ofBits-fits}
 use lib.Ieee.Positive.{positive}
-use Rattle.arithmetic.specs.Basic.{isFinite, absolute, negative}
+use Rattle.arithmetic.specs.Basic.{absolute, negative}
 use Rattle.arithmetic.specs.Root.{rootDigits, wholeRoot, rootRound, rootOf}
 use Rattle.arithmetic.proofs.DistanceFromOne.{one, fromOne, nearer-below-one, farther-above-one}
 use Rattle.arithmetic.proofs.Neighbours.{Neighbours, below-upper, above-lower}
@@ -20,13 +20,12 @@ use Rattle.arithmetic.proofs.Order.{lt-of-not-le, not-lt-of-le, le-transitive, 
 use Rattle.arithmetic.proofs.RootLaws.{root-positive, root-grows, positive-unsigned, zero-below}
 use Rattle.arithmetic.proofs.RoundedSigns.{square-not-negative, sum-not-negative}
 use Rattle.arithmetic.proofs.Signs.{zero-exp}
-use Rattle.geometry.specs.Numbers.{_+ᶠ_, _-ᶠ_, _*ᶠ_, zeroᶠ, oneᶠ, tolerance}
-use Rattle.arithmetic.proofs.RoundedNumbers.{Unbounded, no-number, infinite, square-unbounded, unbounded-sum, sum-unbounded, square-number}
-use Rattle.arithmetic.proofs.RoundedNumbers.{positive-sum-number}
-use Rattle.geometry.specs.Vector.{dotOf, lengthOf, finiteVec}
+use Rattle.vectors.specs.Numbers.{_-ᶠ_, oneᶠ, tolerance}
+use Rattle.arithmetic.proofs.RoundedNumbers.{Unbounded, no-number, infinite}
+use Rattle.vectors.specs.Vector.{dotOf, lengthOf, finiteVec}
 use Rattle.geometry.specs.Segment.{unitLength, closeToUnitLength, rangeAdmitted, rayAdmitted}
-use Rattle.geometry.proofs.FiniteVectors.{finite-x, finite-y, finite-z}
-use Rattle.geometry.specs.declared.vec3.Vec3.{Vec3}
+use Rattle.vectors.proofs.SquareLaws.{square-of-infinite, square-of-finite}
+use Rattle.vectors.specs.declared.vec3.Vec3.{Vec3}
 use Rattle.geometry.specs.declared.ray.Ray.{Ray}
 
 -- ---- the squares on both sides of the two bounds
@@ -205,41 +204,6 @@ unbounded-above : (x : Float) → Unbounded x → le x greatestSquare ≡ false
 unfolding ofBits le
 unbounded-above nan no-number = refl
 unbounded-above (inf false) infinite = refl
-
-module _ (v : Vec3) where
-  abbrev pub first-sum : Float
-  first-sum = (v .x *ᶠ v .x) +ᶠ (v .y *ᶠ v .y)
-
-  pub square-sign : (a : Float) → negative (a *ᶠ a) ≡ false
-  square-sign a = square-not-negative binary64 a
-
-  pub first-sign : negative first-sum ≡ false
-  first-sign = sum-not-negative binary64 (v .x *ᶠ v .x) (v .y *ᶠ v .y) (square-sign (v .x)) (square-sign (v .y))
-
-  -- a component that is not finite, and a square that no number bounds
-  pub square-of-infinite : finiteVec v ≡ false → Unbounded (dotOf v v)
-  unfolding finiteVec dotOf
-  square-of-infinite h = go (isFinite (v .x)) (isFinite (v .y)) (isFinite (v .z)) refl refl refl h
-    where
-      go : (a b c : Bool) → isFinite (v .x) ≡ a → isFinite (v .y) ≡ b → isFinite (v .z) ≡ c → (a && (b && c)) ≡ false → Unbounded
-          (first-sum +ᶠ (v .z *ᶠ v .z))
-      go false b c p q r h = unbounded-sum binary64 first-sum (v .z *ᶠ v .z)
-          (unbounded-sum binary64 (v .x *ᶠ v .x) (v .y *ᶠ v .y) (square-unbounded binary64 (v .x) p) (square-sign (v .y)))
-          (square-sign (v .z))
-      go true false c p q r h = unbounded-sum binary64 first-sum (v .z *ᶠ v .z)
-          (sum-unbounded binary64 (v .x *ᶠ v .x) (v .y *ᶠ v .y) (square-sign (v .x)) (square-unbounded binary64 (v .y) q))
-          (square-sign (v .z))
-      go true true false p q r h = sum-unbounded binary64 first-sum (v .z *ᶠ v .z) first-sign (square-unbounded binary64 (v .z) r)
-      go true true true p q r h = absurd (true≢false h)
-
-  -- finite components, and a square that is a number
-  pub square-of-finite : finiteVec v ≡ true → isNan (dotOf v v) ≡ false
-  unfolding dotOf
-  square-of-finite h =
-      positive-sum-number binary64 first-sum (v .z *ᶠ v .z) first-sign (square-sign (v .z))
-      (positive-sum-number binary64 (v .x *ᶠ v .x) (v .y *ᶠ v .y) (square-sign (v .x)) (square-sign (v .y))
-      (square-number binary64 (v .x) (finite-x v h)) (square-number binary64 (v .y) (finite-y v h)))
-      (square-number binary64 (v .z) (finite-z v h))
 
 -- where the square is a number, "not more than" and "within" are one
 same-at-number : (x d : Float) → Place x d → isNan x ≡ false → not (lt tolerance d) ≡ le d tolerance

@@ -6,9 +6,9 @@ use mathlib.Core.List.{List}
 use lib.Ieee.{Float, nan, le, eq}
 use lib.ListN.{getD}
 use Rattle.arithmetic.specs.Basic.{isFinite}
-use Rattle.geometry.specs.Numbers.{halfᶠ}
-use Rattle.geometry.specs.Vector.{addOf, scaleOf, minOf, maxOf}
-use Rattle.geometry.specs.declared.vec3.Vec3.{Vec3}
+use Rattle.vectors.specs.Numbers.{halfᶠ}
+use Rattle.vectors.specs.Vector.{addOf, scaleOf, minOf, maxOf}
+use Rattle.vectors.specs.declared.vec3.Vec3.{Vec3}
 use Rattle.geometry.specs.declared.aabb.Aabb.{Aabb}
 
 -- a rule of one side that holds on every axis

@@ -1,5 +1,3 @@
--- What vectors, boxes and rays mean, after document 01's 'Arithmetic under the geometry'. Definitions only. Assumes nothing.
-pub mod Numbers
-pub mod Vector
+-- What boxes and rays mean, after document 01's 'Arithmetic under the geometry'. Definitions only. Assumes nothing.
 pub mod Box
 pub mod Segment

@@ -2,9 +2,9 @@
 use mathlib.Core.Bool.{Bool, _&&_, not}
 use lib.Ieee.{Float, lt, le}
 use Rattle.arithmetic.specs.Basic.{isFinite, absolute}
-use Rattle.geometry.specs.Numbers.{_-ᶠ_, zeroᶠ, oneᶠ, tolerance}
-use Rattle.geometry.specs.Vector.{finiteVec, lengthOf, addOf, scaleOf, minOf, maxOf}
-use Rattle.geometry.specs.declared.vec3.Vec3.{Vec3}
+use Rattle.vectors.specs.Numbers.{_-ᶠ_, zeroᶠ, oneᶠ, tolerance}
+use Rattle.vectors.specs.Vector.{finiteVec, lengthOf, addOf, scaleOf, minOf, maxOf}
+use Rattle.vectors.specs.declared.vec3.Vec3.{Vec3}
 use Rattle.geometry.specs.declared.aabb.Aabb.{Aabb}
 use Rattle.geometry.specs.declared.ray.Ray.{Ray}
 

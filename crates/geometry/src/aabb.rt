@@ -1,9 +1,8 @@
-use crate::vec3::Vec3;
 use arithmetic::basic;
+use vectors::vec3::Vec3;
 ghost use mathlib.Core.Path.{_≡_};
-ghost use mathlib.Core.Bool.{true};
-ghost use Rattle.geometry.specs.Box.{validSide, validBox, touchSide, touches, withinSide, encloses, sameSide, sameBox, unionOf, centre, corner, cornersBox};
-ghost use Rattle.geometry.specs.Vector.{finiteVec};
+ghost use Rattle.geometry.specs.Box.{validSide, validBox, touchSide, touches, withinSide, encloses, sameSide, sameBox, unionOf};
+ghost use Rattle.geometry.specs.Box.{centre, cornersBox};
 
 // The box of all points from min to max on every axis.
 pub struct Aabb {
@@ -134,20 +133,6 @@ impl Aabb {
         Aabb {
             min: first.min(second).min(third),
             max: first.max(second).max(third),
-        }
-    }
-
-    // The box of three finite corners, which is valid.
-    pub fn around(corners: [Vec3; 3]) -> Aabb
-        requires { ⌜ finiteVec (corner corners 0) ≡ true ⌝ ∗ ⌜ finiteVec (corner corners 1) ≡ true ⌝ ∗ ⌜ finiteVec (corner corners 2) ≡ true ⌝ }
-        ensures { λ r. ⌜ r ≡ cornersBox corners ⌝ }
-    {
-        let first = corners[0];
-        let second = corners[1];
-        let third = corners[2];
-        Aabb {
-            min: first.least(second).least(third),
-            max: first.greatest(second).greatest(third),
         }
     }
 }

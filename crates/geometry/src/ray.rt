@@ -1,10 +1,10 @@
 use crate::aabb::Aabb;
-use crate::vec3::Vec3;
 use arithmetic::basic;
+use vectors::vec3::Vec3;
 ghost use mathlib.Core.Path.{_≡_};
 ghost use mathlib.Core.Bool.{true};
 ghost use Rattle.geometry.specs.Segment.{closeToUnitLength, rangeAdmitted, rayAdmitted, segmentEnd, segmentBox};
-ghost use Rattle.geometry.specs.Vector.{finiteVec};
+ghost use Rattle.vectors.specs.Vector.{finiteVec};
 
 pub struct Ray {
     pub origin: Vec3,
@@ -65,7 +65,7 @@ impl Ray {
         self.origin.add(self.direction.scale(self.max_distance))
     }
 
-    // The box of origin and end, for a ray whose origin is finite and whose end is known.
+    // The box of origin and end, for a ray whose origin is finite and whose end is known. Callers show both.
     pub fn segment_box(self, end: Vec3) -> Aabb
         requires { ⌜ finiteVec (self .origin) ≡ true ⌝ ∗ ⌜ end ≡ segmentEnd self ⌝ }
         ensures { λ r. ⌜ r ≡ segmentBox self ⌝ }

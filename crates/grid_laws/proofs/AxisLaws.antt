@@ -15,8 +15,8 @@ use Rattle.arithmetic.proofs.ExtremesOrder.{minimum-below-second, maximum-above
 use Rattle.arithmetic.proofs.Numbers.{finite-number}
 use Rattle.arithmetic.proofs.QuotientOrder.{between-finite}
 use Rattle.arithmetic.proofs.RoundedNumbers.{round-number, sum-number}
-use Rattle.geometry.specs.Numbers.{_+ᶠ_, _*ᶠ_, zeroᶠ}
-use Rattle.geometry.specs.Vector.{finiteVec, minOf, maxOf}
+use Rattle.vectors.specs.Numbers.{_+ᶠ_, _*ᶠ_, zeroᶠ}
+use Rattle.vectors.specs.Vector.{finiteVec, minOf, maxOf}
 use Rattle.geometry.specs.Box.{validSide, validBox}
 use Rattle.lists.proofs.JoinedTests.{and-first, and-second}
 use Rattle.grids.specs.Spacing.{spacingAdmitted}

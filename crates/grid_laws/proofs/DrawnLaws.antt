@@ -22,7 +22,7 @@ use Rattle.arithmetic.proofs.SumOrder.{nothing, sum-at-most, sum-above, differe
 use Rattle.arithmetic.proofs.SumOrder.{neg-finite}
 use Rattle.arithmetic.proofs.QuotientOrder.{Positive, positive, positive-of, between-finite, quotient-finite, product-divided}
 use Rattle.lists.proofs.JoinedTests.{and-first, and-second}
-use Rattle.geometry.specs.Numbers.{_+ᶠ_, _-ᶠ_, _*ᶠ_, _/ᶠ_, zeroᶠ}
+use Rattle.vectors.specs.Numbers.{_+ᶠ_, _-ᶠ_, _*ᶠ_, _/ᶠ_, zeroᶠ}
 use Rattle.grids.specs.Spacing.{spacingAdmitted}
 use Rattle.distance_grid.specs.Grid.{whole, lastNode}
 use Rattle.distance_grid.specs.Places.{topOf, drawnTo, drawn, placeOf, placeAt, locateAxis}

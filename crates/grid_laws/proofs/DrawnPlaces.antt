@@ -5,8 +5,8 @@ use mathlib.Core.Logic.{_⊎_, inl, inr}
 use mathlib.Core.Bool.{Bool, true, false, cond, true≢false}
 use Prim.Native.Nat.{ℕ}
 use lib.Ieee.{Float, lt}
-use Rattle.geometry.specs.Vector.{finiteVec}
-use Rattle.geometry.specs.declared.vec3.Vec3.{Vec3}
+use Rattle.vectors.specs.Vector.{finiteVec}
+use Rattle.vectors.specs.declared.vec3.Vec3.{Vec3}
 use Rattle.casts.specs.Answer.{overflow}
 use Rattle.distance_grid.specs.Grid.{lastNode}
 use Rattle.distance_grid.specs.Places.{drawn, drawnPoint, locateAxis, withPlace, locateInside, locate}

@@ -8,14 +8,14 @@ use lib.Ieee.{Float, lt, le, eq}
 use lib.ListN.{length}
 use Rattle.arithmetic.specs.Extremes.{minimumOf}
 use Rattle.geometry.specs.Box.{validBox}
-use Rattle.geometry.specs.Numbers.{zeroᶠ}
+use Rattle.vectors.specs.Numbers.{zeroᶠ}
 use Rattle.geometry.specs.Segment.{rayAdmitted}
-use Rattle.geometry.specs.Vector.{finiteVec, tryNormalize}
-use Rattle.geometry.specs.declared.vec3.Vec3.{Vec3}
-use Rattle.geometry.specs.declared.vec3.Checked.{Checked}
-use Rattle.geometry.specs.declared.vec3.Checked.the-variants.{Value, Overflow}
-use Rattle.geometry.specs.declared.vec3.Normalized.{Normalized}
-use Rattle.geometry.specs.declared.vec3.Normalized.the-variants.{Unit as UnitOf, Degenerate}
+use Rattle.vectors.specs.Vector.{finiteVec, tryNormalize}
+use Rattle.vectors.specs.declared.vec3.Vec3.{Vec3}
+use Rattle.vectors.specs.declared.vec3.Checked.{Checked}
+use Rattle.vectors.specs.declared.vec3.Checked.the-variants.{Value, Overflow}
+use Rattle.vectors.specs.declared.vec3.Normalized.{Normalized}
+use Rattle.vectors.specs.declared.vec3.Normalized.the-variants.{Unit as UnitOf, Degenerate}
 use Rattle.geometry.specs.declared.ray.Ray.{Ray}
 use Rattle.casts.specs.Answer.{Answer, hit, none, refused, withNormal, invalidInput, badShape, outOfBounds, overflow, notConvergent}
 use Rattle.cubic.specs.Roots.{firstCubicRoot}
@@ -25,8 +25,8 @@ use Rattle.distance_grid.specs.Grid.{gridAdmitted, gridBox}
 use Rattle.grid_steps.specs.Slab.{rayAabbInterval}
 use Rattle.grid_steps.specs.Cells.{rayCellIndices, nextCellBoundary}
 use Rattle.distance_grid.specs.Places.{withPlace, locateAxis, drawnPoint, locateInside, locate}
-use Rattle.distance_grid.specs.Sampling.{gathered, sampleFaces, sampleCell, withLocated, sample}
-use Rattle.distance_grid.specs.Valued.{valueOf}
+use Rattle.grid_samples.specs.Sampling.{gathered, sampleFaces, sampleCell, withLocated, sample}
+use Rattle.grid_samples.specs.Valued.{valueOf}
 use Rattle.level_set.specs.Hits.{pointAt, along, withSample, hitWith, hitAlong, touchAt, valueAlong, samplesOf, samplesAlong}
 use Rattle.level_set.specs.Walk.{Turn, done, on, goesOn, rootTurn, cellBy, cellCast, goesTo, withSamples, withBoundary}
 use Rattle.level_set.specs.Walk.{withCells, walkStep, follow, cellLimit, walkFrom, withInterval, levelSetCast, rayLevelSet}
@@ -41,10 +41,10 @@ use Rattle.distance_grid.specs.declared.places.Place.{Place}
 use Rattle.distance_grid.specs.declared.places.Place.the-variants.{At as PlaceAt, Overflow as NoPlace}
 use Rattle.distance_grid.specs.declared.places.Located.{Located}
 use Rattle.distance_grid.specs.declared.places.Located.the-variants.{At as LocatedAt, Refused as NotLocated}
-use Rattle.distance_grid.specs.declared.sampling.Sampled.{Sampled}
-use Rattle.distance_grid.specs.declared.sampling.Sampled.the-variants.{At as SampledAt, Refused as SampleRefused}
-use Rattle.distance_grid.specs.declared.valued.Valued.{Valued}
-use Rattle.distance_grid.specs.declared.valued.Valued.the-variants.{At as ValuedAt, Refused as NoValue}
+use Rattle.grid_samples.specs.declared.sampling.Sampled.{Sampled}
+use Rattle.grid_samples.specs.declared.sampling.Sampled.the-variants.{At as SampledAt, Refused as SampleRefused}
+use Rattle.grid_samples.specs.declared.valued.Valued.{Valued}
+use Rattle.grid_samples.specs.declared.valued.Valued.the-variants.{At as ValuedAt, Refused as NoValue}
 use Rattle.level_set.specs.declared.hits.Samples.{Samples}
 use Rattle.level_set.specs.declared.hits.Samples.the-variants.{All, Refused as SamplesRefused}
 

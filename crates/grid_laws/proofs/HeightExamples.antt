@@ -9,17 +9,17 @@ use Rattle.arithmetic.specs.Basic.{isFinite, absolute, clampTo}
 use Rattle.arithmetic.specs.Extremes.{minimumOf, maximumOf}
 use Rattle.arithmetic.specs.Root.{rootDigits, wholeRoot, rootRound, rootOf}
 use Rattle.arithmetic.specs.Rounding.{wholeBy, floorOf}
-use Rattle.geometry.specs.Numbers.{zeroᶠ, oneᶠ}
+use Rattle.vectors.specs.Numbers.{zeroᶠ, oneᶠ}
 use Rattle.arithmetic.specs.Scaling.{unit, digitsOf, scaledBy}
-use Rattle.geometry.specs.Vector.{finiteVec, addOf, subOf, negOf, scaleOf, minOf, maxOf, absOf, maxElement, dotOf, checkedDot, crossOf}
-use Rattle.geometry.specs.Vector.{lengthOf, normalizable, zeroVec, dotTells, scaledToOne, overLength, tryNormalize}
+use Rattle.vectors.specs.Vector.{finiteVec, addOf, subOf, negOf, scaleOf, minOf, maxOf, absOf, maxElement, dotOf, checkedDot, crossOf}
+use Rattle.vectors.specs.Vector.{lengthOf, normalizable, zeroVec, dotTells, scaledToOne, overLength, tryNormalize}
 use Rattle.geometry.specs.Box.{validSide, validBox, touchSide, touches, cornersBox}
 use Rattle.geometry.specs.Segment.{unitLength, rayAdmitted, segmentEnd, segmentBox}
 use Rattle.geometry.specs.declared.ray.Ray.{Ray}
 use Rattle.casts.specs.Answer.{hit, none, refused}
 use Rattle.casts.specs.Surface.{outOfRange, facing}
-use Rattle.casts.specs.Triangle.{flat, triangleNormal, triangleAbove, triangleAt, triangleOf}
-use Rattle.casts.specs.Nearest.{nextOf, foldFrom, withoutIndex}
+use Rattle.triangle_cast.specs.Triangle.{flat, triangleNormal, triangleAbove, triangleAt, triangleOf}
+use Rattle.nearest_hit.specs.Nearest.{nextOf, foldFrom, withoutIndex}
 use Rattle.height_field.specs.declared.field.Field.{Field}
 use Rattle.grids.specs.Spacing.{spacingAdmitted}
 use Rattle.height_field.specs.Grid.{sideAdmitted, fieldAdmitted, floatOf, vertexAt, cellAt, cellRow, cellColumn, cornersAt, featureCorners}

@@ -7,10 +7,12 @@ use Rattle.geometry.specs.Segment.{rayAdmitted}
 use Rattle.geometry.specs.declared.aabb.Aabb.{Aabb}
 use Rattle.geometry.specs.declared.ray.Ray.{Ray}
 use Rattle.casts.specs.Answer.{Answer, refused, invalidInput, badShape, overflow}
-use Rattle.casts.specs.Nearest.{nearestOf}
+use Rattle.nearest_hit.specs.Nearest.{nearestOf}
 use Rattle.casts.proofs.AnswerLists.{OfHit}
 use Rattle.casts.proofs.SegmentBoxLaws.{segment-such}
-use Rattle.casts.proofs.HitLaws.{Measured, of-refused, of-cond, triangle-hit-measured, nearest-such, without-index-such}
+use Rattle.casts.proofs.HitLaws.{Measured, of-refused, of-cond}
+use Rattle.triangle_cast.proofs.TriangleHits.{triangle-hit-measured}
+use Rattle.nearest_hit.proofs.IndexedHits.{nearest-such, without-index-such}
 use Rattle.height_field.specs.declared.field.Field.{Field}
 use Rattle.height_field.specs.Grid.{fieldAdmitted}
 use Rattle.height_field.specs.Listing.{Listing, listed, unlisted, gridListing}

@@ -11,10 +11,10 @@ use Rattle.arithmetic.specs.Extremes.{minimumOf, maximumOf}
 use Rattle.arithmetic.specs.Ordering.{totalOrder}
 use Rattle.arithmetic.specs.Root.{rootOf, rootRound, wholeRoot, rootDigits}
 use Rattle.arithmetic.specs.Rounding.{wholeBy, floorOf, roundOf}
-use Rattle.geometry.specs.Numbers.{_/ᶠ_, zeroᶠ, oneᶠ, halfᶠ}
+use Rattle.vectors.specs.Numbers.{_/ᶠ_, zeroᶠ, oneᶠ, halfᶠ}
 use Rattle.arithmetic.specs.Scaling.{unit, digitsOf, scaledBy}
-use Rattle.geometry.specs.Vector.{finiteVec, addOf, scaleOf, minOf, maxOf, dotOf, lengthOf, normalizable, zeroVec, dotTells, scaledToOne}
-use Rattle.geometry.specs.Vector.{overLength, tryNormalize}
+use Rattle.vectors.specs.Vector.{finiteVec, addOf, scaleOf, minOf, maxOf, dotOf, lengthOf, normalizable, zeroVec, dotTells, scaledToOne}
+use Rattle.vectors.specs.Vector.{overLength, tryNormalize}
 use Rattle.geometry.specs.Box.{validSide, validBox}
 use Rattle.geometry.specs.Segment.{unitLength, rayAdmitted}
 use Rattle.grids.specs.Spacing.{spacingAdmitted}
@@ -24,16 +24,16 @@ use Rattle.grid_steps.specs.Cells.{slack, leavesNode, wholeCell, cellAt, cellOn
 use Rattle.grid_steps.specs.Cells.{boundaryDistance, boundaryBy, axisBoundary, nextCellBoundary}
 use Rattle.distance_grid.specs.Places.{upTo, floorCell, topOf, drawnTo, drawn, drawnPoint, cellBelow, placeOf, placeAt, locateAxis}
 use Rattle.distance_grid.specs.Places.{locateInside, locate}
-use Rattle.distance_grid.specs.Faces.{valueAt, faceAt}
-use Rattle.distance_grid.specs.Steps.{checked, blend, lerp, checkedDifference, over, lerpFace, valueOn, slopeOn}
-use Rattle.distance_grid.specs.Sampling.{gathered, sampleFaces, sampleCell, sample}
+use Rattle.grid_samples.specs.Faces.{valueAt, faceAt}
+use Rattle.grid_samples.specs.Steps.{checked, blend, lerp, checkedDifference, over, lerpFace, valueOn, slopeOn}
+use Rattle.grid_samples.specs.Sampling.{gathered, sampleFaces, sampleCell, sample}
 use Rattle.cubic.specs.Polynomial.{twoᶠ, threeᶠ, cubicBy, cubicOf, finiteCubic, evaluate, rootTolerance}
 use Rattle.cubic.specs.Turns.{betweenEnds, keptPoint, keptPoints, vertex, turningBy, turningPoints, extrema}
 use Rattle.cubic.specs.Halving.{middleOf, halveAt, halve, halvings, settled}
 use Rattle.cubic.specs.Roots.{insert, sorted, points, rootBetween, searchOn, searchFrom, searchList, rootOfCubic, firstCubicRoot}
 use Rattle.level_set.specs.Hits.{pointAt, along, hitWith, hitAlong, touchAt, valueAlong, samplesOf, samplesAlong}
 use Rattle.level_set.specs.Walk.{goesOn, cellBy, cellCast, goesTo, walkStep, cellLimit, walkFrom, levelSetCast, rayLevelSet}
-use Rattle.geometry.specs.declared.vec3.Vec3.{Vec3}
+use Rattle.vectors.specs.declared.vec3.Vec3.{Vec3}
 use Rattle.geometry.specs.declared.ray.Ray.{Ray}
 use Rattle.casts.specs.Answer.{Answer, hit, none}
 use Rattle.distance_grid.specs.declared.grid.Grid.{Grid}

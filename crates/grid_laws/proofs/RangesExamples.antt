@@ -8,8 +8,8 @@ use Rattle.arithmetic.specs.Basic.{isFinite, absolute, clampTo}
 use Rattle.arithmetic.specs.Extremes.{minimumOf, maximumOf}
 use Rattle.arithmetic.specs.Root.{rootDigits, wholeRoot, rootRound, rootOf}
 use Rattle.arithmetic.specs.Rounding.{wholeBy, floorOf}
-use Rattle.geometry.specs.Numbers.{zeroᶠ, oneᶠ}
-use Rattle.geometry.specs.Vector.{finiteVec, addOf, subOf, scaleOf, minOf, maxOf, dotOf, lengthOf}
+use Rattle.vectors.specs.Numbers.{zeroᶠ, oneᶠ}
+use Rattle.vectors.specs.Vector.{finiteVec, addOf, subOf, scaleOf, minOf, maxOf, dotOf, lengthOf}
 use Rattle.geometry.specs.Box.{validSide, validBox, touchSide, touches, cornersBox}
 use Rattle.geometry.specs.Segment.{unitLength, rayAdmitted, segmentEnd, segmentBox}
 use Rattle.geometry.specs.declared.ray.Ray.{Ray}

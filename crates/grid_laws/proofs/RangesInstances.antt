@@ -3,7 +3,7 @@ use mathlib.Core.Path.{_≡_, ap}
 use mathlib.Core.List.{List}
 use lib.Ieee.{Float}
 use lib.ListN.{getD}
-use Rattle.geometry.specs.Numbers.{zeroᶠ}
+use Rattle.vectors.specs.Numbers.{zeroᶠ}
 use Rattle.casts.specs.Answer.{none}
 use Rattle.height_field.specs.Cast.{rayHeightField}
 use Rattle.height_ranges.specs.declared.answer.Clearance.{Clearance}

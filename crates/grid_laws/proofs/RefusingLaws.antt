@@ -8,10 +8,10 @@ use lib.Ieee.{Float, lt, le, eq}
 use lib.ListN.{length}
 use Rattle.arithmetic.specs.Extremes.{minimumOf}
 use Rattle.geometry.specs.Box.{validBox}
-use Rattle.geometry.specs.Numbers.{zeroᶠ, oneᶠ}
+use Rattle.vectors.specs.Numbers.{zeroᶠ, oneᶠ}
 use Rattle.geometry.specs.Segment.{rayAdmitted}
-use Rattle.geometry.specs.Vector.{finiteVec}
-use Rattle.geometry.specs.declared.vec3.Vec3.{Vec3}
+use Rattle.vectors.specs.Vector.{finiteVec}
+use Rattle.vectors.specs.declared.vec3.Vec3.{Vec3}
 use Rattle.geometry.specs.declared.ray.Ray.{Ray}
 use Rattle.casts.specs.Answer.{Answer, none, refused, outOfBounds}
 use Rattle.cubic.specs.Roots.{firstCubicRoot}
@@ -21,8 +21,8 @@ use Rattle.distance_grid.specs.Grid.{lastNode, lastCorner, gridAdmitted, gridBo
 use Rattle.grid_steps.specs.Slab.{rayAabbInterval}
 use Rattle.grid_steps.specs.Cells.{rayCellIndices, nextCellBoundary}
 use Rattle.distance_grid.specs.Places.{drawnTo, drawn, drawnPoint, locateInside, locate}
-use Rattle.distance_grid.specs.Sampling.{withLocated, sampleCell, sample}
-use Rattle.distance_grid.specs.Valued.{valueOf}
+use Rattle.grid_samples.specs.Sampling.{withLocated, sampleCell, sample}
+use Rattle.grid_samples.specs.Valued.{valueOf}
 use Rattle.level_set.specs.Hits.{pointAt, along, withSample, hitWith, hitAlong, touchAt, valueAlong, third, twoThirds, samplesOf}
 use Rattle.level_set.specs.Hits.{samplesAlong}
 use Rattle.level_set.specs.Walk.{Turn, done, on, rootTurn, cellBy, cellCast, goesTo, withSamples, withBoundary, withCells}
@@ -38,10 +38,10 @@ use Rattle.grid_steps.specs.declared.cells.Boundary.{Boundary}
 use Rattle.grid_steps.specs.declared.cells.Boundary.the-variants.{At as BoundaryAt, Overflow as NoBoundary}
 use Rattle.distance_grid.specs.declared.places.Located.{Located}
 use Rattle.distance_grid.specs.declared.places.Located.the-variants.{Refused as NotLocated}
-use Rattle.distance_grid.specs.declared.sampling.Sampled.{Sampled}
-use Rattle.distance_grid.specs.declared.sampling.Sampled.the-variants.{Refused as SampleRefused}
-use Rattle.distance_grid.specs.declared.valued.Valued.{Valued}
-use Rattle.distance_grid.specs.declared.valued.Valued.the-variants.{At as ValuedAt, Refused as NoValue}
+use Rattle.grid_samples.specs.declared.sampling.Sampled.{Sampled}
+use Rattle.grid_samples.specs.declared.sampling.Sampled.the-variants.{Refused as SampleRefused}
+use Rattle.grid_samples.specs.declared.valued.Valued.{Valued}
+use Rattle.grid_samples.specs.declared.valued.Valued.the-variants.{At as ValuedAt, Refused as NoValue}
 use Rattle.level_set.specs.declared.hits.Samples.{Samples}
 use Rattle.level_set.specs.declared.hits.Samples.the-variants.{All, Refused as SamplesRefused}
 

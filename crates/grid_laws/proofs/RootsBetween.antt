@@ -7,7 +7,7 @@ use lib.Ieee.{Float, nan, le}
 use lib.ListN.{getD}
 use Rattle.arithmetic.specs.Basic.{absolute, signPositive}
 use Rattle.arithmetic.specs.Ordering.{totalOrder}
-use Rattle.geometry.specs.Numbers.{zeroᶠ, oneᶠ}
+use Rattle.vectors.specs.Numbers.{zeroᶠ, oneᶠ}
 use Rattle.cubic.specs.Polynomial.{cubicOf, finiteCubic, evaluate, rootTolerance}
 use Rattle.cubic.specs.Turns.{extrema, AllBetween, none-left, one-more}
 use Rattle.cubic.specs.Halving.{middleOf, halveAt, halve, halvings, settled}

@@ -19,7 +19,7 @@ use Rattle.arithmetic.proofs.SignedOrder.{plus, less}
 use Rattle.arithmetic.proofs.SumOrder.{nothing, upper, lower, under, le-parts, neg-finite, sum-at-most, sum-at-least}
 use Rattle.arithmetic.proofs.SumOrder.{difference-not-negative}
 use Rattle.cubic.proofs.UnitLaws.{Below, below}
-use Rattle.geometry.specs.Numbers.{_+ᶠ_, _-ᶠ_, _*ᶠ_}
+use Rattle.vectors.specs.Numbers.{_+ᶠ_, _-ᶠ_, _*ᶠ_}
 use Rattle.level_set.specs.Hits.{along}
 
 nothing-finite : isFinite nothing ≡ true

@@ -5,8 +5,8 @@ use mathlib.Core.Path.{_≡_}
 use lib.Dec.{T}
 use lib.Ieee.{Float, binary64, fits, lt, le}
 use Rattle.arithmetic.specs.Basic.{isFinite}
-use Rattle.geometry.specs.Numbers.{_-ᶠ_, _/ᶠ_}
-use Rattle.geometry.specs.declared.vec3.Vec3.{Vec3}
+use Rattle.vectors.specs.Numbers.{_-ᶠ_, _/ᶠ_}
+use Rattle.vectors.specs.declared.vec3.Vec3.{Vec3}
 use Rattle.grids.specs.Spacing.{spacingAdmitted}
 use Rattle.distance_grid.specs.Grid.{SideStands, lastNode}
 use Rattle.distance_grid.specs.Places.{drawn, locateAxis}

@@ -7,10 +7,10 @@ use lib.Ieee.{Float, lt, le, eq}
 use lib.ListN.{length}
 use Rattle.arithmetic.specs.Extremes.{minimumOf}
 use Rattle.geometry.specs.Box.{validBox}
-use Rattle.geometry.specs.Numbers.{zeroᶠ, oneᶠ}
+use Rattle.vectors.specs.Numbers.{zeroᶠ, oneᶠ}
 use Rattle.geometry.specs.Segment.{rayAdmitted}
-use Rattle.geometry.specs.Vector.{finiteVec}
-use Rattle.geometry.specs.declared.vec3.Vec3.{Vec3}
+use Rattle.vectors.specs.Vector.{finiteVec}
+use Rattle.vectors.specs.declared.vec3.Vec3.{Vec3}
 use Rattle.geometry.specs.declared.ray.Ray.{Ray}
 use Rattle.casts.specs.Answer.{Answer, none, refused, invalidInput, badShape, outOfBounds, overflow, notConvergent}
 use Rattle.cubic.specs.Roots.{firstCubicRoot}
@@ -20,15 +20,15 @@ use Rattle.distance_grid.specs.Grid.{lastCorner, gridAdmitted, gridBox}
 use Rattle.grid_steps.specs.Slab.{rayAabbInterval}
 use Rattle.grid_steps.specs.Cells.{rayCellIndices, nextCellBoundary}
 use Rattle.distance_grid.specs.Places.{locateInside}
-use Rattle.distance_grid.specs.Sampling.{withLocated, sampleCell}
-use Rattle.distance_grid.specs.Valued.{valueOf}
+use Rattle.grid_samples.specs.Sampling.{withLocated, sampleCell}
+use Rattle.grid_samples.specs.Valued.{valueOf}
 use Rattle.level_set.specs.Hits.{pointAt, along, withSample, hitWith, third, twoThirds, samplesOf}
 use Rattle.level_set.specs.Walk.{Turn, done, goesOn, withSamples, withBoundary, withCells, follow, cellLimit, withInterval}
 use Rattle.distance_grid.specs.declared.grid.Grid.{Grid}
 use Rattle.distance_grid.specs.declared.places.Located.{Located}
 use Rattle.distance_grid.specs.declared.places.Located.the-variants.{Refused}
-use Rattle.distance_grid.specs.declared.sampling.Sampled.{Sampled}
-use Rattle.distance_grid.specs.declared.valued.Valued.{Valued}
+use Rattle.grid_samples.specs.declared.sampling.Sampled.{Sampled}
+use Rattle.grid_samples.specs.declared.valued.Valued.{Valued}
 use Rattle.level_set.specs.declared.hits.Samples.{Samples}
 
 -- ---- the sample that refuses

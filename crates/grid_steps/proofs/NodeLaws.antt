@@ -10,7 +10,7 @@ use borrow.Author.Tests.{ltb-true}
 use Rattle.arithmetic.specs.Rounding.{roundOf, wholeBy, tiesAway, wholeOf}
 use Rattle.arithmetic.proofs.Casts.{cast-of-value, none}
 use Rattle.arithmetic.proofs.WholeNumbers.{roundOf-value}
-use Rattle.geometry.specs.Numbers.{zeroᶠ}
+use Rattle.vectors.specs.Numbers.{zeroᶠ}
 
 positive-cast : (y : Float) (s : Bool) (n : ℕ) → HasValue y s n 1 → lt none y ≡ true → 0 < wholeOf y
 unfolding lt

@@ -5,8 +5,8 @@ use lib.Ieee.{Float, binary64, ofBits, lt, le, eq}
 use Rattle.arithmetic.specs.Basic.{isFinite, absolute}
 use Rattle.arithmetic.specs.Extremes.{minimumOf, maximumOf}
 use Rattle.arithmetic.specs.Rounding.{roundOf, wholeOf}
-use Rattle.geometry.specs.Numbers.{_+ᶠ_, _-ᶠ_, _*ᶠ_, _/ᶠ_, zeroᶠ, oneᶠ, epsilon}
-use Rattle.geometry.specs.declared.vec3.Vec3.{Vec3}
+use Rattle.vectors.specs.Numbers.{_+ᶠ_, _-ᶠ_, _*ᶠ_, _/ᶠ_, zeroᶠ, oneᶠ, epsilon}
+use Rattle.vectors.specs.declared.vec3.Vec3.{Vec3}
 use Rattle.distance_grid.specs.Grid.{whole}
 use Rattle.distance_grid.specs.Places.{upTo, floorCell}
 use Rattle.distance_grid.specs.declared.grid.Grid.{Grid}

@@ -4,7 +4,7 @@ use mathlib.Core.Bool.{cond}
 use lib.Ieee.{Float, le, lt}
 use Rattle.arithmetic.specs.Basic.{absolute}
 use Rattle.arithmetic.specs.Extremes.{minimumOf, maximumOf}
-use Rattle.geometry.specs.Numbers.{_-ᶠ_, _/ᶠ_, zeroᶠ, minPositive}
+use Rattle.vectors.specs.Numbers.{_-ᶠ_, _/ᶠ_, zeroᶠ, minPositive}
 use Rattle.geometry.specs.declared.aabb.Aabb.{Aabb}
 use Rattle.geometry.specs.declared.ray.Ray.{Ray}
 use Rattle.grid_steps.specs.declared.interval.Interval.{Interval}

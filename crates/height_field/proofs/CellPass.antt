@@ -8,22 +8,39 @@ use native.Mathlib.Numerals.{add-one}
 use native.Mathlib.Omega.{arith}
 use lib.Dec.{eqb}
 use lib.Ieee.{Float}
-use Rattle.geometry.specs.Vector.{finiteVec}
-use Rattle.geometry.specs.Box.{validBox, touches}
-use Rattle.geometry.specs.declared.vec3.Vec3.{Vec3}
+use Rattle.vectors.specs.Vector.{finiteVec, minOf, maxOf}
+use Rattle.arithmetic.specs.Extremes.{minimumOf, maximumOf}
+use Rattle.geometry.specs.Box.{validBox, touchSide, touches, corner, cornersBox}
+use Rattle.vectors.specs.declared.vec3.Vec3.{Vec3}
 use Rattle.geometry.specs.declared.aabb.Aabb.{Aabb}
 use Rattle.geometry.specs.declared.ray.Ray.{Ray}
 use Rattle.lists.proofs.JoinedTests.{and-first, and-second}
 use Rattle.geometry.proofs.BoxLaws.{corners-box-valid}
-use Rattle.casts.specs.Answer.{Answer, outOfBounds, overflow}
-use Rattle.casts.specs.Nearest.{Indexed, nextOf, foldFrom}
+use Rattle.casts.specs.Answer.{Answer, hit, none, refused, outOfBounds, overflow}
+use Rattle.nearest_hit.specs.Nearest.{Indexed, hitAt, noHit, stopped, nextOf, givesWay, foldFrom}
 use Rattle.height_field.specs.declared.field.Field.{Field}
 use Rattle.height_field.specs.Grid.{cellAt, cellRow, cellColumn, cornersAt, featureCorners}
 use Rattle.height_field.specs.Listing.{listed, unlisted, allFinite, cellFinite, featureBox, listCell}
 use Rattle.lists.specs.Lists.{keep}
 use Rattle.height_field.specs.Cast.{answerOf}
-use Rattle.height_field.specs.Pass.{Passed, going, ended, passFrom, FiniteCorners, halfOf, passTriangle, passTriangles}
+use Rattle.height_field.specs.Pass.{Passed, going, ended, passFrom, FiniteCorners, NearCorners, isStopped, nearerOf}
+use Rattle.height_field.specs.Pass.{halfOf, passTriangle, passTriangles}
 use Rattle.height_field.proofs.Sizes.{row-of-cell, column-of-cell}
+
+-- ---- one triangle
+
+-- its answer on top of what was found is its answer alone, compared with what was found
+pub nearer-next : (best : Indexed) (index : ℕ) (x : Answer) → nearerOf best (nextOf noHit index x) ≡ nextOf best index x
+unfolding nearerOf nextOf givesWay isStopped
+nearer-next (hitAt n d i) index (hit normal distance) = refl
+nearer-next (hitAt n d i) index none = refl
+nearer-next (hitAt n d i) index (refused number) = refl
+nearer-next noHit index (hit normal distance) = refl
+nearer-next noHit index none = refl
+nearer-next noHit index (refused number) = refl
+nearer-next (stopped k) index (hit normal distance) = refl
+nearer-next (stopped k) index none = refl
+nearer-next (stopped k) index (refused number) = refl
 
 -- ---- two triangles
 
@@ -81,14 +98,26 @@ either-finite : (which : Bool) (lower upper : List Vec3) → FiniteCorners lower
 either-finite true lower upper p q = p
 either-finite false lower upper p q = q
 
-pub half-finite : (lower upper : List Vec3) (triangle : ℕ) → FiniteCorners lower → FiniteCorners upper → FiniteCorners
+pub half-near : (box : Aabb) (lower upper : List Vec3) (triangle : ℕ) → NearCorners box lower → NearCorners box upper → NearCorners box
     (halfOf lower upper triangle)
 unfolding halfOf
-half-finite lower upper triangle = either-finite (eqb triangle 0) lower upper
+half-near box lower upper triangle = go (eqb triangle 0)
+  where
+    go : (which : Bool) → NearCorners box lower → NearCorners box upper → NearCorners box (cond which lower upper)
+    go true p q = p
+    go false p q = q
+
+-- where the corners' box touches on x and y, z decides
+pub z-decides : (box : Aabb) (vs : List Vec3) → NearCorners box vs
+    → touches (cornersBox vs) box
+    ≡ touchSide (minimumOf (minimumOf (corner vs 0 .z) (corner vs 1 .z)) (corner vs 2 .z))
+    (maximumOf (maximumOf (corner vs 0 .z) (corner vs 1 .z)) (corner vs 2 .z)) (box .min .z) (box .max .z)
+unfolding touches cornersBox minOf maxOf
+z-decides box vs near = rw (near .across, near .along)
 
 -- the corners of a cell's triangles are among its vertices
 module _ (v00 v10 v01 v11 : Vec3) (finite : allFinite v00 v10 v01 v11 ≡ true) where
-  each-finite : (finiteVec v00 ≡ true) × ((finiteVec v10 ≡ true) × ((finiteVec v01 ≡ true) × (finiteVec v11 ≡ true)))
+  pub each-finite : (finiteVec v00 ≡ true) × ((finiteVec v10 ≡ true) × ((finiteVec v01 ≡ true) × (finiteVec v11 ≡ true)))
   unfolding allFinite
   each-finite =
       let a = finiteVec v00 in
@@ -133,7 +162,7 @@ module _ (f : Field) (heights : List Float) (row column : ℕ) (within : column 
       ∙ ap (λ (n : ℕ). cornersAt f heights row n (feature % 2)) (column-of-cell f row column within)
       ∙ ap (λ (n : ℕ). cornersAt f heights row column n) which
 
-  finite-cell : cellFinite f heights (cellRow f (cellAt f row column)) (cellColumn f (cellAt f row column)) ≡ cellFinite f heights row
+  pub finite-cell : cellFinite f heights (cellRow f (cellAt f row column)) (cellColumn f (cellAt f row column)) ≡ cellFinite f heights row
       column
   finite-cell =
       ap (λ (n : ℕ). cellFinite f heights n (cellColumn f (cellAt f row column))) (row-of-cell f row column within)
@@ -160,3 +189,12 @@ module _ (f : Field) (heights : List Float) (row column : ℕ) (within : column 
       ∙ ap (λ (l : List Vec3). whole (cellFinite f heights row column) (cornersAt f heights row column 0) l) upper
       ∙ ap (λ (found : Indexed). cond (cellFinite f heights row column) (going found) (ended overflow))
       (sym (both-triangles ray box (cornersAt f heights row column 0) (cornersAt f heights row column 1) (cell * 2) best))
+
+  pub pass-of-finite : (ray : Ray) (box : Aabb) (best : Indexed) → cellFinite f heights row column ≡ true
+      → going (passTriangles ray box (cornersAt f heights row column 0) (cornersAt f heights row column 1) (cellAt f row column * 2) best 2)
+      ≡ passFrom (answerOf ray f heights) best (listCell f heights box (cellAt f row column))
+  pass-of-finite ray box best finite = rw (pass-of-cell ray box best, finite)
+
+  pub pass-of-infinite : (ray : Ray) (box : Aabb) (best : Indexed) → cellFinite f heights row column ≡ false
+      → ended overflow ≡ passFrom (answerOf ray f heights) best (listCell f heights box (cellAt f row column))
+  pass-of-infinite ray box best infinite = rw (pass-of-cell ray box best, infinite)

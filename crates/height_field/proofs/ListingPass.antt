@@ -5,13 +5,13 @@ use mathlib.Core.Bool.{true, cond}
 use mathlib.Core.List.{List, [], _∷_, _++_, map, append-assoc}
 use native.Mathlib.Omega.{arith}
 use lib.Ieee.{Float}
-use Rattle.geometry.specs.Vector.{finiteVec}
+use Rattle.vectors.specs.Vector.{finiteVec}
 use Rattle.geometry.specs.Segment.{rayAdmitted, segmentEnd, segmentBox}
-use Rattle.geometry.specs.declared.vec3.Vec3.{Vec3}
+use Rattle.vectors.specs.declared.vec3.Vec3.{Vec3}
 use Rattle.geometry.specs.declared.ray.Ray.{Ray}
 use Rattle.geometry.proofs.BoxLaws.{segment-box-valid}
 use Rattle.casts.specs.Answer.{Answer, refused, overflow}
-use Rattle.casts.specs.Nearest.{Indexed, noHit, nextOf, foldFrom}
+use Rattle.nearest_hit.specs.Nearest.{Indexed, noHit, nextOf, foldFrom}
 use Rattle.height_field.specs.declared.field.Field.{Field}
 use Rattle.height_field.specs.Grid.{cellAt}
 use Rattle.height_field.specs.Cells.{run, gridCells}

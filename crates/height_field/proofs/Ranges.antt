@@ -7,10 +7,10 @@ use native.Mathlib.Nat.{min-le-right}
 use lib.Ieee.{Float, lt}
 use Rattle.arithmetic.specs.Basic.{isFinite, clampTo}
 use Rattle.arithmetic.specs.Rounding.{floorOf, wholeOf}
-use Rattle.geometry.specs.Numbers.{_/ᶠ_, zeroᶠ}
+use Rattle.vectors.specs.Numbers.{_/ᶠ_, zeroᶠ}
 use Rattle.geometry.specs.declared.aabb.Aabb.{Aabb}
 use Rattle.geometry.specs.declared.ray.Ray.{Ray}
-use Rattle.casts.specs.Nearest.{noHit}
+use Rattle.nearest_hit.specs.Nearest.{noHit}
 use Rattle.height_field.specs.declared.field.Field.{Field}
 use Rattle.height_field.specs.declared.cells.CellRange.{CellRange}
 use Rattle.height_field.specs.declared.cells.CellRange.the-variants.{Outside, Cells}

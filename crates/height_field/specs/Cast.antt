@@ -9,8 +9,8 @@ use Rattle.geometry.specs.declared.aabb.Aabb.{Aabb}
 use Rattle.geometry.specs.declared.ray.Ray.{Ray}
 use Rattle.casts.specs.Answer.{Answer, refused, invalidInput, badShape, overflow}
 use Rattle.casts.specs.SegmentBox.{withSegmentBox}
-use Rattle.casts.specs.Triangle.{triangleCast}
-use Rattle.casts.specs.Nearest.{nearestOf, withoutIndex}
+use Rattle.triangle_cast.specs.Triangle.{triangleCast}
+use Rattle.nearest_hit.specs.Nearest.{nearestOf, withoutIndex}
 use Rattle.height_field.specs.declared.field.Field.{Field}
 use Rattle.height_field.specs.Grid.{fieldAdmitted, featureCorners}
 use Rattle.height_field.specs.Cells.{spanOf}

@@ -5,7 +5,7 @@ use mathlib.Core.List.{List, [], _∷_, _++_, map}
 use lib.Ieee.{Float, lt}
 use Rattle.arithmetic.specs.Basic.{isFinite, clampTo}
 use Rattle.arithmetic.specs.Rounding.{floorOf, wholeOf}
-use Rattle.geometry.specs.Numbers.{_*ᶠ_, _/ᶠ_, zeroᶠ}
+use Rattle.vectors.specs.Numbers.{_*ᶠ_, _/ᶠ_, zeroᶠ}
 use Rattle.geometry.specs.declared.aabb.Aabb.{Aabb}
 use Rattle.height_field.specs.declared.field.Field.{Field}
 use Rattle.height_field.specs.declared.cells.CellRange.{CellRange}

@@ -31,7 +31,7 @@ fn one_before(n: usize) -> usize
     0
 }
 
-// The range between two positions in cells, starting one cell early.
+// The range between two positions in cells, starting one cell early. The cast cuts the fraction off, so that no floor is taken before it.
 fn scaled_range(low: f64, high: f64, last: usize) -> CellRange
     ensures { λ r. ⌜ r ≡ scaledRange low high last ⌝ }
 {
@@ -41,8 +41,8 @@ fn scaled_range(low: f64, high: f64, last: usize) -> CellRange
     if !basic::is_finite(high) {
         return CellRange::Outside;
     }
-    let first = one_before(rounding::to_u64(rounding::floor(low)) as usize);
-    let end = lesser(rounding::to_u64(rounding::floor(high)) as usize, last);
+    let first = one_before(rounding::to_u64(low) as usize);
+    let end = lesser(rounding::to_u64(high) as usize, last);
     CellRange::Cells {
         first: lesser(first, end),
         last: end,

@@ -1,5 +1,5 @@
-use geometry::vec3::Vec3;
 use grids::spacing;
+use vectors::vec3::Vec3;
 ghost use mathlib.Core.Path.{_≡_};
 ghost use Prim.Native.Nat.{_<_, _≤_};
 ghost use Rattle.height_field.specs.Grid.{sideAdmitted, fieldAdmitted, Sized, floatOf, vertexAt};
@@ -41,12 +41,13 @@ pub fn is_admitted(field: Field, heights: &[f64]) -> bool
     heights.len() == field.rows * field.columns
 }
 
-// A row, a column or a count of cells as a float, exactly. Callers show that it is small.
+// A row, a column or a count of cells as a float, exactly. Callers show that it is small. From the signed form it is one instruction, from
+// the unsigned one six.
 pub fn float_of(n: usize) -> f64
     requires { ⌜ n ≤ 1024 ⌝ }
     ensures { λ r. ⌜ r ≡ floatOf n ⌝ }
 {
-    n as f64
+    (n as i64) as f64
 }
 
 // The vertex of a row and a column, finite or not. Callers show that it is in the grid.

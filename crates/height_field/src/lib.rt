@@ -6,6 +6,10 @@ pub mod field;
 pub mod cells;
 // The cells that a box visits.
 pub mod visited;
+// The cells that a pass goes over without looking at their triangles.
+mod apart;
+// What was found so far, and one more triangle.
+mod nearer;
 // The pass over the cells: what is listed, and the nearest hit so far.
 pub mod pass;
 // The public call.

@@ -10,7 +10,7 @@ use Rattle.geometry.specs.Segment.{segmentBox}
 use Rattle.geometry.specs.declared.aabb.Aabb.{Aabb}
 use Rattle.geometry.specs.declared.ray.Ray.{Ray}
 use Rattle.casts.specs.Answer.{none}
-use Rattle.casts.specs.Nearest.{foldFrom, withoutIndex}
+use Rattle.nearest_hit.specs.Nearest.{foldFrom, withoutIndex}
 use Rattle.height_field.specs.declared.field.Field.{Field}
 use Rattle.height_field.specs.Cells.{visitedCells}
 use Rattle.height_field.specs.Listing.{listed, featureBox, gridListing}

@@ -7,8 +7,8 @@ use native.Mathlib.Omega.{arith}
 use lib.Ieee.{Float, nan}
 use lib.ListN.{getD}
 use Rattle.arithmetic.specs.Basic.{isFinite}
-use Rattle.geometry.specs.Numbers.{_*ᶠ_}
-use Rattle.geometry.specs.Vector.{finiteVec}
+use Rattle.vectors.specs.Numbers.{_*ᶠ_}
+use Rattle.vectors.specs.Vector.{finiteVec}
 use Rattle.geometry.specs.Box.{touches}
 use Rattle.geometry.specs.declared.aabb.Aabb.{Aabb}
 use Rattle.lists.proofs.JoinedTests.{and-both, and-three}

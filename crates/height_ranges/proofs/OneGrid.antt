@@ -10,7 +10,7 @@ use Rattle.arithmetic.proofs.Numbers.{finite-number}
 use Rattle.arithmetic.proofs.Order.{le-transitive, le-left-number, le-right-number}
 use Rattle.arithmetic.proofs.ExtremesOrder.{minimum-one, maximum-one, minimum-below-first, minimum-below-second, maximum-above-first}
 use Rattle.arithmetic.proofs.ExtremesOrder.{maximum-above-second}
-use Rattle.geometry.specs.Vector.{vector, minOf, maxOf}
+use Rattle.vectors.specs.Vector.{vector, minOf, maxOf}
 use Rattle.geometry.specs.Box.{validSide, touchSide, touches, cornersBox}
 use Rattle.geometry.specs.declared.aabb.Aabb.{Aabb}
 use Rattle.lists.proofs.JoinedTests.{and-both, and-first, and-second, and-three}

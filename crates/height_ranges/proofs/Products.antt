@@ -14,7 +14,7 @@ use lib.Ieee.Order.{round-mono}
 use Rattle.arithmetic.specs.Basic.{isFinite, absolute}
 use Rattle.arithmetic.proofs.Exactness.{ofInt-value}
 use Rattle.arithmetic.proofs.RoundedSigns.{absolute-round}
-use Rattle.geometry.specs.Numbers.{_*ᶠ_}
+use Rattle.vectors.specs.Numbers.{_*ᶠ_}
 use Rattle.height_field.specs.Grid.{floatOf}
 
 -- ---- finite by order

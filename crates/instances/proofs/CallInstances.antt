@@ -7,7 +7,7 @@ use native.Mathlib.Omega.{arith}
 use lib.Ieee.{Float, binary64, ofBits}
 use lib.ListN.{replicate}
 use lib.Seq.{sets}
-use Rattle.geometry.specs.Numbers.{zeroᶠ}
+use Rattle.vectors.specs.Numbers.{zeroᶠ}
 use Rattle.geometry.specs.declared.ray.Ray.{Ray}
 use Rattle.tree.specs.Mesh.{Mesh, mesh}
 use Rattle.tree.specs.Layout.{Areas, areas, treeIn}

@@ -1,2 +1,3 @@
 -- Theorems at inputs that are written out. Assumes nothing.
 pub mod CallInstances
+pub mod ListingExamples

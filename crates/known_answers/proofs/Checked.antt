@@ -12,20 +12,20 @@ use Rattle.arithmetic.specs.Root.{rootDigits, wholeRoot, rootRound, rootOf}
 use Rattle.arithmetic.specs.Rounding.{wholeBy, floorOf, roundOf}
 use Rattle.arithmetic.specs.Ordering.{totalOrder}
 use Rattle.arithmetic.specs.Scaling.{unit, digitsOf, scaledBy}
-use Rattle.geometry.specs.Vector.{component, finiteVec, addOf, subOf, negOf, scaleOf, minOf, maxOf, absOf, maxElement, dotOf, checkedDot}
-use Rattle.geometry.specs.Vector.{crossOf, lengthOf, normalizable, zeroVec, dotTells, scaledToOne, overLength, tryNormalize}
+use Rattle.vectors.specs.Vector.{component, finiteVec, addOf, subOf, negOf, scaleOf, minOf, maxOf, absOf, maxElement, dotOf, checkedDot}
+use Rattle.vectors.specs.Vector.{crossOf, lengthOf, normalizable, zeroVec, dotTells, scaledToOne, overLength, tryNormalize}
 use Rattle.geometry.specs.Box.{validSide, validBox, touchSide, touches, withinSide, encloses, sameSide, sameBox, unionOf, centre}
 use Rattle.geometry.specs.Box.{cornersBox}
 use Rattle.geometry.specs.Segment.{unitLength, rayAdmitted, segmentEnd, segmentBox}
 use Rattle.casts.specs.Surface.{outOfRange, facing}
 use Rattle.casts.specs.Plane.{planeAdmitted, planeAt, planeCast, rayPlane}
-use Rattle.casts.specs.Triangle.{flat, triangleNormal, hasNormal, triangleAbove, triangleAt, triangleOf, rayTriangle}
-use Rattle.casts.specs.Nearest.{nextOf, foldFrom, withoutIndex}
+use Rattle.triangle_cast.specs.Triangle.{flat, triangleNormal, hasNormal, triangleAbove, triangleAt, triangleOf, rayTriangle}
+use Rattle.nearest_hit.specs.Nearest.{nextOf, foldFrom, withoutIndex}
 use Rattle.grids.specs.Spacing.{spacingAdmitted}
 use Rattle.height_field.specs.Grid.{sideAdmitted, fieldAdmitted, floatOf, vertexAt, cellAt, cellRow, cellColumn, cornersAt, featureCorners}
 use Rattle.height_field.specs.Cells.{scaledRange, spanOf, cellRange, run, rangeCells, gridCells, columnRange, rowRange, visitedCells}
 use Rattle.height_field.specs.Listing.{both, listAll, allFinite, cellFinite, featureBox, listCell, gridListing}
-use Rattle.lists.specs.Lists.{keep, range, count, every, gather, insertBy, sortBy, folded}
+use Rattle.lists.specs.Lists.{keep, range, count, every, flatMap, insertBy, sortBy, folded}
 use Rattle.height_field.specs.Cast.{answerOf, castListed, spanFinite, heightCast, rayHeightField}
 use Rattle.cubic.specs.Polynomial.{cubicBy, cubicOf, finiteCubic, evaluate, rootTolerance}
 use Rattle.cubic.specs.Turns.{betweenEnds, keptPoint, keptPoints, vertex, turningBy, turningPoints, extrema}
@@ -37,10 +37,11 @@ use Rattle.grid_steps.specs.Cells.{slack, leavesNode, wholeCell, cellAt as leve
 use Rattle.grid_steps.specs.Cells.{boundaryDistance, boundaryBy, axisBoundary, nextCellBoundary}
 use Rattle.distance_grid.specs.Places.{upTo, floorCell, topOf, drawnTo, drawn, drawnPoint, cellBelow, placeOf, placeAt, locateAxis}
 use Rattle.distance_grid.specs.Places.{locateInside, locate}
-use Rattle.distance_grid.specs.Faces.{valueAt, faceAt}
-use Rattle.distance_grid.specs.Steps.{checked, blend, lerp, checkedDifference, over, lerpFace, valueOn, slopeOn}
-use Rattle.distance_grid.specs.Sampling.{gathered, sampleFaces, sampleCell, sample}
-use Rattle.distance_grid.specs.Valued.{across, cellValue, isFraction, smallValue, smallFace, fairSide, fairSpacing}
+use Rattle.grid_samples.specs.Faces.{valueAt, faceAt}
+use Rattle.grid_samples.specs.Steps.{checked, blend, lerp, checkedDifference, over, lerpFace, valueOn, slopeOn}
+use Rattle.grid_samples.specs.Sampling.{gathered, sampleFaces, sampleCell, sample}
+use Rattle.grid_samples.specs.Valued.{across, cellValue, smallValue, smallFace, fairSide, fairSpacing}
+use Rattle.distance_grid.specs.Places.{isFraction}
 use Rattle.level_set.specs.Hits.{pointAt, along, hitWith, hitAlong, touchAt, valueAlong, samplesOf, samplesAlong}
 use Rattle.level_set.specs.Walk.{goesOn, cellBy, cellCast, goesTo, walkStep, cellLimit, walkFrom, levelSetCast, rayLevelSet}
 use Rattle.tree.specs.Layout.{vectorAt, boxAt, boxNumbers}
@@ -75,7 +76,7 @@ unfolding table right allRight repeated outcome throughBuilt ofBuilt span climb 
     placeOf placeAt locateAxis locateInside locate valueAt faceAt checked blend lerp checkedDifference over lerpFace valueOn slopeOn
     gathered sampleFaces sampleCell sample across cellValue isFraction smallValue smallFace fairSide fairSpacing pointAt along hitWith
     hitAlong touchAt valueAlong samplesOf samplesAlong goesOn cellBy cellCast goesTo walkStep cellLimit walkFrom levelSetCast rayLevelSet
-    range count every gather insertBy sortBy vectorAt boxAt lengthsAdmitted cornersInside cornerAt cornersOf triangleBox
+    range count every flatMap insertBy sortBy vectorAt boxAt lengthsAdmitted cornersInside cornerAt cornersOf triangleBox
     triangleAnswer candidates shapeWithin shapeOf sizeOf nodesOf wordsOf boxNumbers folded longestAxis laneOf hullOf centreOf extentOf keyOf
     standsBefore sortedRange leftRange rightRange extentsFinite orderBelow boxesBelow zeroed roomFor eachBox triangleFits trianglesFit
     boxesWritten treeWritten builtOf buildOf times takePlace takePlaces atLeaf childFits atBranch atNode takeNode start ended walkOf

@@ -6,13 +6,13 @@ use lib.Dec.{eqb}
 use lib.Ieee.{Float, binary64, toBits}
 use Rattle.arithmetic.specs.Root.{rootOf}
 use Rattle.arithmetic.specs.Rounding.{roundOf}
-use Rattle.geometry.specs.declared.vec3.Vec3.{Vec3}
+use Rattle.vectors.specs.declared.vec3.Vec3.{Vec3}
 use Rattle.geometry.specs.declared.ray.Ray.{Ray}
 use Rattle.casts.specs.Answer.{Answer, hit, none, refused}
 use Rattle.casts.specs.Plane.{rayPlane}
-use Rattle.casts.specs.Triangle.{rayTriangle}
+use Rattle.triangle_cast.specs.Triangle.{rayTriangle}
 use Rattle.casts.specs.declared.plane.Plane.{Plane}
-use Rattle.casts.specs.Nearest.{Indexed, hitAt, noHit, stopped}
+use Rattle.nearest_hit.specs.Nearest.{Indexed, hitAt, noHit, stopped}
 use Rattle.height_field.specs.Cast.{rayHeightField}
 use Rattle.height_field.specs.declared.field.Field.{Field}
 use Rattle.level_set.specs.Walk.{rayLevelSet}

@@ -6,13 +6,13 @@ use mathlib.Core.List.{List}
 use Prim.Native.Nat.{ℕ, zero, suc, _+_, _≤_, _<_}
 use native.Mathlib.Omega.{arith}
 use lib.Ieee.{Float, nan, isNan, ofBits, div}
-use Rattle.geometry.specs.Numbers.{_/ᶠ_, zeroᶠ, oneᶠ}
+use Rattle.vectors.specs.Numbers.{_/ᶠ_, zeroᶠ, oneᶠ}
 use Rattle.geometry.specs.declared.ray.Ray.{Ray}
 use Rattle.level_set.specs.Hits.{along, valueAlong, samplesOf, samplesAlong, fractionOf, Remembered}
 use Rattle.level_set.specs.Walk.{Carries, ends, goes, Kept, ended, going}
 use Rattle.distance_grid.specs.declared.grid.Grid.{Grid}
-use Rattle.distance_grid.specs.declared.valued.Valued.{Valued}
-use Rattle.distance_grid.specs.declared.valued.Valued.the-variants.{At, Refused}
+use Rattle.grid_samples.specs.declared.valued.Valued.{Valued}
+use Rattle.grid_samples.specs.declared.valued.Valued.the-variants.{At, Refused}
 use Rattle.level_set.specs.declared.hits.Known.{Known}
 use Rattle.level_set.specs.declared.hits.Samples.{Samples}
 use Rattle.level_set.specs.declared.hits.Samples.the-variants.{All, Refused as SamplesRefused}

@@ -11,7 +11,7 @@ use lib.ListN.{length, getD, take, drop}
 use lib.Seq.{drop-cons}
 use borrow.Author.Tests.{leb-true, leb-false, ltb-true, ltb-false, eqb-true, eqb-false, eq-eqb, ne-eqb}
 use Rattle.lists.proofs.JoinedTests.{and-first, and-second}
-use Rattle.lists.specs.Lists.{range, count, keep, every, gather}
+use Rattle.lists.specs.Lists.{range, count, keep, every, flatMap}
 
 -- ---- one number
 abbrev pub one : ℕ → ℕ → ℕ
@@ -158,17 +158,17 @@ keep-alike p q (y ∷ l) h =
     ∙ ap (λ (r : List ℕ). cond (q y) (y ∷ r) r) (keep-alike p q l (λ (x : ℕ) (k : 0 < count x l). h x (omega (arith, count-cons x y l))))
 
 -- ---- gathered lists
-pub gather-cons : (f : ℕ → List ℕ) (x : ℕ) (l : List ℕ) → gather f (x ∷ l) ≡ f x ++ gather f l
-unfolding gather
-gather-cons f x l = refl
+pub flatMap-cons : (f : ℕ → List ℕ) (x : ℕ) (l : List ℕ) → flatMap f (x ∷ l) ≡ f x ++ flatMap f l
+unfolding flatMap
+flatMap-cons f x l = refl
 
-pub count-gather-cons : (f : ℕ → List ℕ) (x y : ℕ) (l : List ℕ) → count y (gather f (x ∷ l)) ≡ count y (f x) + count y (gather f l)
-count-gather-cons f x y l = ap (count y) (gather-cons f x l) ∙ count-append y (f x) (gather f l)
+pub count-flatMap-cons : (f : ℕ → List ℕ) (x y : ℕ) (l : List ℕ) → count y (flatMap f (x ∷ l)) ≡ count y (f x) + count y (flatMap f l)
+count-flatMap-cons f x y l = ap (count y) (flatMap-cons f x l) ∙ count-append y (f x) (flatMap f l)
 
-pub gather-append : (f : ℕ → List ℕ) (l m : List ℕ) → gather f (l ++ m) ≡ gather f l ++ gather f m
-unfolding gather
-gather-append f [] m = refl
-gather-append f (x ∷ l) m = ap (λ (r : List ℕ). f x ++ r) (gather-append f l m) ∙ sym (append-assoc (f x) (gather f l) (gather f m))
+pub flatMap-append : (f : ℕ → List ℕ) (l m : List ℕ) → flatMap f (l ++ m) ≡ flatMap f l ++ flatMap f m
+unfolding flatMap
+flatMap-append f [] m = refl
+flatMap-append f (x ∷ l) m = ap (λ (r : List ℕ). f x ++ r) (flatMap-append f l m) ∙ sym (append-assoc (f x) (flatMap f l) (flatMap f m))
 
 -- what is gathered comes from one of them
 pub record From (f : ℕ → List ℕ) (l : List ℕ) (y : ℕ) : Type 0 where
@@ -176,36 +176,36 @@ pub record From (f : ℕ → List ℕ) (l : List ℕ) (y : ℕ) : Type 0 where
   pub listed : 0 < count source l
   pub given : 0 < count y (f source)
 
-pub gathered-from : (f : ℕ → List ℕ) (l : List ℕ) (y : ℕ) → 0 < count y (gather f l) → From f l y
-unfolding gather
+pub gathered-from : (f : ℕ → List ℕ) (l : List ℕ) (y : ℕ) → 0 < count y (flatMap f l) → From f l y
+unfolding flatMap
 gathered-from f [] y h = absurd (omega (arith, count-nil y))
 gathered-from f (x ∷ l) y h = go (λ k. gathered-from f l y k) (count y (f x)) refl
   where
-    go : (0 < count y (gather f l) → From f l y) → (k : ℕ) → count y (f x) ≡ k → From f (x ∷ l) y
+    go : (0 < count y (flatMap f l) → From f l y) → (k : ℕ) → count y (f x) ≡ k → From f (x ∷ l) y
     go rest zero e =
-        let r = rest (omega (arith, count-append y (f x) (gather f l))) in
+        let r = rest (omega (arith, count-append y (f x) (flatMap f l))) in
         record { source = r .source; listed = omega (arith, count-cons (r .source) x l, r .listed); given = r .given }
     go rest (suc k) e = record { source = x; listed = omega (arith, count-cons x x l, one-same x x refl); given = omega arith }
 
-pub gathers : (f : ℕ → List ℕ) (l : List ℕ) (x y : ℕ) → 0 < count x l → 0 < count y (f x) → 0 < count y (gather f l)
-unfolding gather
+pub gathers : (f : ℕ → List ℕ) (l : List ℕ) (x y : ℕ) → 0 < count x l → 0 < count y (f x) → 0 < count y (flatMap f l)
+unfolding flatMap
 gathers f [] x y h k = absurd (omega (arith, count-nil x))
 gathers f (z ∷ l) x y h k = go (λ (r : 0 < count x l). gathers f l x y r k) (same-or-other x z)
   where
-    go : (0 < count x l → 0 < count y (gather f l)) → (x ≡ z) ⊎ (x ≡ z → ⊥) → 0 < count y (f z ++ gather f l)
-    go rest (inl e) = omega (arith, ap (λ (i : ℕ). count y (f i)) e, count-append y (f z) (gather f l))
-    go rest (inr n) = omega (arith, count-append y (f z) (gather f l), rest (omega (arith, count-cons x z l, one-other x z n)))
+    go : (0 < count x l → 0 < count y (flatMap f l)) → (x ≡ z) ⊎ (x ≡ z → ⊥) → 0 < count y (f z ++ flatMap f l)
+    go rest (inl e) = omega (arith, ap (λ (i : ℕ). count y (f i)) e, count-append y (f z) (flatMap f l))
+    go rest (inr n) = omega (arith, count-append y (f z) (flatMap f l), rest (omega (arith, count-cons x z l, one-other x z n)))
 
-pub gather-gather : (f g : ℕ → List ℕ) (l : List ℕ) → gather f (gather g l) ≡ gather (λ (x : ℕ). gather f (g x)) l
-unfolding gather
-gather-gather f g [] = refl
-gather-gather f g (x ∷ l) = gather-append f (g x) (gather g l) ∙ ap (λ (r : List ℕ). gather f (g x) ++ r) (gather-gather f g l)
+pub flatMap-flatMap : (f g : ℕ → List ℕ) (l : List ℕ) → flatMap f (flatMap g l) ≡ flatMap (λ (x : ℕ). flatMap f (g x)) l
+unfolding flatMap
+flatMap-flatMap f g [] = refl
+flatMap-flatMap f g (x ∷ l) = flatMap-append f (g x) (flatMap g l) ∙ ap (λ (r : List ℕ). flatMap f (g x) ++ r) (flatMap-flatMap f g l)
 
 -- the words at a range of places
-pub gather-words : (words : List ℕ) (start size : ℕ) → start + size ≤ length words → gather (λ (p : ℕ). getD words p 0 ∷ [])
+pub flatMap-words : (words : List ℕ) (start size : ℕ) → start + size ≤ length words → flatMap (λ (p : ℕ). getD words p 0 ∷ [])
     (range start size) ≡ take size (drop start words)
-unfolding gather range
-gather-words words start zero h = refl
-gather-words words start (suc size) h =
-    ap (λ (r : List ℕ). getD words start 0 ∷ r) (gather-words words (suc start) size (omega arith))
+unfolding flatMap range
+flatMap-words words start zero h = refl
+flatMap-words words start (suc size) h =
+    ap (λ (r : List ℕ). getD words start 0 ∷ r) (flatMap-words words (suc start) size (omega arith))
     ∙ ap (take (suc size)) (sym (drop-cons words start 0 (omega arith)))

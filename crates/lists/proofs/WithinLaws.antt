@@ -6,9 +6,9 @@ use mathlib.Core.Logic.{_⊎_, inl, inr}
 use mathlib.Core.List.{List, [], _∷_, _++_, List·Memᴰ, List·Memᴰ·cases-cons, List·Memᴰ·not-nil}
 use native.Mathlib.Omega.{arith}
 use lib.ListN.{length, length-append}
-use Rattle.lists.specs.Lists.{count, gather}
-use Rattle.lists.proofs.CountLaws.{one, one-same, count-cons, count-nil, count-append, member-of-count, gather-append}
-use Rattle.lists.proofs.CountLaws.{count-gather-cons}
+use Rattle.lists.specs.Lists.{count, flatMap}
+use Rattle.lists.proofs.CountLaws.{one, one-same, count-cons, count-nil, count-append, member-of-count, flatMap-append}
+use Rattle.lists.proofs.CountLaws.{count-flatMap-cons}
 
 -- ---- a list at one of its members
 pub record Split (x : ℕ) (l : List ℕ) : Type 0 where
@@ -41,18 +41,18 @@ module _ (x : ℕ) (l : List ℕ) (s : Split x l) where
       let e = ap length (s .split) in
       omega (arith, length-append (s .before) (x ∷ s .after), length-append (s .before) (s .after))
 
-  gather-without : (f : ℕ → List ℕ) (y : ℕ) → count y (gather f l) ≡ count y (f x) + count y (gather f without)
+  gather-without : (f : ℕ → List ℕ) (y : ℕ) → count y (flatMap f l) ≡ count y (f x) + count y (flatMap f without)
   unfolding without
   gather-without f y =
-      let e = ap (λ (r : List ℕ). count y (gather f r)) (s .split) in
-      let a = ap (count y) (gather-append f (s .before) (x ∷ s .after)) in
-      let b = ap (count y) (gather-append f (s .before) (s .after)) in
+      let e = ap (λ (r : List ℕ). count y (flatMap f r)) (s .split) in
+      let a = ap (count y) (flatMap-append f (s .before) (x ∷ s .after)) in
+      let b = ap (count y) (flatMap-append f (s .before) (s .after)) in
       omega (
         arith,
-        count-append y (gather f (s .before)) (gather f (x ∷ s .after)),
-        count-gather-cons f x y (s .after),
+        count-append y (flatMap f (s .before)) (flatMap f (x ∷ s .after)),
+        count-flatMap-cons f x y (s .after),
         count-append y
-            (gather f (s .before)) (gather f (s .after)),
+            (flatMap f (s .before)) (flatMap f (s .after)),
       )
 
 -- ---- within another list: each number as often at most
@@ -74,13 +74,13 @@ within-length (x ∷ xs) m w =
     let s = within-head x xs m w in
     omega (arith, length-without x m s, within-length xs (without x m s) (within-tail x xs m w s))
 
-pub within-gather : (f : ℕ → List ℕ) (l m : List ℕ) → Within l m → Within (gather f l) (gather f m)
-unfolding gather
-within-gather f [] m w = record { at-most = λ (y : ℕ). omega (arith, count-nil y) }
-within-gather f (x ∷ xs) m w =
+pub within-flatMap : (f : ℕ → List ℕ) (l m : List ℕ) → Within l m → Within (flatMap f l) (flatMap f m)
+unfolding flatMap
+within-flatMap f [] m w = record { at-most = λ (y : ℕ). omega (arith, count-nil y) }
+within-flatMap f (x ∷ xs) m w =
     let s = within-head x xs m w in
-    let rest = within-gather f xs (without x m s) (within-tail x xs m w s) in
-    record { at-most = λ (y : ℕ). omega (arith, count-append y (f x) (gather f xs), gather-without x m s f y, rest .at-most y) }
+    let rest = within-flatMap f xs (without x m s) (within-tail x xs m w s) in
+    record { at-most = λ (y : ℕ). omega (arith, count-append y (f x) (flatMap f xs), gather-without x m s f y, rest .at-most y) }
 
 count-empty : (l : List ℕ) → length l ≡ 0 → (x : ℕ) → count x l ≡ 0
 count-empty [] h x = count-nil x

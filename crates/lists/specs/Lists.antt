@@ -4,6 +4,8 @@ use Prim.Native.Nat.{ℕ, zero, suc, _+_}
 use mathlib.Core.Bool.{Bool, true, false, _&&_, cond}
 use mathlib.Core.List.{List, [], _∷_, _++_}
 use lib.Dec.{eqb, leb, ltb}
+-- the lists that each gives, one after another
+unfoldable pub use mathlib.Core.List.{flatMap}
 use lib.Ieee.{Float, binary64, ofBits}
 use lib.ListN.{length, getD, drop}
 
@@ -30,11 +32,6 @@ every p (x ∷ xs) = p x && every p xs
 -- whether all are below a bound
 abbrev pub allBelow : ℕ → List ℕ → Bool
 allBelow bound = every (λ (x : ℕ). ltb x bound)
-
--- the lists that each gives, one after another
-unfoldable pub gather : (ℕ → List ℕ) → List ℕ → List ℕ
-gather f [] = []
-gather f (x ∷ xs) = f x ++ gather f xs
 
 -- sorted by a test for 'at or before', equal ones in their order
 unfoldable pub insertBy : (ℕ → ℕ → Bool) → ℕ → List ℕ → List ℕ

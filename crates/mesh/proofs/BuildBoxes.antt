@@ -13,9 +13,9 @@ use Rattle.arithmetic.specs.Extremes.{minimumOf, maximumOf}
 use Rattle.arithmetic.proofs.Order.{le-left-number, le-right-number, le-reflexive, le-transitive, eq-of-le-le}
 use Rattle.arithmetic.proofs.ExtremesOrder.{minimum-one, maximum-one, minimum-below-first, minimum-below-second, maximum-above-first}
 use Rattle.arithmetic.proofs.ExtremesOrder.{maximum-above-second}
-use Rattle.geometry.specs.Vector.{minOf, maxOf}
+use Rattle.vectors.specs.Vector.{minOf, maxOf}
 use Rattle.geometry.specs.Box.{validSide, validBox, withinSide, encloses, sameSide, sameBox, unionOf}
-use Rattle.geometry.specs.declared.vec3.Vec3.{Vec3}
+use Rattle.vectors.specs.declared.vec3.Vec3.{Vec3}
 use Rattle.geometry.specs.declared.aabb.Aabb.{Aabb}
 use Rattle.lists.proofs.JoinedTests.{and-both, and-first, and-second}
 use Rattle.lists.specs.Lists.{count, folded}

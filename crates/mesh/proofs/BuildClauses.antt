@@ -9,7 +9,7 @@ use lib.ListN.{length, take}
 use borrow.Author.Tests.{le-leb, lt-ltb, eq-eqb, ne-eqb}
 use Rattle.geometry.specs.Box.{validBox, encloses, sameBox}
 use Rattle.lists.proofs.JoinedTests.{and-both}
-use Rattle.lists.specs.Lists.{range, count, every, gather}
+use Rattle.lists.specs.Lists.{range, count, every, flatMap}
 use Rattle.tree.specs.Layout.{Tree, wordAt, boxAt, firstAt, secondAt}
 use Rattle.tree.specs.Mesh.{Mesh, thirds, cornersInside, triangleBox}
 use Rattle.lists.proofs.CountLaws.{one-same, one-other, count-cons, count-range-inside, range-bounds}
@@ -146,10 +146,10 @@ module _ (m : Mesh) (t : Tree) (b : Built m t) where
       (every-nil (placeTest i) (placesOf m t i) (branch-places m t i left right (c .words)))
 
   -- ---- each place, triangle and node once
-  named : (i : ℕ) → 1 ≤ i → i < 1 + (t .nodeCount - 1) → count i (gather (childrenOf m t) (nodes m t)) ≡ 1
+  named : (i : ℕ) → 1 ≤ i → i < 1 + (t .nodeCount - 1) → count i (flatMap (childrenOf m t) (nodes m t)) ≡ 1
   named i p q =
       let all = named-below m t 0 0 (shapeOf n) (range 0 n) (b .written) i in
-      let same = ap (λ (k : ℕ). count i (gather (childrenOf m t) (range 0 k))) (b .node-count) in
+      let same = ap (λ (k : ℕ). count i (flatMap (childrenOf m t) (range 0 k))) (b .node-count) in
       omega (
         arith,
         one-other i 0 (λ e. omega arith),
@@ -157,9 +157,9 @@ module _ (m : Mesh) (t : Tree) (b : Built m t) where
             (omega (arith, b .node-count)),
       )
 
-  placed : (p : ℕ) → p < n → count p (gather (placesOf m t) (nodes m t)) ≡ 1
+  placed : (p : ℕ) → p < n → count p (flatMap (placesOf m t) (nodes m t)) ≡ 1
   placed p h =
-      ap (λ (k : ℕ). count p (gather (placesOf m t) (range 0 k))) (b .node-count)
+      ap (λ (k : ℕ). count p (flatMap (placesOf m t) (range 0 k))) (b .node-count)
       ∙ ap (count p) (places-below m t 0 0 (shapeOf n) (range 0 n) (b .written))
       ∙ count-range-inside p 0 (sizeOf (shapeOf n)) (omega arith) (omega (arith, sizeOf-shapeOf n))
 
@@ -176,11 +176,11 @@ module _ (m : Mesh) (t : Tree) (b : Built m t) where
       (and-both _ _ (each-node (λ (i : ℕ). not (isBranch m t i) || (differTest i && every (laterTest i) (childrenOf m t i))) children-above)
       (and-both _ _ (each-node (λ (i : ℕ). not (isLeaf m t i) || leb (firstAt (t .nodeWords) i + secondAt (t .nodeWords) i) n) leaf-inside)
       (and-both _ _
-      (every-of-range (λ (i : ℕ). eqb (count i (gather (childrenOf m t) (nodes m t))) 1) 1 (t .nodeCount - 1)
-      (λ (i : ℕ) (p : 1 ≤ i) (q : i < 1 + (t .nodeCount - 1)). eq-eqb (count i (gather (childrenOf m t) (nodes m t))) 1 (named i p q)))
+      (every-of-range (λ (i : ℕ). eqb (count i (flatMap (childrenOf m t) (nodes m t))) 1) 1 (t .nodeCount - 1)
+      (λ (i : ℕ) (p : 1 ≤ i) (q : i < 1 + (t .nodeCount - 1)). eq-eqb (count i (flatMap (childrenOf m t) (nodes m t))) 1 (named i p q)))
       (and-both _ _
-      (every-below (λ (p : ℕ). eqb (count p (gather (placesOf m t) (nodes m t))) 1) n
-      (λ (p : ℕ) (h : p < n). eq-eqb (count p (gather (placesOf m t) (nodes m t))) 1 (placed p h)))
+      (every-below (λ (p : ℕ). eqb (count p (flatMap (placesOf m t) (nodes m t))) 1) n
+      (λ (p : ℕ) (h : p < n). eq-eqb (count p (flatMap (placesOf m t) (nodes m t))) 1 (placed p h)))
       (and-both _ _
       (every-below (λ (x : ℕ). eqb (count x (take n (t .order))) 1) n
       (λ (x : ℕ) (h : x < n). eq-eqb (count x (take n (t .order))) 1 (ordered x h)))

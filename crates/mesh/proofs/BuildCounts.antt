@@ -7,10 +7,10 @@ use mathlib.Core.Bool.{true, false}
 use mathlib.Core.List.{List, [], _∷_, _++_, append-nil}
 use native.Mathlib.Omega.{arith}
 use lib.Dec.{eqb}
-use Rattle.lists.specs.Lists.{range, count, gather}
+use Rattle.lists.specs.Lists.{range, count, flatMap}
 use Rattle.tree.specs.Layout.{Tree, secondAt}
 use Rattle.tree.specs.Mesh.{Mesh}
-use Rattle.lists.proofs.CountLaws.{one, count-cons, count-nil, count-append, gather-cons, gather-append}
+use Rattle.lists.proofs.CountLaws.{one, count-cons, count-nil, count-append, flatMap-cons, flatMap-append}
 use Rattle.tree_build.specs.Shape.{Shape, leaf, branch, sizeOf, nodesOf}
 use Rattle.tree_check.specs.Check.{isLeaf, isBranch, childrenOf, placesOf}
 use Rattle.mesh.proofs.CheckedTree.{branch-children, no-children, leaf-places, no-places}
@@ -36,15 +36,15 @@ range-branch node a b =
     let f : suc node ≡ node + 1 = omega arith in
     rw e (ap (λ (k : ℕ). node ∷ range k (a + b)) f ∙ ap (λ (r : List ℕ). node ∷ r) (range-parts (node + 1) a b))
 
-gather-branch : (f : ℕ → List ℕ) (node a b : ℕ) → gather f (range node (1 + (a + b))) ≡ f node ++
-    (gather f (range (node + 1) a) ++ gather f (range (node + 1 + a) b))
+gather-branch : (f : ℕ → List ℕ) (node a b : ℕ) → flatMap f (range node (1 + (a + b))) ≡ f node ++
+    (flatMap f (range (node + 1) a) ++ flatMap f (range (node + 1 + a) b))
 gather-branch f node a b =
-    ap (gather f) (range-branch node a b)
-    ∙ gather-cons f node (range (node + 1) a ++ range (node + 1 + a) b)
-    ∙ ap (λ (r : List ℕ). f node ++ r) (gather-append f (range (node + 1) a) (range (node + 1 + a) b))
+    ap (flatMap f) (range-branch node a b)
+    ∙ flatMap-cons f node (range (node + 1) a ++ range (node + 1 + a) b)
+    ∙ ap (λ (r : List ℕ). f node ++ r) (flatMap-append f (range (node + 1) a) (range (node + 1 + a) b))
 
-gather-one : (f : ℕ → List ℕ) (node : ℕ) → gather f (range node 1) ≡ f node
-unfolding range gather
+gather-one : (f : ℕ → List ℕ) (node : ℕ) → flatMap f (range node 1) ≡ f node
+unfolding range flatMap
 gather-one f node = append-nil (f node)
 
 range-one : (node : ℕ) → range node 1 ≡ node ∷ []
@@ -89,7 +89,7 @@ module _ (m : Mesh) (t : Tree) (i first second : ℕ) where
 module _ (m : Mesh) (t : Tree) where
   -- the first node and all that are named: each node once
   pub named-below : (node start : ℕ) (s : Shape) (ts : List ℕ) → Written t node start s ts
-      → (x : ℕ) → one x node + count x (gather (childrenOf m t) (range node (nodesOf s))) ≡ count x (range node (nodesOf s))
+      → (x : ℕ) → one x node + count x (flatMap (childrenOf m t) (range node (nodesOf s))) ≡ count x (range node (nodesOf s))
   unfolding nodesOf
   named-below node start (leaf n) ts w x =
       let none = ap (count x) (gather-one (childrenOf m t) node ∙ leaf-names m t node start n (leaf-words t node start n ts w)) in
@@ -99,8 +99,8 @@ module _ (m : Mesh) (t : Tree) where
       let b = named-below (node + 1 + nodesOf l) (start + sizeOf l) r (rights t node start l r ts w) (written-right t node start l r ts w)
       x in
       let names = ap (count x) (branch-names m t node (node + 1) (node + 1 + nodesOf l) (branch-words t node start l r ts w)) in
-      let lefts = gather (childrenOf m t) (range (node + 1) (nodesOf l)) in
-      let rights = gather (childrenOf m t) (range (node + 1 + nodesOf l) (nodesOf r)) in
+      let lefts = flatMap (childrenOf m t) (range (node + 1) (nodesOf l)) in
+      let rights = flatMap (childrenOf m t) (range (node + 1 + nodesOf l) (nodesOf r)) in
       omega (
         arith,
         ap (count x) (gather-branch (childrenOf m t) node (nodesOf l) (nodesOf r)),
@@ -115,18 +115,18 @@ module _ (m : Mesh) (t : Tree) where
       )
 
   -- the leaves' places, one after another
-  pub places-below : (node start : ℕ) (s : Shape) (ts : List ℕ) → Written t node start s ts → gather (placesOf m t) (range node (nodesOf s))
-      ≡ range start (sizeOf s)
+  pub places-below : (node start : ℕ) (s : Shape) (ts : List ℕ) → Written t node start s ts
+      → flatMap (placesOf m t) (range node (nodesOf s)) ≡ range start (sizeOf s)
   unfolding nodesOf sizeOf
   places-below node start (leaf n) ts w = gather-one (placesOf m t) node ∙ leaf-holds m t node start n (leaf-words t node start n ts w)
   places-below node start (branch l r) ts w =
       let rest : List ℕ → List ℕ =
-      λ (p : List ℕ). p ++ (gather (placesOf m t) (range (node + 1) (nodesOf l)) ++ gather (placesOf m t) (range (node + 1 + nodesOf l)
+      λ (p : List ℕ). p ++ (flatMap (placesOf m t) (range (node + 1) (nodesOf l)) ++ flatMap (placesOf m t) (range (node + 1 + nodesOf l)
       (nodesOf r)))
       in
       gather-branch (placesOf m t) node (nodesOf l) (nodesOf r)
       ∙ ap rest (branch-places m t node (node + 1) (node + 1 + nodesOf l) (branch-words t node start l r ts w))
-      ∙ ap (λ (p : List ℕ). p ++ gather (placesOf m t) (range (node + 1 + nodesOf l) (nodesOf r)))
+      ∙ ap (λ (p : List ℕ). p ++ flatMap (placesOf m t) (range (node + 1 + nodesOf l) (nodesOf r)))
       (places-below (node + 1) start l (lefts t node start l r ts w) (written-left t node start l r ts w))
       ∙ ap (λ (p : List ℕ). range start (sizeOf l) ++ p)
       (places-below (node + 1 + nodesOf l) (start + sizeOf l) r (rights t node start l r ts w) (written-right t node start l r ts w))

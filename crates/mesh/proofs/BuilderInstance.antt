@@ -2,7 +2,7 @@
 use mathlib.Core.Path.{_≡_}
 use native.Mathlib.Omega.{arith}
 use lib.ListN.{replicate}
-use Rattle.geometry.specs.Numbers.{zeroᶠ}
+use Rattle.vectors.specs.Numbers.{zeroᶠ}
 use Rattle.tree.specs.Mesh.{Mesh, mesh}
 use Rattle.tree.specs.Layout.{Areas, areas, treeIn}
 use Rattle.tree_build.specs.Build.{buildOf}

@@ -8,15 +8,15 @@ use Rattle.arithmetic.specs.Basic.{isFinite, absolute}
 use Rattle.arithmetic.specs.Extremes.{minimumOf, maximumOf}
 use Rattle.arithmetic.specs.Root.{rootDigits, wholeRoot, rootRound, rootOf}
 use Rattle.arithmetic.specs.Scaling.{unit, digitsOf, scaledBy}
-use Rattle.geometry.specs.Vector.{component, finiteVec, addOf, subOf, negOf, scaleOf, minOf, maxOf, absOf, maxElement, dotOf, checkedDot}
-use Rattle.geometry.specs.Vector.{crossOf, lengthOf, normalizable, zeroVec, dotTells, scaledToOne, overLength, tryNormalize}
+use Rattle.vectors.specs.Vector.{component, finiteVec, addOf, subOf, negOf, scaleOf, minOf, maxOf, absOf, maxElement, dotOf, checkedDot}
+use Rattle.vectors.specs.Vector.{crossOf, lengthOf, normalizable, zeroVec, dotTells, scaledToOne, overLength, tryNormalize}
 use Rattle.geometry.specs.Box.{validSide, validBox, touchSide, touches, withinSide, encloses, sameSide, sameBox}
 use Rattle.geometry.specs.Segment.{unitLength, rayAdmitted, segmentEnd, segmentBox}
 use Rattle.geometry.specs.declared.ray.Ray.{Ray}
 use Rattle.casts.specs.Surface.{outOfRange, facing}
-use Rattle.casts.specs.Triangle.{flat, triangleNormal, triangleAbove, triangleAt, triangleOf}
-use Rattle.casts.specs.Nearest.{Indexed, hitAt, noHit, stopped, nextOf, foldFrom}
-use Rattle.lists.specs.Lists.{range, insertBy, sortBy, count, every, gather}
+use Rattle.triangle_cast.specs.Triangle.{flat, triangleNormal, triangleAbove, triangleAt, triangleOf}
+use Rattle.nearest_hit.specs.Nearest.{Indexed, hitAt, noHit, stopped, nextOf, foldFrom}
+use Rattle.lists.specs.Lists.{range, insertBy, sortBy, count, every, flatMap}
 use Rattle.tree.specs.Layout.{vectorAt, boxAt}
 use Rattle.tree.specs.Mesh.{Mesh, lengthsAdmitted, cornersInside, cornerAt, triangleBox, triangleAnswer}
 use Rattle.tree_check.specs.Check.{childrenOf, placesOf, kindsKnown, childrenAbove, leavesInside, namedOnce, placedOnce, orderedOnce}
@@ -88,7 +88,7 @@ unfolding rayMesh meshCast overWalk roomFor treeFits shapeAdmitted walkOf ended 
     maxElement absOf maxOf minOf scaleOf negOf subOf addOf finiteVec component rootOf rootRound wholeRoot rootDigits maximumOf minimumOf
     absolute isFinite ofBits ofFields isNan ne le eq lt div mul sub add sum neg round units odd size climb span checkOf check-roomFor
     treePasses clausesHold kindsKnown childrenAbove leavesInside namedOnce placedOnce orderedOnce leavesFilled cornersKnown boxesSame
-    boxesValid nodeEncloses enclosed childrenOf placesOf count every gather triangleBox withinSide encloses sameSide sameBox
+    boxesValid nodeEncloses enclosed childrenOf placesOf count every flatMap triangleBox withinSide encloses sameSide sameBox
 odd-passes = refl
 
 -- so that the ray from above meets what demand 3 asks

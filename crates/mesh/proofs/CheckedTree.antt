@@ -10,7 +10,7 @@ use lib.ListN.{length, take, getD}
 use borrow.Author.Tests.{leb-true, ltb-true, eqb-true, eqb-false, not-true}
 use Rattle.geometry.specs.Box.{validBox, encloses, sameBox}
 use Rattle.lists.proofs.JoinedTests.{and-first, and-second}
-use Rattle.lists.specs.Lists.{range, count, every, gather}
+use Rattle.lists.specs.Lists.{range, count, every, flatMap}
 use Rattle.tree.specs.Layout.{Tree, wordAt, boxAt, firstAt, secondAt}
 use Rattle.tree.specs.Mesh.{Mesh, thirds, cornersInside, triangleBox}
 use Rattle.lists.proofs.CountLaws.{count-nil, every-at, member-of-count, count-range-inside}
@@ -52,8 +52,8 @@ pub record Checked (m : Mesh) (t : Tree) : Type 0 where
   pub filled : (i : ℕ) → i < t .nodeCount → isLeaf m t i ≡ true → 0 < secondAt (t .nodeWords) i
   pub node-valid : (i : ℕ) → i < t .nodeCount → validBox (boxAt (t .nodeBoxes) i) ≡ true
   pub triangle-valid : (x : ℕ) → x < triangleCount m t → validBox (boxAt (t .triangleBoxes) x) ≡ true
-  pub named : (i : ℕ) → 0 < i → i < t .nodeCount → count i (gather (childrenOf m t) (nodes m t)) ≡ 1
-  pub placed : (p : ℕ) → p < triangleCount m t → count p (gather (placesOf m t) (nodes m t)) ≡ 1
+  pub named : (i : ℕ) → 0 < i → i < t .nodeCount → count i (flatMap (childrenOf m t) (nodes m t)) ≡ 1
+  pub placed : (p : ℕ) → p < triangleCount m t → count p (flatMap (placesOf m t) (nodes m t)) ≡ 1
   pub ordered : (x : ℕ) → x < triangleCount m t → count x (take (triangleCount m t) (t .order)) ≡ 1
   pub corners : (x : ℕ) → x < triangleCount m t → cornersInside (thirds (length (m .vertices))) (m .triangles) x ≡ true
   pub same : (x : ℕ) → x < triangleCount m t → sameBox (boxAt (t .triangleBoxes) x) (triangleBox (m .vertices) (m .triangles) x) ≡ true

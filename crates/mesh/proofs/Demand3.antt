@@ -11,15 +11,15 @@ use lib.ListN.{length}
 use borrow.Author.Tests.{le-leb, eq-eqb}
 use Rattle.geometry.specs.Box.{touches}
 use Rattle.geometry.specs.Segment.{segmentBox}
-use Rattle.geometry.specs.declared.vec3.Vec3.{Vec3}
+use Rattle.vectors.specs.declared.vec3.Vec3.{Vec3}
 use Rattle.geometry.specs.declared.ray.Ray.{Ray}
 use Rattle.geometry.proofs.BoxLaws.{segment-box-valid}
 use Rattle.casts.specs.Answer.{Answer, hit}
-use Rattle.casts.specs.Triangle.{rayTriangle}
-use Rattle.casts.specs.Nearest.{Indexed, hitAt, noHit, stopped, nearestOf}
+use Rattle.triangle_cast.specs.Triangle.{rayTriangle}
+use Rattle.nearest_hit.specs.Nearest.{Indexed, hitAt, noHit, stopped, nearestOf}
 use Rattle.lists.proofs.Members.{Ascending}
-use Rattle.casts.proofs.NearestRefusals.{refusal-stops, none-of-nones, nones-of-none}
-use Rattle.casts.proofs.NearestLaws.{LowestRefusal, LowestNearest, stopped-by-lowest-refusal, hit-of-lowest-nearest}
+use Rattle.nearest_hit.proofs.NearestRefusals.{refusal-stops, none-of-nones, nones-of-none}
+use Rattle.nearest_hit.proofs.NearestLaws.{LowestRefusal, LowestNearest, stopped-by-lowest-refusal, hit-of-lowest-nearest}
 use Rattle.lists.specs.Lists.{range, count}
 use Rattle.tree.specs.Layout.{Tree}
 use Rattle.tree.specs.Mesh.{Mesh, thirds, cornersInside, triangleBox, triangleAnswer, candidates}

@@ -12,18 +12,18 @@ use lib.Ieee.{Float}
 use lib.ListN.{length, getD, take, drop, drop-of-length-le}
 use lib.Seq.{drop-cons, getD-take, length-take-le}
 use Rattle.casts.specs.Answer.{Answer}
-use Rattle.casts.specs.Nearest.{Indexed, noHit, stopped, nextOf, nearestOf}
+use Rattle.nearest_hit.specs.Nearest.{Indexed, noHit, stopped, nextOf, nearestOf}
 use Rattle.casts.specs.Reach.{reachOf}
-use Rattle.casts.specs.Summary.{Summary, nothing, noteOf, summaryFrom, winner, answerAt}
+use Rattle.nearest_hit.specs.Summary.{Summary, nothing, noteOf, summaryFrom, winner, answerAt}
 use Rattle.casts.specs.declared.answer.Reach.{Reach}
 use Rattle.casts.specs.declared.answer.Reach.the-variants.{At}
-use Rattle.casts.specs.declared.summary.Outcome.{Outcome}
-use Rattle.casts.specs.declared.summary.Outcome.the-variants.{Nobody, Refused, Struck}
+use Rattle.nearest_hit.specs.declared.summary.Outcome.{Outcome}
+use Rattle.nearest_hit.specs.declared.summary.Outcome.the-variants.{Nobody, Refused, Struck}
 use Rattle.lists.proofs.Members.{Each, each-cons}
 use Rattle.casts.proofs.AnswerLists.{HitsAreNumbers}
-use Rattle.casts.proofs.SummaryOrder.{Reordered, unchanged, exchanged, behind, through}
-use Rattle.casts.proofs.SummaryLaws.{nearest-of-any-order}
-use Rattle.casts.proofs.SummaryMembers.{winner-of-list}
+use Rattle.nearest_hit.proofs.SummaryOrder.{Reordered, unchanged, exchanged, behind, through}
+use Rattle.nearest_hit.proofs.SummaryLaws.{nearest-of-any-order}
+use Rattle.nearest_hit.proofs.SummaryMembers.{winner-of-list}
 use Rattle.lists.specs.Lists.{every, insertBy, sortBy, sorted, allBelow}
 use Rattle.lists.proofs.JoinedTests.{and-first, and-second}
 use Rattle.lists.proofs.SortLaws.{sorted-rises}

@@ -5,13 +5,13 @@ use mathlib.Core.Bool.{true, false}
 use mathlib.Core.List.{List}
 use lib.Ieee.{Float}
 use lib.ListN.{length}
-use Rattle.geometry.specs.declared.vec3.Vec3.{Vec3}
+use Rattle.vectors.specs.declared.vec3.Vec3.{Vec3}
 use Rattle.geometry.specs.declared.ray.Ray.{Ray}
 use Rattle.casts.specs.Answer.{outOfBounds}
 use Rattle.casts.specs.Reach.{reachOf}
-use Rattle.casts.specs.Crossing.{crossingAnswer}
-use Rattle.casts.specs.Triangle.{triangleCast}
-use Rattle.casts.specs.declared.answer.Crossing.{Crossing}
+use Rattle.triangle_cast.specs.Crossing.{crossingAnswer}
+use Rattle.triangle_cast.specs.Triangle.{triangleCast}
+use Rattle.triangle_cast.specs.declared.parts.Crossing.{Crossing}
 use Rattle.casts.specs.declared.answer.Reach.{Reach}
 use Rattle.casts.specs.declared.answer.Reach.the-variants.{Refused}
 use Rattle.tree.specs.Mesh.{thirds, cornersInside, cornersOf, triangleAnswer}

@@ -9,13 +9,13 @@ use native.Mathlib.Omega.{arith}
 use lib.Dec.{ltb}
 use lib.ListN.{take, length-take}
 use borrow.Author.Tests.{ltb-true, ltb-false}
-use Rattle.lists.specs.Lists.{range, count, gather}
+use Rattle.lists.specs.Lists.{range, count, flatMap}
 use Rattle.tree.specs.Layout.{Tree, wordAt, firstAt, secondAt}
 use Rattle.tree.specs.Mesh.{Mesh}
 use Rattle.lists.proofs.CountLaws.{one-same, one-other, same-or-other, count-cons, count-nil, length-range, count-range-inside}
 use Rattle.lists.proofs.CountLaws.{range-bounds}
-use Rattle.lists.proofs.CountLaws.{From, gathered-from, gathers, gather-gather, gather-words}
-use Rattle.lists.proofs.WithinLaws.{Within, within-through, within-length, within-gather, within-of-full}
+use Rattle.lists.proofs.CountLaws.{From, gathered-from, gathers, flatMap-flatMap, flatMap-words}
+use Rattle.lists.proofs.WithinLaws.{Within, within-through, within-length, within-flatMap, within-of-full}
 use Rattle.tree_check.specs.Check.{triangleCount, nodes, isLeaf, childrenOf, placesOf}
 use Rattle.mesh.proofs.CheckedTree.{Checked, leaf-places, no-places}
 
@@ -24,7 +24,7 @@ abbrev pub placedAt : Tree → ℕ → List ℕ
 placedAt t place = wordAt (t .order) place ∷ []
 
 abbrev pub trianglesOf : Mesh → Tree → ℕ → List ℕ
-trianglesOf m t node = gather (placedAt t) (placesOf m t node)
+trianglesOf m t node = flatMap (placedAt t) (placesOf m t node)
 
 pub count-zero : (n : ℕ) → (0 < n → ⊥) → n ≡ 0
 count-zero zero h = refl
@@ -42,7 +42,7 @@ below-or-not x n = go (ltb x n) refl
 
 module _ (m : Mesh) (t : Tree) (c : Checked m t) where
   -- ---- nodes
-  pub child-bounds : (i : ℕ) → 0 < count i (gather (childrenOf m t) (nodes m t)) → (0 < i) × (i < t .nodeCount)
+  pub child-bounds : (i : ℕ) → 0 < count i (flatMap (childrenOf m t) (nodes m t)) → (0 < i) × (i < t .nodeCount)
   child-bounds i h =
       let f = gathered-from (childrenOf m t) (nodes m t) i h in
       let below = range-bounds (f .source) 0 (t .nodeCount) (f .listed) in
@@ -50,29 +50,29 @@ module _ (m : Mesh) (t : Tree) (c : Checked m t) where
       (omega arith, fits .1)
 
   -- the first node and all children: each node once at most
-  pub named-within : 0 < t .nodeCount → Within (0 ∷ gather (childrenOf m t) (nodes m t)) (nodes m t)
+  pub named-within : 0 < t .nodeCount → Within (0 ∷ flatMap (childrenOf m t) (nodes m t)) (nodes m t)
   named-within some = record { at-most = λ (i : ℕ). at i (same-or-other i 0) (below-or-not i (t .nodeCount)) }
     where
-      at : (i : ℕ) → (i ≡ 0) ⊎ (i ≡ 0 → ⊥) → (i < t .nodeCount) ⊎ (t .nodeCount ≤ i) → count i (0 ∷ gather (childrenOf m t) (nodes m t)) ≤
+      at : (i : ℕ) → (i ≡ 0) ⊎ (i ≡ 0 → ⊥) → (i < t .nodeCount) ⊎ (t .nodeCount ≤ i) → count i (0 ∷ flatMap (childrenOf m t) (nodes m t)) ≤
           count i (nodes m t)
       at i (inl e) b =
-          let none : count i (gather (childrenOf m t) (nodes m t)) ≡ 0 = count-zero (count i (gather (childrenOf m t) (nodes m t)))
+          let none : count i (flatMap (childrenOf m t) (nodes m t)) ≡ 0 = count-zero (count i (flatMap (childrenOf m t) (nodes m t)))
           (λ h. omega (arith, child-bounds i h)) in
-          omega (arith, count-cons i 0 (gather (childrenOf m t) (nodes m t)), one-same i 0 e, count-range i (t .nodeCount) (omega arith))
+          omega (arith, count-cons i 0 (flatMap (childrenOf m t) (nodes m t)), one-same i 0 e, count-range i (t .nodeCount) (omega arith))
       at i (inr n) (inl b) =
           let pos : 0 < i = omega (arith, n) in
           omega (
             arith,
-            count-cons i 0 (gather (childrenOf m t) (nodes m t)),
+            count-cons i 0 (flatMap (childrenOf m t) (nodes m t)),
             one-other i 0 n,
             c .named i pos b,
             count-range i
                 (t .nodeCount) b,
           )
       at i (inr n) (inr b) =
-          let none : count i (gather (childrenOf m t) (nodes m t)) ≡ 0 = count-zero (count i (gather (childrenOf m t) (nodes m t)))
+          let none : count i (flatMap (childrenOf m t) (nodes m t)) ≡ 0 = count-zero (count i (flatMap (childrenOf m t) (nodes m t)))
           (λ h. omega (arith, child-bounds i h)) in
-          omega (arith, count-cons i 0 (gather (childrenOf m t) (nodes m t)), one-other i 0 n)
+          omega (arith, count-cons i 0 (flatMap (childrenOf m t) (nodes m t)), one-other i 0 n)
 
   -- a node's parent
   pub record Parent (i : ℕ) : Type 0 where
@@ -88,7 +88,7 @@ module _ (m : Mesh) (t : Tree) (c : Checked m t) where
       record { node = f .source; lower = fits .0; child = f .given }
 
   -- ---- triangles
-  pub place-bound : (p : ℕ) → 0 < count p (gather (placesOf m t) (nodes m t)) → p < triangleCount m t
+  pub place-bound : (p : ℕ) → 0 < count p (flatMap (placesOf m t) (nodes m t)) → p < triangleCount m t
   place-bound p h = go (isLeaf m t (f .source)) refl
     where
       f : From (placesOf m t) (nodes m t) p
@@ -109,14 +109,14 @@ module _ (m : Mesh) (t : Tree) (c : Checked m t) where
           )
       go false e = absurd (omega (arith, f .given, ap (count p) (no-places m t (f .source) e), count-nil p))
 
-  places-within : Within (gather (placesOf m t) (nodes m t)) (range 0 (triangleCount m t))
+  places-within : Within (flatMap (placesOf m t) (nodes m t)) (range 0 (triangleCount m t))
   places-within = record { at-most = λ (p : ℕ). at p (below-or-not p (triangleCount m t)) }
     where
-      at : (p : ℕ) → (p < triangleCount m t) ⊎ (triangleCount m t ≤ p) → count p (gather (placesOf m t) (nodes m t)) ≤ count p
+      at : (p : ℕ) → (p < triangleCount m t) ⊎ (triangleCount m t ≤ p) → count p (flatMap (placesOf m t) (nodes m t)) ≤ count p
           (range 0 (triangleCount m t))
       at p (inl b) = omega (arith, c .placed p b, count-range p (triangleCount m t) b)
       at p (inr b) =
-          let none : count p (gather (placesOf m t) (nodes m t)) ≡ 0 = count-zero (count p (gather (placesOf m t) (nodes m t)))
+          let none : count p (flatMap (placesOf m t) (nodes m t)) ≡ 0 = count-zero (count p (flatMap (placesOf m t) (nodes m t)))
           (λ h. omega (arith, place-bound p h)) in
           omega arith
 
@@ -132,26 +132,26 @@ module _ (m : Mesh) (t : Tree) (c : Checked m t) where
           count-zero (count x (range 0 (triangleCount m t))) (λ h. omega (arith, range-bounds x 0 (triangleCount m t) h)) in
           omega arith
 
-  pub words-are-order : gather (placedAt t) (range 0 (triangleCount m t)) ≡ take (triangleCount m t) (t .order)
+  pub words-are-order : flatMap (placedAt t) (range 0 (triangleCount m t)) ≡ take (triangleCount m t) (t .order)
   words-are-order =
       let long = within-length (range 0 (triangleCount m t)) (take (triangleCount m t) (t .order)) order-full in
-      gather-words (t .order) 0 (triangleCount m t)
+      flatMap-words (t .order) 0 (triangleCount m t)
       (omega (arith, length-range 0 (triangleCount m t), length-take (triangleCount m t) (t .order)))
 
-  pub order-within : Within (gather (placedAt t) (range 0 (triangleCount m t))) (range 0 (triangleCount m t))
+  pub order-within : Within (flatMap (placedAt t) (range 0 (triangleCount m t))) (range 0 (triangleCount m t))
   order-within =
       rw words-are-order
       (within-of-full (range 0 (triangleCount m t)) (take (triangleCount m t) (t .order)) order-full
       (omega (arith, length-range 0 (triangleCount m t), length-take (triangleCount m t) (t .order))))
 
   -- the triangles of all nodes: each once at most
-  pub triangles-within : Within (gather (trianglesOf m t) (nodes m t)) (range 0 (triangleCount m t))
+  pub triangles-within : Within (flatMap (trianglesOf m t) (nodes m t)) (range 0 (triangleCount m t))
   triangles-within =
-      within-through (gather (trianglesOf m t) (nodes m t)) (gather (placedAt t) (range 0 (triangleCount m t)))
+      within-through (flatMap (trianglesOf m t) (nodes m t)) (flatMap (placedAt t) (range 0 (triangleCount m t)))
       (range 0 (triangleCount m t))
-      (subst (λ (l : List ℕ). Within l (gather (placedAt t) (range 0 (triangleCount m t))))
-      (gather-gather (placedAt t) (placesOf m t) (nodes m t))
-      (within-gather (placedAt t) (gather (placesOf m t) (nodes m t)) (range 0 (triangleCount m t)) places-within))
+      (subst (λ (l : List ℕ). Within l (flatMap (placedAt t) (range 0 (triangleCount m t))))
+      (flatMap-flatMap (placedAt t) (placesOf m t) (nodes m t))
+      (within-flatMap (placedAt t) (flatMap (placesOf m t) (nodes m t)) (range 0 (triangleCount m t)) places-within))
       order-within
 
   -- a triangle's leaf and its place there

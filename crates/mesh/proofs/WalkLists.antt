@@ -12,12 +12,12 @@ use borrow.Author.Tests.{eqb-true, eqb-false}
 use Rattle.geometry.specs.Box.{touches}
 use Rattle.geometry.specs.declared.aabb.Aabb.{Aabb}
 use Rattle.geometry.proofs.BoxLaws.{touches-grows, touches-of-same}
-use Rattle.lists.specs.Lists.{range, count, keep, gather, sortBy, sorted}
+use Rattle.lists.specs.Lists.{range, count, keep, flatMap, sortBy, sorted}
 use Rattle.tree.specs.Layout.{Tree, wordAt, boxAt}
 use Rattle.tree.specs.Mesh.{Mesh, triangleBox, candidates}
 use Rattle.lists.proofs.CountLaws.{one-same, count-cons, count-nil, count-append, count-keep, keep-alike, length-range, range-bounds}
 use Rattle.lists.proofs.CountLaws.{count-range-inside}
-use Rattle.lists.proofs.WithinLaws.{Within, within-length, within-gather}
+use Rattle.lists.proofs.WithinLaws.{Within, within-length, within-flatMap}
 use Rattle.lists.proofs.SortLaws.{count-sorted, sorted-rises, rising-equal, ascending-rises, range-ascends, keep-ascends}
 use Rattle.tree_walk.specs.Walk.{walking, times, takeNode, start, ended, walkOf}
 use Rattle.tree_check.specs.Check.{triangleCount, nodes, placesOf, treePasses}
@@ -67,7 +67,7 @@ module _ (m : Mesh) (t : Tree) (box : Aabb) (c : Checked m t) (some : 0 < t .nod
       }
 
   starting : State m t box [] (0 ∷ []) []
-  unfolding gather
+  unfolding flatMap
   starting = record {
     spread = record { at-most = λ (i : ℕ). omega arith };
     once = record { at-most = λ (i : ℕ). omega (arith, count-nil i) };
@@ -105,7 +105,7 @@ module _ (m : Mesh) (t : Tree) (box : Aabb) (c : Checked m t) (some : 0 < t .nod
 
     list-within : Within list (range 0 (triangleCount m t))
     list-within =
-        let gathered = within-gather (trianglesOf m t) taken (nodes m t) (s .once) in
+        let gathered = within-flatMap (trianglesOf m t) taken (nodes m t) (s .once) in
         let whole = triangles-within m t c in
         record { at-most = λ (x : ℕ). omega (arith, s .listed .at-most x, gathered .at-most x, whole .at-most x) }
 
@@ -170,13 +170,13 @@ walk-of-nothing m t box e f = simp (e, no-candidates m t box f)
 
 -- a passed check with no node is one of no triangle
 nothing-placed : (m : Mesh) (t : Tree) → Checked m t → t .nodeCount ≡ 0 → triangleCount m t ≡ 0
-unfolding gather range
+unfolding flatMap range
 nothing-placed m t c e = go (triangleCount m t) refl
   where
     go : (k : ℕ) → triangleCount m t ≡ k → triangleCount m t ≡ 0
     go zero f = f
     go (suc k) f =
-        absurd (omega (arith, c .placed 0 (omega arith), ap (λ (n : ℕ). count 0 (gather (placesOf m t) (range 0 n))) e, count-nil 0))
+        absurd (omega (arith, c .placed 0 (omega arith), ap (λ (n : ℕ). count 0 (flatMap (placesOf m t) (range 0 n))) e, count-nil 0))
 
 pub walk-lists-candidates : (m : Mesh) (t : Tree) (box : Aabb) → treePasses m t ≡ true → walkOf t (triangleCount m t) box ≡ walking []
     (candidates m box)

@@ -8,10 +8,10 @@ use mathlib.Core.List.{List, _∷_, _++_}
 use native.Mathlib.Omega.{arith}
 use Rattle.geometry.specs.Box.{touches}
 use Rattle.geometry.specs.declared.aabb.Aabb.{Aabb}
-use Rattle.lists.specs.Lists.{count, gather}
+use Rattle.lists.specs.Lists.{count, flatMap}
 use Rattle.tree.specs.Layout.{Tree, boxAt}
 use Rattle.tree.specs.Mesh.{Mesh}
-use Rattle.lists.proofs.CountLaws.{one, one-other, same-or-other, count-cons, count-append, count-gather-cons}
+use Rattle.lists.proofs.CountLaws.{one, one-other, same-or-other, count-cons, count-append, count-flatMap-cons}
 use Rattle.lists.proofs.WithinLaws.{Within}
 use Rattle.tree_check.specs.Check.{nodes, childrenOf}
 use Rattle.mesh.proofs.TreeCounts.{trianglesOf}
@@ -27,9 +27,9 @@ triangleTouches t box x = touches (boxAt (t .triangleBoxes) x) box
 module _ (m : Mesh) (t : Tree) (box : Aabb) where
   pub record State (taken stack list : List ℕ) : Type 0 where
     -- taken or on the stack is only what was named by a node that was taken, so many times at most
-    pub spread : Within (taken ++ stack) (0 ∷ gather (childrenOf m t) taken)
+    pub spread : Within (taken ++ stack) (0 ∷ flatMap (childrenOf m t) taken)
     pub once : Within taken (nodes m t)
-    pub listed : Within list (gather (trianglesOf m t) taken)
+    pub listed : Within list (flatMap (trianglesOf m t) taken)
     pub rooted : 0 < count 0 (taken ++ stack)
     pub opened : (q i : ℕ) → 0 < count q taken → nodeTouches t box q ≡ true → 0 < count i (childrenOf m t q) → 0 < count i (taken ++ stack)
     pub found : (q x : ℕ) → 0 < count q taken → nodeTouches t box q ≡ true → 0 < count x (trianglesOf m t q) → triangleTouches t box x ≡
@@ -55,10 +55,10 @@ module _ (m : Mesh) (t : Tree) (box : Aabb) where
         counts i,
         s .spread .at-most i,
         o .no-others .at-most i,
-        count-cons i 0 (gather
+        count-cons i 0 (flatMap
             (childrenOf m t) taken),
-        count-cons i 0 (gather (childrenOf m t) (node ∷ taken)),
-        count-gather-cons (childrenOf m
+        count-cons i 0 (flatMap (childrenOf m t) (node ∷ taken)),
+        count-flatMap-cons (childrenOf m
             t) node i taken,
       );
     };
@@ -69,7 +69,7 @@ module _ (m : Mesh) (t : Tree) (box : Aabb) where
         s .listed .at-most x,
         o .no-strangers .at-most x,
         count-append x list triangles,
-        count-gather-cons (trianglesOf m t) node x taken,
+        count-flatMap-cons (trianglesOf m t) node x taken,
       );
     };
     rooted = omega (arith, counts 0, s .rooted);

@@ -9,12 +9,12 @@ use lib.ListN.{length, length-append}
 use borrow.Author.Tests.{lt-ltb, le-leb, eqb-true, ne-eqb}
 use Rattle.geometry.specs.declared.aabb.Aabb.{Aabb}
 use Rattle.lists.proofs.JoinedTests.{and-both}
-use Rattle.lists.specs.Lists.{range, count, keep, gather}
+use Rattle.lists.specs.Lists.{range, count, keep, flatMap}
 use Rattle.tree.specs.Layout.{Tree, wordAt, kindAt, firstAt, secondAt}
 use Rattle.tree.specs.Mesh.{Mesh}
-use Rattle.lists.proofs.CountLaws.{one, one-same, count-cons, count-nil, count-append, count-keep, count-gather-cons, length-range}
+use Rattle.lists.proofs.CountLaws.{one, one-same, count-cons, count-nil, count-append, count-keep, count-flatMap-cons, length-range}
 use Rattle.lists.proofs.CountLaws.{range-bounds}
-use Rattle.lists.proofs.WithinLaws.{Within, within-through, within-length, within-gather}
+use Rattle.lists.proofs.WithinLaws.{Within, within-through, within-length, within-flatMap}
 use Rattle.tree_walk.specs.Walk.{Walking, walking, takePlace, takePlaces, atLeaf, childFits, atBranch, atNode}
 use Rattle.tree_check.specs.Check.{triangleCount, nodes, isLeaf, isBranch, childrenOf, placesOf}
 use Rattle.mesh.proofs.CheckedTree.{Checked, branch-children, no-children, leaf-places, no-places}
@@ -29,9 +29,9 @@ unfolding takePlace
 takes-place t n box stack list place p q true e = simp (lt-ltb (wordAt (t .order) place) n p, lt-ltb (length list) n q, e)
 takes-place t n box stack list place p q false e = simp (lt-ltb (wordAt (t .order) place) n p, e)
 
-pub places-listed : (t : Tree) (n : ℕ) (box : Aabb) (stack list places : List ℕ) → Within (list ++ gather (placedAt t) places) (range 0 n)
-    → takePlaces t n box (walking stack list) places ≡ walking stack (list ++ keep (triangleTouches t box) (gather (placedAt t) places))
-unfolding takePlaces gather keep
+pub places-listed : (t : Tree) (n : ℕ) (box : Aabb) (stack list places : List ℕ) → Within (list ++ flatMap (placedAt t) places) (range 0 n)
+    → takePlaces t n box (walking stack list) places ≡ walking stack (list ++ keep (triangleTouches t box) (flatMap (placedAt t) places))
+unfolding takePlaces flatMap keep
 places-listed t n box stack list [] w = ap (walking stack) (sym (append-nil list))
 places-listed t n box stack list (place ∷ places) w = go (triangleTouches t box x) refl (λ l v. places-listed t n box stack l places v)
   where
@@ -39,7 +39,7 @@ places-listed t n box stack list (place ∷ places) w = go (triangleTouches t bo
     x = wordAt (t .order) place
 
     rest : List ℕ
-    rest = gather (placedAt t) places
+    rest = flatMap (placedAt t) places
 
     counts : (y : ℕ) → count y (list ++ (x ∷ rest)) ≡ count y list + (one y x + count y rest)
     counts y = omega (arith, count-append y list (x ∷ rest), count-cons y x rest)
@@ -78,23 +78,23 @@ places-listed t n box stack list (place ∷ places) w = go (triangleTouches t bo
         ∙ ap (λ (b : Bool). walking stack (list ++ cond b (x ∷ keep (triangleTouches t box) rest) (keep (triangleTouches t box) rest)))
         (sym e)
 
-no-words : (t : Tree) (x : ℕ) → count x (gather (placedAt t) []) ≡ 0
-unfolding gather
+no-words : (t : Tree) (x : ℕ) → count x (flatMap (placedAt t) []) ≡ 0
+unfolding flatMap
 no-words t x = count-nil x
 
 -- ---- one node of a checked tree
 module _ (m : Mesh) (t : Tree) (box : Aabb) (c : Checked m t) (some : 0 < t .nodeCount) where
   pub all-within : (taken stack list : List ℕ) → State m t box taken stack list → Within (taken ++ stack) (nodes m t)
   all-within taken stack list s =
-      let kids = within-gather (childrenOf m t) taken (nodes m t) (s .once) in
-      within-through (taken ++ stack) (0 ∷ gather (childrenOf m t) taken) (nodes m t) (s .spread)
-      (within-through (0 ∷ gather (childrenOf m t) taken) (0 ∷ gather (childrenOf m t) (nodes m t)) (nodes m t)
+      let kids = within-flatMap (childrenOf m t) taken (nodes m t) (s .once) in
+      within-through (taken ++ stack) (0 ∷ flatMap (childrenOf m t) taken) (nodes m t) (s .spread)
+      (within-through (0 ∷ flatMap (childrenOf m t) taken) (0 ∷ flatMap (childrenOf m t) (nodes m t)) (nodes m t)
       (record {
         at-most = λ (i : ℕ). omega (
           arith,
           kids .at-most i,
-          count-cons i 0 (gather (childrenOf m t) taken),
-          count-cons i 0 (gather
+          count-cons i 0 (flatMap (childrenOf m t) taken),
+          count-cons i 0 (flatMap
               (childrenOf m t) (nodes m t)),
         );
       })
@@ -157,7 +157,7 @@ module _ (m : Mesh) (t : Tree) (box : Aabb) (c : Checked m t) (some : 0 < t .nod
                 i node taken,
           );
         } in
-        let gathered = within-gather (trianglesOf m t) (node ∷ taken) (nodes m t) mine in
+        let gathered = within-flatMap (trianglesOf m t) (node ∷ taken) (nodes m t) mine in
         let whole = triangles-within m t c in
         record {
           at-most = λ (x : ℕ). omega (
@@ -167,7 +167,7 @@ module _ (m : Mesh) (t : Tree) (box : Aabb) (c : Checked m t) (some : 0 < t .nod
             s .listed .at-most x,
             count-append x list
                 (trianglesOf m t node),
-            count-gather-cons (trianglesOf m t) node x taken,
+            count-flatMap-cons (trianglesOf m t) node x taken,
           );
         }
 
@@ -234,7 +234,7 @@ module _ (m : Mesh) (t : Tree) (box : Aabb) (c : Checked m t) (some : 0 < t .nod
             all-triangles = λ h x k f. absurd (omega (
               arith,
               k,
-              ap (λ (l : List ℕ). count x (gather (placedAt t) l)) (no-places m t node l),
+              ap (λ (l : List ℕ). count x (flatMap (placedAt t) l)) (no-places m t node l),
               no-words t x,
             ));
             touching = λ (x : ℕ) (h : 0 < count x []). absurd (omega (arith, count-nil x));

@@ -3,20 +3,21 @@
 use Prim.Native.Nat.{ℕ, _<_, _≤_}
 use mathlib.Core.Path.{_≡_}
 use mathlib.Core.Bool.{true, false}
+use mathlib.Core.List.{List}
 use lib.Ieee.{Float, le, lt}
 use lib.ListN.{length}
-use Rattle.geometry.specs.Vector.{finiteVec}
+use Rattle.vectors.specs.Vector.{finiteVec}
 use Rattle.geometry.specs.Box.{touches}
 use Rattle.geometry.specs.Segment.{rayAdmitted, segmentEnd, segmentBox}
-use Rattle.geometry.specs.declared.vec3.Vec3.{Vec3}
+use Rattle.vectors.specs.declared.vec3.Vec3.{Vec3}
 use Rattle.geometry.specs.declared.ray.Ray.{Ray}
 use Rattle.casts.specs.Answer.{Answer, hit, none, refused}
-use Rattle.casts.specs.Triangle.{rayTriangle}
-use Rattle.casts.specs.Nearest.{Indexed, hitAt, noHit, stopped}
+use Rattle.triangle_cast.specs.Triangle.{rayTriangle}
+use Rattle.nearest_hit.specs.Nearest.{Indexed, hitAt, noHit, stopped}
 use Rattle.tree.specs.Layout.{Tree}
 use Rattle.tree.specs.Mesh.{Mesh, thirds, lengthsAdmitted, cornersOf, triangleBox}
 use Rattle.tree_check.specs.Verdict.{yes, checkOf}
-use Rattle.mesh.specs.MeshCast.{roomFor, rayMesh}
+use Rattle.mesh.specs.MeshCast.{roomFor, testsPass, rayMesh}
 
 -- "A tree passes the check if the check, with a mark area long enough, says yes"
 pub record PassesCheck (m : Mesh) (t : Tree) : Type 0 where
@@ -78,3 +79,10 @@ module _ (r : Ray) (m : Mesh) where
 abbrev pub Demand3 : Type 0
 Demand3 =
     (r : Ray) (m : Mesh) (t : Tree) (list stack : ℕ) → Admitted r m t list stack → MeetsDemand r m (rayMesh r m (m .vertices) t list stack)
+
+-- What the call promises: its answer; the list and the stack, which until the tests let the call pass are unchanged; and the demand.
+abbrev pub Casts : Ray → Mesh → List Float → Tree → List ℕ → List ℕ → List ℕ → List ℕ → Indexed → Type 0
+Casts r m pose t list list' stack stack' answer =
+    (answer ≡ rayMesh r m pose t (length list) (length stack))
+    × ((testsPass r m pose t (length list) (length stack) ≡ false → (list' ≡ list) × (stack' ≡ stack))
+    × (pose ≡ m .vertices → Admitted r m t (length list) (length stack) → MeetsDemand r m answer))

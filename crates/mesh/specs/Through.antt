@@ -1,7 +1,7 @@
 -- A mesh whose tree is built first, and the ray cast through it. Definitions only. Assumes nothing.
 use Prim.Native.Nat.{ℕ, _+_, _*_}
 use Rattle.geometry.specs.declared.ray.Ray.{Ray}
-use Rattle.casts.specs.Nearest.{Indexed, stopped}
+use Rattle.nearest_hit.specs.Nearest.{Indexed, stopped}
 use Rattle.tree.specs.Layout.{Areas, treeIn, freshAreas}
 use Rattle.tree.specs.Mesh.{Mesh, triangleCount}
 use Rattle.tree_build.specs.Build.{Answer, nodes, refused, Outcome, buildOf}

@@ -1,25 +1,32 @@
 use casts::answer;
-use casts::answer::Crossing;
+use casts::answer::Cast;
 use casts::answer::Reach;
-use casts::nearest;
-use casts::nearest::IndexedCast;
-use casts::summary;
-use casts::summary::Notes;
-use casts::summary::Outcome;
-use casts::triangle;
 use geometry::ray::Ray;
+use nearest_hit::nearest;
+use nearest_hit::nearest::IndexedCast;
+use nearest_hit::summary;
+use nearest_hit::summary::Notes;
+use nearest_hit::summary::Outcome;
 use tree::mesh;
+use triangle_cast::parts::Crossing;
+use triangle_cast::triangle;
+use vectors::vec3::Vec3;
 ghost use mathlib.Core.Path.{_≡_};
 ghost use mathlib.Core.Bool.{true};
 ghost use Prim.Native.Nat.{_+_, _*_, _≤_};
 ghost use lib.ListN.{length, take};
+ghost use Rattle.geometry.specs.Box.{corner};
+ghost use Rattle.vectors.specs.Vector.{subOf};
+ghost use Rattle.casts.specs.Answer.{says};
 ghost use Rattle.casts.specs.Reach.{reachOf};
-ghost use Rattle.casts.specs.Nearest.{saysIndexed, nearestOf};
-ghost use Rattle.casts.specs.Summary.{nothing, summaryFrom, saysNotes};
+ghost use Rattle.nearest_hit.specs.Nearest.{saysIndexed, nearestOf};
+ghost use Rattle.nearest_hit.specs.Summary.{nothing, summaryFrom, saysNotes};
+ghost use Rattle.triangle_cast.specs.Triangle.{triangleNormal};
 ghost use Rattle.lists.specs.Lists.{sorted, allBelow};
 ghost use Rattle.tree.specs.Mesh.{thirds, triangleAnswer};
 
-// The answer of one triangle without its normal, for an admitted ray: an index past the vertices is 5.
+// The answer of one triangle without its normal, for an admitted ray: an index past the vertices is 5. Callers show that the triangle is in
+// the mesh.
 fn triangle_reach(ray: Ray, pose: &[f64], triangles: &[u32], index: usize) -> Reach
     requires { ⌜ 3 * index + 3 ≤ length (now triangles) ⌝ }
     ensures { λ r. ⌜ r ≡ reachOf (triangleAnswer ray (now (pose .entry)) (now (triangles .entry)) index) ⌝ }
@@ -48,10 +55,13 @@ fn triangle_reach(ray: Ray, pose: &[f64], triangles: &[u32], index: usize) -> Re
     }
 }
 
-// The notes of the triangles in the first places of a list, for an admitted ray. A refusal does not end them: one of a lower index may follow.
+// The notes of the triangles in the first places of a list, for an admitted ray. A refusal does not end them: one of a lower index may
+// follow.
+// Callers show that the places are in the list and the triangles in the mesh.
 fn note_all(ray: Ray, pose: &[f64], triangles: &[u32], list: &[u32], found: usize) -> Notes
     requires { ⌜ (found ≤ length (now list)) × (allBelow (thirds (length (now triangles))) (take found (now list)) ≡ true) ⌝ }
-    ensures { λ r. ⌜ saysNotes r ≡ summaryFrom (triangleAnswer ray (now (pose .entry)) (now (triangles .entry))) nothing (take found (now (list .entry))) ⌝ }
+    ensures { λ r. ⌜ saysNotes r ≡ summaryFrom (triangleAnswer ray (now (pose .entry)) (now (triangles .entry))) nothing
+        (take found (now (list .entry))) ⌝ }
 {
     let mut notes = summary::empty();
     let mut i: usize = 0;
@@ -64,7 +74,21 @@ fn note_all(ray: Ray, pose: &[f64], triangles: &[u32], list: &[u32], found: usiz
     notes
 }
 
-// The nearest hit of the triangles in the first places of a list, for an admitted ray: as if they stood there ascending, in whatever order they do. The notes hold the winner's number or distance, so only its normal is left to compute.
+// The hit at the distance that the corners are reached at. It has one user, into which it is compiled: a call would be handed the corners
+// through memory.
+fn hit_on(ray: Ray, corners: [Vec3; 3], distance: f64) -> Cast
+    ensures { λ r. ⌜ says r ≡ triangleNormal ray (subOf (corner corners 1) (corner corners 0))
+        (subOf (corner corners 2) (corner corners 0)) distance ⌝ }
+{
+    let first = corners[0];
+    let second = corners[1];
+    let third = corners[2];
+    triangle::triangle_normal(ray, second.sub(first), third.sub(first), distance)
+}
+
+// The nearest hit of the triangles in the first places of a list, for an admitted ray: as if they stood there ascending, in whatever order
+// they do. The notes hold the winner's number or distance, so only its normal is left to compute.
+// Callers show that the places are in the list and the triangles in the mesh.
 pub fn nearest_of(
     ray: Ray,
     pose: &[f64],
@@ -73,7 +97,8 @@ pub fn nearest_of(
     found: usize,
 ) -> IndexedCast
     requires { ⌜ (found ≤ length (now list)) × (allBelow (thirds (length (now triangles))) (take found (now list)) ≡ true) ⌝ }
-    ensures { λ r. ⌜ saysIndexed r ≡ nearestOf (triangleAnswer ray (now (pose .entry)) (now (triangles .entry))) (sorted (take found (now (list .entry)))) ⌝ }
+    ensures { λ r. ⌜ saysIndexed r ≡ nearestOf (triangleAnswer ray (now (pose .entry)) (now (triangles .entry)))
+        (sorted (take found (now (list .entry)))) ⌝ }
 {
     let notes = note_all(ray, pose, triangles, list, found);
     let winner = summary::winner(notes);
@@ -86,7 +111,7 @@ pub fn nearest_of(
         }
         Outcome::Struck { index, distance } => {
             let corners = mesh::corners_of(pose, triangles, index as usize);
-            let hit = triangle::hit_at(ray, corners, distance);
+            let hit = hit_on(ray, corners, distance);
             return nearest::next(IndexedCast::None, index, hit);
         }
     }

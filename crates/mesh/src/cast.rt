@@ -1,7 +1,7 @@
 use crate::candidates;
 use casts::answer;
-use casts::nearest::IndexedCast;
 use geometry::ray::Ray;
+use nearest_hit::nearest::IndexedCast;
 use tree::mesh;
 use tree_query::query;
 use tree_query::walk;
@@ -12,12 +12,12 @@ ghost use Prim.Native.Nat.{_*_};
 ghost use lib.Dec.{leb};
 ghost use lib.ListN.{length};
 ghost use Rattle.geometry.specs.Segment.{rayAdmitted};
-ghost use Rattle.casts.specs.Nearest.{saysIndexed};
+ghost use Rattle.nearest_hit.specs.Nearest.{saysIndexed};
 ghost use Rattle.tree.specs.Mesh.{thirds, lengthsAdmitted, mesh};
 ghost use Rattle.tree.specs.Layout.{treeOf};
 ghost use Rattle.tree_walk.specs.Areas.{WalkRoom};
-ghost use Rattle.mesh.specs.MeshCast.{testsPass, meshCast, rayMesh};
-ghost use Rattle.mesh.specs.Demand3.{Admitted, MeetsDemand};
+ghost use Rattle.mesh.specs.MeshCast.{meshCast};
+ghost use Rattle.mesh.specs.Demand3.{Casts};
 
 // Whether the lengths of the mesh and of the vertices to cast at, and the node count, are admitted.
 pub fn shape_admitted(vertices: usize, triangles: usize, pose: usize, nodes: usize) -> bool
@@ -32,7 +32,7 @@ pub fn shape_admitted(vertices: usize, triangles: usize, pose: usize, nodes: usi
     nodes <= 2 * (triangles / 3)
 }
 
-// The cast once refusals 1 to 4 have let it pass; the list and the stack may hold anything afterwards.
+// The cast once refusals 1 to 4 have let it pass; the list and the stack may hold anything afterwards. Callers show that they have.
 fn mesh_cast(
     ray: Ray,
     triangles: &[u32],
@@ -45,8 +45,11 @@ fn mesh_cast(
     list: &mut [u32],
     stack: &mut [u32],
 ) -> IndexedCast
-    requires { ⌜ rayAdmitted ray ≡ true ⌝ ∗ ⌜ WalkRoom (thirds (length (now triangles))) (treeOf nodes (now «node_boxes») (now «triangle_boxes») (now «node_words») (now order)) (now list) (now stack) ⌝ }
-    ensures { λ r. ⌜ saysIndexed r ≡ meshCast ray (record { vertices = now (pose .entry); triangles = now (triangles .entry) }) (now (pose .entry)) (treeOf nodes (now («node_boxes» .entry)) (now («triangle_boxes» .entry)) (now («node_words» .entry)) (now (order .entry))) ⌝ }
+    requires { ⌜ rayAdmitted ray ≡ true ⌝ ∗ ⌜ WalkRoom (thirds (length (now triangles)))
+        (treeOf nodes (now «node_boxes») (now «triangle_boxes») (now «node_words») (now order)) (now list) (now stack) ⌝ }
+    ensures { λ r. ⌜ saysIndexed r ≡ meshCast ray (record { vertices = now (pose .entry); triangles = now (triangles .entry) })
+        (now (pose .entry)) (treeOf nodes (now («node_boxes» .entry)) (now («triangle_boxes» .entry)) (now («node_words» .entry))
+        (now (order .entry))) ⌝ }
 {
     let end = ray.segment_end();
     if !end.is_finite() {
@@ -77,7 +80,7 @@ fn mesh_cast(
 
 // The nearest triangle that a ray hits, of those that any tree lists for its segment's box.
 // The list and the stack are work areas: until refusals 1 to 4 have let the call pass they are unchanged, and then they may hold anything.
-// The third clause is demand 3: at the mesh's own vertices, with any tree that passes the check.
+// What `Casts` says last is demand 3: at the mesh's own vertices, with any tree that passes the check.
 pub fn ray_mesh(
     ray: Ray,
     vertices: &[f64],
@@ -91,9 +94,9 @@ pub fn ray_mesh(
     list: &mut [u32],
     stack: &mut [u32],
 ) -> IndexedCast
-    ensures { λ r. ⌜ saysIndexed r ≡ rayMesh ray (mesh (now (vertices .entry)) (now (triangles .entry))) (now (pose .entry)) (treeOf nodes (now («node_boxes» .entry)) (now («triangle_boxes» .entry)) (now («node_words» .entry)) (now (order .entry))) (length (now (list .entry))) (length (now (stack .entry))) ⌝ }
-    ensures { λ r. ⌜ (testsPass ray (mesh (now (vertices .entry)) (now (triangles .entry))) (now (pose .entry)) (treeOf nodes (now («node_boxes» .entry)) (now («triangle_boxes» .entry)) (now («node_words» .entry)) (now (order .entry))) (length (now (list .entry))) (length (now (stack .entry))) ≡ false → (now (list .exit) ≡ now (list .entry)) × (now (stack .exit) ≡ now (stack .entry))) ⌝ }
-    ensures { λ r. ⌜ (now (pose .entry) ≡ now (vertices .entry) → Admitted ray (mesh (now (vertices .entry)) (now (triangles .entry))) (treeOf nodes (now («node_boxes» .entry)) (now («triangle_boxes» .entry)) (now («node_words» .entry)) (now (order .entry))) (length (now (list .entry))) (length (now (stack .entry))) → MeetsDemand ray (mesh (now (vertices .entry)) (now (triangles .entry))) (saysIndexed r)) ⌝ }
+    ensures { λ r. ⌜ Casts ray (mesh (now (vertices .entry)) (now (triangles .entry))) (now (pose .entry))
+        (treeOf nodes (now («node_boxes» .entry)) (now («triangle_boxes» .entry)) (now («node_words» .entry)) (now (order .entry)))
+        (now (list .entry)) (now (list .exit)) (now (stack .entry)) (now (stack .exit)) (saysIndexed r) ⌝ }
 {
     if !ray.validate() {
         return IndexedCast::Refused(answer::INVALID_INPUT);

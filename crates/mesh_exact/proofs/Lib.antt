@@ -1,8 +1,13 @@
--- The pass over the triangles, the exact cast refusal by refusal, and where boxes touch on one axis. Assumes nothing.
+-- The pass over the triangles, the exact cast refusal by refusal, and that a triangle that the segment meets is a candidate. Assumes
+-- nothing.
 pub mod Passing
 pub mod Casting
-pub mod Nones
-pub mod Standing
+pub mod Answered
+pub mod OneCandidate
 pub mod Means
 pub mod Sides
 pub mod Ends
+pub mod Touching
+pub mod Leasts
+pub mod Certainty
+pub mod Examples

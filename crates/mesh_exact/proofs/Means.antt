@@ -13,7 +13,7 @@ use Rattle.arithmetic.specs.Extremes.{minimumOf, maximumOf}
 use Rattle.arithmetic.proofs.Order.{le-left-number, le-right-number, le-transitive}
 use Rattle.arithmetic.proofs.ExtremesOrder.{minimum-below-first, minimum-below-second, maximum-above-first, maximum-above-second}
 use Rattle.arithmetic.proofs.WholeValues.{Is}
-use Rattle.mesh_exact.proofs.Standing.{is-number, is-le}
+use Rattle.exact_depth.proofs.Standing.{is-number, is-le}
 
 -- ---- weights i, j and k of x - x', y - y' and z - z', whose mean is not below m - m'
 module _ (i j k x x' y y' z z' m m' : ℕ) (some : 0 < i + j + k)

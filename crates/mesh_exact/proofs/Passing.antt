@@ -8,11 +8,11 @@ use native.Mathlib.Omega.{arith}
 use native.Mathlib.Numerals.{add-one}
 use lib.ListN.{length}
 use Rattle.geometry.specs.Box.{cornersBox, touches, validBox}
-use Rattle.geometry.specs.declared.vec3.Vec3.{Vec3}
+use Rattle.vectors.specs.declared.vec3.Vec3.{Vec3}
 use Rattle.geometry.specs.declared.aabb.Aabb.{Aabb}
 use Rattle.geometry.specs.declared.ray.Ray.{Ray}
 use Rattle.casts.specs.Answer.{Answer, refused, outOfBounds}
-use Rattle.casts.specs.Nearest.{Indexed, noHit, stopped, nextOf, foldFrom, nearestOf}
+use Rattle.nearest_hit.specs.Nearest.{Indexed, noHit, stopped, nextOf, foldFrom, nearestOf}
 use Rattle.lists.specs.Lists.{range, keep, every}
 use Rattle.tree.specs.Mesh.{Mesh, thirds, cornersInside, cornersOf, triangleBox, candidates}
 use Rattle.tree.proofs.Corners.{corners-box}

@@ -15,7 +15,7 @@ use Rattle.exact_depth.specs.Meeting.{mix}
 use Rattle.exact_depth.proofs.Integers.{pp, np}
 use Rattle.exact_depth.proofs.Polynomials.{Rep, own, own-pos, own-neg, rep-add, rep-sub, rep-mul}
 use Rattle.exact_depth.proofs.Order.{rep-same}
-use Rattle.mesh_exact.proofs.Standing.{Stands, is-number}
+use Rattle.exact_depth.proofs.Standing.{Stands, is-number}
 use Rattle.mesh_exact.proofs.Means.{greatest-above, least-below}
 
 -- corners a, b and c; from o to e; t / D is the depth

@@ -9,7 +9,7 @@ use Rattle.geometry.specs.declared.aabb.Aabb.{Aabb}
 use Rattle.geometry.specs.declared.ray.Ray.{Ray}
 use Rattle.casts.specs.Answer.{Answer, refused, invalidInput, badShape, outOfBounds}
 use Rattle.casts.specs.SegmentBox.{withSegmentBox}
-use Rattle.casts.specs.Nearest.{Indexed, stopped, nearestOf}
+use Rattle.nearest_hit.specs.Nearest.{Indexed, stopped, nearestOf}
 use Rattle.tree.specs.Mesh.{Mesh, thirds, lengthsAdmitted, cornersInside, cornersOf, candidates}
 -- 5 if any triangle has no valid box: its box is not valid, or an index of it is past the vertices
 unfoldable pub use Rattle.tree.specs.Mesh.{triangleFits, trianglesFit}

@@ -1,2 +1,3 @@
 -- The cast at a mesh on whole millimetres. Definitions only. Assumes nothing.
 pub mod ExactCast
+pub mod Certain

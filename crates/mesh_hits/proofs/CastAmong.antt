@@ -6,16 +6,18 @@ use mathlib.Core.Bool.{Bool, true, false, cond}
 use mathlib.Core.List.{List, [], _∷_, List·Memᴰ, List·Memᴰ·head, List·Memᴰ·tail}
 use native.Mathlib.Omega.{arith}
 use lib.Ieee.{Float, lt}
-use Rattle.geometry.specs.declared.vec3.Vec3.{Vec3}
+use Rattle.vectors.specs.declared.vec3.Vec3.{Vec3}
 use Rattle.casts.specs.Answer.{Answer, hit, none, refused}
-use Rattle.casts.specs.Nearest.{Indexed, hitAt, noHit, stopped, nextOf, foldFrom, nearestOf}
-use Rattle.casts.proofs.AnswerLists.{none-not-hit, hit-not-stopped, hit-not-none}
-use Rattle.casts.proofs.NearestRefusals.{refusal-stops, none-of-nones, nones-of-none}
+use Rattle.nearest_hit.specs.Nearest.{Indexed, hitAt, noHit, stopped, nextOf, foldFrom, nearestOf}
+use Rattle.casts.proofs.AnswerLists.{none-not-hit}
+use Rattle.nearest_hit.proofs.IndexedCases.{hit-not-stopped, hit-not-none}
+use Rattle.nearest_hit.proofs.NearestRefusals.{refusal-stops, none-of-nones, nones-of-none}
 use Rattle.tree.specs.Layout.{wordAt}
 use Rattle.lists.proofs.CountLaws.{member-of-count, count-of-member}
-use Rattle.mesh_hits.specs.Listing.{HitArea, isHit, listingOf}
+use Rattle.hit_area.specs.HitArea.{HitArea, isHit}
+use Rattle.hit_listing.specs.HitListing.{listingOf}
 use Rattle.mesh_hits.specs.Promise.{IsListed, FitsCast}
-use Rattle.mesh_hits.proofs.PlaceLaws.{at-counted, Place, place-of}
+use Rattle.hit_listing.proofs.PlaceLaws.{at-counted, Place, place-of}
 use Rattle.mesh_hits.proofs.CountedHits.{places, Counted, listed-of-hit, all-hit, index-at, place-at, hit-at}
 
 -- ---- the fold's hit is one of its list

@@ -9,18 +9,18 @@ use lib.Dec.{leb}
 use lib.Ieee.{Float}
 use lib.ListN.{length, take, drop, List·getD-append}
 use lib.Seq.{take-at}
-use Rattle.geometry.specs.declared.vec3.Vec3.{Vec3}
+use Rattle.vectors.specs.declared.vec3.Vec3.{Vec3}
 use Rattle.casts.specs.Answer.{Answer, hit, noRoom}
-use Rattle.casts.specs.Nearest.{Indexed, hitAt, noHit, stopped, nearestOf}
-use Rattle.casts.proofs.AnswerLists.{stopped-not-none, hit-not-stopped}
+use Rattle.nearest_hit.specs.Nearest.{Indexed, hitAt, noHit, stopped, nearestOf}
+use Rattle.nearest_hit.proofs.IndexedCases.{stopped-not-none, hit-not-stopped}
 use Rattle.lists.specs.Lists.{count}
 use Rattle.tree.specs.Layout.{wordAt, vectorAt, numberAt}
 use Rattle.lists.proofs.CountLaws.{count-keep}
 use Rattle.tree_query.specs.Query.{count as countOf, refused as refusedWith}
-use Rattle.mesh_hits.specs.Listing.{HitArea, Outcome, isHit, hitsOf, inOrder, numbersOf, placesOf, refusedAt}
-use Rattle.mesh_hits.specs.Listing.{written, fitted, afterRefusals, listingOf}
-use Rattle.mesh_hits.proofs.HitOrder.{in-order-count}
-use Rattle.mesh_hits.proofs.PlaceLaws.{at-counted, IsHitOf, hit-of, AllHit, NumbersAt, stands-at}
+use Rattle.hit_area.specs.HitArea.{HitArea, Outcome, isHit, hitsOf, inOrder, numbersOf, placesOf, refusedAt}
+use Rattle.hit_listing.specs.HitListing.{written, fitted, afterRefusals, listingOf}
+use Rattle.hit_listing.proofs.HitOrder.{in-order-count}
+use Rattle.hit_listing.proofs.PlaceLaws.{at-counted, IsHitOf, hit-of, AllHit, NumbersAt, stands-at}
 
 -- ---- a count is no refusal
 pub refused-not-count : (k number : ℕ) → refusedWith number ≡ countOf k → ⊥

@@ -8,21 +8,22 @@ use mathlib.Core.List.{List·Memᴰ·not-nil, Memᴰ·append-right}
 use native.Mathlib.Omega.{arith}
 use lib.Ieee.{Float}
 use lib.ListN.{length}
-use Rattle.geometry.specs.declared.vec3.Vec3.{Vec3}
+use Rattle.vectors.specs.declared.vec3.Vec3.{Vec3}
 use Rattle.casts.specs.Answer.{Answer, hit}
-use Rattle.casts.specs.Nearest.{Indexed, hitAt, noHit, stopped, nearestOf}
+use Rattle.nearest_hit.specs.Nearest.{Indexed, hitAt, noHit, stopped, nearestOf}
 use Rattle.lists.proofs.Members.{Each, Rising as RisingList}
 use Rattle.casts.proofs.AnswerLists.{HitsAreNumbers}
-use Rattle.casts.proofs.NearestHits.{FirstNearest, hit-of-first-nearest}
+use Rattle.nearest_hit.proofs.NearestHits.{FirstNearest, hit-of-first-nearest}
 use Rattle.lists.specs.Lists.{count}
 use Rattle.tree.specs.Layout.{wordAt, numberAt}
 use Rattle.lists.proofs.CountLaws.{member-of-count}
 use Rattle.lists.proofs.InOrder.{Rising, rising-sorted}
-use Rattle.depth_sort.specs.Order.{keyedAhead, ahead}
-use Rattle.mesh_hits.specs.Listing.{HitArea, depthOf, hitsOf, depthAt, listingOf}
+use Rattle.depth_order.specs.Order.{keyedAhead, ahead}
+use Rattle.hit_area.specs.HitArea.{HitArea, depthOf, hitsOf, depthAt}
+use Rattle.hit_listing.specs.HitListing.{listingOf}
 use Rattle.mesh_hits.specs.Promise.{Ascends, firstOf}
-use Rattle.depth_sort.proofs.OrderLaws.{ahead-total, ahead-transitive, ahead-antisymmetric, ahead-itself, ahead-level, ahead-nearer}
-use Rattle.mesh_hits.proofs.PlaceLaws.{at-counted, Place, IsHitOf}
+use Rattle.depth_order.proofs.OrderLaws.{ahead-total, ahead-transitive, ahead-antisymmetric, ahead-itself, ahead-level, ahead-nearer}
+use Rattle.hit_listing.proofs.PlaceLaws.{at-counted, Place, IsHitOf}
 use Rattle.mesh_hits.proofs.CountedHits.{places, Counted, index-at, place-at, hit-at}
 use Rattle.mesh_hits.proofs.CastAmong.{hit-is, placed, of-list, fits-cast}
 

@@ -1,14 +1,7 @@
 -- Laws about the listing of all hits. Assumes nothing.
-pub mod HitOrder
-pub mod PlaceLaws
-pub mod Storing
-pub mod GatheredHits
-pub mod Putting
-pub mod ListedHits
 pub mod Listings
 pub mod CountedHits
 pub mod CastAmong
 pub mod InDepth
 pub mod Promises
 pub mod RefusalNumbers
-pub mod ListingExamples

@@ -8,7 +8,7 @@ use borrow.Author.Tests.{eq-eqb, ne-eqb}
 use lib.Dec.{leb, eqb}
 use lib.Ieee.{Float}
 use lib.ListN.{length, take}
-use Rattle.geometry.specs.Vector.{finiteVec}
+use Rattle.vectors.specs.Vector.{finiteVec}
 use Rattle.geometry.specs.Box.{validBox}
 use Rattle.geometry.specs.Segment.{rayAdmitted, segmentEnd, segmentBox}
 use Rattle.geometry.specs.declared.aabb.Aabb.{Aabb}
@@ -26,7 +26,9 @@ use Rattle.tree_walk.specs.declared.step.Filled.{Filled}
 use Rattle.tree_walk.specs.declared.step.Filled.the-variants.{Count, Broken}
 use Rattle.tree_query.specs.Query.{walkFits}
 use Rattle.mesh.specs.MeshCast.{shapeAdmitted, roomFor}
-use Rattle.mesh_hits.specs.Listing.{HitArea, Outcome, refusedAt, unchanged, listingOf, overWalk, meshListing, rayMeshAll}
+use Rattle.hit_area.specs.HitArea.{HitArea, Outcome, refusedAt}
+use Rattle.mesh_hits.specs.Listing.{unchanged, overWalk, meshListing, rayMeshAll}
+use Rattle.hit_listing.specs.HitListing.{listingOf}
 
 -- the list of the walk does not fall
 pub ended-rises : (t : Tree) (n : ℕ) (box : Aabb) (w : Walking) (stack l : List ℕ) → ended t n box w ≡ walking stack l → Rising l

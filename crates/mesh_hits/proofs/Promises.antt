@@ -8,16 +8,16 @@ use borrow.Author.Tests.{eq-eqb}
 use lib.Dec.{eqb}
 use lib.Ieee.{Float}
 use lib.ListN.{length}
-use Rattle.geometry.specs.Vector.{finiteVec}
+use Rattle.vectors.specs.Vector.{finiteVec}
 use Rattle.geometry.specs.Box.{validBox}
 use Rattle.geometry.specs.Segment.{rayAdmitted, segmentEnd, segmentBox}
-use Rattle.geometry.specs.declared.vec3.Vec3.{Vec3}
+use Rattle.vectors.specs.declared.vec3.Vec3.{Vec3}
 use Rattle.geometry.specs.declared.ray.Ray.{Ray}
 use Rattle.geometry.proofs.BoxLaws.{segment-box-valid}
 use Rattle.casts.specs.Answer.{Answer, invalidInput, badShape, noRoom, wrongPose, outOfBounds, overflow}
-use Rattle.casts.specs.Nearest.{Indexed, stopped, nearestOf}
+use Rattle.nearest_hit.specs.Nearest.{Indexed, stopped, nearestOf}
 use Rattle.lists.proofs.Members.{Rising}
-use Rattle.casts.proofs.AnswerLists.{same-number}
+use Rattle.nearest_hit.proofs.IndexedCases.{same-number}
 use Rattle.lists.specs.Lists.{count}
 use Rattle.tree.specs.Layout.{Tree, wordAt, numberAt, vectorAt}
 use Rattle.tree.specs.Mesh.{Mesh, thirds, triangleAnswer, candidates}
@@ -29,10 +29,13 @@ use Rattle.mesh.specs.MeshCast.{shapeAdmitted, roomFor, overWalk as castOverWal
 use Rattle.mesh.specs.Demand3.{Admitted, Candidate, IsHit}
 use Rattle.mesh.proofs.Demand3.{candidates-count, listed-candidate, passes, shape-admitted, answers-same}
 use Rattle.mesh.proofs.WalkLists.{walk-lists-candidates}
-use Rattle.mesh_hits.specs.Listing.{HitArea, Outcome, isHit, hitsOf, inOrder, refusedAt, unchanged, fitted}
-use Rattle.mesh_hits.specs.Listing.{afterRefusals, listingOf, overWalk, meshListing, rayMeshAll}
+use Rattle.hit_area.specs.HitArea.{HitArea, Outcome, isHit, hitsOf, inOrder, refusedAt}
+use Rattle.mesh_hits.specs.Listing.{unchanged}
+use Rattle.hit_listing.specs.HitListing.{fitted}
+use Rattle.hit_listing.specs.HitListing.{afterRefusals, listingOf}
+use Rattle.mesh_hits.specs.Listing.{overWalk, meshListing, rayMeshAll}
 use Rattle.mesh_hits.specs.Promise.{ListsHits, FitsCast, Ascends, firstOf, KeepsPromises, Promised}
-use Rattle.mesh_hits.proofs.PlaceLaws.{at-counted}
+use Rattle.hit_listing.proofs.PlaceLaws.{at-counted}
 use Rattle.mesh_hits.proofs.Listings.{ended-rises}
 use Rattle.mesh_hits.proofs.CountedHits.{refused-not-count, stopped-refuses, places, Counted, counted}
 use Rattle.mesh_hits.proofs.CountedHits.{listed-of-hit, all-hit, first-are, index-at, place-at, hit-at}

@@ -7,30 +7,33 @@ use native.Mathlib.Omega.{arith}
 use lib.Dec.{leb, eqb}
 use lib.Ieee.{Float, lt, le, isNan}
 use lib.ListN.{length}
-use Rattle.geometry.specs.Numbers.{_+ᶠ_, _*ᶠ_, _/ᶠ_, zeroᶠ, oneᶠ}
-use Rattle.geometry.specs.Vector.{finiteVec, subOf, crossOf, dotOf, checkedDot, tryNormalize}
+use Rattle.vectors.specs.Numbers.{_+ᶠ_, _*ᶠ_, _/ᶠ_, zeroᶠ, oneᶠ}
+use Rattle.vectors.specs.Vector.{finiteVec, subOf, crossOf, dotOf, checkedDot, tryNormalize}
 use Rattle.geometry.specs.Box.{validBox}
 use Rattle.geometry.specs.Segment.{rayAdmitted, segmentEnd, segmentBox}
-use Rattle.geometry.specs.declared.vec3.Vec3.{Vec3}
-use Rattle.geometry.specs.declared.vec3.Checked.{Checked}
-use Rattle.geometry.specs.declared.vec3.Checked.the-variants.{Value, Overflow}
-use Rattle.geometry.specs.declared.vec3.Normalized.{Normalized}
-use Rattle.geometry.specs.declared.vec3.Normalized.the-variants.{Unit as UnitOf, Degenerate}
+use Rattle.vectors.specs.declared.vec3.Vec3.{Vec3}
+use Rattle.vectors.specs.declared.vec3.Checked.{Checked}
+use Rattle.vectors.specs.declared.vec3.Checked.the-variants.{Value, Overflow}
+use Rattle.vectors.specs.declared.vec3.Normalized.{Normalized}
+use Rattle.vectors.specs.declared.vec3.Normalized.the-variants.{Unit as UnitOf, Degenerate}
 use Rattle.geometry.specs.declared.ray.Ray.{Ray}
 use Rattle.casts.specs.Answer.{Answer, hit, none, refused, withValue, withNormal, noNormal}
 use Rattle.casts.specs.Answer.{invalidInput, badShape, noRoom, wrongPose, outOfBounds, overflow}
-use Rattle.casts.specs.Nearest.{Indexed, hitAt, noHit, stopped, nearestOf}
+use Rattle.nearest_hit.specs.Nearest.{Indexed, hitAt, noHit, stopped, nearestOf}
 use Rattle.casts.specs.Surface.{outOfRange, facing}
-use Rattle.casts.specs.Triangle.{flat, triangleNormal, triangleAbove, triangleAt, triangleOf}
-use Rattle.casts.proofs.AnswerLists.{none-not-refused, hit-not-refused, stopped-not-none}
-use Rattle.casts.proofs.NearestRefusals.{stopped-by-first-refusal}
+use Rattle.triangle_cast.specs.Triangle.{flat, triangleNormal, triangleAbove, triangleAt, triangleOf}
+use Rattle.casts.proofs.AnswerLists.{none-not-refused, hit-not-refused}
+use Rattle.nearest_hit.proofs.IndexedCases.{stopped-not-none}
+use Rattle.nearest_hit.proofs.NearestRefusals.{stopped-by-first-refusal}
 use Rattle.tree.specs.Layout.{Tree}
 use Rattle.tree.specs.Mesh.{Mesh, thirds, cornersInside, cornerAt, triangleAnswer}
 use Rattle.tree_walk.specs.Walk.{Walking, walking, broken, walkOf}
 use Rattle.tree_query.specs.Query.{Listing, count as countOf, refused as refusedWith}
 use Rattle.mesh.specs.MeshCast.{shapeAdmitted, roomFor}
-use Rattle.mesh_hits.specs.Listing.{HitArea, Outcome, hitsOf, inOrder, placesOf, refusedAt, written, fitted}
-use Rattle.mesh_hits.specs.Listing.{afterRefusals, listingOf, overWalk, meshListing, rayMeshAll}
+use Rattle.hit_area.specs.HitArea.{HitArea, Outcome, hitsOf, inOrder, placesOf, refusedAt}
+use Rattle.hit_listing.specs.HitListing.{written, fitted}
+use Rattle.hit_listing.specs.HitListing.{afterRefusals, listingOf}
+use Rattle.mesh_hits.specs.Listing.{overWalk, meshListing, rayMeshAll}
 use Rattle.mesh_hits.proofs.CountedHits.{refused-not-count, written-counts}
 use Rattle.mesh_hits.proofs.Promises.{listing}
 

@@ -1,4 +1,3 @@
 -- All hits along a ray: the listing, and what a user finds in it. Definitions only. Assumes nothing.
 pub mod Listing
-pub mod Rows
 pub mod Promise

@@ -1,21 +1,22 @@
 -- What a user finds in a listing. Definitions only. Assumes nothing.
 use Prim.Native.Nat.{ℕ, suc, _+_, _*_, _<_}
 use mathlib.Core.Path.{_≡_}
-use mathlib.Core.Bool.{true}
+use mathlib.Core.Bool.{true, false}
 use mathlib.Core.List.{List}
 use lib.Ieee.{Float}
-use lib.ListN.{take}
-use Rattle.geometry.specs.declared.vec3.Vec3.{Vec3}
+use lib.ListN.{length, take}
+use Rattle.vectors.specs.declared.vec3.Vec3.{Vec3}
 use Rattle.geometry.specs.declared.ray.Ray.{Ray}
-use Rattle.casts.specs.Nearest.{Indexed, hitAt, noHit, stopped}
+use Rattle.nearest_hit.specs.Nearest.{Indexed, hitAt, noHit, stopped}
 use Rattle.lists.specs.Lists.{count}
 use Rattle.tree.specs.Layout.{Tree, wordAt, numberAt, vectorAt}
 use Rattle.tree.specs.Mesh.{Mesh}
 use Rattle.tree_query.specs.Query.{count as countOf, refused}
-use Rattle.mesh.specs.MeshCast.{rayMesh}
+use Rattle.mesh.specs.MeshCast.{testsPass, rayMesh}
 use Rattle.mesh.specs.Demand3.{IsHit, Admitted}
-use Rattle.depth_sort.specs.Order.{keyedAhead}
-use Rattle.mesh_hits.specs.Listing.{HitArea, Outcome, rayMeshAll}
+use Rattle.depth_order.specs.Order.{keyedAhead}
+use Rattle.hit_area.specs.HitArea.{HitArea, Outcome}
+use Rattle.mesh_hits.specs.Listing.{rayMeshAll}
 
 -- a hit at a place of the area
 pub record StandsAt (area : HitArea) (place : ℕ) (normal : Vec3) (distance : Float) (index : ℕ) : Type 0 where
@@ -74,3 +75,11 @@ abbrev pub Promised : Type 0
 Promised =
     (r : Ray) (m : Mesh) (pose : List Float) (t : Tree) (list stack : ℕ) (area : HitArea)
     → KeepsPromises r m pose t list stack (rayMeshAll r m pose t list stack area)
+
+-- What the call promises: its outcome; the list and the stack, which until the tests let the call pass are unchanged; and the promises. An
+-- area with a stroke is the area afterwards.
+abbrev pub Lists : Ray → Mesh → List Float → Tree → List ℕ → List ℕ → List ℕ → List ℕ → HitArea → Outcome → Type 0
+Lists r m pose t list list' stack stack' area o =
+    (o ≡ rayMeshAll r m pose t (length list) (length stack) area)
+    × ((testsPass r m pose t (length list) (length stack) ≡ false → (list' ≡ list) × (stack' ≡ stack))
+    × KeepsPromises r m pose t (length list) (length stack) o)

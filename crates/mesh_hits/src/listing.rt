@@ -1,115 +1,25 @@
-use crate::gathering;
-use crate::places;
 use casts::answer;
-use casts::summary;
-use casts::summary::Outcome;
-use depth_sort::order;
 use geometry::ray::Ray;
+use hit_area::places;
+use hit_listing::listing;
 use mesh::cast;
 use tree_query::query;
 use tree_query::query::Listed;
 use tree_query::walk;
 use tree_walk::step::Filled;
 ghost use mathlib.Core.Path.{_≡_};
-ghost use mathlib.Core.Bool.{true, false, cond};
-ghost use Prim.Native.Nat.{_≤_};
-ghost use lib.Dec.{leb};
-ghost use lib.ListN.{length, take};
+ghost use mathlib.Core.Bool.{true, false};
+ghost use lib.ListN.{length};
 ghost use Rattle.geometry.specs.Segment.{rayAdmitted};
-ghost use Rattle.casts.specs.Answer.{noRoom};
-ghost use Rattle.lists.specs.Lists.{sorted, allBelow};
-ghost use Rattle.tree.specs.Mesh.{thirds, triangleAnswer, mesh};
+ghost use Rattle.tree.specs.Mesh.{thirds, mesh};
 ghost use Rattle.tree.specs.Layout.{treeOf};
 ghost use Rattle.tree_walk.specs.Areas.{WalkRoom};
 ghost use Rattle.tree_query.specs.Query.{saysListed};
-ghost use Rattle.mesh.specs.MeshCast.{testsPass};
-ghost use Rattle.mesh_hits.specs.Listing.{hitArea, written, refusedAt, inOrder, listingOf, meshListing, rayMeshAll};
-ghost use Rattle.mesh_hits.specs.Rows.{Ready};
-ghost use Rattle.mesh_hits.specs.Promise.{KeepsPromises};
+ghost use Rattle.hit_area.specs.HitArea.{hitArea};
+ghost use Rattle.mesh_hits.specs.Listing.{meshListing};
+ghost use Rattle.mesh_hits.specs.Promise.{Lists};
 
-// The hits in the first places, sorted, and their normals written. The list is work.
-fn finish(
-    ray: Ray,
-    pose: &[f64],
-    triangles: &[u32],
-    hits: usize,
-    list: &mut [u32],
-    indices: &mut [u32],
-    numbers: &mut [f64],
-) -> Listed
-    requires { ⌜ Ready (triangleAnswer ray (now pose) (now triangles)) (thirds (length (now triangles))) hits (now indices) (now numbers) (length (now list)) ⌝ }
-    ensures { λ r. ⌜ record { answer = saysListed r; area = hitArea (now (indices .exit)) (now (numbers .exit)) } ≡ written (triangleAnswer ray (now (pose .entry)) (now (triangles .entry))) (hitArea (now (indices .entry)) (now (numbers .entry))) (inOrder (triangleAnswer ray (now (pose .entry)) (now (triangles .entry))) (take hits (now (indices .entry)))) ⌝ }
-{
-    let end = 4 * hits;
-    order::sort(&mut indices[..hits], &mut numbers[..end], list);
-    places::put_normals(ray, pose, triangles, indices, hits, numbers);
-    Listed::Count(hits)
-}
-
-// The same where there is a place for each hit, and else refusal 3.
-fn fit(
-    ray: Ray,
-    pose: &[f64],
-    triangles: &[u32],
-    hits: usize,
-    places: usize,
-    list: &mut [u32],
-    indices: &mut [u32],
-    numbers: &mut [f64],
-) -> Listed
-    requires { ⌜ (hits ≤ places → Ready (triangleAnswer ray (now pose) (now triangles)) (thirds (length (now triangles))) hits (now indices) (now numbers) (length (now list))) ⌝ }
-    ensures { λ r. ⌜ record { answer = saysListed r; area = hitArea (now (indices .exit)) (now (numbers .exit)) } ≡ cond (leb hits places) (written (triangleAnswer ray (now (pose .entry)) (now (triangles .entry))) (hitArea (now (indices .entry)) (now (numbers .entry))) (inOrder (triangleAnswer ray (now (pose .entry)) (now (triangles .entry))) (take hits (now (indices .entry))))) (refusedAt noRoom (hitArea (now (indices .entry)) (now (numbers .entry)))) ⌝ }
-{
-    if hits > places {
-        return places::refuse(answer::NO_ROOM, indices, numbers);
-    }
-    finish(ray, pose, triangles, hits, list, indices, numbers)
-}
-
-// The listing of the triangles in the first places of a list, for an admitted ray: as if they stood there ascending, in whatever order they do.
-fn list_hits(
-    ray: Ray,
-    pose: &[f64],
-    triangles: &[u32],
-    list: &mut [u32],
-    found: usize,
-    indices: &mut [u32],
-    numbers: &mut [f64],
-) -> Listed
-    requires { ⌜ (found ≤ length (now list)) × (allBelow (thirds (length (now triangles))) (take found (now list)) ≡ true) ⌝ }
-    ensures { λ r. ⌜ record { answer = saysListed r; area = hitArea (now (indices .exit)) (now (numbers .exit)) } ≡ listingOf (triangleAnswer ray (now (pose .entry)) (now (triangles .entry))) (hitArea (now (indices .entry)) (now (numbers .entry))) (sorted (take found (now (list .entry)))) ⌝ }
-{
-    let room = places::places_of(indices.len(), numbers.len());
-    let gathered = gathering::gather_hits(
-        ray,
-        pose,
-        triangles,
-        list,
-        found,
-        room,
-        indices,
-        numbers,
-    );
-    let notes = gathered.notes;
-    let hits = gathered.hits;
-    let winner = summary::winner(notes);
-    match winner {
-        Outcome::Refused(number) => {
-            return places::refuse(number, indices, numbers);
-        }
-        Outcome::Nobody => {
-            return fit(ray, pose, triangles, hits, room, list, indices, numbers);
-        }
-        Outcome::Struck {
-            index: _,
-            distance: _,
-        } => {
-            return fit(ray, pose, triangles, hits, room, list, indices, numbers);
-        }
-    }
-}
-
-// The listing once refusals 1 to 4 have let it pass; the list and the stack may hold anything afterwards.
+// The listing once refusals 1 to 4 have let it pass; the list and the stack may hold anything afterwards. Callers show that they have.
 fn mesh_listing(
     ray: Ray,
     triangles: &[u32],
@@ -124,8 +34,12 @@ fn mesh_listing(
     indices: &mut [u32],
     numbers: &mut [f64],
 ) -> Listed
-    requires { ⌜ rayAdmitted ray ≡ true ⌝ ∗ ⌜ WalkRoom (thirds (length (now triangles))) (treeOf nodes (now «node_boxes») (now «triangle_boxes») (now «node_words») (now order)) (now list) (now stack) ⌝ }
-    ensures { λ r. ⌜ record { answer = saysListed r; area = hitArea (now (indices .exit)) (now (numbers .exit)) } ≡ meshListing ray (now (triangles .entry)) (now (pose .entry)) (treeOf nodes (now («node_boxes» .entry)) (now («triangle_boxes» .entry)) (now («node_words» .entry)) (now (order .entry))) (hitArea (now (indices .entry)) (now (numbers .entry))) ⌝ }
+    requires { ⌜ rayAdmitted ray ≡ true ⌝ ∗ ⌜ WalkRoom (thirds (length (now triangles)))
+        (treeOf nodes (now «node_boxes») (now «triangle_boxes») (now «node_words») (now order)) (now list) (now stack) ⌝ }
+    ensures { λ r. ⌜ record { answer = saysListed r; area = hitArea (now (indices .exit)) (now (numbers .exit)) }
+        ≡ meshListing ray (now (triangles .entry)) (now (pose .entry))
+        (treeOf nodes (now («node_boxes» .entry)) (now («triangle_boxes» .entry)) (now («node_words» .entry)) (now (order .entry)))
+        (hitArea (now (indices .entry)) (now (numbers .entry))) ⌝ }
 {
     let end = ray.segment_end();
     if !end.is_finite() {
@@ -148,10 +62,11 @@ fn mesh_listing(
     let Filled::Count(found) = walked else {
         return places::refuse(answer::OUT_OF_BOUNDS, indices, numbers);
     };
-    list_hits(ray, pose, triangles, list, found, indices, numbers)
+    listing::list_hits(ray, pose, triangles, list, found, indices, numbers)
 }
 
-// Every triangle that a ray hits, of those that any tree lists for its segment's box, in order of depth: its index, and its distance and normal.
+// Every triangle that a ray hits, of those that any tree lists for its segment's box, in order of depth: its index, and its distance and
+// normal.
 // The list and the stack are work areas: until refusals 1 to 4 have let the call pass they are unchanged, and then they may hold anything.
 // The third clause is what a user finds: each hit once, in order of depth, the mesh cast's first, none exactly where that cast is none.
 pub fn ray_mesh_all(
@@ -169,9 +84,11 @@ pub fn ray_mesh_all(
     indices: &mut [u32],
     numbers: &mut [f64],
 ) -> Listed
-    ensures { λ r. ⌜ record { answer = saysListed r; area = hitArea (now (indices .exit)) (now (numbers .exit)) } ≡ rayMeshAll ray (mesh (now (vertices .entry)) (now (triangles .entry))) (now (pose .entry)) (treeOf nodes (now («node_boxes» .entry)) (now («triangle_boxes» .entry)) (now («node_words» .entry)) (now (order .entry))) (length (now (list .entry))) (length (now (stack .entry))) (hitArea (now (indices .entry)) (now (numbers .entry))) ⌝ }
-    ensures { λ r. ⌜ (testsPass ray (mesh (now (vertices .entry)) (now (triangles .entry))) (now (pose .entry)) (treeOf nodes (now («node_boxes» .entry)) (now («triangle_boxes» .entry)) (now («node_words» .entry)) (now (order .entry))) (length (now (list .entry))) (length (now (stack .entry))) ≡ false → (now (list .exit) ≡ now (list .entry)) × (now (stack .exit) ≡ now (stack .entry))) ⌝ }
-    ensures { λ r. ⌜ KeepsPromises ray (mesh (now (vertices .entry)) (now (triangles .entry))) (now (pose .entry)) (treeOf nodes (now («node_boxes» .entry)) (now («triangle_boxes» .entry)) (now («node_words» .entry)) (now (order .entry))) (length (now (list .entry))) (length (now (stack .entry))) (record { answer = saysListed r; area = hitArea (now (indices .exit)) (now (numbers .exit)) }) ⌝ }
+    ensures { λ r. ⌜ Lists ray (mesh (now (vertices .entry)) (now (triangles .entry))) (now (pose .entry))
+        (treeOf nodes (now («node_boxes» .entry)) (now («triangle_boxes» .entry)) (now («node_words» .entry)) (now (order .entry)))
+        (now (list .entry)) (now (list .exit)) (now (stack .entry)) (now (stack .exit))
+        (hitArea (now (indices .entry)) (now (numbers .entry)))
+        (record { answer = saysListed r; area = hitArea (now (indices .exit)) (now (numbers .exit)) }) ⌝ }
 {
     if !ray.validate() {
         return Listed::Refused(answer::INVALID_INPUT);

@@ -13,7 +13,7 @@ use Rattle.geometry.specs.Segment.{segmentBox}
 use Rattle.geometry.specs.declared.ray.Ray.{Ray}
 use Rattle.lists.proofs.JoinedTests.{and-both}
 use Rattle.casts.specs.Answer.{badShape, noRoom}
-use Rattle.casts.specs.Nearest.{Indexed}
+use Rattle.nearest_hit.specs.Nearest.{Indexed}
 use Rattle.tree.specs.Layout.{Tree, boxAt}
 use Rattle.tree.specs.Mesh.{Mesh, thirds, lengthsAdmitted, cornersInside, triangleBox}
 use Rattle.tree_check.specs.Check.{triangleCount, treePasses}

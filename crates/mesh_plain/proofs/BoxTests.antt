@@ -3,39 +3,26 @@ use Prim.Native.Nat.{ℕ, _+_, _*_, _<_, _≤_}
 use mathlib.Core.Path.{_≡_, refl, sym, ap, _∙_}
 use mathlib.Core.Bool.{Bool, true, false, _&&_, _||_, cond, true≢false}
 use mathlib.Core.List.{List}
-use mathlib.Core.Logic.{_⊎_, inl, inr}
 use native.Mathlib.Omega.{arith}
-use borrow.Author.Tests.{ltb-true, ltb-false}
-use lib.Dec.{ltb}
 use lib.Ieee.{Float, lt, le, isNan}
 use lib.ListN.{length}
-use Rattle.arithmetic.specs.Basic.{isFinite}
 use Rattle.arithmetic.specs.Extremes.{minimumOf, maximumOf}
 use Rattle.arithmetic.proofs.Order.{le-of-lt, le-of-not-lt, le-transitive, le-left-number, le-right-number}
 use Rattle.geometry.specs.Box.{cornersBox, corner, touches, touchSide, validBox}
-use Rattle.geometry.specs.Vector.{finiteVec, minOf, maxOf}
-use Rattle.geometry.specs.declared.vec3.Vec3.{Vec3}
+use Rattle.vectors.specs.Vector.{finiteVec, minOf, maxOf}
+use Rattle.vectors.specs.declared.vec3.Vec3.{Vec3}
 use Rattle.geometry.specs.declared.aabb.Aabb.{Aabb}
 use Rattle.geometry.proofs.BoxLaws.{corners-box-valid}
-use Rattle.lists.proofs.JoinedTests.{and-three}
-use Rattle.tree.specs.Layout.{numberAt, vectorAt}
 use Rattle.tree.specs.Mesh.{Mesh, thirds, cornerIndex, cornersInside, cornerAt, cornersOf, triangleBox}
 use Rattle.tree.proofs.Corners.{first-fits, second-fits, third-fits, corners-box}
 use Rattle.mesh_plain.specs.Boxes.{AllFinite, BoxesHold, oneAtMost, oneAtLeast, sideTouches}
 
 -- ---- finite numbers
 module _ (m : Mesh) (all : AllFinite (m .vertices)) where
-  finite-at : (place : ℕ) → place + 3 ≤ length (m .vertices) → finiteVec (vectorAt (m .vertices) place) ≡ true
-  unfolding finiteVec vectorAt
-  finite-at place h =
-      and-three (isFinite (numberAt (m .vertices) place)) (isFinite (numberAt (m .vertices) (place + 1)))
-      (isFinite (numberAt (m .vertices) (place + 2)))
-      (all .each place (omega arith)) (all .each (place + 1) (omega arith)) (all .each (place + 2) (omega arith))
-
   corner-finite : (i k : ℕ) → 3 * cornerIndex (m .triangles) i k + 3 ≤ length (m .vertices) → finiteVec
       (cornerAt (m .vertices) (m .triangles) i k) ≡ true
   unfolding cornerAt
-  corner-finite i k h = finite-at (3 * cornerIndex (m .triangles) i k) h
+  corner-finite i k h = all .each (cornerIndex (m .triangles) i k) (omega (arith, h))
 
   finite-valid : (i : ℕ) → cornersInside (thirds (length (m .vertices))) (m .triangles) i ≡ true
       → validBox (triangleBox (m .vertices) (m .triangles) i) ≡ true
@@ -49,33 +36,6 @@ module _ (m : Mesh) (all : AllFinite (m .vertices)) where
 
   pub finite-hold : BoxesHold m
   finite-hold = record { each = λ (i : ℕ) below inside. finite-valid i inside }
-
--- ---- the numbers before a place
-pub record Front (xs : List Float) (finite : Bool) (i : ℕ) : Type 0 where
-  pub within : i ≤ length xs
-  pub each : finite ≡ true → (j : ℕ) → j < i → isFinite (numberAt xs j) ≡ true
-
-pub front-begins : (xs : List Float) (finite : Bool) → Front xs finite 0
-front-begins xs finite = record { within = omega arith; each = λ h j k. absurd (omega (arith, k)) }
-
-module _ (xs : List Float) (finite : Bool) (i : ℕ) (f : Front xs finite i) where
-  pub front-goes : i < length xs → (next : Bool) → (next ≡ true → (finite ≡ true) × (isFinite (numberAt xs i) ≡ true)) → Front xs next
-      (i + 1)
-  front-goes h next e = record { within = omega arith; each = λ y j k. go j (le-or-equal j i k) y }
-    where
-      le-or-equal : (j k : ℕ) → j < k + 1 → (j < k) ⊎ (j ≡ k)
-      le-or-equal j k l = choose (ltb j k) (ltb-true j k) (ltb-false j k)
-        where
-          choose : (b : Bool) → (b ≡ true → j < k) → (b ≡ false → k ≤ j) → (j < k) ⊎ (j ≡ k)
-          choose true p q = inl (p refl)
-          choose false p q = let o = q refl in inr (omega (arith, o, l))
-
-      go : (j : ℕ) → (j < i) ⊎ (j ≡ i) → next ≡ true → isFinite (numberAt xs j) ≡ true
-      go j (inl l) y = f .each (e y .0) j l
-      go j (inr q) y = ap (λ (k : ℕ). isFinite (numberAt xs k)) q ∙ e y .1
-
-  pub front-ends : length xs ≤ i → finite ≡ true → AllFinite xs
-  front-ends h y = record { each = λ j l. f .each y j (omega (arith, l, h)) }
 
 -- ---- a minimum is at most a limit where one of the two is, and a maximum at least, whatever is NaN
 or-first : (a b : Bool) → (b ≡ true → a ≡ true) → a ≡ (a || b)
@@ -140,7 +100,7 @@ module _ (vs : List Vec3) (box : Aabb) where
   abbrev on-z : Bool
   on-z = sideTouches (a .z) (b .z) (c .z) (box .min .z) (box .max .z)
 
-  by-axes : (on-x && (on-y && on-z)) ≡ touches (cornersBox vs) box
+  pub by-axes : (on-x && (on-y && on-z)) ≡ touches (cornersBox vs) box
   unfolding touches cornersBox minOf maxOf
   by-axes =
       ap (λ (z : Bool). z && (on-y && on-z)) (side (a .x) (b .x) (c .x) (box .min .x) (box .max .x))

@@ -5,13 +5,13 @@ use mathlib.Core.Bool.{Bool, true, false, _&&_}
 use borrow.Author.Tests.{leb-true}
 use lib.Dec.{leb, eqb}
 use lib.ListN.{length}
-use Rattle.geometry.specs.Vector.{finiteVec}
+use Rattle.vectors.specs.Vector.{finiteVec}
 use Rattle.geometry.specs.Segment.{rayAdmitted, segmentEnd, segmentBox}
 use Rattle.geometry.specs.declared.aabb.Aabb.{Aabb}
 use Rattle.geometry.specs.declared.ray.Ray.{Ray}
 use Rattle.lists.proofs.JoinedTests.{and-second}
 use Rattle.casts.specs.Answer.{invalidInput, badShape, overflow}
-use Rattle.casts.specs.Nearest.{Indexed, stopped}
+use Rattle.nearest_hit.specs.Nearest.{Indexed, stopped}
 use Rattle.casts.proofs.SegmentBoxLaws.{segment-finite, segment-overflow}
 use Rattle.tree.specs.Mesh.{Mesh, lengthsAdmitted}
 use Rattle.mesh_plain.specs.PlainCast.{overTriangles, plainCast, rayMeshPlain}

@@ -8,16 +8,16 @@ use Rattle.arithmetic.specs.Basic.{isFinite, absolute}
 use Rattle.arithmetic.specs.Extremes.{minimumOf, maximumOf}
 use Rattle.arithmetic.specs.Scaling.{unit, digitsOf, scaledBy}
 use Rattle.arithmetic.specs.Root.{rootDigits, wholeRoot, rootRound, rootOf}
-use Rattle.geometry.specs.Vector.{component, finiteVec, addOf, subOf, negOf, scaleOf, minOf, maxOf, absOf, maxElement}
-use Rattle.geometry.specs.Vector.{dotOf, checkedDot, crossOf, lengthOf}
-use Rattle.geometry.specs.Vector.{normalizable, zeroVec, dotTells, scaledToOne, overLength, tryNormalize}
+use Rattle.vectors.specs.Vector.{component, finiteVec, addOf, subOf, negOf, scaleOf, minOf, maxOf, absOf, maxElement}
+use Rattle.vectors.specs.Vector.{dotOf, checkedDot, crossOf, lengthOf}
+use Rattle.vectors.specs.Vector.{normalizable, zeroVec, dotTells, scaledToOne, overLength, tryNormalize}
 use Rattle.geometry.specs.Box.{validSide, validBox, touchSide, touches, withinSide, encloses, sameSide, sameBox}
 use Rattle.geometry.specs.Segment.{unitLength, rayAdmitted, segmentEnd, segmentBox}
 use Rattle.geometry.specs.declared.ray.Ray.{Ray}
 use Rattle.casts.specs.Surface.{outOfRange, facing}
-use Rattle.casts.specs.Triangle.{flat, triangleNormal, triangleAbove, triangleAt, triangleOf}
-use Rattle.casts.specs.Nearest.{Indexed, hitAt, noHit, stopped, nextOf, foldFrom}
-use Rattle.lists.specs.Lists.{range, keep, count, every, gather}
+use Rattle.triangle_cast.specs.Triangle.{flat, triangleNormal, triangleAbove, triangleAt, triangleOf}
+use Rattle.nearest_hit.specs.Nearest.{Indexed, hitAt, noHit, stopped, nextOf, foldFrom}
+use Rattle.lists.specs.Lists.{range, keep, count, every, flatMap}
 use Rattle.tree.specs.Layout.{vectorAt, boxAt}
 use Rattle.tree.specs.Mesh.{Mesh, lengthsAdmitted, cornersInside, cornerAt, triangleBox, triangleAnswer, candidates}
 use Rattle.tree_query.proofs.QueryExamples.{o, i, quarter, ten, eleven, lower, oddTree}
@@ -89,7 +89,7 @@ casts-answered = refl
 -- the tree check says yes to a tree over the three triangles, and the areas suffice
 odd-passes : checkOf three-triangles oddTree 9 ≡ yes
 unfolding checkOf roomToCheck treePasses clausesHold kindsKnown childrenAbove leavesInside namedOnce placedOnce orderedOnce leavesFilled
-    cornersKnown boxesSame boxesValid nodeEncloses enclosed childrenOf placesOf count every gather range cornersInside lengthsAdmitted
+    cornersKnown boxesSame boxesValid nodeEncloses enclosed childrenOf placesOf count every flatMap range cornersInside lengthsAdmitted
     cornerAt vectorAt boxAt triangleBox withinSide encloses sameSide sameBox validBox validSide maxOf minOf maximumOf minimumOf isFinite
     ofBits ofFields isNan ne le eq lt
 odd-passes = refl

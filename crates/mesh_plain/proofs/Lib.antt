@@ -3,7 +3,8 @@
 pub mod SameBoxes
 pub mod Agreement
 pub mod BoxTests
+pub mod FiniteSums
+pub mod CodeLaws
 pub mod Passing
-pub mod Winning
 pub mod Casting
 pub mod Examples

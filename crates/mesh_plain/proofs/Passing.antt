@@ -1,5 +1,4 @@
--- The passes over the triangles: what is left of them gives the whole, the first without a valid box decides, and the notes tell whose
--- answer it is. Assumes nothing.
+-- The passes over the triangles: what is left of them gives the whole, and the first without a valid box decides. Assumes nothing.
 use Prim.Native.Nat.{ℕ, zero, suc, _+_, _-_, _<_, _≤_}
 use mathlib.Core.Path.{_≡_, refl, sym, ap, _∙_}
 use mathlib.Core.Bool.{Bool, true, false, _&&_, cond, false≢true}
@@ -10,24 +9,19 @@ use lib.Dec.{ltb}
 use lib.ListN.{length}
 use borrow.Author.Tests.{ltb-true, ltb-false}
 use Rattle.geometry.specs.Box.{cornersBox, touches, validBox}
-use Rattle.geometry.specs.declared.vec3.Vec3.{Vec3}
+use Rattle.vectors.specs.declared.vec3.Vec3.{Vec3}
 use Rattle.geometry.specs.declared.aabb.Aabb.{Aabb}
 use Rattle.geometry.specs.declared.ray.Ray.{Ray}
 use Rattle.casts.specs.Answer.{Answer, outOfBounds}
-use Rattle.casts.specs.Triangle.{triangleCast}
-use Rattle.casts.specs.Reach.{reachOf}
-use Rattle.casts.specs.Summary.{Summary, nothing, noteOf, summaryFrom, winner}
-use Rattle.casts.specs.declared.answer.Reach.{Reach}
-use Rattle.casts.specs.declared.answer.Reach.the-variants.{Miss}
-use Rattle.casts.specs.declared.summary.Outcome.{Outcome}
-use Rattle.casts.specs.declared.summary.Outcome.the-variants.{Refused as RefusedBy}
+use Rattle.triangle_cast.specs.Triangle.{triangleCast}
+use Rattle.nearest_hit.specs.Nearest.{Indexed, noHit, stopped, nextOf, foldFrom, nearestOf}
+use Rattle.crossed_hit.specs.Crossed.{facedIndexed}
 use Rattle.lists.specs.Lists.{range, keep, every}
 use Rattle.tree.specs.Mesh.{Mesh, thirds, cornersInside, cornersOf, triangleBox, triangleAnswer, candidates}
 use Rattle.lists.proofs.JoinedTests.{and-first, and-second}
 use Rattle.tree.proofs.Corners.{corners-box, corners-answer}
 use Rattle.mesh_plain.specs.Boxes.{BoxesHold}
-use Rattle.mesh_plain.specs.Noted.{outcomeOver}
-use Rattle.mesh_plain.specs.PlainCast.{triangleFits, trianglesFit}
+use Rattle.mesh_plain.specs.PlainCast.{triangleFits, trianglesFit, overTriangles}
 
 -- a range that is not empty
 range-next : (i n : ℕ) → i < n → range i (n - i) ≡ i ∷ range (i + 1) (n - (i + 1))
@@ -81,7 +75,7 @@ module _ (m : Mesh) where
     unfolding every
     fitting-ends h = sym (ap (every (triangleFits m)) (range-empty i count h)) ∙ p .fits
 
--- ---- the notes of the pass
+-- ---- what the pass has found
 module _ (r : Ray) (box : Aabb) (m : Mesh) where
   abbrev answer : ℕ → Answer
   answer = triangleAnswer r (m .vertices) (m .triangles)
@@ -89,52 +83,68 @@ module _ (r : Ray) (box : Aabb) (m : Mesh) where
   abbrev near : ℕ → Bool
   near i = touches (triangleBox (m .vertices) (m .triangles) i) box
 
-  -- the notes of those near among the rest, on top of the notes so far
-  pub record Passing (notes : Summary) (i : ℕ) : Type 0 where
+  -- those near among the rest, on top of what was found so far, which has the cross in place of the normal
+  pub record Passing (best : Indexed) (i : ℕ) : Type 0 where
     pub fitting : Fitting m i
-    pub gives : summaryFrom answer notes (keep near (from m i)) ≡ summaryFrom answer nothing (candidates m box)
+    pub gives : foldFrom answer (facedIndexed r best) (keep near (from m i)) ≡ nearestOf answer (candidates m box)
 
-  pub passing-begins : (notes : Summary) → notes ≡ nothing → Passing notes 0
+  pub passing-begins : Passing noHit 0
   unfolding candidates
-  passing-begins notes e =
+  passing-begins =
       let all : count m - 0 ≡ count m = omega arith in
-      record { fitting = fitting-begins m; gives = rw (all, e) refl }
+      record { fitting = fitting-begins m; gives = rw all refl }
 
-  -- a triangle that is not near is a miss, which changes no notes
-  note-near : (b : Bool) (notes : Summary) (i : ℕ) (l : List ℕ)
-      → summaryFrom answer notes (cond b (i ∷ l) l) ≡ summaryFrom answer (noteOf notes i (cond b (reachOf (answer i)) Miss)) l
-  unfolding summaryFrom noteOf
-  note-near true notes i l = refl
-  note-near false notes i l = refl
-
-  module _ (notes : Summary) (i : ℕ) (p : Passing notes i) where
+  module _ (best : Indexed) (i : ℕ) (p : Passing best i) where
     module _ (h : i < count m) where
-      gives-first : summaryFrom answer notes (cond (near i) (i ∷ keep near (from m (i + 1))) (keep near (from m (i + 1))))
-          ≡ summaryFrom answer nothing (candidates m box)
+      gives-first : foldFrom answer (facedIndexed r best) (cond (near i) (i ∷ keep near (from m (i + 1))) (keep near (from m (i + 1))))
+          ≡ nearestOf answer (candidates m box)
       unfolding keep
-      gives-first = sym (ap (λ (l : List ℕ). summaryFrom answer notes (keep near l)) (range-next i (count m) h)) ∙ p .gives
+      gives-first = sym (ap (λ (l : List ℕ). foldFrom answer (facedIndexed r best) (keep near l)) (range-next i (count m) h)) ∙ p .gives
 
-      pub passing-goes : triangleFits m i ≡ true → (reach : Reach) → reach ≡ cond (near i) (reachOf (answer i)) Miss
-          → (next : Summary) → next ≡ noteOf notes i reach → Passing next (i + 1)
-      passing-goes fit reach told next e = record {
+      -- one that is near
+      pub passing-near : triangleFits m i ≡ true → near i ≡ true → (next : Indexed)
+          → facedIndexed r next ≡ nextOf (facedIndexed r best) i (answer i)
+          → Passing next (i + 1)
+      unfolding foldFrom
+      passing-near fit touching next e = record {
         fitting = fitting-goes m i (p .fitting) h fit;
         gives =
-            ap (λ (s : Summary). summaryFrom answer s (keep near (from m (i + 1)))) (e ∙ ap (noteOf notes i) told)
-            ∙ sym (note-near (near i) notes i (keep near (from m (i + 1)))) ∙ gives-first;
+            ap (λ (s : Indexed). foldFrom answer s (keep near (from m (i + 1)))) e
+            ∙ sym
+            (ap (λ (b : Bool).
+            foldFrom answer (facedIndexed r best) (cond b (i ∷ keep near (from m (i + 1))) (keep near (from m (i + 1)))))
+            touching)
+            ∙ gives-first;
+      }
+
+      -- one that is not
+      pub passing-far : triangleFits m i ≡ true → near i ≡ false → Passing best (i + 1)
+      passing-far fit apart = record {
+        fitting = fitting-goes m i (p .fitting) h fit;
+        gives =
+            sym
+            (ap (λ (b : Bool).
+            foldFrom answer (facedIndexed r best) (cond b (i ∷ keep near (from m (i + 1))) (keep near (from m (i + 1)))))
+            apart)
+            ∙ gives-first;
       }
 
       -- one that has no valid box is 5
-      pub passing-unfit : triangleFits m i ≡ false → RefusedBy outOfBounds ≡ outcomeOver r box m
-      unfolding outcomeOver
+      pub passing-unfit : triangleFits m i ≡ false → stopped outOfBounds ≡ overTriangles r box m
+      unfolding overTriangles
       passing-unfit unfit = let none = fitting-fails m i (p .fitting) h unfit in simp (sym none)
 
-    pub passing-ends : count m ≤ i → (outcome : Outcome) → outcome ≡ winner notes → outcome ≡ outcomeOver r box m
-    unfolding outcomeOver keep summaryFrom
-    passing-ends h outcome w =
+    pub passing-ends : count m ≤ i → (found : Indexed) → found ≡ facedIndexed r best → found ≡ overTriangles r box m
+    unfolding overTriangles keep foldFrom
+    passing-ends h found e =
         let all = fitting-ends m i (p .fitting) h in
-        let last : notes ≡ summaryFrom answer nothing (candidates m box) =
-        sym (ap (λ (l : List ℕ). summaryFrom answer notes (keep near l)) (range-empty i (count m) h)) ∙ p .gives in
-        w ∙ ap winner last ∙ simp (sym all)
+        let last : facedIndexed r best ≡ nearestOf answer (candidates m box) =
+        sym (ap (λ (l : List ℕ). foldFrom answer (facedIndexed r best) (keep near l)) (range-empty i (count m) h)) ∙ p .gives in
+        e ∙ last ∙ simp (sym all)
+
+pub unfit-over : (r : Ray) (box : Aabb) (m : Mesh) → trianglesFit m ≡ false → stopped outOfBounds ≡ overTriangles r box m
+unfolding overTriangles
+unfit-over r box m h = simp h
 
 -- ---- whether one triangle has a valid box, by the code's two tests
 module _ (m : Mesh) (i : ℕ) where
@@ -160,17 +170,13 @@ module _ (m : Mesh) (i : ℕ) where
   unfolding triangleFits
   valid-of-fit fit inside = fits-valid inside-all (validBox own-box) fit inside
 
-  -- the reach of the code's corners is the triangle's
-  pub reach-is : inside-all ≡ true → (corners : List Vec3) → corners ≡ cornersOf (m .vertices) (m .triangles) i
-      → (r : Ray) (box : Aabb) (reach : Reach) → reach ≡ cond (touches (cornersBox corners) box) (reachOf (triangleCast r corners)) Miss
-      → reach ≡ cond (near r box m i) (reachOf (answer r box m i)) Miss
-  reach-is inside corners c r box reach e =
-      let same : triangleCast r corners ≡ answer r box m i =
-      ap (triangleCast r) c ∙ corners-answer r (m .vertices) (m .triangles) i inside in
-      let around : cornersBox corners ≡ own-box = ap cornersBox c ∙ corners-box (m .vertices) (m .triangles) i in
-      e
-      ∙ ap (λ (b : Aabb). cond (touches b box) (reachOf (triangleCast r corners)) Miss) around
-      ∙ ap (λ (b : Answer). cond (near r box m i) (reachOf b) Miss) same
+  -- the code's corners are the triangle's
+  module _ (inside : inside-all ≡ true) (corners : List Vec3) (e : corners ≡ cornersOf (m .vertices) (m .triangles) i) where
+    pub corners-cast : (r : Ray) (box : Aabb) → triangleCast r corners ≡ answer r box m i
+    corners-cast r box = ap (triangleCast r) e ∙ corners-answer r (m .vertices) (m .triangles) i inside
+
+  pub corners-near : (r : Ray) (box : Aabb) → touches (cornersBox (cornersOf (m .vertices) (m .triangles) i)) box ≡ near r box m i
+  corners-near r box = ap (λ (b : Aabb). touches b box) (corners-box (m .vertices) (m .triangles) i)
 
 -- where every triangle has a valid box, those whose indices are below the vertex count have one
 every-at : (p : ℕ → Bool) (start size i : ℕ) → every p (range start size) ≡ true → start ≤ i → i < start + size → p i ≡ true

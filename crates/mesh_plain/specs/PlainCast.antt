@@ -8,7 +8,7 @@ use Rattle.geometry.specs.declared.aabb.Aabb.{Aabb}
 use Rattle.geometry.specs.declared.ray.Ray.{Ray}
 use Rattle.casts.specs.Answer.{invalidInput, badShape, outOfBounds}
 use Rattle.casts.specs.SegmentBox.{withSegmentBox}
-use Rattle.casts.specs.Nearest.{Indexed, stopped, nearestOf}
+use Rattle.nearest_hit.specs.Nearest.{Indexed, stopped, nearestOf}
 use Rattle.tree.specs.Layout.{Tree}
 use Rattle.tree.specs.Mesh.{Mesh, lengthsAdmitted, triangleAnswer, candidates}
 -- "A triangle without a valid box": its box is not valid, or an index of it is past the vertices

@@ -1,94 +1,54 @@
 use crate::boxes;
 use casts::answer;
-use casts::answer::Cast;
-use casts::answer::Crossing;
-use casts::answer::Reach;
-use casts::nearest;
-use casts::nearest::IndexedCast;
-use casts::summary;
-use casts::summary::Outcome;
-use casts::triangle;
+use crossed_hit::crossed;
+use crossed_hit::crossed::Near;
 use geometry::aabb::Aabb;
 use geometry::ray::Ray;
-use geometry::vec3::Vec3;
+use nearest_hit::nearest::IndexedCast;
 use tree::mesh as triangle_mesh;
 ghost use mathlib.Core.Path.{_≡_};
-ghost use mathlib.Core.Bool.{true, cond};
+ghost use mathlib.Core.Bool.{true};
 ghost use Prim.Native.Nat.{_≤_};
 ghost use lib.ListN.{length};
-ghost use Rattle.geometry.specs.Box.{corner, cornersBox, touches};
-ghost use Rattle.geometry.specs.Vector.{subOf};
 ghost use Rattle.geometry.specs.Segment.{rayAdmitted};
-ghost use Rattle.casts.specs.Answer.{says};
-ghost use Rattle.casts.specs.Reach.{reachOf};
-ghost use Rattle.casts.specs.Nearest.{saysIndexed};
-ghost use Rattle.casts.specs.Triangle.{triangleNormal, triangleCast};
-ghost use Rattle.casts.specs.declared.answer.Reach.the-variants.{Miss};
+ghost use Rattle.nearest_hit.specs.Nearest.{saysIndexed};
 ghost use Rattle.tree.specs.Mesh.{lengthsAdmitted, mesh};
-ghost use Rattle.mesh_plain.specs.Boxes.{BoxesHold};
-ghost use Rattle.mesh_plain.specs.Noted.{outcomeOver};
+ghost use Rattle.mesh_plain.specs.Boxes.{BoxesHold, Coded};
 ghost use Rattle.mesh_plain.specs.PlainCast.{overTriangles, plainCast, rayMeshPlain, AgreesWithTrees};
 
-// What a triangle is reached at, without its normal, where its box touches the segment's box; else a miss.
-fn reach_near(ray: Ray, bounds: Aabb, corners: [Vec3; 3]) -> Reach
-    ensures { λ r. ⌜ r ≡ cond (touches (cornersBox corners) bounds) (reachOf (triangleCast ray corners)) Miss ⌝ }
-{
-    if !boxes::corners_touch(corners, bounds) {
-        return Reach::Miss;
-    }
-    let start = triangle::crossing(ray, corners);
-    match start {
-        Crossing::Within {
-            offset,
-            a,
-            b,
-            determinant,
-            inverse,
-            u,
-        } => {
-            return triangle::reach_within(ray, offset, a, b, determinant, inverse, u);
-        }
-        Crossing::Miss => {
-            return Reach::Miss;
-        }
-        Crossing::Refused(number) => {
-            return Reach::Refused(number);
-        }
-    }
-}
-
-// All triangles in one pass: whose answer it is. An index past the vertices ends it with 5, whatever was found before it.
-fn outcome_over(ray: Ray, bounds: Aabb, vertices: &[f64], triangles: &[u32]) -> Outcome
+// All triangles in one pass; the normal is the winner's alone. An index past the vertices ends it with 5, whatever was found before it.
+// Callers show that the lengths are admitted, that the boxes are valid, and that the codes, if told, are the vertices'.
+fn cast_all(
+    ray: Ray,
+    bounds: Aabb,
+    vertices: &[f64],
+    triangles: &[u32],
+    told: bool,
+    codes: &[u64],
+) -> IndexedCast
     requires { ⌜ length (now triangles) ≤ 196608 ⌝ ∗ ⌜ BoxesHold (mesh (now vertices) (now triangles)) ⌝ }
-    ensures { λ r. ⌜ r ≡ outcomeOver ray bounds (mesh (now (vertices .entry)) (now (triangles .entry))) ⌝ }
+    requires { ⌜ (told ≡ true → Coded bounds (now vertices) (now codes)) ⌝ }
+    ensures { λ r. ⌜ saysIndexed r ≡ overTriangles ray bounds (mesh (now (vertices .entry)) (now (triangles .entry))) ⌝ }
 {
     let limit = vertices.len() / 3;
     let count = triangles.len() / 3;
-    let mut notes = summary::empty();
+    let mut best = Near::None;
     let mut i: usize = 0;
     while i < count {
         if !triangle_mesh::corners_inside(limit, triangles, i) {
-            return Outcome::Refused(answer::OUT_OF_BOUNDS);
+            return IndexedCast::Refused(answer::OUT_OF_BOUNDS);
         }
-        let corners = triangle_mesh::corners_of(vertices, triangles, i);
-        let reach = reach_near(ray, bounds, corners);
-        notes = summary::note(notes, i as u32, reach);
+        if boxes::triangle_touches(told, codes, bounds, vertices, triangles, i) {
+            let corners = triangle_mesh::corners_of(vertices, triangles, i);
+            best = crossed::next_crossed(best, i as u32, ray, corners);
+        }
         i += 1;
     }
-    summary::winner(notes)
+    crossed::with_normal(ray, best)
 }
 
-// The hit at a distance that its three corners are reached at.
-fn hit_on(ray: Ray, corners: [Vec3; 3], distance: f64) -> Cast
-    ensures { λ r. ⌜ says r ≡ triangleNormal ray (subOf (corner corners 1) (corner corners 0)) (subOf (corner corners 2) (corner corners 0)) distance ⌝ }
-{
-    let first = corners[0];
-    let second = corners[1];
-    let third = corners[2];
-    triangle::triangle_normal(ray, second.sub(first), third.sub(first), distance)
-}
-
-// The answer over all triangles: the normal is the winner's alone.
+// The answer over all triangles. Of up to 32 vertices it is told first on which sides of the segment's box they lie.
+// Callers show that the triangles are few enough for an index.
 fn over_triangles(ray: Ray, bounds: Aabb, vertices: &[f64], triangles: &[u32]) -> IndexedCast
     requires { ⌜ length (now triangles) ≤ 196608 ⌝ }
     ensures { λ r. ⌜ saysIndexed r ≡ overTriangles ray bounds (mesh (now (vertices .entry)) (now (triangles .entry))) ⌝ }
@@ -96,19 +56,9 @@ fn over_triangles(ray: Ray, bounds: Aabb, vertices: &[f64], triangles: &[u32]) -
     if !boxes::boxes_hold(vertices, triangles) {
         return IndexedCast::Refused(answer::OUT_OF_BOUNDS);
     }
-    let outcome = outcome_over(ray, bounds, vertices, triangles);
-    match outcome {
-        Outcome::Nobody => {
-            return IndexedCast::None;
-        }
-        Outcome::Refused(number) => {
-            return IndexedCast::Refused(number);
-        }
-        Outcome::Struck { index, distance } => {
-            let corners = triangle_mesh::corners_of(vertices, triangles, index as usize);
-            return nearest::next(IndexedCast::None, index, hit_on(ray, corners, distance));
-        }
-    }
+    let mut codes = [0u64; 32];
+    let told = boxes::put_codes(&mut codes, bounds, vertices);
+    cast_all(ray, bounds, vertices, triangles, told, &codes)
 }
 
 // The cast once refusals 1 and 2 have let it pass. Callers show that they have.

@@ -20,7 +20,7 @@ struct Run {
     over: bool,
 }
 
-// Moves input[from..to] to the front, and returns how many bytes that are.
+// Moves input[from..to] to the front, and returns how many bytes that are. Callers show that the places are in it.
 fn moved(input: &mut [u8], from: usize, to: usize) -> usize
     requires { ⌜ (from ≤ to) × (to ≤ length (now input)) ⌝ }
     ensures { λ r. ⌜ (r ≡ to - from) × (now (input .exit) ≡ take (to - from) (drop from (now (input .entry))) ++ drop (to - from)
@@ -36,7 +36,7 @@ fn moved(input: &mut [u8], from: usize, to: usize) -> usize
 }
 
 // Reads on where what is held may be less than a record: 4 + 8,192 bytes. A read that fails is no end of the input: it ends the run, and
-// standard error says so.
+// standard error says so. Callers show that no more is held than the area has.
 fn read_on(run: Run, input: &mut [u8]) -> Run
     requires { ⌜ (run .held ≤ 65536) × (length (now input) ≡ 65536) ⌝ }
     ensures { λ r. ⌜ r .held ≤ 65536 ⌝ }
@@ -68,6 +68,7 @@ fn read_on(run: Run, input: &mut [u8]) -> Run
 }
 
 // Reads, answers, writes. After a write that fails nothing more is written: a gap is worse than a stop.
+// Callers show that the areas are of their fixed lengths.
 fn turn(
     run: Run,
     input: &mut [u8],

@@ -1,10 +1,6 @@
--- Laws about the bytes and texts of records. Assumes nothing.
-pub mod Storing
+-- Laws about the bytes of records. Assumes nothing.
 pub mod Patterns
-pub mod Places
-pub mod Printing
 pub mod WellFormed
 pub mod Counts
 pub mod Decoding
 pub mod Frames
-pub mod RoundTrip

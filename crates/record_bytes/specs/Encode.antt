@@ -6,7 +6,7 @@ use mathlib.Core.List.{List, [], _∷_, _++_}
 use lib.Ieee.{Float, binary64, toBits, fits}
 use lib.Dec.{T, eqb}
 use lib.ListN.{length}
-use Rattle.geometry.specs.declared.vec3.Vec3.{Vec3}
+use Rattle.vectors.specs.declared.vec3.Vec3.{Vec3}
 use Rattle.geometry.specs.declared.ray.Ray.{Ray}
 use Rattle.height_field.specs.declared.field.Field.{Field}
 use Rattle.distance_grid.specs.declared.grid.Grid.{Grid}

@@ -3,5 +3,4 @@ pub mod Bytes
 pub mod Fields
 pub mod Parse
 pub mod Encode
-pub mod Text
 pub mod Stream

@@ -1,4 +1,4 @@
-// The bytes of a record and the texts of a line, on lent slices (document 01, 'Printed result').
+// The bytes of a record, on lent slices (document 01, 'Printed result').
 //
 // A record is four bytes of length and a body of that many bytes. The body's fields, by place:
 //
@@ -20,7 +20,5 @@ pub mod bytes;
 pub mod fields;
 // Which bodies are well formed.
 pub mod parse;
-// Numbers as text.
-pub mod text;
 // Where a record ends in a stream.
 pub mod stream;

@@ -1,56 +1,18 @@
 -- How long the texts of a line are. Assumes nothing.
-use Prim.Native.Nat.{ℕ, _+_, _≤_}
-use mathlib.Core.Path.{_≡_}
+use Prim.Native.Nat.{ℕ, _≤_}
 use mathlib.Core.List.{List, [], _∷_, _++_}
 use native.Mathlib.Omega.{arith}
-use lib.Ieee.{Float}
 use lib.ListN.{length, length-append}
-use Rattle.geometry.specs.declared.vec3.Vec3.{Vec3}
-use Rattle.casts.specs.Answer.{Answer, hit, none, refused}
-use Rattle.casts.specs.Nearest.{Indexed, hitAt, noHit, stopped, withoutIndex}
 use Rattle.casts.specs.Plane.{rayPlane}
-use Rattle.casts.specs.Triangle.{rayTriangle}
+use Rattle.triangle_cast.specs.Triangle.{rayTriangle}
 use Rattle.height_field.specs.Cast.{rayHeightField}
 use Rattle.level_set.specs.Walk.{rayLevelSet}
 use Rattle.geometry.specs.declared.ray.Ray.{Ray}
 use Rattle.record_bytes.specs.Parse.{Shape, plane, triangle, mesh, heights, distances, Parsed, says, malformed, parse}
 use Rattle.records.specs.MeshAnswer.{meshAnswer}
-use Rattle.record_bytes.specs.Text.{decimal, hexadecimal, printedBits, placesOf}
-use Rattle.records.specs.Lines.{refusedWord, floatText, hitText, answerText, indexText, indexedText, shapeText, parsedText, badWord}
-use Rattle.records.specs.Lines.{recordText, lineWith, lineOf, badLine}
-use Rattle.record_bytes.proofs.Places.{length-digits, places-at-most}
-
-pub length-decimal : (n : ℕ) → length (decimal n) ≤ 20
-unfolding decimal
-length-decimal n = omega (arith, length-digits 10 (placesOf 20 n) n, places-at-most 20 n)
-
-pub length-hexadecimal : (n : ℕ) → length (hexadecimal n) ≡ 16
-unfolding hexadecimal
-length-hexadecimal n = length-digits 16 16 n
-
-pub length-float : (x : Float) → length (floatText x) ≡ 17
-unfolding floatText
-length-float x = omega (arith, length-append (32 ∷ []) (hexadecimal (printedBits x)), length-hexadecimal (printedBits x))
-
-pub length-hit : (normal : Vec3) (distance : Float) → length (hitText normal distance) ≡ 71
-unfolding hitText
-length-hit normal distance = simp (length-append, length-float)
-
-pub length-answer : (a : Answer) → length (answerText a) ≤ 71
-unfolding answerText
-length-answer (hit normal distance) = omega (arith, length-hit normal distance)
-length-answer none = omega arith
-length-answer (refused number) = omega (arith, length-append refusedWord (decimal number), length-decimal number)
-
-length-index : (a : Indexed) → length (indexText a) ≤ 21
-unfolding indexText
-length-index (hitAt normal distance index) = omega (arith, length-append (32 ∷ []) (decimal index), length-decimal index)
-length-index noHit = omega arith
-length-index (stopped number) = omega arith
-
-length-indexed : (a : Indexed) → length (indexedText a) ≤ 92
-unfolding indexedText
-length-indexed a = omega (arith, length-append (answerText (withoutIndex a)) (indexText a), length-answer (withoutIndex a), length-index a)
+use Rattle.record_text.specs.Text.{decimal}
+use Rattle.records.specs.Lines.{shapeText, parsedText, badWord, recordText, lineWith, lineOf, badLine}
+use Rattle.record_text.proofs.Lengths.{length-decimal, length-answer, length-indexed}
 
 length-shape : (r : Ray) (s : Shape) → length (shapeText r s) ≤ 92
 unfolding shapeText

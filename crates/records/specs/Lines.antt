@@ -1,55 +1,19 @@
 -- The line that answers a record. Definitions only. Assumes nothing.
 use Prim.Native.Nat.{ℕ}
 use mathlib.Core.List.{List, [], _∷_, _++_}
-use lib.Ieee.{Float}
-use Rattle.geometry.specs.declared.vec3.Vec3.{Vec3}
 use Rattle.geometry.specs.declared.ray.Ray.{Ray}
-use Rattle.casts.specs.Answer.{Answer, hit, none, refused}
-use Rattle.casts.specs.Nearest.{Indexed, hitAt, noHit, stopped, withoutIndex}
 use Rattle.casts.specs.Plane.{rayPlane}
-use Rattle.casts.specs.Triangle.{rayTriangle}
+use Rattle.triangle_cast.specs.Triangle.{rayTriangle}
 use Rattle.height_field.specs.Cast.{rayHeightField}
 use Rattle.level_set.specs.Walk.{rayLevelSet}
 use Rattle.records.specs.MeshAnswer.{meshAnswer}
 use Rattle.record_bytes.specs.Parse.{Shape, plane, triangle, mesh, heights, distances, Parsed, says, malformed, parse}
-use Rattle.record_bytes.specs.Text.{decimal, hexadecimal, printedBits}
+use Rattle.record_text.specs.Text.{decimal}
+use Rattle.record_text.specs.AnswerText.{answerText, indexedText}
 
--- `hit`, `none`, `refused ` and `bad`
-abbrev pub hitWord : List ℕ
-hitWord = 104 ∷ (105 ∷ (116 ∷ []))
-
-abbrev pub noneWord : List ℕ
-noneWord = 110 ∷ (111 ∷ (110 ∷ (101 ∷ [])))
-
-abbrev pub refusedWord : List ℕ
-refusedWord = 114 ∷ (101 ∷ (102 ∷ (117 ∷ (115 ∷ (101 ∷ (100 ∷ (32 ∷ [])))))))
-
+-- `bad`
 abbrev pub badWord : List ℕ
 badWord = 98 ∷ (97 ∷ (100 ∷ []))
-
--- a space, then the bits
-unfoldable pub floatText : Float → List ℕ
-floatText x = (32 ∷ []) ++ hexadecimal (printedBits x)
-
--- "`hit` with normal and distance as hexadecimal bits"
-unfoldable pub hitText : Vec3 → Float → List ℕ
-hitText normal distance =
-    (((hitWord ++ floatText (normal .x)) ++ floatText (normal .y)) ++ floatText (normal .z)) ++ floatText distance
-
--- "`none`, or `refused` and the number"
-unfoldable pub answerText : Answer → List ℕ
-answerText (hit normal distance) = hitText normal distance
-answerText none = noneWord
-answerText (refused number) = refusedWord ++ decimal number
-
--- "a mesh adds the index in decimal"
-unfoldable pub indexText : Indexed → List ℕ
-indexText (hitAt normal distance index) = (32 ∷ []) ++ decimal index
-indexText noHit = []
-indexText (stopped number) = []
-
-unfoldable pub indexedText : Indexed → List ℕ
-indexedText answer = answerText (withoutIndex answer) ++ indexText answer
 
 -- the cast at each shape
 unfoldable pub shapeText : Ray → Shape → List ℕ

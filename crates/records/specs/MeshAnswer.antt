@@ -3,7 +3,7 @@ use mathlib.Core.Bool.{cond}
 use Rattle.geometry.specs.Segment.{rayAdmitted}
 use Rattle.geometry.specs.declared.ray.Ray.{Ray}
 use Rattle.casts.specs.Answer.{invalidInput}
-use Rattle.casts.specs.Nearest.{Indexed, stopped}
+use Rattle.nearest_hit.specs.Nearest.{Indexed, stopped}
 use Rattle.tree.specs.Mesh.{Mesh}
 use Rattle.mesh.specs.Through.{throughOwnTree}
 

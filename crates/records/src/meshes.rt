@@ -1,15 +1,15 @@
 use casts::answer;
-use casts::nearest::IndexedCast;
 use geometry::ray::Ray;
 use lists::fill;
 use mesh::cast;
+use nearest_hit::nearest::IndexedCast;
 use record_bytes::bytes;
 use tree_build::build;
 use tree_build::build::Built;
 ghost use mathlib.Core.Path.{_≡_};
 ghost use Prim.Native.Nat.{_+_, _*_, _≤_};
 ghost use lib.ListN.{length};
-ghost use Rattle.casts.specs.Nearest.{saysIndexed};
+ghost use Rattle.nearest_hit.specs.Nearest.{saysIndexed};
 ghost use Rattle.tree.specs.Mesh.{thirds, mesh};
 ghost use Rattle.tree.specs.Layout.{areas};
 ghost use Rattle.tree_build.specs.Build.{buildOf};
@@ -68,7 +68,7 @@ fn cast_built(
     }
 }
 
-// Check 1, then the tree in areas filled with zeros.
+// Check 1, then the tree in areas filled with zeros. Callers show that the areas are long enough.
 fn cast_fresh(
     ray: Ray,
     vertices: &[f64],
@@ -105,7 +105,7 @@ fn cast_fresh(
 }
 
 // The cast at a shape of kind 3, from its own bytes; its mesh is decoded into the first two areas, and the tree is built in parts of the
-// others.
+// others. Callers show that the shape is filled and that the areas are long enough.
 pub fn mesh_answer(
     shape: &[u8],
     ray: Ray,

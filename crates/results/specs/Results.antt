@@ -8,13 +8,13 @@ use lib.ListN.{length}
 use lib.Seq.{sets}
 use Rattle.geometry.specs.declared.aabb.Aabb.{Aabb}
 use Rattle.geometry.specs.declared.ray.Ray.{Ray}
-use Rattle.geometry.specs.Vector.{vector}
-use Rattle.geometry.specs.Numbers.{zeroᶠ}
-use Rattle.geometry.specs.declared.vec3.Vec3.{Vec3}
+use Rattle.vectors.specs.Vector.{vector}
+use Rattle.vectors.specs.Numbers.{zeroᶠ}
+use Rattle.vectors.specs.declared.vec3.Vec3.{Vec3}
 use Rattle.geometry.specs.Box.{validBox}
 use Rattle.geometry.specs.Segment.{rayAdmitted}
 use Rattle.casts.specs.Answer.{Answer, hit, none, refused, invalidInput, badShape, noRoom}
-use Rattle.casts.specs.Nearest.{Indexed, hitAt, noHit, stopped}
+use Rattle.nearest_hit.specs.Nearest.{Indexed, hitAt, noHit, stopped}
 use Rattle.casts.specs.declared.plane.Plane.{Plane}
 use Rattle.height_field.specs.declared.field.Field.{Field}
 use Rattle.distance_grid.specs.declared.grid.Grid.{Grid}

@@ -1,14 +1,17 @@
 // The codes of the calls for C, C++ and Rust, and how an answer goes into the lent result slices.
 
+// The mesh cast's number where a result slice is too short.
+pub mod short;
+
 use casts::answer;
 use casts::answer::Cast;
-use casts::nearest::IndexedCast;
 use geometry::ray::Ray;
-use geometry::vec3::Vec3;
+use nearest_hit::nearest::IndexedCast;
 use tree::mesh as lengths;
 use tree_build::build::Built;
 use tree_check::check::Verdict;
 use tree_query::query::Listed;
+use vectors::vec3::Vec3;
 ghost use mathlib.Core.Path.{_≡_};
 ghost use mathlib.Core.Bool.{cond};
 ghost use mathlib.Core.List.{[], _∷_};
@@ -16,7 +19,7 @@ ghost use Prim.Native.Nat.{_≤_};
 ghost use lib.ListN.{length};
 ghost use lib.Seq.{sets};
 ghost use Rattle.casts.specs.Answer.{says, badShape, noRoom};
-ghost use Rattle.casts.specs.Nearest.{saysIndexed};
+ghost use Rattle.nearest_hit.specs.Nearest.{saysIndexed};
 ghost use Rattle.tree.specs.Mesh.{lengthsAdmitted};
 ghost use Rattle.tree_build.specs.Build.{says as saysBuilt};
 ghost use Rattle.tree_check.specs.Verdict.{says as saysVerdict};
@@ -46,7 +49,8 @@ pub fn ray_from(
     max_distance: f64,
     near_distance: f64,
 ) -> Ray
-    ensures { λ r. ⌜ r ≡ rayFrom «origin_x» «origin_y» «origin_z» «direction_x» «direction_y» «direction_z» «max_distance» «near_distance» ⌝ }
+    ensures { λ r. ⌜ r ≡ rayFrom «origin_x» «origin_y» «origin_z» «direction_x» «direction_y» «direction_z» «max_distance»
+        «near_distance» ⌝ }
 {
     Ray {
         origin: Vec3 {
@@ -122,7 +126,8 @@ pub fn put_answer(answer: Cast, hit: &mut [f64]) -> u32
 // The same with the triangle's index. Callers show that the result slices are long enough.
 pub fn put_indexed(answer: IndexedCast, hit: &mut [f64], index: &mut [u32]) -> u32
     requires { ⌜ 4 ≤ length (now hit) ⌝ ∗ ⌜ 1 ≤ length (now index) ⌝ }
-    ensures { λ r. ⌜ record { number = r; hit = now (hit .exit); index = now (index .exit) } ≡ toldIndexed (saysIndexed answer) (now (hit .entry)) (now (index .entry)) ⌝ }
+    ensures { λ r. ⌜ record { number = r; hit = now (hit .exit); index = now (index .exit) }
+        ≡ toldIndexed (saysIndexed answer) (now (hit .entry)) (now (index .entry)) ⌝ }
 {
     match answer {
         IndexedCast::Hit {

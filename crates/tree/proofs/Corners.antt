@@ -10,17 +10,18 @@ use lib.Dec.{ltb}
 use lib.Ieee.{Float}
 use lib.ListN.{length}
 use Rattle.geometry.specs.Box.{cornersBox, corner}
-use Rattle.geometry.specs.Vector.{subOf}
-use Rattle.geometry.specs.declared.vec3.Vec3.{Vec3}
+use Rattle.vectors.specs.Vector.{subOf}
+use Rattle.vectors.specs.declared.vec3.Vec3.{Vec3}
 use Rattle.geometry.specs.declared.ray.Ray.{Ray}
 use Rattle.lists.proofs.JoinedTests.{and-first, and-second}
 use Rattle.casts.specs.Answer.{Answer, refused, outOfBounds}
 use Rattle.casts.specs.Reach.{reachOf}
-use Rattle.casts.specs.Triangle.{triangleNormal, triangleOf, triangleCast}
+use Rattle.triangle_cast.specs.Triangle.{triangleNormal, triangleOf, triangleCast}
 use Rattle.casts.specs.declared.answer.Reach.the-variants.{At, Refused}
 use Rattle.casts.proofs.AnswerLists.{OfHit, HitsAreNumbers}
-use Rattle.casts.proofs.ReachLaws.{told-by-distance}
-use Rattle.casts.proofs.HitLaws.{Measured, of-cond, of-refused, triangle-hit-measured}
+use Rattle.triangle_cast.proofs.ReachLaws.{told-by-distance}
+use Rattle.casts.proofs.HitLaws.{Measured, of-cond, of-refused}
+use Rattle.triangle_cast.proofs.TriangleHits.{triangle-hit-measured}
 use Rattle.tree.specs.Mesh.{cornerIndex, cornersInside, cornerAt, cornersOf, triangleBox, triangleAnswer, thirds}
 
 fits : (c l : ℕ) → ltb c (l / 3) ≡ true → 3 * c + 3 ≤ l

@@ -7,11 +7,11 @@ use lib.Dec.{leb, ltb, eqb}
 use lib.Ieee.{Float}
 use lib.ListN.{length}
 use Rattle.geometry.specs.Box.{boxOf, touches, validBox}
-use Rattle.geometry.specs.declared.vec3.Vec3.{Vec3}
+use Rattle.vectors.specs.declared.vec3.Vec3.{Vec3}
 use Rattle.geometry.specs.declared.aabb.Aabb.{Aabb}
 use Rattle.geometry.specs.declared.ray.Ray.{Ray}
 use Rattle.casts.specs.Answer.{Answer, refused, outOfBounds}
-use Rattle.casts.specs.Triangle.{triangleOf}
+use Rattle.triangle_cast.specs.Triangle.{triangleOf}
 use Rattle.lists.specs.Lists.{range, keep, every, over}
 use Rattle.tree.specs.Layout.{wordAt, vectorAt, boxNumbers}
 

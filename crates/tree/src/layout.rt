@@ -1,11 +1,11 @@
 use geometry::aabb::Aabb;
-use geometry::vec3::Vec3;
+use vectors::vec3::Vec3;
 ghost use mathlib.Core.Path.{_≡_};
 ghost use Prim.Native.Nat.{_+_, _*_, _<_, _≤_};
 ghost use lib.ListN.{length};
-ghost use Rattle.tree.specs.Layout.{wordAt, vectorAt, boxAt};
+ghost use Rattle.tree.specs.Layout.{wordAt, vectorAt, boxAt, allLong, treeLengths};
 
-// The word at a place, as an index.
+// The word at a place, as an index. Callers show that it is there.
 pub fn word_at(words: &[u32], place: usize) -> usize
     requires { ⌜ place < length (now words) ⌝ }
     ensures { λ r. ⌜ r ≡ wordAt (now (words .entry)) place ⌝ }
@@ -13,7 +13,7 @@ pub fn word_at(words: &[u32], place: usize) -> usize
     words[place] as usize
 }
 
-// The vector whose three numbers begin at a place.
+// The vector whose three numbers begin at a place. Callers show that they are there.
 pub fn vector_at(numbers: &[f64], place: usize) -> Vec3
     requires { ⌜ place + 3 ≤ length (now numbers) ⌝ }
     ensures { λ r. ⌜ r ≡ vectorAt (now (numbers .entry)) place ⌝ }
@@ -25,7 +25,7 @@ pub fn vector_at(numbers: &[f64], place: usize) -> Vec3
     }
 }
 
-// The box at an index of an area of boxes.
+// The box at an index of an area of boxes. Callers show that it is there.
 pub fn box_at(boxes: &[f64], index: usize) -> Aabb
     requires { ⌜ 6 * index + 6 ≤ length (now boxes) ⌝ }
     ensures { λ r. ⌜ r ≡ boxAt (now (boxes .entry)) index ⌝ }
@@ -35,4 +35,27 @@ pub fn box_at(boxes: &[f64], index: usize) -> Aabb
         min: vector_at(boxes, place),
         max: vector_at(boxes, place + 3),
     }
+}
+
+// Whether areas of these lengths are as long as stated for a tree of n triangles. Callers show that n is admitted.
+pub fn lengths_fit(
+    n: usize,
+    node_boxes: usize,
+    triangle_boxes: usize,
+    node_words: usize,
+    order: usize,
+) -> bool
+    requires { ⌜ n ≤ 65536 ⌝ }
+    ensures { λ r. ⌜ r ≡ allLong (treeLengths n «node_boxes» «triangle_boxes» «node_words» order) ⌝ }
+{
+    if node_boxes < 12 * n {
+        return false;
+    }
+    if triangle_boxes < 6 * n {
+        return false;
+    }
+    if node_words < 6 * n {
+        return false;
+    }
+    n <= order
 }

@@ -7,8 +7,8 @@ use lib.ListN.{replicate}
 use Rattle.arithmetic.specs.Extremes.{minimumOf, maximumOf}
 use Rattle.arithmetic.specs.Basic.{isFinite, negative}
 use Rattle.arithmetic.specs.Ordering.{totalOrder}
-use Rattle.geometry.specs.Numbers.{zeroᶠ, oneᶠ}
-use Rattle.geometry.specs.Vector.{component, finiteVec, addOf, subOf, scaleOf, minOf, maxOf}
+use Rattle.vectors.specs.Numbers.{zeroᶠ, oneᶠ}
+use Rattle.vectors.specs.Vector.{component, finiteVec, addOf, subOf, scaleOf, minOf, maxOf}
 use Rattle.geometry.specs.Box.{validSide, validBox, unionOf, centre}
 use Rattle.lists.specs.Lists.{range, every, insertBy, sortBy, folded}
 use Rattle.tree.specs.Layout.{vectorAt, boxAt, boxNumbers, areas}

@@ -10,7 +10,7 @@ use lib.Ieee.{Float}
 use lib.ListN.{length, take, drop, replicate}
 use lib.Seq.{length-take-le, take-at, drop-at}
 use borrow.Author.Tests.{leb-true, eq-eqb, ne-eqb}
-use Rattle.geometry.specs.Numbers.{zeroᶠ}
+use Rattle.vectors.specs.Numbers.{zeroᶠ}
 use Rattle.casts.specs.Answer.{outOfBounds, overflow}
 use Rattle.lists.specs.Lists.{range}
 use Rattle.tree.specs.Mesh.{Mesh, lengthsAdmitted, triangleCount, trianglesFit, boxesWritten}

@@ -7,7 +7,7 @@ use native.Mathlib.Omega.{arith}
 use lib.Ieee.{Float}
 use lib.ListN.{length, take, drop, length-append, length-drop}
 use lib.Seq.{sets, length-take-le}
-use Rattle.geometry.specs.Vector.{finiteVec}
+use Rattle.vectors.specs.Vector.{finiteVec}
 use Rattle.casts.specs.Answer.{overflow}
 use Rattle.tree_build.specs.Shape.{Shape, leaf, branch, shapeOf, sizeOf, nodesOf, wordsOf}
 use Rattle.tree.specs.Layout.{boxNumbers}

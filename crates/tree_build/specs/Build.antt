@@ -1,10 +1,11 @@
 -- Document 01's build: the answer, and what the lent areas hold after it. Definitions only. Assumes nothing.
 use Prim.Native.Nat.{ℕ}
-use mathlib.Core.Bool.{Bool, cond}
+use mathlib.Core.Path.{_≡_}
+use mathlib.Core.Bool.{Bool, false, cond}
 use mathlib.Core.List.{List, [], _∷_, _++_}
 use lib.Dec.{eqb}
 use lib.ListN.{length, replicate}
-use Rattle.geometry.specs.Numbers.{zeroᶠ}
+use Rattle.vectors.specs.Numbers.{zeroᶠ}
 use Rattle.lists.specs.Lists.{range, over}
 use Rattle.lists.specs.Refusals.{Test, refusing, unlessRefused, allPass}
 use Rattle.casts.specs.Answer.{badShape, noRoom, outOfBounds, overflow}
@@ -28,6 +29,9 @@ says (Refused number) = refused number
 pub record Outcome : Type 0 where
   pub answer : Answer
   pub after : Areas
+
+abbrev pub outcome : Answer → Areas → Outcome
+outcome answer after = record { answer = answer; after = after }
 
 -- "Zeros fill every place of the result areas"
 unfoldable pub zeroed : Areas → Areas
@@ -78,3 +82,7 @@ module _ (m : Mesh) where
   -- the whole call; the last argument is the length of the work area, which may hold anything afterwards
   unfoldable pub buildOf : Areas → ℕ → Outcome
   buildOf a work = unlessRefused (λ (number : ℕ). record { answer = refused number; after = a }) (buildTests a work) (builtOf a)
+
+  -- what the call promises: its answer with the result areas, and the work area, which until the tests let the call pass is unchanged
+  abbrev pub Builds : Areas → List ℕ → List ℕ → Outcome → Type 0
+  Builds a before after done = (done ≡ buildOf a (length before)) × (testsPass a (length before) ≡ false → after ≡ before)

@@ -1,6 +1,7 @@
 use crate::nodes;
 use casts::answer;
 use lists::fill;
+use tree::layout;
 use tree::mesh;
 use tree::writing;
 ghost use mathlib.Core.Path.{_≡_};
@@ -9,7 +10,7 @@ ghost use Prim.Native.Nat.{ℕ, _≤_};
 ghost use lib.ListN.{length};
 ghost use Rattle.tree.specs.Mesh.{thirds, lengthsAdmitted, mesh};
 ghost use Rattle.tree.specs.Layout.{areas};
-ghost use Rattle.tree_build.specs.Build.{says, zeroed, roomFor, treeWritten, builtOf, testsPass, buildOf};
+ghost use Rattle.tree_build.specs.Build.{says, zeroed, roomFor, treeWritten, builtOf, outcome, Builds};
 ghost use Rattle.tree_build.specs.declared.build.Built.the-variants.{Nodes};
 
 // The node count, or a refusal with its number in document 01's table.
@@ -18,7 +19,7 @@ pub enum Built {
     Refused(u32),
 }
 
-// Whether the areas are long enough for a number of triangles.
+// Whether the areas are long enough for a number of triangles. Callers show that they are few, so that no product wraps.
 fn has_room(
     count: usize,
     node_boxes: &[f64],
@@ -32,16 +33,13 @@ fn has_room(
         (areas (now («node_boxes» .entry)) (now («triangle_boxes» .entry)) (now («node_words» .entry)) (now (order .entry)))
         (length (now (work .entry))) ⌝ }
 {
-    if node_boxes.len() < 12 * count {
-        return false;
-    }
-    if triangle_boxes.len() < 6 * count {
-        return false;
-    }
-    if node_words.len() < 6 * count {
-        return false;
-    }
-    if order.len() < count {
+    if !layout::lengths_fit(
+        count,
+        node_boxes.len(),
+        triangle_boxes.len(),
+        node_words.len(),
+        order.len(),
+    ) {
         return false;
     }
     count <= work.len()
@@ -63,7 +61,7 @@ fn zero_areas(
     fill::zero_words(order);
 }
 
-// The build of an admitted mesh with room. The areas hold anything after a refusal.
+// The build of an admitted mesh with room. The areas hold anything after a refusal. Callers show that it is admitted and has room.
 fn grow(
     vertices: &[f64],
     triangles: &[u32],
@@ -112,16 +110,11 @@ pub fn build(
     order: &mut [u32],
     work: &mut [u32],
 ) -> Built
-    ensures { λ r. ⌜ record {
-      answer = says r;
-      after = areas (now («node_boxes» .exit)) (now («triangle_boxes» .exit))
-          (now («node_words» .exit)) (now (order .exit));
-    } ≡ buildOf (mesh (now (vertices .entry)) (now (triangles .entry)))
+    ensures { λ r. ⌜ Builds (mesh (now (vertices .entry)) (now (triangles .entry)))
         (areas (now («node_boxes» .entry)) (now («triangle_boxes» .entry)) (now («node_words» .entry)) (now (order .entry)))
-        (length (now (work .entry))) ⌝ }
-    ensures { λ r. ⌜ (testsPass (mesh (now (vertices .entry)) (now (triangles .entry)))
-        (areas (now («node_boxes» .entry)) (now («triangle_boxes» .entry)) (now («node_words» .entry)) (now (order .entry)))
-        (length (now (work .entry))) ≡ false → now (work .exit) ≡ now (work .entry)) ⌝ }
+        (now (work .entry)) (now (work .exit))
+        (outcome (says r)
+        (areas (now («node_boxes» .exit)) (now («triangle_boxes» .exit)) (now («node_words» .exit)) (now (order .exit)))) ⌝ }
 {
     if !mesh::lengths_admitted(vertices.len(), triangles.len()) {
         return Built::Refused(answer::BAD_SHAPE);

@@ -3,4 +3,4 @@
 // The public call.
 pub mod build;
 // The recursion over a range of triangles.
-pub mod nodes;
+mod nodes;

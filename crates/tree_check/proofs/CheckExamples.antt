@@ -8,10 +8,10 @@ use lib.Ieee.{ofBits, ofFields, lt, le, eq, isNan}
 use lib.ListN.{replicate}
 use Rattle.arithmetic.specs.Basic.{isFinite}
 use Rattle.arithmetic.specs.Extremes.{minimumOf, maximumOf}
-use Rattle.geometry.specs.Numbers.{zeroᶠ}
-use Rattle.geometry.specs.Vector.{minOf, maxOf}
+use Rattle.vectors.specs.Numbers.{zeroᶠ}
+use Rattle.vectors.specs.Vector.{minOf, maxOf}
 use Rattle.geometry.specs.Box.{validSide, validBox, withinSide, encloses, sameSide, sameBox}
-use Rattle.lists.specs.Lists.{range, count, every, gather}
+use Rattle.lists.specs.Lists.{range, count, every, flatMap}
 use Rattle.tree.specs.Layout.{Tree, vectorAt, boxAt}
 use Rattle.tree.specs.Mesh.{Mesh, lengthsAdmitted, cornersInside, cornerAt, triangleBox}
 use Rattle.tree_check.specs.Check.{childrenOf, placesOf, kindsKnown, childrenAbove, leavesInside, namedOnce, placedOnce, orderedOnce}
@@ -51,7 +51,7 @@ pub verdicts :
     ∷ map (ask thrice) faulty
     ≡ yes ∷ no ∷ no ∷ refused 3 ∷ refused 3 ∷ refused 2 ∷ replicate 11 no
 unfolding checkOf roomFor lengthsAdmitted treePasses clausesHold kindsKnown childrenAbove leavesInside namedOnce placedOnce orderedOnce
-    leavesFilled cornersKnown boxesSame boxesValid nodeEncloses enclosed childrenOf placesOf range count every gather vectorAt boxAt
+    leavesFilled cornersKnown boxesSame boxesValid nodeEncloses enclosed childrenOf placesOf range count every flatMap vectorAt boxAt
     cornersInside cornerAt triangleBox validSide validBox withinSide encloses sameSide sameBox minOf maxOf minimumOf maximumOf isFinite
     ofBits ofFields lt le eq isNan
 verdicts = refl

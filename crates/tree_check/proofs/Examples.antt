@@ -8,10 +8,10 @@ use lib.Dec.{leb}
 use lib.Ieee.{Float, binary64, ofBits, ofFields, lt, le, eq, isNan}
 use Rattle.arithmetic.specs.Basic.{isFinite}
 use Rattle.arithmetic.specs.Extremes.{minimumOf, maximumOf}
-use Rattle.geometry.specs.Numbers.{zeroᶠ, oneᶠ}
-use Rattle.geometry.specs.Vector.{minOf, maxOf}
+use Rattle.vectors.specs.Numbers.{zeroᶠ, oneᶠ}
+use Rattle.vectors.specs.Vector.{minOf, maxOf}
 use Rattle.geometry.specs.Box.{validSide, validBox, withinSide, encloses, sameSide, sameBox}
-use Rattle.lists.specs.Lists.{range, count, every, gather}
+use Rattle.lists.specs.Lists.{range, count, every, flatMap}
 use Rattle.tree.specs.Layout.{Tree, vectorAt, boxAt}
 use Rattle.tree.specs.Mesh.{Mesh, cornersInside, cornerAt, triangleBox}
 use Rattle.tree_check.specs.Check.{triangleCount, childrenOf, placesOf, kindsKnown, childrenAbove, leavesInside, namedOnce}
@@ -124,6 +124,6 @@ noBy clause = record { passes = false; fails = clause ∷ [] }
 pub outcomes : (outcome thrice foreign ∷ (outcome past (leafOver (tight ++ (tight ++ edge))) ∷ map (outcome thrice) faulty))
     ≡ (record { passes = true; fails = [] } ∷ (noBy 8 ∷ map noBy (1 ∷ (2 ∷ (3 ∷ (4 ∷ (5 ∷ (6 ∷ (7 ∷ (9 ∷ (10 ∷ (11 ∷ (11 ∷ [])))))))))))))
 unfolding treePasses clausesHold kindsKnown childrenAbove leavesInside namedOnce placedOnce orderedOnce leavesFilled cornersKnown boxesSame
-    boxesValid nodeEncloses enclosed childrenOf placesOf range count every gather vectorAt boxAt cornersInside cornerAt triangleBox
+    boxesValid nodeEncloses enclosed childrenOf placesOf range count every flatMap vectorAt boxAt cornersInside cornerAt triangleBox
     validSide validBox withinSide encloses sameSide sameBox minOf maxOf minimumOf maximumOf isFinite ofBits ofFields lt le eq isNan
 outcomes = refl

@@ -10,7 +10,7 @@ use lib.Dec.{eqb, leb}
 use lib.Ieee.{Float}
 use lib.ListN.{length, take}
 use Rattle.geometry.specs.Box.{validBox}
-use Rattle.lists.specs.Lists.{range, every, gather}
+use Rattle.lists.specs.Lists.{range, every, flatMap}
 use Rattle.tree.specs.Layout.{Tree, boxAt}
 use Rattle.tree.specs.Mesh.{Mesh, lengthsAdmitted}
 use Rattle.lists.proofs.JoinedTests.{and-first, and-second}
@@ -50,10 +50,10 @@ regrouped true true true true true true true true true true true true e = refl
 -- words and order that pass leave nothing in the tree to be read past an area's end
 module _ (n count : ℕ) (words order : List ℕ) (h : wordsPass n count words order ≡ true) where
   abbrev named : Bool
-  named = every (once (gather (marked 1 n words) (range 0 count))) (range 1 (count - 1))
+  named = every (once (flatMap (marked 1 n words) (range 0 count))) (range 1 (count - 1))
 
   abbrev placed : Bool
-  placed = every (once (gather (places words) (range 0 count))) (range 0 n)
+  placed = every (once (flatMap (places words) (range 0 count))) (range 0 n)
 
   abbrev ordered : Bool
   ordered = every (once (take n order)) (range 0 n)

@@ -5,7 +5,7 @@ use mathlib.Core.List.{List, [], _∷_}
 use lib.Dec.{leb, ltb, eqb}
 use lib.ListN.{length, take}
 use Rattle.geometry.specs.Box.{validBox, encloses, sameBox}
-use Rattle.lists.specs.Lists.{range, count, every, gather}
+use Rattle.lists.specs.Lists.{range, count, every, flatMap}
 use Rattle.tree.specs.Layout.{Tree, wordAt, boxAt, kindAt, firstAt, secondAt}
 use Rattle.tree.specs.Mesh.{Mesh, thirds, cornersInside, triangleBox}
 
@@ -47,11 +47,11 @@ module _ (m : Mesh) (t : Tree) where
 
   -- "each node but the first is named once"
   unfoldable pub namedOnce : Bool
-  namedOnce = every (λ (i : ℕ). eqb (count i (gather childrenOf nodes)) 1) (range 1 (t .nodeCount - 1))
+  namedOnce = every (λ (i : ℕ). eqb (count i (flatMap childrenOf nodes)) 1) (range 1 (t .nodeCount - 1))
 
   -- "each order place lies in one leaf"
   unfoldable pub placedOnce : Bool
-  placedOnce = every (λ (p : ℕ). eqb (count p (gather placesOf nodes)) 1) (range 0 triangleCount)
+  placedOnce = every (λ (p : ℕ). eqb (count p (flatMap placesOf nodes)) 1) (range 0 triangleCount)
 
   -- "each triangle stands in the order once"
   unfoldable pub orderedOnce : Bool

@@ -9,7 +9,7 @@ use lib.Ieee.{Float}
 use lib.ListN.{length, getD, take}
 use Rattle.geometry.specs.Box.{validBox, encloses, sameBox}
 use Rattle.geometry.specs.declared.aabb.Aabb.{Aabb}
-use Rattle.lists.specs.Lists.{range, every, gather}
+use Rattle.lists.specs.Lists.{range, every, flatMap}
 use Rattle.tree.specs.Layout.{wordAt, boxAt, kindAt, firstAt, secondAt}
 use Rattle.tree.specs.Mesh.{thirds, cornersInside, triangleBox}
 use Rattle.tree_words.specs.Marks.{once, places, marked}
@@ -52,8 +52,8 @@ pub record Readable (n nodes : ℕ) (nodeBoxes triangleBoxes : List Float) (word
 unfoldable pub wordsPass : ℕ → ℕ → List ℕ → List ℕ → Bool
 wordsPass n nodes words order =
     every (nodeSound n nodes words) (range 0 nodes)
-    && (every (once (gather (marked 1 n words) (range 0 nodes))) (range 1 (nodes - 1))
-    && (every (once (gather (places words) (range 0 nodes))) (range 0 n)
+    && (every (once (flatMap (marked 1 n words) (range 0 nodes))) (range 1 (nodes - 1))
+    && (every (once (flatMap (places words) (range 0 nodes))) (range 0 n)
     && every (once (take n order)) (range 0 n)))
 
 -- the clauses on triangles and boxes

@@ -1,6 +1,7 @@
 -- The answer of the tree check: "A tree passes the check if the check, with a mark area long enough, says yes". Definitions only. Assumes
 -- nothing.
 use Prim.Native.Nat.{ℕ, _*_}
+use mathlib.Core.Path.{_≡_}
 use mathlib.Core.Bool.{Bool, cond}
 use mathlib.Core.List.{List, [], _∷_, _++_}
 use lib.ListN.{length}
@@ -47,3 +48,7 @@ abbrev pub marksAfter : Ruling → List ℕ → List ℕ → List ℕ
 marksAfter yes before after = after
 marksAfter no before after = after
 marksAfter (refused number) before after = before
+
+-- what the call promises: its ruling, and the marks
+abbrev pub Checks : Mesh → Tree → List ℕ → List ℕ → Ruling → Type 0
+Checks m t before after ruling = (ruling ≡ checkOf m t (length before)) × (after ≡ marksAfter ruling before after)

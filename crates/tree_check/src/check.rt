@@ -1,13 +1,16 @@
 use crate::boxes;
 use casts::answer;
+use tree::layout;
 use tree::mesh;
 use tree_words::words;
 ghost use mathlib.Core.Path.{_≡_};
 ghost use Prim.Native.Nat.{_*_, _/_, _<_, _≤_};
 ghost use lib.ListN.{length};
+ghost use Rattle.tree.specs.Layout.{treeOf};
+ghost use Rattle.tree.specs.Mesh.{mesh};
 ghost use Rattle.tree_check.specs.Check.{treePasses};
 ghost use Rattle.tree_check.specs.Steps.{wordsPass, boxesPass, Readable, Long};
-ghost use Rattle.tree_check.specs.Verdict.{says, roomFor, checkOf, marksAfter};
+ghost use Rattle.tree_check.specs.Verdict.{says, roomFor, Checks};
 
 // Yes, no, or a refusal with its number in document 01's table.
 pub enum Verdict {
@@ -16,7 +19,7 @@ pub enum Verdict {
     Refused(u32),
 }
 
-// Whether the nodes' words and the order pass.
+// Whether the nodes' words and the order pass. Callers show that the counts are admitted and the areas long enough.
 fn words_pass(n: usize, nodes: usize, words: &[u32], order: &[u32], marks: &mut [u32]) -> bool
     requires { ⌜ (n ≤ 65536) × ((nodes ≤ 2 * n)
         × ((3 * nodes ≤ length (now words)) × ((n ≤ length (now order)) × (3 * n ≤ length (now marks))))) ⌝ }
@@ -56,7 +59,7 @@ fn boxes_pass(
     boxes::nodes_fit(n, nodes, node_boxes, triangle_boxes, words, order)
 }
 
-// Whether the tree passes, its areas being as long as stated.
+// Whether the tree passes, its areas being as long as stated. Callers show that they are.
 fn tree_passes(
     vertices: &[f64],
     triangles: &[u32],
@@ -101,7 +104,7 @@ fn tree_passes(
     )
 }
 
-// Whether the areas of a tree of n triangles are as long as stated.
+// Whether the areas of a tree of n triangles are as long as stated. Callers show that n is admitted, so that no product wraps.
 fn room_for(
     n: usize,
     node_boxes: usize,
@@ -113,19 +116,10 @@ fn room_for(
     requires { ⌜ n ≤ 65536 ⌝ }
     ensures { λ r. ⌜ r ≡ roomFor n «node_boxes» «triangle_boxes» «node_words» order marks ⌝ }
 {
-    if node_boxes < 12 * n {
+    if !layout::lengths_fit(n, node_boxes, triangle_boxes, node_words, order) {
         return false;
     }
-    if triangle_boxes < 6 * n {
-        return false;
-    }
-    if node_words < 6 * n {
-        return false;
-    }
-    if order < n {
-        return false;
-    }
-    marks >= 3 * n
+    3 * n <= marks
 }
 
 // Whether a tree, from whatever builder, fits the mesh: yes exactly when document 01's clauses hold.
@@ -140,18 +134,9 @@ pub fn check(
     order: &[u32],
     marks: &mut [u32],
 ) -> Verdict
-    ensures { λ r. ⌜ says r ≡ checkOf
-        (record { vertices = now (vertices .entry); triangles = now (triangles .entry) })
-        (record {
-          nodeCount = nodes;
-          nodeBoxes = now («node_boxes» .entry);
-          triangleBoxes = now («triangle_boxes» .entry);
-          nodeWords = now
-              («node_words» .entry);
-          order = now (order .entry);
-        })
-        (length (now (marks .entry))) ⌝ }
-    ensures { λ r. ⌜ now (marks .exit) ≡ marksAfter (says r) (now (marks .entry)) (now (marks .exit)) ⌝ }
+    ensures { λ r. ⌜ Checks (mesh (now (vertices .entry)) (now (triangles .entry)))
+        (treeOf nodes (now («node_boxes» .entry)) (now («triangle_boxes» .entry)) (now («node_words» .entry)) (now (order .entry)))
+        (now (marks .entry)) (now (marks .exit)) (says r) ⌝ }
 {
     if !mesh::lengths_admitted(vertices.len(), triangles.len()) {
         return Verdict::Refused(answer::BAD_SHAPE);

@@ -1,6 +1,7 @@
 -- The query of a box: its refusals, its list and its answer. Definitions only. Assumes nothing.
 use Prim.Native.Nat.{ℕ, _+_, _*_}
-use mathlib.Core.Bool.{Bool, _&&_}
+use mathlib.Core.Path.{_≡_}
+use mathlib.Core.Bool.{Bool, false, _&&_}
 use mathlib.Core.List.{List, [], _∷_, _++_}
 use lib.Dec.{leb}
 use lib.ListN.{length, drop, replicate}
@@ -60,3 +61,8 @@ unfoldable pub queryOf : Aabb → ℕ → Tree → List ℕ → ℕ → Queried
 queryOf box n t area stack =
     unlessRefused (λ (number : ℕ). record { answer = refused number; list = area }) (queryTests box n t (length area) stack)
     (afterWalk area (walkOf t n box))
+
+-- what the call promises: its answer with the list, and the stack, which until the tests let the call pass is unchanged
+abbrev pub Queries : Aabb → ℕ → Tree → List ℕ → List ℕ → List ℕ → Queried → Type 0
+Queries box n t list before after queried =
+    (queried ≡ queryOf box n t list (length before)) × (testsPass box n t (length list) (length before) ≡ false → after ≡ before)

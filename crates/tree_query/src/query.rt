@@ -2,13 +2,15 @@ use crate::walk;
 use casts::answer;
 use geometry::aabb::Aabb;
 use index_sort::sort;
+use lists::fill;
+use tree::layout;
 use tree_walk::step::Filled;
 ghost use mathlib.Core.Path.{_≡_};
 ghost use mathlib.Core.Bool.{false};
 ghost use Prim.Native.Nat.{_≤_};
 ghost use lib.ListN.{length};
 ghost use Rattle.tree.specs.Layout.{treeOf};
-ghost use Rattle.tree_query.specs.Query.{saysListed, countsAdmitted, treeFits, walkFits, queryOf, testsPass};
+ghost use Rattle.tree_query.specs.Query.{saysListed, countsAdmitted, treeFits, walkFits, Queries};
 
 // How many triangles are listed, or a refusal with its number in document 01's table.
 pub enum Listed {
@@ -26,7 +28,7 @@ pub fn counts_admitted(count: usize, nodes: usize) -> bool
     nodes <= 2 * count
 }
 
-// Whether the areas of a tree are as long as its triangles ask.
+// Whether the areas of a tree are as long as its triangles ask. Callers show that they are few, so that no product wraps.
 pub fn tree_fits(
     count: usize,
     nodes: usize,
@@ -36,21 +38,19 @@ pub fn tree_fits(
     order: &[u32],
 ) -> bool
     requires { ⌜ count ≤ 65536 ⌝ }
-    ensures { λ r. ⌜ r ≡ treeFits count (treeOf nodes (now («node_boxes» .entry)) (now («triangle_boxes» .entry)) (now («node_words» .entry)) (now (order .entry))) ⌝ }
+    ensures { λ r. ⌜ r ≡ treeFits count (treeOf nodes (now («node_boxes» .entry)) (now («triangle_boxes» .entry))
+        (now («node_words» .entry)) (now (order .entry))) ⌝ }
 {
-    if node_boxes.len() < 12 * count {
-        return false;
-    }
-    if triangle_boxes.len() < 6 * count {
-        return false;
-    }
-    if node_words.len() < 6 * count {
-        return false;
-    }
-    count <= order.len()
+    layout::lengths_fit(
+        count,
+        node_boxes.len(),
+        triangle_boxes.len(),
+        node_words.len(),
+        order.len(),
+    )
 }
 
-// The same of a tree's areas and those that the walk takes.
+// The same of a tree's areas and those that the walk takes. Callers show that the triangles are few, so that no product wraps.
 pub fn walk_fits(
     count: usize,
     nodes: usize,
@@ -62,7 +62,8 @@ pub fn walk_fits(
     stack: usize,
 ) -> bool
     requires { ⌜ count ≤ 65536 ⌝ }
-    ensures { λ r. ⌜ r ≡ walkFits count (treeOf nodes (now («node_boxes» .entry)) (now («triangle_boxes» .entry)) (now («node_words» .entry)) (now (order .entry))) list stack ⌝ }
+    ensures { λ r. ⌜ r ≡ walkFits count (treeOf nodes (now («node_boxes» .entry)) (now («triangle_boxes» .entry))
+        (now («node_words» .entry)) (now (order .entry))) list stack ⌝ }
 {
     if !tree_fits(count, nodes, node_boxes, triangle_boxes, node_words, order) {
         return false;
@@ -86,8 +87,9 @@ pub fn query(
     list: &mut [u32],
     stack: &mut [u32],
 ) -> Listed
-    ensures { λ r. ⌜ record { answer = saysListed r; list = now (list .exit) } ≡ queryOf bounds count (treeOf nodes (now («node_boxes» .entry)) (now («triangle_boxes» .entry)) (now («node_words» .entry)) (now (order .entry))) (now (list .entry)) (length (now (stack .entry))) ⌝ }
-    ensures { λ r. ⌜ (testsPass bounds count (treeOf nodes (now («node_boxes» .entry)) (now («triangle_boxes» .entry)) (now («node_words» .entry)) (now (order .entry))) (length (now (list .entry))) (length (now (stack .entry))) ≡ false → now (stack .exit) ≡ now (stack .entry)) ⌝ }
+    ensures { λ r. ⌜ Queries bounds count
+        (treeOf nodes (now («node_boxes» .entry)) (now («triangle_boxes» .entry)) (now («node_words» .entry)) (now (order .entry)))
+        (now (list .entry)) (now (stack .entry)) (now (stack .exit)) (record { answer = saysListed r; list = now (list .exit) }) ⌝ }
 {
     if !bounds.is_valid() {
         return Listed::Refused(answer::INVALID_INPUT);
@@ -119,7 +121,7 @@ pub fn query(
         stack,
     );
     let Filled::Count(found) = walked else {
-        sort::clear(list);
+        fill::zero_words(list);
         return Listed::Refused(answer::OUT_OF_BOUNDS);
     };
     Listed::Count(found)

@@ -11,9 +11,11 @@ ghost use Rattle.tree_walk.specs.Walk.{ended, walkOf};
 ghost use Rattle.tree_walk.specs.Areas.{listed, GrownTo, WalkRoom};
 ghost use Rattle.tree.specs.Layout.{treeOf};
 
-// The touching triangles in the walk's own order, in the first places of the list, whose rest is as it was; the stack may hold anything afterwards.
+// The touching triangles in the walk's own order, in the first places of the list, whose rest is as it was; the stack may hold anything
+// afterwards.
 // It is the walk under a limit that no walk uses up: at most one node more is taken from the stack than there are, and that one is 5.
 // A box far off the tree leaves at its first node, here, where the walk itself stays out of line.
+// Callers show that the tree's areas and those of the walk are long enough.
 pub fn gather(
     bounds: Aabb,
     count: usize,
@@ -25,8 +27,12 @@ pub fn gather(
     list: &mut [u32],
     stack: &mut [u32],
 ) -> Filled
-    requires { ⌜ WalkRoom count (treeOf nodes (now «node_boxes») (now «triangle_boxes») (now «node_words») (now order)) (now list) (now stack) ⌝ }
-    ensures { λ r. ⌜ (ended (treeOf nodes (now («node_boxes» .entry)) (now («triangle_boxes» .entry)) (now («node_words» .entry)) (now (order .entry))) count bounds (listed [] r (now (list .exit))) ≡ walkOf (treeOf nodes (now («node_boxes» .entry)) (now («triangle_boxes» .entry)) (now («node_words» .entry)) (now (order .entry))) count bounds) × GrownTo count (now (list .entry)) 0 r (now (list .exit)) ⌝ }
+    requires { ⌜ WalkRoom count (treeOf nodes (now «node_boxes») (now «triangle_boxes») (now «node_words») (now order)) (now list)
+        (now stack) ⌝ }
+    ensures { λ r. ⌜ (ended (treeOf nodes (now («node_boxes» .entry)) (now («triangle_boxes» .entry)) (now («node_words» .entry))
+        (now (order .entry))) count bounds (listed [] r (now (list .exit)))
+        ≡ walkOf (treeOf nodes (now («node_boxes» .entry)) (now («triangle_boxes» .entry)) (now («node_words» .entry))
+        (now (order .entry))) count bounds) × GrownTo count (now (list .entry)) 0 r (now (list .exit)) ⌝ }
 {
     if nodes == 0 {
         return Filled::Count(0);
@@ -59,7 +65,7 @@ pub fn gather(
     }
 }
 
-// The same triangles, ascending.
+// The same triangles, ascending. Callers show that the areas are long enough and that a triangle's index is a u32.
 pub fn walk(
     bounds: Aabb,
     count: usize,
@@ -71,8 +77,11 @@ pub fn walk(
     list: &mut [u32],
     stack: &mut [u32],
 ) -> Filled
-    requires { ⌜ (count < 4294967296) × WalkRoom count (treeOf nodes (now «node_boxes») (now «triangle_boxes») (now «node_words») (now order)) (now list) (now stack) ⌝ }
-    ensures { λ r. ⌜ (listed [] r (now (list .exit)) ≡ walkOf (treeOf nodes (now («node_boxes» .entry)) (now («triangle_boxes» .entry)) (now («node_words» .entry)) (now (order .entry))) count bounds) × GrownTo count (now (list .entry)) 0 r (now (list .exit)) ⌝ }
+    requires { ⌜ (count < 4294967296) × WalkRoom count
+        (treeOf nodes (now «node_boxes») (now «triangle_boxes») (now «node_words») (now order)) (now list) (now stack) ⌝ }
+    ensures { λ r. ⌜ (listed [] r (now (list .exit))
+        ≡ walkOf (treeOf nodes (now («node_boxes» .entry)) (now («triangle_boxes» .entry)) (now («node_words» .entry))
+        (now (order .entry))) count bounds) × GrownTo count (now (list .entry)) 0 r (now (list .exit)) ⌝ }
 {
     let walked = gather(
         bounds,

@@ -4,9 +4,9 @@ use mathlib.Core.Bool.{_&&_, cond}
 use mathlib.Core.List.{List}
 use lib.Ieee.{Float, le}
 use Rattle.lists.specs.Lists.{foldedAll}
-use Rattle.geometry.specs.Vector.{subOf, minOf, maxOf}
+use Rattle.vectors.specs.Vector.{subOf, minOf, maxOf}
 use Rattle.geometry.specs.Box.{unionOf, centre}
-use Rattle.geometry.specs.declared.vec3.Vec3.{Vec3}
+use Rattle.vectors.specs.declared.vec3.Vec3.{Vec3}
 use Rattle.geometry.specs.declared.aabb.Aabb.{Aabb}
 use Rattle.tree.specs.Layout.{boxAt}
 

@@ -16,7 +16,8 @@ pub enum Filled {
     Broken,
 }
 
-// The node that is taken next, how many stand on the stack below it and how many triangles in the list; or how many triangles the whole walk has listed, or that it met a 5.
+// The node that is taken next, how many stand on the stack below it and how many triangles in the list; or how many triangles the whole
+// walk has listed, or that it met a 5.
 pub enum Stepped {
     Next {
         node: usize,
@@ -27,7 +28,8 @@ pub enum Stepped {
     Stopped,
 }
 
-// One place of the order: its triangle is listed if its box touches.
+// One place of the order: its triangle is listed if its box touches. Callers show that the place is one and that the list has one for each
+// triangle.
 fn take_place(
     bounds: Aabb,
     count: usize,
@@ -38,7 +40,8 @@ fn take_place(
     found: usize,
 ) -> Filled
     requires { ⌜ (place < count) × Room count (now order) (now «triangle_boxes») (now list) found ⌝ }
-    ensures { λ r. ⌜ Placed (λ t stack. takePlace t count bounds (walking stack (take found (now (list .entry)))) place) count (now (order .entry)) (now («triangle_boxes» .entry)) (now (list .entry)) found r (now (list .exit)) ⌝ }
+    ensures { λ r. ⌜ Placed (λ t stack. takePlace t count bounds (walking stack (take found (now (list .entry)))) place) count
+        (now (order .entry)) (now («triangle_boxes» .entry)) (now (list .entry)) found r (now (list .exit)) ⌝ }
 {
     let triangle = order[place];
     let index = triangle as usize;
@@ -55,7 +58,8 @@ fn take_place(
     Filled::Count(found + 1)
 }
 
-// The places of the order from start to below end.
+// The places of the order from start to below end. Callers show that the places are the order's and that the list has one for each
+// triangle.
 fn take_places(
     bounds: Aabb,
     count: usize,
@@ -67,7 +71,9 @@ fn take_places(
     found: usize,
 ) -> Filled
     requires { ⌜ (start ≤ end) × ((end ≤ count) × Room count (now order) (now «triangle_boxes») (now list) found) ⌝ }
-    ensures { λ r. ⌜ Placed (λ t stack. takePlaces t count bounds (walking stack (take found (now (list .entry)))) (range start (end - start))) count (now (order .entry)) (now («triangle_boxes» .entry)) (now (list .entry)) found r (now (list .exit)) ⌝ }
+    ensures { λ r. ⌜ Placed (λ t stack. takePlaces t count bounds (walking stack (take found (now (list .entry))))
+        (range start (end - start))) count (now (order .entry)) (now («triangle_boxes» .entry)) (now (list .entry)) found r
+        (now (list .exit)) ⌝ }
 {
     let mut listed = found;
     let mut place = start;
@@ -83,6 +89,7 @@ fn take_places(
 }
 
 // A leaf: its places of the order, which must end within the triangles.
+// Callers show that the node's words are there and that the list has a place for each triangle.
 fn at_leaf(
     bounds: Aabb,
     count: usize,
@@ -94,7 +101,9 @@ fn at_leaf(
     found: usize,
 ) -> Filled
     requires { ⌜ (3 * node + 3 ≤ length (now «node_words»)) × Room count (now order) (now «triangle_boxes») (now list) found ⌝ }
-    ensures { λ r. ⌜ Placed (λ t stack. atLeaf t count bounds (firstAt (now («node_words» .entry)) node) (secondAt (now («node_words» .entry)) node) stack (take found (now (list .entry)))) count (now (order .entry)) (now («triangle_boxes» .entry)) (now (list .entry)) found r (now (list .exit)) ⌝ }
+    ensures { λ r. ⌜ Placed (λ t stack. atLeaf t count bounds (firstAt (now («node_words» .entry)) node)
+        (secondAt (now («node_words» .entry)) node) stack (take found (now (list .entry)))) count (now (order .entry))
+        (now («triangle_boxes» .entry)) (now (list .entry)) found r (now (list .exit)) ⌝ }
 {
     let start = layout::word_at(node_words, 3 * node + 1);
     let size = layout::word_at(node_words, 3 * node + 2);
@@ -123,7 +132,7 @@ fn child_fits(nodes: usize, node: usize, child: usize) -> bool
     false
 }
 
-// The next node taken from the stack; with none there the walk has ended.
+// The next node taken from the stack; with none there the walk has ended. Callers show that the stack is no longer than its area.
 fn pop(stack: &[u32], top: usize, found: usize) -> Stepped
     requires { ⌜ top ≤ length (now stack) ⌝ }
     ensures { λ r. ⌜ r ≡ popped (now (stack .entry)) top found ⌝ }
@@ -140,6 +149,7 @@ fn pop(stack: &[u32], top: usize, found: usize) -> Stepped
 }
 
 // A branch: its left child is taken next, the right one goes on the stack.
+// Callers show that the node's words are there, that the stack has a place left, and that it holds nodes.
 fn at_branch(
     nodes: usize,
     node_words: &[u32],
@@ -148,8 +158,10 @@ fn at_branch(
     top: usize,
     found: usize,
 ) -> Stepped
-    requires { ⌜ (3 * node + 3 ≤ length (now «node_words»)) × ((top < length (now stack)) × (allBelow nodes (onStack (now stack) top) ≡ true)) ⌝ }
-    ensures { λ r. ⌜ Pushed nodes node (firstAt (now («node_words» .entry)) node) (secondAt (now («node_words» .entry)) node) (now (stack .entry)) top found r (now (stack .exit)) ⌝ }
+    requires { ⌜ (3 * node + 3 ≤ length (now «node_words»))
+        × ((top < length (now stack)) × (allBelow nodes (onStack (now stack) top) ≡ true)) ⌝ }
+    ensures { λ r. ⌜ Pushed nodes node (firstAt (now («node_words» .entry)) node) (secondAt (now («node_words» .entry)) node)
+        (now (stack .entry)) top found r (now (stack .exit)) ⌝ }
 {
     let left = node_words[3 * node + 1] as usize;
     let right = node_words[3 * node + 2];
@@ -167,7 +179,7 @@ fn at_branch(
     }
 }
 
-// One node: the rest is tested only where its box touches.
+// One node: the rest is tested only where its box touches. Callers show that the node is one and that list and stack have the places.
 pub fn take_node(
     bounds: Aabb,
     count: usize,
@@ -182,8 +194,11 @@ pub fn take_node(
     node: usize,
     top: usize,
 ) -> Stepped
-    requires { ⌜ NodeRoom count (treeOf nodes (now «node_boxes») (now «triangle_boxes») (now «node_words») (now order)) (now list) found (now stack) node top ⌝ }
-    ensures { λ r. ⌜ NodeTaken count bounds (treeOf nodes (now («node_boxes» .entry)) (now («triangle_boxes» .entry)) (now («node_words» .entry)) (now (order .entry))) (now (list .entry)) found (now (stack .entry)) node top r (now (list .exit)) (now (stack .exit)) ⌝ }
+    requires { ⌜ NodeRoom count (treeOf nodes (now «node_boxes») (now «triangle_boxes») (now «node_words») (now order)) (now list) found
+        (now stack) node top ⌝ }
+    ensures { λ r. ⌜ NodeTaken count bounds (treeOf nodes (now («node_boxes» .entry)) (now («triangle_boxes» .entry))
+        (now («node_words» .entry)) (now (order .entry))) (now (list .entry)) found (now (stack .entry)) node top r (now (list .exit))
+        (now (stack .exit)) ⌝ }
 {
     if !layout::box_at(node_boxes, node).touches(bounds) {
         return pop(stack, top, found);

@@ -7,7 +7,8 @@ ghost use Rattle.tree_walk.specs.Areas.{WalkRoom};
 ghost use Rattle.tree_walk.specs.Looking.{endedLook, walkWithin, allowedOf};
 ghost use Rattle.tree_walk.specs.LookAreas.{lookedBy, GrownBy};
 
-// How many triangles are listed, that the walk met a 5, or that the limit was used up when a node was to be taken; each with the nodes spent.
+// How many triangles are listed, that the walk met a 5, or that the limit was used up when a node was to be taken; each with the nodes
+// spent.
 pub enum Limited {
     Count { found: usize, spent: usize },
     Broken(usize),
@@ -24,8 +25,10 @@ fn allowed_of(nodes: usize, limit: usize) -> usize
     nodes
 }
 
-// The touching triangles in the walk's own order, in the first places of the list, whose rest is as it was; the stack may hold anything afterwards.
+// The touching triangles in the walk's own order, in the first places of the list, whose rest is as it was; the stack may hold anything
+// afterwards.
 // Each node taken from the stack costs one. The limit is tested first; a node past the node count is then 5.
+// Callers show that the tree's areas, the list and the stack are long enough.
 pub fn gather_within(
     bounds: Aabb,
     count: usize,
@@ -38,8 +41,12 @@ pub fn gather_within(
     stack: &mut [u32],
     limit: usize,
 ) -> Limited
-    requires { ⌜ WalkRoom count (treeOf nodes (now «node_boxes») (now «triangle_boxes») (now «node_words») (now order)) (now list) (now stack) ⌝ }
-    ensures { λ r. ⌜ (endedLook (treeOf nodes (now («node_boxes» .entry)) (now («triangle_boxes» .entry)) (now («node_words» .entry)) (now (order .entry))) count bounds (lookedBy r (now (list .exit))) ≡ walkWithin (treeOf nodes (now («node_boxes» .entry)) (now («triangle_boxes» .entry)) (now («node_words» .entry)) (now (order .entry))) count bounds limit) × GrownBy count (now (list .entry)) r (now (list .exit)) ⌝ }
+    requires { ⌜ WalkRoom count (treeOf nodes (now «node_boxes») (now «triangle_boxes») (now «node_words») (now order)) (now list)
+        (now stack) ⌝ }
+    ensures { λ r. ⌜ (endedLook (treeOf nodes (now («node_boxes» .entry)) (now («triangle_boxes» .entry)) (now («node_words» .entry))
+        (now (order .entry))) count bounds (lookedBy r (now (list .exit)))
+        ≡ walkWithin (treeOf nodes (now («node_boxes» .entry)) (now («triangle_boxes» .entry)) (now («node_words» .entry))
+        (now (order .entry))) count bounds limit) × GrownBy count (now (list .entry)) r (now (list .exit)) ⌝ }
 {
     if nodes == 0 {
         return Limited::Count { found: 0, spent: 0 };

@@ -9,7 +9,7 @@ use native.Mathlib.Nat.{add-zero}
 use borrow.Author.Tests.{eq-eqb, ne-eqb}
 use lib.Dec.{eqb}
 use lib.ListN.{getD}
-use Rattle.lists.specs.Lists.{range, count, every, gather}
+use Rattle.lists.specs.Lists.{range, count, every, flatMap}
 use Rattle.tree.specs.Layout.{kindAt, firstAt, secondAt}
 use Rattle.tree_words.specs.Marks.{once, places, secondMark, marked, heldBefore, heldOnce}
 use Rattle.tree_words.specs.Sound.{nodeSound}
@@ -99,12 +99,12 @@ node-balance n p nodes words node below sound =
 
 -- over all nodes
 gather-balance : (f g : ℕ → List ℕ) (n p start size : ℕ) → ((i : ℕ) → start ≤ i → i < start + size → Balanced n p (f i) (g i))
-    → Balanced n p (gather f (range start size)) (gather g (range start size))
-unfolding gather range
+    → Balanced n p (flatMap f (range start size)) (flatMap g (range start size))
+unfolding flatMap range
 gather-balance f g n p start zero h = none-balance n p
 gather-balance f g n p start (suc size) h =
-    let F : List ℕ = gather f (range (suc start) size) in
-    let G : List ℕ = gather g (range (suc start) size) in
+    let F : List ℕ = flatMap f (range (suc start) size) in
+    let G : List ℕ = flatMap g (range (suc start) size) in
     let ih : Balanced n p F G = gather-balance f g n p (suc start) size (λ i low high. h i (omega arith) (omega arith)) in
     omega (
       arith,
@@ -137,11 +137,11 @@ module _ (n : ℕ) (marks held gathered : List ℕ) (counted : (x : ℕ) → x <
 
 -- the marks of sound leaves tell how many leaves hold each place
 pub placed-once-is : (n nodes : ℕ) (words marks : List ℕ) → every (nodeSound n nodes words) (range 0 nodes) ≡ true
-    → ((x : ℕ) → x < 3 * n → getD marks x 0 ≡ count x (gather (marked 0 n words) (range 0 nodes)))
-    → every (heldOnce n marks) (range 0 n) ≡ every (once (gather (places words) (range 0 nodes))) (range 0 n)
+    → ((x : ℕ) → x < 3 * n → getD marks x 0 ≡ count x (flatMap (marked 0 n words) (range 0 nodes)))
+    → every (heldOnce n marks) (range 0 n) ≡ every (once (flatMap (places words) (range 0 nodes))) (range 0 n)
 placed-once-is n nodes words marks sound counted =
     every-agree _ _ 0 n
-    (λ p low high. held-once-is n marks (gather (places words) (range 0 nodes)) (gather (marked 0 n words) (range 0 nodes)) counted
+    (λ p low high. held-once-is n marks (flatMap (places words) (range 0 nodes)) (flatMap (marked 0 n words) (range 0 nodes)) counted
     (λ q below. gather-balance (places words) (marked 0 n words) n q 0 nodes
     (λ i first last. node-balance n q nodes words i below (every-at (nodeSound n nodes words) 0 nodes i sound first last)))
     p (omega arith))

@@ -10,7 +10,7 @@ use borrow.Author.Tests.{eq-eqb, ne-eqb}
 use lib.Dec.{eqb}
 use lib.ListN.{length, getD, take}
 use lib.Seq.{slice, slice-cons, slice-empty, length-take-le}
-use Rattle.lists.specs.Lists.{range, count, gather}
+use Rattle.lists.specs.Lists.{range, count, flatMap}
 use Rattle.tree.specs.Layout.{kindAt, firstAt, secondAt}
 use Rattle.tree_words.specs.Marks.{secondMark, marked}
 use Rattle.lists.proofs.EveryLaws.{range-next, range-done}
@@ -35,11 +35,11 @@ module _ (kind n : ℕ) (words : List ℕ) (node : ℕ) where
       go false = omega arith
 
 -- no number is marked more often than twice a node
-pub marks-few : (kind n : ℕ) (words : List ℕ) (x start size : ℕ) → count x (gather (marked kind n words) (range start size)) ≤ 2 * size
-unfolding gather range count
+pub marks-few : (kind n : ℕ) (words : List ℕ) (x start size : ℕ) → count x (flatMap (marked kind n words) (range start size)) ≤ 2 * size
+unfolding flatMap range count
 marks-few kind n words x start zero = omega arith
 marks-few kind n words x start (suc size) =
-    rw (count-append x (marked kind n words start) (gather (marked kind n words) (range (suc start) size)))
+    rw (count-append x (marked kind n words start) (flatMap (marked kind n words) (range (suc start) size)))
     (omega (
       arith,
       marked-length kind n words start,
@@ -50,24 +50,24 @@ marks-few kind n words x start (suc size) =
 
 module _ (f : ℕ → List ℕ) (x : ℕ) where
   -- zeros and all that is to come
-  pub tally-none : (m nodes : ℕ) → m ≡ 0 → m + count x (gather f (range 0 (nodes - 0))) ≡ count x (gather f (range 0 nodes))
+  pub tally-none : (m nodes : ℕ) → m ≡ 0 → m + count x (flatMap f (range 0 (nodes - 0))) ≡ count x (flatMap f (range 0 nodes))
   tally-none m nodes e = rw (e, sub-zero) (omega arith)
 
   -- one node's marks move from what is to come to what was counted
-  pub tally-more : (m m' i nodes v : ℕ) → i < nodes → m' ≡ count x (f i) + m → m + count x (gather f (range i (nodes - i))) ≡ v
-      → m' + count x (gather f (range (i + 1) (nodes - (i + 1)))) ≡ v
-  unfolding gather
+  pub tally-more : (m m' i nodes v : ℕ) → i < nodes → m' ≡ count x (f i) + m → m + count x (flatMap f (range i (nodes - i))) ≡ v
+      → m' + count x (flatMap f (range (i + 1) (nodes - (i + 1)))) ≡ v
+  unfolding flatMap
   tally-more m m' i nodes v h e inv =
       omega (
         arith,
-        count-append x (f i) (gather f (range (i + 1) (nodes - (i + 1)))),
-        ap (λ (r : List ℕ). count x (gather f r))
+        count-append x (f i) (flatMap f (range (i + 1) (nodes - (i + 1)))),
+        ap (λ (r : List ℕ). count x (flatMap f r))
             (range-next i nodes h),
       )
 
-  pub tally-done : (m i nodes v : ℕ) → nodes ≤ i → m + count x (gather f (range i (nodes - i))) ≡ v → m ≡ v
-  unfolding gather count
-  tally-done m i nodes v h inv = omega (arith, ap (λ (r : List ℕ). count x (gather f r)) (range-done i nodes h))
+  pub tally-done : (m i nodes v : ℕ) → nodes ≤ i → m + count x (flatMap f (range i (nodes - i))) ≡ v → m ≡ v
+  unfolding flatMap count
+  tally-done m i nodes v h inv = omega (arith, ap (λ (r : List ℕ). count x (flatMap f r)) (range-done i nodes h))
 
 module _ (kind n : ℕ) (words : List ℕ) (node x m : ℕ) where
   -- a node of another kind marks nothing

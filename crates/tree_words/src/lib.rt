@@ -2,6 +2,6 @@
 // A function with a `requires` (lengths of the areas, sound nodes) is no public call, and each caller shows the demand.
 
 // The mark area, in which is counted.
-pub mod marks;
+mod marks;
 // The tests of the node words and of the order.
 pub mod words;

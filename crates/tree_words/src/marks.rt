@@ -6,7 +6,7 @@ ghost use lib.ListN.{length, getD};
 ghost use Rattle.lists.specs.Lists.{range, count, every};
 ghost use Rattle.tree_words.specs.Marks.{markedOnce, heldOnce};
 
-// Zeros below end.
+// Zeros below end. Callers show that they are there.
 pub fn clear(marks: &mut [u32], end: usize)
     requires { ⌜ end ≤ length (now marks) ⌝ }
     ensures { λ r. ⌜ ((x : ℕ) → x < end → getD (now (marks .exit)) x 0 ≡ 0) ⌝ }
@@ -14,7 +14,7 @@ pub fn clear(marks: &mut [u32], end: usize)
     fill::zero_words(&mut marks[..end]);
 }
 
-// One more of x.
+// One more of x. Callers show that it is there and that it does not wrap.
 pub fn bump(marks: &mut [u32], x: usize)
     requires { ⌜ (x < length (now marks)) × (getD (now marks) x 0 < 4294967295) ⌝ }
     ensures { λ r. ⌜ ((y : ℕ) → getD (now (marks .exit)) y 0 ≡ count y (x ∷ []) + getD (now (marks .entry)) y 0) ⌝ }
@@ -22,7 +22,7 @@ pub fn bump(marks: &mut [u32], x: usize)
     marks[x] += 1;
 }
 
-// Whether every mark from start on and below end is one.
+// Whether every mark from start on and below end is one. Callers show that they are there.
 pub fn all_once(marks: &[u32], start: usize, end: usize) -> bool
     requires { ⌜ end ≤ length (now marks) ⌝ }
     ensures { λ r. ⌜ r ≡ every (markedOnce (now (marks .entry))) (range start (end - start)) ⌝ }
@@ -38,7 +38,7 @@ pub fn all_once(marks: &[u32], start: usize, end: usize) -> bool
 }
 
 // Whether one leaf holds each place below n, where the marks count how many begin at a place and, n further on, how many have ended before
-// it.
+// it. Callers show that they are there.
 pub fn all_held_once(n: usize, marks: &[u32]) -> bool
     requires { ⌜ 2 * n ≤ length (now marks) ⌝ }
     ensures { λ r. ⌜ r ≡ every (heldOnce n (now (marks .entry))) (range 0 n) ⌝ }

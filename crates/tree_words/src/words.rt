@@ -4,11 +4,11 @@ ghost use mathlib.Core.Bool.{true};
 ghost use mathlib.Core.List.{[], _∷_};
 ghost use Prim.Native.Nat.{ℕ, _+_, _-_, _*_, _<_, _≤_};
 ghost use lib.ListN.{length, getD, take};
-ghost use Rattle.lists.specs.Lists.{range, count, every, gather};
+ghost use Rattle.lists.specs.Lists.{range, count, every, flatMap};
 ghost use Rattle.tree_words.specs.Sound.{leafSound, branchSound, nodeSound};
 ghost use Rattle.tree_words.specs.Marks.{once, places, secondMark, marked, Inside};
 
-// Whether a leaf is not empty and does not end past n.
+// Whether a leaf is not empty and does not end past n. Callers show that both are u32, so that the sum does not wrap.
 fn leaf_sound(n: usize, start: usize, count: usize) -> bool
     requires { ⌜ (start < 4294967296) × (count < 4294967296) ⌝ }
     ensures { λ r. ⌜ r ≡ leafSound n start count ⌝ }
@@ -38,7 +38,7 @@ fn branch_sound(nodes: usize, node: usize, left: usize, right: usize) -> bool
     right < nodes
 }
 
-// Whether a node is a sound leaf or a sound branch.
+// Whether a node is a sound leaf or a sound branch. Callers show that its words are there.
 fn node_sound(n: usize, nodes: usize, words: &[u32], node: usize) -> bool
     requires { ⌜ 3 * node + 3 ≤ length (now words) ⌝ }
     ensures { λ r. ⌜ r ≡ nodeSound n nodes (now (words .entry)) node ⌝ }
@@ -55,7 +55,7 @@ fn node_sound(n: usize, nodes: usize, words: &[u32], node: usize) -> bool
     false
 }
 
-// Whether all nodes are.
+// Whether all nodes are. Callers show that their words are there.
 pub fn nodes_sound(n: usize, nodes: usize, words: &[u32]) -> bool
     requires { ⌜ 3 * nodes ≤ length (now words) ⌝ }
     ensures { λ r. ⌜ r ≡ every (nodeSound n nodes (now (words .entry))) (range 0 nodes) ⌝ }
@@ -70,7 +70,7 @@ pub fn nodes_sound(n: usize, nodes: usize, words: &[u32]) -> bool
     true
 }
 
-// The second number that a node of a kind marks.
+// The second number that a node of a kind marks. Callers show that all are u32, so that no sum wraps.
 fn second_mark(kind: usize, n: usize, first: usize, second: usize) -> usize
     requires { ⌜ (n < 4294967296) × ((first < 4294967296) × (second < 4294967296)) ⌝ }
     ensures { λ r. ⌜ r ≡ secondMark kind n first second ⌝ }
@@ -81,7 +81,7 @@ fn second_mark(kind: usize, n: usize, first: usize, second: usize) -> usize
     n + (first + second)
 }
 
-// One more of each of two numbers.
+// One more of each of two numbers. Callers show that both are there and that neither wraps.
 fn mark_pair(first: usize, second: usize, marks: &mut [u32])
     requires { ⌜ (first < length (now marks)) × (second < length (now marks)) ⌝ }
     requires { ⌜ (getD (now marks) first 0 < 4294967290) × (getD (now marks) second 0 < 4294967290) ⌝ }
@@ -92,6 +92,7 @@ fn mark_pair(first: usize, second: usize, marks: &mut [u32])
 }
 
 // One more of each number that a node marks, if it is of the kind.
+// Callers show that words and marks are there, that the numbers are among the marks, and that no mark wraps.
 fn mark_node(kind: usize, n: usize, words: &[u32], node: usize, marks: &mut [u32])
     requires { ⌜ (3 * node + 3 ≤ length (now words)) × ((n < 4294967296) × (3 * n ≤ length (now marks))) ⌝ }
     requires { ⌜ Inside kind n (now words) node ⌝ }
@@ -108,11 +109,12 @@ fn mark_node(kind: usize, n: usize, words: &[u32], node: usize, marks: &mut [u32
 }
 
 // Counts what all nodes of the kind mark.
+// Callers show that words and marks are there, that the counts are admitted, and that the numbers are among the marks.
 fn mark_nodes(kind: usize, n: usize, nodes: usize, words: &[u32], marks: &mut [u32])
     requires { ⌜ (3 * nodes ≤ length (now words)) × ((n ≤ 65536) × ((nodes ≤ 2 * n) × (3 * n ≤ length (now marks)))) ⌝ }
     requires { ⌜ ((i : ℕ) → i < nodes → Inside kind n (now words) i) ⌝ }
     ensures { λ r. ⌜ ((x : ℕ) → x < 3 * n → getD (now (marks .exit)) x 0 ≡ count x
-        (gather (marked kind n (now (words .entry))) (range 0 nodes))) ⌝ }
+        (flatMap (marked kind n (now (words .entry))) (range 0 nodes))) ⌝ }
 {
     marks::clear(marks, 3 * n);
     let mut node = 0;
@@ -126,7 +128,7 @@ fn mark_nodes(kind: usize, n: usize, nodes: usize, words: &[u32], marks: &mut [u
 pub fn named_once(n: usize, nodes: usize, words: &[u32], marks: &mut [u32]) -> bool
     requires { ⌜ (3 * nodes ≤ length (now words)) × ((n ≤ 65536) × ((nodes ≤ 2 * n) × (3 * n ≤ length (now marks)))) ⌝ }
     requires { ⌜ every (nodeSound n nodes (now words)) (range 0 nodes) ≡ true ⌝ }
-    ensures { λ r. ⌜ r ≡ every (once (gather (marked 1 n (now (words .entry))) (range 0 nodes))) (range 1 (nodes - 1)) ⌝ }
+    ensures { λ r. ⌜ r ≡ every (once (flatMap (marked 1 n (now (words .entry))) (range 0 nodes))) (range 1 (nodes - 1)) ⌝ }
 {
     mark_nodes(1, n, nodes, words, marks);
     marks::all_once(marks, 1, nodes)
@@ -136,13 +138,13 @@ pub fn named_once(n: usize, nodes: usize, words: &[u32], marks: &mut [u32]) -> b
 pub fn placed_once(n: usize, nodes: usize, words: &[u32], marks: &mut [u32]) -> bool
     requires { ⌜ (3 * nodes ≤ length (now words)) × ((n ≤ 65536) × ((nodes ≤ 2 * n) × (3 * n ≤ length (now marks)))) ⌝ }
     requires { ⌜ every (nodeSound n nodes (now words)) (range 0 nodes) ≡ true ⌝ }
-    ensures { λ r. ⌜ r ≡ every (once (gather (places (now (words .entry))) (range 0 nodes))) (range 0 n) ⌝ }
+    ensures { λ r. ⌜ r ≡ every (once (flatMap (places (now (words .entry))) (range 0 nodes))) (range 0 n) ⌝ }
 {
     mark_nodes(0, n, nodes, words, marks);
     marks::all_held_once(n, marks)
 }
 
-// One more of the triangle at an order place, if it is one.
+// One more of the triangle at an order place, if it is one. Callers show that the place and the marks are there and that no mark wraps.
 fn mark_place(n: usize, order: &[u32], p: usize, marks: &mut [u32])
     requires { ⌜ (p < length (now order)) × (n ≤ length (now marks)) ⌝ }
     requires { ⌜ ((x : ℕ) → x < n → getD (now marks) x 0 < 4294967295) ⌝ }
@@ -155,7 +157,7 @@ fn mark_place(n: usize, order: &[u32], p: usize, marks: &mut [u32])
     }
 }
 
-// Counts the triangles of the first n order places.
+// Counts the triangles of the first n order places. Callers show that they and the marks are there and that n is admitted.
 fn mark_places(n: usize, order: &[u32], marks: &mut [u32])
     requires { ⌜ (n ≤ length (now order)) × ((n ≤ 65536) × (n ≤ length (now marks))) ⌝ }
     ensures { λ r. ⌜ ((x : ℕ) → x < n → getD (now (marks .exit)) x 0 ≡ count x (take n (now (order .entry)))) ⌝ }
@@ -168,7 +170,7 @@ fn mark_places(n: usize, order: &[u32], marks: &mut [u32])
     }
 }
 
-// Whether each triangle stands in the order once.
+// Whether each triangle stands in the order once. Callers show that order and marks are long enough and that n is admitted.
 pub fn ordered_once(n: usize, order: &[u32], marks: &mut [u32]) -> bool
     requires { ⌜ (n ≤ length (now order)) × ((n ≤ 65536) × (n ≤ length (now marks))) ⌝ }
     ensures { λ r. ⌜ r ≡ every (once (take n (now (order .entry)))) (range 0 n) ⌝ }

@@ -13,18 +13,19 @@ use lib.Ieee.Fits.{down-pos}
 use lib.Ieee.Exact.{HasValue}
 use Rattle.arithmetic.specs.Basic.{isFinite}
 use Rattle.arithmetic.proofs.Order.{le-is-not-lt}
-use Rattle.geometry.specs.Numbers.{_+ᶠ_, _*ᶠ_, _/ᶠ_, zeroᶠ, oneᶠ}
-use Rattle.geometry.specs.Vector.{subOf, crossOf, dotOf, checkedDot, finiteVec, zeroVec, normalizable, dotTells, scaledToOne, overLength}
+use Rattle.vectors.specs.Numbers.{_+ᶠ_, _*ᶠ_, _/ᶠ_, zeroᶠ, oneᶠ}
+use Rattle.vectors.specs.Vector.{subOf, crossOf, dotOf, checkedDot, finiteVec, zeroVec, normalizable, dotTells, scaledToOne, overLength}
 use Rattle.geometry.specs.Box.{corner}
 use Rattle.geometry.specs.Segment.{rayAdmitted}
-use Rattle.geometry.specs.declared.vec3.Vec3.{Vec3}
+use Rattle.vectors.specs.declared.vec3.Vec3.{Vec3}
 use Rattle.geometry.specs.declared.ray.Ray.{Ray}
-use Rattle.geometry.specs.declared.vec3.Normalized.{Normalized}
+use Rattle.vectors.specs.declared.vec3.Normalized.{Normalized}
 use Rattle.casts.specs.Answer.{Answer, hit, none, withNormal, noNormal}
 use Rattle.casts.specs.Surface.{outOfRange, facing}
-use Rattle.casts.specs.Triangle.{flat, triangleNormal, triangleAbove, triangleAt, triangleOf, rayTriangle}
+use Rattle.triangle_cast.specs.Triangle.{flat, triangleNormal, triangleAbove, triangleAt, triangleOf, rayTriangle}
 use Rattle.exact_depth.proofs.Integers.{no-factor, pp, np, size-is, add-size, mul-size, neg-size}
-use Rattle.whole_numbers.proofs.Whole.{Stands, Whole, WholeVec}
+use Rattle.exact_depth.proofs.Standing.{Stands}
+use Rattle.whole_numbers.proofs.Whole.{Whole, WholeVec}
 use Rattle.whole_numbers.specs.Points.{Point, subP, crossP, dotP}
 use Rattle.whole_numbers.specs.Board.{Drawing, Board, along, firstEdge, secondEdge}
 use Rattle.whole_numbers.proofs.Vectors.{sub-whole, dot-whole, cross-whole}
@@ -38,7 +39,7 @@ use Rattle.whole_numbers.proofs.Drawings.{drawn, drawn-at}
 use Rattle.whole_numbers.proofs.Flat.{flat-zero, not-flat}
 use Rattle.whole_numbers.proofs.Polynomials.{triple}
 use Rattle.whole_numbers.proofs.Admitted.{stands-finite, finite-vec, not-below-zero, admitted}
-use Rattle.geometry.proofs.NormalLaws.{normalized-where}
+use Rattle.vectors.proofs.NormalLaws.{normalized-where}
 
 -- ---- the five tests
 unfoldable pub chain : Bool → Bool → Bool → Bool → Bool → Answer → Answer
@@ -108,7 +109,7 @@ stands-not-zero x z v h = go (eq x zeroᶠ) refl
         let q = zero-value-of x (zero-is x e) in
         absurd (let w = same-size x (p .sign) (q .0) (natAbs z) (p .value) (q .1) in omega (arith, w, h))
 
-whole-normalizable : (B : ℕ) (v : Vec3) (p : Point) → WholeVec B v p → 0 < natAbs (p .x) + (natAbs (p .y) + natAbs (p .z))
+pub whole-normalizable : (B : ℕ) (v : Vec3) (p : Point) → WholeVec B v p → 0 < natAbs (p .x) + (natAbs (p .y) + natAbs (p .z))
     → normalizable v ≡ true
 unfolding normalizable zeroVec
 whole-normalizable B v p w h = go (natAbs (p .x)) (natAbs (p .y)) refl refl

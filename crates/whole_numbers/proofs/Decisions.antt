@@ -11,11 +11,12 @@ use lib.Ieee.{Float, nan, inf, fin, binary64, ofBits, up, down, lt, unlike, belo
 use lib.Ieee.Fits.{down-pos}
 use lib.Ieee.Exact.{HasValue}
 use borrow.Author.Tests.{lt-ltb, le-ltb}
-use Rattle.geometry.specs.Numbers.{_*ᶠ_, _/ᶠ_, zeroᶠ, oneᶠ}
+use Rattle.vectors.specs.Numbers.{_*ᶠ_, _/ᶠ_, zeroᶠ, oneᶠ}
 use Rattle.arithmetic.specs.Scaling.{unit}
 use Rattle.arithmetic.proofs.SignedOrder.{plus, less}
 use Rattle.exact_depth.proofs.Integers.{pp, np, no-factor, size-is, neg-pp, neg-np, neg-size}
-use Rattle.whole_numbers.proofs.Whole.{Stands, Whole}
+use Rattle.exact_depth.proofs.Standing.{Stands}
+use Rattle.whole_numbers.proofs.Whole.{Whole}
 use Rattle.arithmetic.proofs.WholeValues.{Is}
 use Rattle.arithmetic.proofs.ValueOrder.{lt-values}
 use Rattle.arithmetic.proofs.ScalingLaws.{unit-pos}

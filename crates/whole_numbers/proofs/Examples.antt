@@ -14,14 +14,14 @@ use Rattle.arithmetic.specs.Root.{rootDigits, wholeRoot, rootRound, rootOf}
 use Rattle.arithmetic.specs.Scaling.{unit, digitsOf, scaledBy}
 use Rattle.arithmetic.proofs.Order.{eq-of-le-le, le-reflexive}
 use Rattle.arithmetic.proofs.RoundedNumbers.{round-number}
-use Rattle.geometry.specs.Vector.{finiteVec, subOf, negOf, absOf, maxElement, dotOf, checkedDot, crossOf, lengthOf, normalizable, zeroVec}
-use Rattle.geometry.specs.Vector.{dotTells, scaledToOne, overLength, tryNormalize}
+use Rattle.vectors.specs.Vector.{finiteVec, subOf, negOf, absOf, maxElement, dotOf, checkedDot, crossOf, lengthOf, normalizable, zeroVec}
+use Rattle.vectors.specs.Vector.{dotTells, scaledToOne, overLength, tryNormalize}
 use Rattle.geometry.specs.Segment.{unitLength, rayAdmitted}
-use Rattle.geometry.specs.declared.vec3.Vec3.{Vec3}
+use Rattle.vectors.specs.declared.vec3.Vec3.{Vec3}
 use Rattle.geometry.specs.declared.ray.Ray.{Ray}
 use Rattle.casts.specs.Surface.{outOfRange, facing}
 use Rattle.casts.specs.Answer.{Answer, hit, none, refused}
-use Rattle.casts.specs.Triangle.{flat, triangleNormal, triangleAbove, triangleAt, triangleOf, rayTriangle}
+use Rattle.triangle_cast.specs.Triangle.{flat, triangleNormal, triangleAbove, triangleAt, triangleOf, rayTriangle}
 use Rattle.whole_numbers.specs.Points.{Point}
 use Rattle.whole_numbers.specs.Board.{Drawing, Board, Drawn, DrawnAt, Crossing, Inside, Outside, sum as far, downward, along}
 use Rattle.whole_numbers.specs.Board.{ExactOnWholeNumbers}

@@ -15,11 +15,12 @@ use borrow.Author.Tests.{lt-ltb, le-ltb}
 use Rattle.arithmetic.specs.Basic.{absolute}
 use Rattle.arithmetic.specs.Extremes.{maximumOf}
 use Rattle.arithmetic.proofs.ExtremesOrder.{maximum-one}
-use Rattle.geometry.specs.Numbers.{_*ᶠ_, oneᶠ, epsilon}
-use Rattle.geometry.specs.Vector.{absOf, maxElement}
-use Rattle.geometry.specs.declared.vec3.Vec3.{Vec3}
-use Rattle.casts.specs.Triangle.{flat}
-use Rattle.whole_numbers.proofs.Whole.{Stands, Whole, WholeVec}
+use Rattle.vectors.specs.Numbers.{_*ᶠ_, oneᶠ, epsilon}
+use Rattle.vectors.specs.Vector.{absOf, maxElement}
+use Rattle.vectors.specs.declared.vec3.Vec3.{Vec3}
+use Rattle.triangle_cast.specs.Triangle.{flat}
+use Rattle.exact_depth.proofs.Standing.{Stands}
+use Rattle.whole_numbers.proofs.Whole.{Whole, WholeVec}
 use Rattle.whole_numbers.specs.Points.{Point}
 use Rattle.arithmetic.proofs.ValueOrder.{absolute-value, le-values, mul-values}
 use Rattle.arithmetic.proofs.ScalingLaws.{one-value}

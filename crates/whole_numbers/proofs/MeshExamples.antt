@@ -12,12 +12,12 @@ use lib.Ieee.{ofBits}
 use lib.ListN.{length}
 use Rattle.arithmetic.specs.Basic.{isFinite}
 use Rattle.arithmetic.specs.Extremes.{minimumOf, maximumOf}
-use Rattle.geometry.specs.Vector.{component, addOf, scaleOf, minOf, maxOf}
+use Rattle.vectors.specs.Vector.{component, addOf, scaleOf, minOf, maxOf}
 use Rattle.geometry.specs.Box.{validSide, validBox, touchSide, touches}
 use Rattle.geometry.specs.Segment.{segmentEnd, segmentBox}
-use Rattle.geometry.specs.declared.vec3.Vec3.{Vec3}
+use Rattle.vectors.specs.declared.vec3.Vec3.{Vec3}
 use Rattle.geometry.specs.declared.ray.Ray.{Ray}
-use Rattle.casts.specs.Nearest.{Indexed, hitAt}
+use Rattle.nearest_hit.specs.Nearest.{Indexed, hitAt}
 use Rattle.tree.specs.Layout.{vectorAt}
 use Rattle.tree.specs.Mesh.{Mesh, lengthsAdmitted, cornerAt, triangleBox}
 use Rattle.tree_query.proofs.QueryExamples.{o, i, ten, eleven, lower, oddTree}

@@ -19,7 +19,7 @@ use lib.Ieee.Order.{round-mono}
 use Rattle.arithmetic.proofs.RoundedSigns.{absolute-round}
 use Rattle.arithmetic.proofs.ScalingLaws.{unit-pos}
 use Rattle.arithmetic.proofs.ValueOrder.{mul-values}
-use Rattle.geometry.specs.Numbers.{_*ᶠ_, _/ᶠ_, oneᶠ}
+use Rattle.vectors.specs.Numbers.{_*ᶠ_, _/ᶠ_, oneᶠ}
 use Rattle.arithmetic.specs.Scaling.{unit}
 use Rattle.arithmetic.proofs.WholeValues.{exact-size}
 use Rattle.arithmetic.proofs.RoundingError.{Rounded, Close, round-near}

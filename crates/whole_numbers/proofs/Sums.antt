@@ -15,7 +15,7 @@ use lib.Ieee.Scale.{round-same}
 use lib.Ieee.Bits.{is-true}
 use borrow.Author.Tests.{ltb-true, ltb-false, lt-ltb, le-ltb}
 use Rattle.arithmetic.proofs.Order.{not-lt-of-le}
-use Rattle.geometry.specs.Numbers.{_+ᶠ_, oneᶠ}
+use Rattle.vectors.specs.Numbers.{_+ᶠ_, oneᶠ}
 use Rattle.arithmetic.specs.Scaling.{unit}
 use Rattle.arithmetic.proofs.SignedOrder.{plus, less}
 use Rattle.exact_depth.proofs.Integers.{no-factor, pp, np, size-is}

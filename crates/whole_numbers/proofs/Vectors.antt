@@ -5,9 +5,9 @@ use native.Mathlib.Nat.{le-trans, le-of-eq, mul-le-mul-right, mul-comm}
 use native.Mathlib.Omega.{arith}
 use lib.IntN.{ℤ, natAbs, _+ℤ_, _-ℤ_, _*ℤ_}
 use lib.Ieee.{Float, binary64, add, sub, mul}
-use Rattle.geometry.specs.Numbers.{_+ᶠ_, _-ᶠ_, _*ᶠ_}
-use Rattle.geometry.specs.Vector.{subOf, crossOf, dotOf}
-use Rattle.geometry.specs.declared.vec3.Vec3.{Vec3}
+use Rattle.vectors.specs.Numbers.{_+ᶠ_, _-ᶠ_, _*ᶠ_}
+use Rattle.vectors.specs.Vector.{subOf, crossOf, dotOf}
+use Rattle.vectors.specs.declared.vec3.Vec3.{Vec3}
 use Rattle.exact_depth.proofs.Integers.{pp, np, size-is, add-parts, sub-parts, mul-parts, add-size, sub-size, mul-size}
 use Rattle.whole_numbers.proofs.Whole.{Whole, WholeVec}
 use Rattle.whole_numbers.specs.Points.{Point, subP, crossP, dotP}

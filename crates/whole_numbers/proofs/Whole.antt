@@ -2,14 +2,9 @@
 use Prim.Native.Nat.{ℕ, _≤_}
 use lib.IntN.{ℤ, natAbs}
 use lib.Ieee.{Float}
-use Rattle.arithmetic.proofs.WholeValues.{Is}
-use Rattle.geometry.specs.declared.vec3.Vec3.{Vec3}
+use Rattle.vectors.specs.declared.vec3.Vec3.{Vec3}
 use Rattle.whole_numbers.specs.Points.{Point}
-use Rattle.exact_depth.proofs.Integers.{pp, np}
-
--- x is the whole number z
-abbrev pub Stands : Float → ℤ → Type 0
-Stands x z = Is x (pp z) (np z)
+use Rattle.exact_depth.proofs.Standing.{Stands}
 
 -- x is the whole number z, of size B at most
 pub record Whole (B : ℕ) (x : Float) (z : ℤ) : Type 0 where

@@ -12,11 +12,11 @@ use lib.IntN.{ℤ, pos, negsuc, natAbs, _+ℤ_}
 use lib.Signed.{_≤ℤ_, _<ℤ_}
 use lib.Ieee.{Float, nan, inf, fin, up, down, lt, le}
 use lib.Ieee.Exact.{HasValue}
-use Rattle.geometry.specs.Numbers.{_+ᶠ_, zeroᶠ, oneᶠ}
-use Rattle.geometry.specs.declared.vec3.Vec3.{Vec3}
+use Rattle.vectors.specs.Numbers.{_+ᶠ_, zeroᶠ, oneᶠ}
+use Rattle.vectors.specs.declared.vec3.Vec3.{Vec3}
 use Rattle.geometry.specs.declared.ray.Ray.{Ray}
 use Rattle.casts.specs.Answer.{Answer, hit, none, refused}
-use Rattle.casts.specs.Triangle.{triangleNormal, rayTriangle}
+use Rattle.triangle_cast.specs.Triangle.{triangleNormal, rayTriangle}
 use Rattle.arithmetic.specs.Scaling.{unit}
 use Rattle.arithmetic.proofs.SignedOrder.{less}
 use Rattle.exact_depth.proofs.Integers.{no-factor, pp, np, size-is, add-parts}

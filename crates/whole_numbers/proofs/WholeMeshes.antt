@@ -12,13 +12,13 @@ use lib.Ieee.Fits.{down-pos}
 use lib.ListN.{length}
 use Rattle.arithmetic.specs.Basic.{isFinite}
 use Rattle.arithmetic.proofs.SumOrder.{le-parts}
-use Rattle.geometry.specs.Vector.{finiteVec, addOf, scaleOf}
+use Rattle.vectors.specs.Vector.{finiteVec, addOf, scaleOf}
 use Rattle.geometry.specs.Segment.{rayAdmitted, segmentEnd}
-use Rattle.geometry.specs.declared.vec3.Vec3.{Vec3}
+use Rattle.vectors.specs.declared.vec3.Vec3.{Vec3}
 use Rattle.geometry.specs.declared.ray.Ray.{Ray}
 use Rattle.casts.specs.Answer.{Answer, hit, none, refused}
-use Rattle.casts.specs.Triangle.{rayTriangle}
-use Rattle.casts.specs.Nearest.{Indexed, hitAt, noHit, stopped}
+use Rattle.triangle_cast.specs.Triangle.{rayTriangle}
+use Rattle.nearest_hit.specs.Nearest.{Indexed, hitAt, noHit, stopped}
 use Rattle.tree.specs.Layout.{Tree}
 use Rattle.tree.specs.Mesh.{Mesh, lengthsAdmitted, cornersOf}
 use Rattle.mesh.specs.MeshCast.{roomFor, rayMesh}
@@ -77,7 +77,7 @@ is-hit (stopped number) f g = absurd (g number refl)
 
 module _ (r : Ray) (m : Mesh) (p : Plan) (b : Boards r m p) where
   -- ---- the ray is admitted and its segment's end is finite
-  ray-admitted : rayAdmitted r ≡ true
+  pub ray-admitted : rayAdmitted r ≡ true
   ray-admitted =
       admitted r (p .o) (p .direction) (p .maximum) 4096 (drawn-at 4096 _ _ (lit≤ tt) (b .origin))
       (drawn-at 1 _ _ (lit≤ tt) (b .direction)) (b .positive) (drawn 16384 _ _ (lit≤ tt) (b .maximum) .value)

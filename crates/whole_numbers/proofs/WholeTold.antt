@@ -11,11 +11,11 @@ use lib.Ieee.{Float, nan, binary64, span, climb, size, odd, units, round, ofInt,
 use lib.ListN.{length}
 use lib.Seq.{sets, lt-length-sets, getD-set-same}
 use borrow.Author.Tests.{le-leb}
-use Rattle.geometry.specs.Numbers.{zeroᶠ}
-use Rattle.geometry.specs.declared.vec3.Vec3.{Vec3}
+use Rattle.vectors.specs.Numbers.{zeroᶠ}
+use Rattle.vectors.specs.declared.vec3.Vec3.{Vec3}
 use Rattle.geometry.specs.declared.ray.Ray.{Ray}
 use Rattle.casts.specs.Answer.{Answer, hit, none, refused}
-use Rattle.casts.specs.Triangle.{rayTriangle}
+use Rattle.triangle_cast.specs.Triangle.{rayTriangle}
 use Rattle.tree.specs.Layout.{numberAt}
 use Rattle.results.specs.Results.{Told, rayFrom, rayOf, cornersOf, hitCode, noneCode, told, answered}
 use Rattle.whole_numbers.specs.Board.{Drawing, Drawn, Board, Crossing, Within, sum as far, ExactOnWholeNumbers}

@@ -9,7 +9,7 @@ pub enum Word {
     Nothing,
 }
 
-// The byte at a place, as a wide number.
+// The byte at a place, as a wide number. Callers show that it is there.
 fn byte_at(bytes: &[u8], place: usize) -> u64
     requires { ⌜ place < length (now bytes) ⌝ }
     ensures { λ r. ⌜ (r ≡ byteAt (now (bytes .entry)) place) × (r < 256) ⌝ }

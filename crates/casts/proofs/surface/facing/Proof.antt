@@ -1,7 +1,7 @@
 -- `casts::surface::facing` meets its contract. Assumes nothing.
 use Rattle.casts.specs.Surface.{facing}
 use Rattle.casts.proofs.SideLaws.{turned-each}
-use Rattle.geometry.specs.Numbers.{zeroᶠ}
+use Rattle.vectors.specs.Numbers.{zeroᶠ}
 use lib.Ieee.{lt}
 use borrow.Author.Needs.{needs}
 use Rattle.casts.proofs.surface.facing.Statement.{statement}

@@ -1,6 +1,6 @@
 -- `casts::surface::turned` meets its contract. Assumes nothing.
 use Rattle.casts.proofs.SideLaws.{times-side}
-use Rattle.geometry.specs.Numbers.{_*ᶠ_, zeroᶠ}
+use Rattle.vectors.specs.Numbers.{_*ᶠ_, zeroᶠ}
 use lib.Ieee.{Float, lt}
 use lib.Dec.{T}
 use mathlib.Core.Path.{sym, ap, _∙_, subst}

@@ -5,7 +5,7 @@ use lib.Ieee.{Float, binary64, ofInt, div}
 use mir.Syntax.{w64}
 use mir.Val.{SFits}
 use mir.ValLaws.{toZ-ofZ}
-use Rattle.geometry.specs.Numbers.{_/ᶠ_}
+use Rattle.vectors.specs.Numbers.{_/ᶠ_}
 use Rattle.exact_triangle.specs.Exact.{distanceOf}
 use borrow.Author.Needs.{needs}
 use Rattle.exact_triangle.proofs.cast.distance.Statement.{statement}

@@ -2,7 +2,7 @@
 use mathlib.Core.Bool.{true}
 use mathlib.Core.Path.{_≡_, refl}
 use Rattle.lists.proofs.JoinedTests.{test-passed, test-failed}
-use Rattle.merge.specs.Merge.{Board, Areas, boardOf, areasOf, shapesAdmitted}
+use Rattle.board_tests.specs.Merge.{Board, Areas, boardOf, areasOf, shapesAdmitted}
 use Rattle.exports.proofs.BoardCalls.{told-bad, told-short, told-merged, marks-kept}
 use borrow.Author.Needs.{needs}
 use Rattle.exports.proofs.boards.probe_merge.Statement.{statement}

@@ -52,14 +52,14 @@ use Rattle.cabinet.specs.Cabinet.{castCabinet, testsPass, withResults}
 use Rattle.cabinet.specs.Promises.{Passes, LimitPromises}
 use Rattle.cabinet.specs.Steps.{areas, begun, stepParts, turned, KeptByBoth, lastAnswer}
 use Rattle.cabinet.proofs.Promises.{limits-hold}
-use Rattle.cabinet.proofs.Again.{LentAgain, lends-again, comes-back}
+use Rattle.cabinet_passes.proofs.Again.{LentAgain, lends-again, comes-back}
 use Rattle.cabinet.proofs.part.Part as T
 use Rattle.cabinet.proofs.part.State as S
 use Rattle.cabinet.proofs.part.State.Laws as S′
-use Rattle.cabinet.proofs.pass.cast_twice as step
-use Rattle.cabinet.proofs.pass.cast_twice.Symbol as step-def
-use Rattle.cabinet.proofs.pass.cast_twice.Symbol.{name as #step}
-use Rattle.cabinet.proofs.pass.cast_twice.Met as step-thm
+use Rattle.cabinet_passes.proofs.pass.cast_twice as step
+use Rattle.cabinet_passes.proofs.pass.cast_twice.Symbol as step-def
+use Rattle.cabinet_passes.proofs.pass.cast_twice.Symbol.{name as #step}
+use Rattle.cabinet_passes.proofs.pass.cast_twice.Met as step-thm
 use Rattle.results.specs.Results.{rayFrom}
 use Rattle.exports.specs.CabinetResults.{cabinetFits, cabinetTold, toldCabinet}
 use Rattle.exports.proofs.CabinetAnswers.{cabinet-answers, cabinet-keeps}
@@ -1964,7 +1964,7 @@ probe-ray-cabinet-spec 𝓤 H 𝓜 𝓖 𝓡 =
     (meets 𝓤 H (𝓖 .A) (givenOf 𝓤 H 𝓜 𝓖) (𝓜 .mem) (𝓡 .run) (tablesOf 𝓤 H 𝓜 (tables 𝓤 H 𝓜 𝓡 code.env))
     (cited 𝓤 H (FirstC 𝓤 H (𝓖 .A) (𝓜 .mem) (𝓡 .run)) 𝓜 𝓡 code.env #first first-def.routine code.calls-exports·cabinets·begin
     (first-thm.met 𝓤 H 𝓜 𝓖 𝓡))
-    (cited 𝓤 H (StepC 𝓤 H (𝓖 .A) (𝓜 .mem) (𝓡 .run)) 𝓜 𝓡 code.env #step step-def.routine code.calls-cabinet·pass·cast-twice
+    (cited 𝓤 H (StepC 𝓤 H (𝓖 .A) (𝓜 .mem) (𝓡 .run)) 𝓜 𝓡 code.env #step step-def.routine code.calls-cabinet-passes·pass·cast-twice
     (step-thm.met 𝓤 H 𝓜 𝓖 𝓡))
     (cited 𝓤 H (LastC 𝓤 H (𝓖 .A) (𝓜 .mem) (𝓡 .run)) 𝓜 𝓡 code.env #last last-def.routine code.calls-exports·cabinets·put-cabinet
     (last-thm.met 𝓤 H 𝓜 𝓖 𝓡)))

@@ -1,5 +1,5 @@
 -- `exports::conversions::probe_record_to_short` meets its contract. Assumes nothing.
-use Rattle.conversion.specs.declared.forms.Form.the-variants.{Long, Short}
+use Rattle.float_forms.specs.declared.forms.Form.the-variants.{Long, Short}
 use Rattle.exports.proofs.ConversionCalls.{no-place, has-place}
 use borrow.Author.Needs.{needs}
 use Rattle.exports.proofs.conversions.probe_record_to_short.Statement.{statement}

@@ -13,8 +13,8 @@ use Rattle.exports.proofs.listings.probe_ray_mesh_all.Tie as tie
 returns : tie.Need-returns
 unfolding shapeAdmitted
 returns c =
-    let (t, w) : tie.Then1 × tie.After-without-place = search in (
-      short-told _ _ _ _ _ _ _ _ _ (t .if1 .taken) (w .without-place .ensures),
+    let (t, w) : tie.Then1 × tie.After-short-cast = search in (
+      short-told _ _ _ _ _ _ _ _ _ (t .if1 .taken) (w .short-cast .ensures),
       ((λ _. (refl, refl)), λ there. absurd (omega (arith, there, t .if1 .taken))),
     )
 
@@ -34,7 +34,7 @@ pub probe-ray-mesh-all-spec : {M : Type 1} → statement M
 probe-ray-mesh-all-spec =
     tie.close
     (tie.spec
-    (search needs)  -- without-place-requires
+    (search needs)  -- short-cast-requires
     returns
     (search needs)  -- ray-mesh-all-requires
     (search needs)  -- put-found-requires

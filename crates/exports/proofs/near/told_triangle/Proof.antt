@@ -2,7 +2,7 @@
 use borrow.Author.Needs.{needs}
 use Rattle.exports.proofs.near.told_triangle.Statement.{statement}
 use Rattle.exports.proofs.near.told_triangle.Tie as tie
-use Rattle.casts.proofs.triangle.ray_triangle.Reads as ray-triangle-reads
+use Rattle.triangle_cast.proofs.triangle.ray_triangle.Reads as ray-triangle-reads
 use Rattle.results.proofs.put_answer.Reads as put-answer-reads
 use Rattle.results.proofs.ray_from.Reads as ray-from-reads
 

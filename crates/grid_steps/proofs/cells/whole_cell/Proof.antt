@@ -6,7 +6,7 @@ use native.Mathlib.Omega.{arith}
 use lib.Dec.{T}
 use lib.Ieee.{Float, lt}
 use Rattle.arithmetic.specs.Rounding.{wholeOf}
-use Rattle.geometry.specs.Numbers.{zeroᶠ}
+use Rattle.vectors.specs.Numbers.{zeroᶠ}
 use Rattle.grid_steps.proofs.NodeLaws.{nearest-above-zero}
 use Rattle.grid_steps.proofs.cells.whole_cell.Statement.{statement}
 use Rattle.grid_steps.proofs.cells.whole_cell.Tie as tie

@@ -1,10 +1,20 @@
--- `cells::scaled_range` meets its contract. Assumes nothing.
+-- `cells::scaled_range` meets its contract: a cast of the floor is the cast of the number. Assumes nothing.
 use Rattle.height_field.specs.Cells.{scaledRange}
-use mathlib.Core.Path.{sym}
+use mathlib.Core.Path.{sym, subst}
+use lib.Dec.{T}
+use lib.Ieee.{binary64, fits}
+use Rattle.arithmetic.proofs.WholeNumbers.{cast-of-floor}
 use borrow.Author.Tests.{not-true, not-false}
 use borrow.Author.Needs.{needs}
 use Rattle.height_field.proofs.cells.scaled_range.Statement.{statement}
 use Rattle.height_field.proofs.cells.scaled_range.Tie as tie
+
+-- the positions are f64s
+low-held : (s : tie.Start) → T (fits binary64 (s .args .low))
+low-held s = subst T (sym (s .good .0 .1)) tt
+
+high-held : (s : tie.Start) → T (fits binary64 (s .args .high))
+high-held s = subst T (sym (s .good .1 .0 .1)) tt
 
 returns : tie.Need-returns
 unfolding scaledRange
@@ -24,18 +34,18 @@ returns-2 c =
 returns-3 : tie.Need-returns-3
 unfolding scaledRange
 returns-3 c =
-    let (at-is-finite, else1, at-is-finite2, else2, at-floor, at-to-u64, at-one-before, at-floor2, at-to-u642) :
-    tie.After-is-finite × tie.Else1 × tie.After-is-finite2 × tie.Else2 × tie.After-floor × tie.After-to-u64 × tie.After-one-before ×
-    tie.After-floor2 × tie.After-to-u642 = search in
+    let (s, at-is-finite, else1, at-is-finite2, else2, at-to-u64, at-one-before, at-to-u642) :
+    tie.Start × tie.After-is-finite × tie.Else1 × tie.After-is-finite2 × tie.Else2 × tie.After-to-u64 × tie.After-one-before ×
+    tie.After-to-u642 = search in
     simp (
       sym (at-is-finite .is-finite .ensures),
       not-false (at-is-finite .is-finite .result) (else1 .if1 .left),
       sym (at-is-finite2 .is-finite2 .ensures),
       not-false (at-is-finite2 .is-finite2 .result) (else2 .if2 .left),
-      sym (at-floor .floor .ensures),
+      cast-of-floor (s .args .low) (low-held s),
+      cast-of-floor (s .args .high) (high-held s),
       sym (at-to-u64 .to-u64 .ensures),
       sym (at-one-before .one-before .ensures),
-      sym (at-floor2 .floor2 .ensures),
       sym (at-to-u642 .to-u642 .ensures),
       sym (c .before .lesser .ensures),
       sym (c .lesser2 .ensures),
@@ -49,10 +59,8 @@ scaled-range-spec =
     returns
     (search needs)  -- is-finite-requires-2
     returns-2
-    (search needs)  -- floor-requires
     (search needs)  -- to-u64-requires
     (search needs)  -- one-before-requires
-    (search needs)  -- floor-requires-2
     (search needs)  -- to-u64-requires-2
     (search needs)  -- lesser-requires
     (search needs)  -- lesser-requires-2

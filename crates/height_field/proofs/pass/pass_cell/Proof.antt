@@ -1,35 +1,18 @@
 -- `pass::pass_cell` meets its contract: the four vertices, then the two triangles. Assumes nothing.
 use Prim.Native.Nat.{_+_, _-_, _*_, _<_}
-use mathlib.Core.Path.{sym, _∙_}
+use mathlib.Core.Path.{sym}
 use native.Mathlib.Omega.{arith}
-use borrow.Author.Tests.{not-true, not-false}
-use Rattle.casts.specs.Nearest.{saysIndexed}
+use Rattle.nearest_hit.specs.Nearest.{saysIndexed}
 use Rattle.height_field.specs.Grid.{cellAt, cornersAt}
-use Rattle.height_field.specs.Listing.{cellFinite}
 use Rattle.height_field.proofs.Sizes.{cell-small}
-use Rattle.height_field.proofs.CellPass.{lower-finite, upper-finite, pass-of-cell}
+use Rattle.height_field.proofs.CellPass.{pass-of-finite}
+use Rattle.height_field.proofs.ApartCells.{lower-near, upper-near}
 use borrow.Author.Needs.{needs}
 use Rattle.height_field.proofs.pass.pass_cell.Statement.{statement}
 use Rattle.height_field.proofs.pass.pass_cell.Tie as tie
 
 small : (s : tie.Start) → s .args .row * (s .args .field .columns - 1) + s .args .column < 1048576
-small s = cell-small (s .args .field) (s .args .heights .now) (s .args .row) (s .args .column) (s .pre .0) (s .pre .1 .0) (s .pre .1 .1)
-
-returns : tie.Need-returns
-unfolding cellFinite
-returns c =
-    let at = c .before in
-    let (s, v, v2, v3) : tie.Start × tie.After-field-vertex × tie.After-field-vertex2 × tie.After-field-vertex3 = search in
-    rw (pass-of-cell (s .args .field) (s .args .heights .now) (s .args .row) (s .args .column) (s .pre .1 .1) (s .args .ray)
-    (s .args .bounds) (saysIndexed (s .args .best)))
-    (simp (
-      sym (v .field-vertex .ensures),
-      sym (v2 .field-vertex2 .ensures),
-      sym (v3 .field-vertex3 .ensures),
-      sym (at .before .field-vertex4 .ensures),
-      sym (at .all-finite .ensures),
-      not-true (at .all-finite .result) (c .if1 .taken),
-    ))
+small s = cell-small (s .args .field) (s .args .heights .now) (s .args .row) (s .args .column) (s .pre .0) (s .pre .1 .0) (s .pre .1 .1 .0)
 
 mul-cell : tie.Need-mul-cell
 mul-cell c =
@@ -52,26 +35,31 @@ cast-pass-triangles c =
     omega (arith, small (start))
 
 pass-triangles-requires : tie.Need-pass-triangles-requires
+unfolding cornersAt
 pass-triangles-requires c κs =
-    let (start, at-all-finite) : tie.Start × tie.After-all-finite = search in
-    let at = at-all-finite in
-    let finite = sym (at .all-finite .ensures) ∙ not-false (at .all-finite .result) (c .before .if1 .left) in
-    (lower-finite _ _ _ _ finite, (upper-finite _ _ _ _ finite, omega (arith, small (start))))
+    let (s, v, v2, v3, v4) : tie.Start × tie.After-field-vertex × tie.After-field-vertex2 × tie.After-field-vertex3 ×
+    tie.After-field-vertex4 = search in
+    let a = s .args in
+    let lower = lower-near (a .field) (a .heights .now) (a .row) (a .column) (s .pre .1 .1 .0) (a .bounds) (s .pre .1 .1 .1 .0)
+    (s .pre .1 .1 .1 .1) in
+    let upper = upper-near (a .field) (a .heights .now) (a .row) (a .column) (s .pre .1 .1 .0) (a .bounds) (s .pre .1 .1 .1 .0)
+    (s .pre .1 .1 .1 .1) in
+    rw (v .field-vertex .ensures, v2 .field-vertex2 .ensures, v3 .field-vertex3 .ensures, v4 .field-vertex4 .ensures)
+    (lower, (upper, omega (arith, small s)))
 
-returns-2 : tie.Need-returns-2
-unfolding cellFinite cornersAt cellAt
-returns-2 c =
-    let (s, v, v2, v3) : tie.Start × tie.After-field-vertex × tie.After-field-vertex2 × tie.After-field-vertex3 = search in
-    let (at, else1) : tie.After-all-finite × tie.Else1 = search in
-    rw (pass-of-cell (s .args .field) (s .args .heights .now) (s .args .row) (s .args .column) (s .pre .1 .1) (s .args .ray)
-    (s .args .bounds) (saysIndexed (s .args .best)))
+returns : tie.Need-returns
+unfolding cornersAt cellAt
+returns c =
+    let (s, v, v2, v3, v4) : tie.Start × tie.After-field-vertex × tie.After-field-vertex2 × tie.After-field-vertex3 ×
+    tie.After-field-vertex4 = search in
+    let a = s .args in
+    rw (sym (pass-of-finite (a .field) (a .heights .now) (a .row) (a .column) (s .pre .1 .1 .0) (a .ray) (a .bounds)
+    (saysIndexed (a .best)) (s .pre .1 .1 .1 .0)))
     (simp (
       sym (v .field-vertex .ensures),
       sym (v2 .field-vertex2 .ensures),
       sym (v3 .field-vertex3 .ensures),
-      sym (at .before .field-vertex4 .ensures),
-      sym (at .all-finite .ensures),
-      not-false (at .all-finite .result) (else1 .if1 .left),
+      sym (v4 .field-vertex4 .ensures),
       sym (c .pass-triangles .ensures),
     ))
 
@@ -87,12 +75,10 @@ pass-cell-spec =
     (search needs)  -- add-field-vertex-3
     (search needs)  -- add-field-vertex-4
     (search needs)  -- field-vertex-requires-4
-    (search needs)  -- all-finite-requires
-    returns
     (search needs)  -- sub-cell
     mul-cell
     add-cell
     mul-pass-triangles
     cast-pass-triangles
     pass-triangles-requires
-    returns-2)
+    returns)

@@ -3,7 +3,7 @@
 use Prim.Native.Nat.{_+_, _-_}
 use mathlib.Core.Path.{_≡_, refl, sym, ap, _∙_}
 use native.Mathlib.Omega.{arith}
-use Rattle.casts.specs.Nearest.{saysIndexed}
+use Rattle.nearest_hit.specs.Nearest.{saysIndexed}
 use Rattle.height_field.specs.Cells.{run, gridCells}
 use Rattle.height_field.specs.Listing.{listCell, listAll}
 use Rattle.height_field.specs.Cast.{answerOf}

@@ -3,10 +3,10 @@ use Prim.Native.Nat.{_+_, _-_, _≤_}
 use mathlib.Core.Path.{_≡_, refl, sym, ap, _∙_, subst}
 use mathlib.Core.List.{List}
 use native.Mathlib.Omega.{arith}
-use Rattle.geometry.specs.declared.vec3.Vec3.{Vec3}
-use Rattle.casts.specs.Nearest.{saysIndexed}
-use Rattle.height_field.specs.Pass.{FiniteCorners, halfOf, passTriangle, passTriangles}
-use Rattle.height_field.proofs.CellPass.{half-finite, one-more}
+use Rattle.vectors.specs.declared.vec3.Vec3.{Vec3}
+use Rattle.nearest_hit.specs.Nearest.{saysIndexed}
+use Rattle.height_field.specs.Pass.{NearCorners, halfOf, passTriangle, passTriangles}
+use Rattle.height_field.proofs.CellPass.{half-near, one-more}
 use borrow.Author.Needs.{needs}
 use Rattle.height_field.proofs.pass.pass_triangles.Statement.{statement}
 use Rattle.height_field.proofs.pass.pass_triangles.Tie as tie
@@ -26,8 +26,8 @@ pass-triangle-requires : tie.Need-pass-triangle-requires Inv-loop μ-loop
 pass-triangle-requires c κs =
     let (start, at-loop) : (tie.Start Inv-loop μ-loop) × (tie.At-loop Inv-loop μ-loop) = search in
     let s = start in
-    subst FiniteCorners (sym (c .half .ensures)) (half-finite (s .args .lower) (s .args .upper) (at-loop .loop .triangle) (s .pre .0) (s
-    .pre .1 .0))
+    subst (NearCorners (s .args .bounds)) (sym (c .half .ensures))
+    (half-near (s .args .bounds) (s .args .lower) (s .args .upper) (at-loop .loop .triangle) (s .pre .0) (s .pre .1 .0))
 
 loop-again : tie.Need-loop-again Inv-loop μ-loop
 loop-again c =

@@ -1,6 +1,6 @@
 -- `cast::ranges_cast` meets its contract. Assumes nothing.
 use mathlib.Core.Path.{sym, ap, _∙_}
-use Rattle.geometry.specs.Vector.{finiteVec}
+use Rattle.vectors.specs.Vector.{finiteVec}
 use Rattle.geometry.proofs.BoxLaws.{origin-finite}
 use Rattle.height_ranges.specs.RangesCast.{rangesCast}
 use Rattle.height_ranges.proofs.Tests.{ranges-lows, cast-of-finite-end}

@@ -38,7 +38,7 @@ returns-3 c =
     let reached = winner-reached _ (answers-are-numbers _ _ _) _ _ (n .note-all .ensures) _ (w .winner .ensures) _ _
     (h .winner3 .given .1) _ (s .pre .1) in
     hit-wins _ (answers-are-numbers _ _ _) _ _ (n .note-all .ensures) _ (w .winner .ensures) _ _ (h .winner3 .given .1)
-    _ (c .before .hit-at .ensures ∙ hit-answer _ _ _ _ _ (reached .1) _ (k .corners-of .ensures)) _ (c .next .ensures)
+    _ (c .before .hit-on .ensures ∙ hit-answer _ _ _ _ _ (reached .1) _ (k .corners-of .ensures)) _ (c .next .ensures)
 
 pub nearest-of-spec : {M : Type 1} → statement M
 nearest-of-spec =
@@ -53,6 +53,6 @@ nearest-of-spec =
     (search needs)  -- enum-known-winner-2
     (search needs)  -- cast-corners-of
     corners-of-requires
-    (λ c κs. search needs)  -- hit-at-requires
+    (λ c κs. search needs)  -- hit-on-requires
     (λ c κs. search needs)  -- next-requires
     returns-3)

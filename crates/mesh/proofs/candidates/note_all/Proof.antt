@@ -1,6 +1,6 @@
 -- `mesh::candidates::note_all` meets its contract: what is left of the notes gives the whole. Assumes nothing.
 use Rattle.mesh.proofs.Folding.{listed-below, Folding, folding-begins, folding-goes, folding-ends}
-use Rattle.casts.specs.Summary.{saysNotes}
+use Rattle.nearest_hit.specs.Summary.{saysNotes}
 use Rattle.tree.specs.Mesh.{triangleAnswer}
 use native.Mathlib.Omega.{arith}
 use Prim.Native.Nat.{_-_}

@@ -1,7 +1,7 @@
 -- `mesh::cast::mesh_cast` meets its contract: the segment's end is refused, the walk's 5 is told, and else the nearest of its list.
 -- Assumes nothing.
 use Rattle.geometry.specs.Segment.{segmentEnd}
-use Rattle.geometry.specs.Vector.{finiteVec}
+use Rattle.vectors.specs.Vector.{finiteVec}
 use Rattle.mesh.proofs.Casting.{end-is, cast-overflow, cast-broken, cast-empty, cast-nearest, list-inside}
 use Rattle.geometry.proofs.BoxLaws.{origin-finite}
 use mathlib.Core.Bool.{true}

@@ -4,7 +4,7 @@ use mathlib.Core.Bool.{true, false}
 use mathlib.Core.Path.{refl}
 use native.Mathlib.Omega.{arith}
 use lib.ListN.{length}
-use Rattle.casts.specs.Nearest.{saysIndexed}
+use Rattle.nearest_hit.specs.Nearest.{saysIndexed}
 use Rattle.tree.specs.Mesh.{Mesh, thirds, mesh}
 use Rattle.casts.specs.Answer.{Answer}
 use Rattle.mesh_exact.specs.ExactCast.{exactAnswer, overExact}

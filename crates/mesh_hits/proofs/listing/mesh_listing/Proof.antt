@@ -2,7 +2,7 @@
 use mathlib.Core.Path.{_≡_}
 use mathlib.Core.Bool.{Bool, true}
 use borrow.Author.Tests.{not-true, not-false}
-use Rattle.geometry.specs.Vector.{finiteVec}
+use Rattle.vectors.specs.Vector.{finiteVec}
 use Rattle.geometry.specs.Segment.{segmentEnd}
 use Rattle.geometry.proofs.BoxLaws.{origin-finite}
 use Rattle.mesh.proofs.Casting.{end-is, list-inside}

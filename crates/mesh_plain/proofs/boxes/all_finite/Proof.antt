@@ -1,28 +1,36 @@
 -- `mesh_plain::boxes::all_finite` meets its contract. Assumes nothing.
 use Prim.Native.Nat.{_-_}
+use mathlib.Core.Path.{sym, _∙_}
+use native.Mathlib.Omega.{arith}
 use lib.ListN.{length}
-use Rattle.mesh_plain.proofs.BoxTests.{Front, front-begins, front-goes, front-ends}
+use Rattle.tree.specs.Mesh.{thirds}
+use Rattle.mesh_plain.proofs.FiniteSums.{Summed, summed-begins, summed-goes, summed-ends}
 use borrow.Author.Needs.{needs}
 use Rattle.mesh_plain.proofs.boxes.all_finite.Statement.{statement}
 use Rattle.mesh_plain.proofs.boxes.all_finite.Tie as tie
 
 abbrev Inv-loop : tie.InvT-loop
-Inv-loop numbers finite₀ i₀ finite i = Front numbers finite i
+Inv-loop vertices limit sum₀ i₀ sum i = Summed vertices sum i
 
 abbrev μ-loop : tie.MeasureT-loop
-μ-loop numbers finite₀ i₀ finite i = length numbers - i
+μ-loop vertices limit sum₀ i₀ sum i = thirds (length vertices) - i
 
 loop-holds : tie.Need-loop-holds Inv-loop μ-loop
-loop-holds c = front-begins _ _
+loop-holds c = summed-begins _ _
 
--- one more number
+vector-at-requires : tie.Need-vector-at-requires Inv-loop μ-loop
+vector-at-requires c κs = omega (arith, c .loop-test .taken)
+
+-- one more vertex
 loop-again : tie.Need-loop-again Inv-loop μ-loop
 loop-again c =
-    let (l, t) : tie.At-loop Inv-loop μ-loop × tie.In-loop Inv-loop μ-loop = search in
-    front-goes _ _ _ (l .loop .inv) (t .loop-test .taken) _ (c .still-finite .ensures)
+    let (l, t, v) : tie.At-loop Inv-loop μ-loop × tie.In-loop Inv-loop μ-loop × tie.After-vector-at Inv-loop μ-loop = search in
+    summed-goes _ _ _ (l .loop .inv) (t .loop-test .taken) _ (v .vector-at .ensures) _ (c .add .ensures)
 
 returns : tie.Need-returns Inv-loop μ-loop
-returns c h = front-ends _ _ _ (c .before .loop .inv) (c .loop-test .left) h
+returns c h =
+    let (l, x) : tie.At-loop Inv-loop μ-loop × tie.After-loop Inv-loop μ-loop = search in
+    summed-ends _ _ _ (l .loop .inv) (x .loop-test .left) (sym (c .is-finite .ensures) ∙ h)
 
 pub all-finite-spec : {M : Type 1} → statement M
 all-finite-spec =
@@ -31,10 +39,11 @@ all-finite-spec =
     Inv-loop
     μ-loop
     loop-holds
-    (search needs)  -- mul-still-finite
-    (search needs)  -- shared-slice-read-still-finite
-    (λ c κs. search needs)  -- still-finite-requires
+    (search needs)  -- mul-vector-at
+    vector-at-requires
+    (λ c κs. search needs)  -- add-requires
     (search needs)  -- add-i
     (search needs)  -- loop-less
     loop-again
+    (λ c κs. search needs)  -- is-finite-requires
     returns)

@@ -1,7 +1,7 @@
 -- `records::lines::bad_line` meets its contract. Assumes nothing.
 use Rattle.records.proofs.Answers.{line-written}
 use Rattle.records.proofs.Lengths.{length-number}
-use Rattle.record_bytes.proofs.Storing.{put-keeps}
+use Rattle.record_text.proofs.Storing.{put-keeps}
 use native.Mathlib.Omega.{arith}
 use borrow.Author.Needs.{needs}
 use Rattle.records.proofs.lines.bad_line.Statement.{statement}

@@ -2,7 +2,7 @@
 use Rattle.record_bytes.specs.Parse.{parse}
 use Rattle.records.proofs.Answers.{line-written}
 use Rattle.records.proofs.Lengths.{length-number, length-parsed}
-use Rattle.record_bytes.proofs.Storing.{put-keeps}
+use Rattle.record_text.proofs.Storing.{put-keeps}
 use native.Mathlib.Omega.{arith}
 use borrow.Author.Needs.{needs}
 use Rattle.records.proofs.lines.line.Statement.{statement}

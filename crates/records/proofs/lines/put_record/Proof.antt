@@ -2,7 +2,8 @@
 use Rattle.record_bytes.specs.Fields.{versionOf, shapePlace}
 use Rattle.record_bytes.specs.Parse.{wellFormed}
 use Rattle.record_bytes.proofs.WellFormed.{well-formed-long, shape-within, part-filled, part-short}
-use Rattle.records.proofs.Answers.{put-as, bad-text, part-text}
+use Rattle.record_text.proofs.AnswerParts.{put-as}
+use Rattle.records.proofs.Answers.{bad-text, part-text}
 use Rattle.lists.proofs.JoinedTests.{test-passed, test-failed}
 use native.Mathlib.Omega.{arith}
 use mathlib.Core.Path.{_≡_, ap, _∙_}

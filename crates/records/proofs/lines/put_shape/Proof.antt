@@ -1,6 +1,7 @@
 -- `records::lines::put_shape` meets its contract: a mesh adds its index, another kind does not. Assumes nothing.
 use Rattle.record_bytes.proofs.WellFormed.{mesh-length}
-use Rattle.records.proofs.Answers.{put-as, mesh-answer}
+use Rattle.record_text.proofs.AnswerParts.{put-as}
+use Rattle.records.proofs.Answers.{mesh-answer}
 use mathlib.Core.Path.{sym}
 use borrow.Author.Needs.{needs}
 use Rattle.records.proofs.lines.put_shape.Statement.{statement}

@@ -1,7 +1,7 @@
 -- `records::lines::shape_answer` meets its contract, kind by kind. Assumes nothing.
 use Rattle.casts.specs.declared.plane.Plane.{Plane}
 use Rattle.casts.specs.Plane.{rayPlane}
-use Rattle.casts.specs.Triangle.{rayTriangle}
+use Rattle.triangle_cast.specs.Triangle.{rayTriangle}
 use Rattle.record_bytes.proofs.WellFormed.{plane-length, triangle-length, heights-length, values-length}
 use Rattle.records.proofs.Answers.{plane-answer, triangle-answer, heights-answer, values-answer}
 use native.Mathlib.Omega.{arith}

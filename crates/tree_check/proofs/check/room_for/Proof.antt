@@ -1,37 +1,26 @@
 -- `tree_check::check::room_for` meets its contract. Assumes nothing.
+use Prim.Native.Nat.{_*_}
+use Rattle.tree.proofs.Lengths.{room-failed, room-passed}
 use Rattle.tree_check.specs.Verdict.{roomFor}
-use borrow.Author.Tests.{le-leb, lt-leb}
 use borrow.Author.Needs.{needs}
 use Rattle.tree_check.proofs.check.room_for.Statement.{statement}
 use Rattle.tree_check.proofs.check.room_for.Tie as tie
 
 returns : tie.Need-returns
 unfolding roomFor
-returns c = simp (lt-leb _ _ (c .if1 .taken))
+returns c =
+    let (start, fit) : tie.Start × tie.After-lengths-fit = search in
+    let a = start .args in
+    room-failed (a .n) (a .node-boxes) (a .triangle-boxes) (a .node-words) (a .order) (3 * a .n) (a .marks) (fit .lengths-fit .ensures)
+    (c .if1 .taken)
 
 returns-2 : tie.Need-returns-2
 unfolding roomFor
-returns-2 c = simp (le-leb _ _ (c .before .if1 .left), lt-leb _ _ (c .if2 .taken))
-
-returns-3 : tie.Need-returns-3
-unfolding roomFor
-returns-3 c =
-    let else1 : tie.Else1 = search in
-    simp (le-leb _ _ (else1 .if1 .left), le-leb _ _ (c .before .if2 .left), lt-leb _ _ (c .if3 .taken))
-
-returns-4 : tie.Need-returns-4
-unfolding roomFor
-returns-4 c =
-    let (else1, else2) : tie.Else1 × tie.Else2 = search in
-    simp (le-leb _ _ (else1 .if1 .left), le-leb _ _ (else2 .if2 .left), le-leb _ _ (c .before .if3 .left), lt-leb _ _ (c .if4 .taken))
-
-returns-5 : tie.Need-returns-5
-unfolding roomFor
-returns-5 c =
-    let (else1, else2) : tie.Else1 × tie.Else2 = search in
-    rw (le-leb _ _ (else1 .if1 .left), le-leb _ _ (else2 .if2 .left), le-leb _ _ (c .before .if3 .left), le-leb _ _ (c .if4 .left))
+returns-2 c =
+    let (start, fit, else1) : tie.Start × tie.After-lengths-fit × tie.Else1 = search in
+    let a = start .args in
+    room-passed (a .n) (a .node-boxes) (a .triangle-boxes) (a .node-words) (a .order) (3 * a .n) (a .marks) (fit .lengths-fit .ensures)
+    (else1 .if1 .left)
 
 pub room-for-spec : {M : Type 1} → statement M
-room-for-spec =
-    tie.close
-    (tie.spec (search needs) returns (search needs) returns-2 (search needs) returns-3 returns-4 (search needs) returns-5)
+room-for-spec = tie.close (tie.spec (search needs) returns (search needs) returns-2)

@@ -76,10 +76,10 @@ walk-requires c κs =
 returns-4 : tie.Need-returns-4
 unfolding start
 returns-4 c =
-    let (e, w, told, z) : tie.Else3 × tie.After-walk × tie.After-enum-told × tie.After-clear = search in
+    let (e, w, told, z) : tie.Else3 × tie.After-walk × tie.After-enum-told × tie.After-zero-words = search in
     let same-long = w .walk .kept .1 .1 .1 .1 .1 .1 .1 .0 in (
       query-broken _ _ (tree (start e)) _ _ (valid e) (admitted e) (fits e) _ _ (w .walk .ensures .0) (w .walk .ensures .1)
-          _ (told .enum-told .given .1) same-long (z .clear .ensures),
+          _ (told .enum-told .given .1) same-long (z .zero-words .ensures),
       λ failed. absurd (tests-passed _ _ (tree (start e)) _ _ (valid e) (admitted e) (fits e) failed),
     )
 
@@ -106,7 +106,7 @@ query-spec =
     walk-requires
     (search needs)  -- enum-known-walked
     (search needs)  -- enum-told
-    (search needs)  -- clear-requires
+    (search needs)  -- zero-words-requires
     (search needs)  -- same-length
     (search needs)  -- same-length-2
     returns-4

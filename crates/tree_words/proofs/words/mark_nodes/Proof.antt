@@ -1,7 +1,7 @@
 -- `tree_words::words::mark_nodes` meets its contract. Assumes nothing.
 use Rattle.tree_words.proofs.Tally.{marks-few, tally-none, tally-more, tally-done}
 use Rattle.tree_words.specs.Marks.{marked}
-use Rattle.lists.specs.Lists.{range, count, gather}
+use Rattle.lists.specs.Lists.{range, count, flatMap}
 use lib.ListN.{length, getD}
 use native.Mathlib.Omega.{arith}
 use mathlib.Core.Path.{_≡_, refl, _∙_}
@@ -12,8 +12,8 @@ use Rattle.tree_words.proofs.words.mark_nodes.Tie as tie
 
 abbrev Inv-loop : tie.InvT-loop
 Inv-loop kind n nodes words marks₀ node₀ marks node = (node ≤ nodes) ×
-    ((length marks ≡ length marks₀) × ((x : ℕ) → x < 3 * n → getD marks x 0 + count x (gather (marked kind n words) (range node (nodes -
-    node))) ≡ count x (gather (marked kind n words) (range 0 nodes))))
+    ((length marks ≡ length marks₀) × ((x : ℕ) → x < 3 * n → getD marks x 0 + count x (flatMap (marked kind n words) (range node (nodes -
+    node))) ≡ count x (flatMap (marked kind n words) (range 0 nodes))))
 
 abbrev μ-loop : tie.MeasureT-loop
 μ-loop kind n nodes words marks₀ node₀ marks node = nodes - node

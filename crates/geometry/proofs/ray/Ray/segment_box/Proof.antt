@@ -1,7 +1,7 @@
 -- `geometry::ray::Ray::segment_box` meets its contract. Assumes nothing.
 use Rattle.geometry.specs.Segment.{segmentBox}
 use mathlib.Core.Path.{sym}
-use Rattle.geometry.proofs.FiniteVectors.{finite-numbers}
+use Rattle.vectors.proofs.FiniteVectors.{finite-numbers}
 use Rattle.geometry.proofs.ray.Ray.segment_box.Statement.{statement}
 use Rattle.geometry.proofs.ray.Ray.segment_box.Tie as tie
 

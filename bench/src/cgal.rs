@@ -1,0 +1,176 @@
+//! CGAL's tree of boxes beside ours, where tools/bench has built its side (bench/cgal.cpp) and BENCH_CGAL names it.
+
+use crate::{
+    areas::{self, Mesh, Ray, Tree},
+    clock, inputs,
+    rows::{Both, Planned, plan, turns},
+    timing::Row,
+};
+use probe_rays::sys::{DONE, HIT, NONE};
+use std::{
+    ffi::{CStr, CString, c_char, c_int, c_void},
+    hint::black_box,
+    mem::transmute,
+    rc::Rc,
+};
+
+// of the C library, which every Rust program on Linux is linked with
+unsafe extern "C" {
+    fn dlopen(file: *const c_char, flags: c_int) -> *mut c_void;
+    fn dlsym(library: *mut c_void, name: *const c_char) -> *mut c_void;
+}
+
+const RTLD_NOW: c_int = 2;
+
+type Build = unsafe extern "C" fn(*const f64, *const u32, usize) -> *mut c_void;
+type Free = unsafe extern "C" fn(*mut c_void);
+type First = unsafe extern "C" fn(*const c_void, *const f64, *mut f64) -> u32;
+
+#[derive(Clone, Copy)]
+struct Side {
+    build: Build,
+    free: Free,
+    first: First,
+}
+
+/// A mesh as CGAL's side holds it.
+struct Board {
+    side: Side,
+    board: *mut c_void,
+}
+
+impl Side {
+    fn loaded(file: &str) -> Self {
+        let file = CString::new(file).expect("a file's name");
+        // SAFETY: the names are C strings, and the types are those of the three functions in bench/cgal.cpp.
+        unsafe {
+            let library = dlopen(file.as_ptr(), RTLD_NOW);
+            assert!(!library.is_null(), "{file:?} cannot be loaded");
+            let named = |name: &CStr| {
+                let found = dlsym(library, name.as_ptr());
+                assert!(!found.is_null(), "{file:?} has no {name:?}");
+                found
+            };
+            Self {
+                build: transmute::<*mut c_void, Build>(named(c"cgal_build")),
+                free: transmute::<*mut c_void, Free>(named(c"cgal_free")),
+                first: transmute::<*mut c_void, First>(named(c"cgal_first")),
+            }
+        }
+    }
+
+    fn built(self, mesh: &Mesh) -> Board {
+        let (vertices, triangles) = (mesh.vertices.as_ptr(), mesh.triangles.as_ptr());
+        // SAFETY: every index of the benchmark's meshes is one of a vertex.
+        let board = unsafe { (self.build)(vertices, triangles, mesh.count()) };
+        Board { side: self, board }
+    }
+}
+
+impl Board {
+    /// A hit's distance.
+    fn first(&self, ray: &[f64; 7]) -> Option<f64> {
+        let mut distance = 0.0;
+        // SAFETY: the board is one that was built, and the ray has seven numbers.
+        let hit = unsafe { (self.side.first)(self.board, ray.as_ptr(), &mut distance) };
+        (hit == 1).then_some(distance)
+    }
+}
+
+impl Drop for Board {
+    fn drop(&mut self) {
+        // SAFETY: it was built, and is freed once.
+        unsafe { (self.side.free)(self.board) }
+    }
+}
+
+fn numbers(ray: &Ray) -> [f64; 7] {
+    let ([a, b, c], [d, e, f]) = (ray.origin, ray.direction);
+    [a, b, c, d, e, f, ray.max_distance]
+}
+
+fn build(name: &str, side: Side, mesh: Mesh) -> Row {
+    let (n, mesh) = (mesh.count(), Rc::new(mesh));
+    let (mut tree, mut work, same) = (Tree::for_triangles(n), vec![0; n], mesh.clone());
+    assert_eq!(areas::build(&mesh, &mut tree, &mut work), DONE, "{name}");
+    Row {
+        name: name.to_owned(),
+        units: 1.0,
+        clock: clock::thread,
+        ours: Box::new(move || {
+            black_box(areas::build(black_box(&mesh), &mut tree, &mut work));
+            black_box(&mut tree);
+        }),
+        rust: Some(Box::new(move || drop(side.built(black_box(&same))))),
+    }
+}
+
+/// Both answers are compared first: a hit on both sides or none, and distances that agree but for rounding.
+fn casts(name: &str, side: Side, both: &Rc<Both>, rays: Vec<Ray>) -> Row {
+    let (both, board) = (both.clone(), side.built(&both.mesh));
+    let mut lent = both.lent();
+    for ray in &rays {
+        let number = areas::mesh(ray, &both.mesh, &both.tree, &mut lent);
+        match board.first(&numbers(ray)) {
+            None => assert_eq!(number, NONE, "{name}: {ray:?}"),
+            Some(distance) => {
+                assert_eq!(number, HIT, "{name}: {ray:?}");
+                let off = (lent.hit[3] - distance).abs();
+                assert!(
+                    off <= 1e-9 * (1.0 + distance),
+                    "{name}: {ray:?}, {distance}"
+                );
+            }
+        }
+    }
+    let theirs = rays.iter().map(numbers).collect();
+    turns(
+        name,
+        rays,
+        theirs,
+        move |ray, hit| {
+            let number = areas::mesh(ray, &both.mesh, &both.tree, &mut lent);
+            *hit = lent.hit;
+            number
+        },
+        move |ray| board.first(ray),
+    )
+}
+
+/// No row where BENCH_CGAL names no side. The other side's times are CGAL's.
+pub fn rows() -> Vec<Planned> {
+    let Some(file) = std::env::var_os("BENCH_CGAL") else {
+        return Vec::new();
+    };
+    let side = Side::loaded(&file.to_string_lossy());
+    let at = |name: &str, mesh: fn() -> Mesh, rays: Vec<Ray>| {
+        plan(name, move |name: &str| {
+            casts(name, side, &Both::of(mesh()), rays)
+        })
+    };
+    vec![
+        plan("build, panel, beside CGAL", move |name: &str| {
+            build(name, side, inputs::panel())
+        }),
+        at(
+            "drawer front, hit, beside CGAL",
+            inputs::front,
+            inputs::front_rays(256),
+        ),
+        at(
+            "panel, short axis probes, beside CGAL",
+            inputs::panel,
+            inputs::short_probes(1_024),
+        ),
+        at(
+            "panel, long oblique rays, beside CGAL",
+            inputs::panel,
+            inputs::long_rays(8),
+        ),
+        at(
+            "panel, miss through a hole, beside CGAL",
+            inputs::panel,
+            inputs::through_holes(1_024),
+        ),
+    ]
+}

@@ -1,0 +1,2 @@
+-- The laws of the cast at one part. Assumes nothing.
+pub mod PartWalks

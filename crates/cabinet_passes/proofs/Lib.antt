@@ -1,0 +1,2 @@
+-- A slice that is lent again. Assumes nothing.
+pub mod Again

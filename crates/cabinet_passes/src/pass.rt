@@ -1,0 +1,155 @@
+use crate::step::cast_part;
+use cabinet::part::Found;
+use cabinet::part::Part;
+use cabinet::part::Progress;
+use cabinet::part::State;
+use casts::answer;
+use geometry::ray::Ray;
+ghost use mathlib.Core.Path.{_≡_};
+ghost use lib.ListN.{length};
+ghost use Rattle.cabinet.specs.Steps.{begun, stepParts, turned, areas, Kept, KeptByBoth};
+
+// All parts, in list order. The list and the stack are work areas; a pass that casts at no part leaves them as they were.
+pub fn cast_all(
+    parts: &[Part],
+    vertices: &[f64],
+    triangles: &[u32],
+    node_boxes: &[f64],
+    triangle_boxes: &[f64],
+    node_words: &[u32],
+    order: &[u32],
+    list: &mut [u32],
+    stack: &mut [u32],
+    start: State,
+) -> State
+    ensures { λ r. ⌜ (r ≡ stepParts (areas (now (vertices .entry)) (now (triangles .entry)) (now («node_boxes» .entry))
+        (now («triangle_boxes» .entry)) (now («node_words» .entry)) (now (order .entry))) (length (now (list .entry)))
+        (length (now (stack .entry))) start (now (parts .entry)))
+        × Kept start (now (list .entry)) (now (list .exit)) (now (stack .entry)) (now (stack .exit)) ⌝ }
+{
+    let mut s = start;
+    let mut i = 0;
+    while i < parts.len() {
+        s = cast_part(
+            parts[i],
+            vertices,
+            triangles,
+            node_boxes,
+            triangle_boxes,
+            node_words,
+            order,
+            list,
+            stack,
+            s,
+        );
+        i += 1;
+    }
+    s
+}
+
+// Between the two passes.
+pub fn turn(s: State) -> State
+    ensures { λ r. ⌜ r ≡ turned s ⌝ }
+{
+    let ray = s.ray;
+    let at = s.at;
+    State {
+        ray: ray,
+        limit: s.limit,
+        casting: true,
+        at: at,
+    }
+}
+
+// Two passes over the list: nothing of the second is done before the first has seen every part.
+pub fn cast_twice(
+    parts: &[Part],
+    vertices: &[f64],
+    triangles: &[u32],
+    node_boxes: &[f64],
+    triangle_boxes: &[f64],
+    node_words: &[u32],
+    order: &[u32],
+    list: &mut [u32],
+    stack: &mut [u32],
+    start: State,
+) -> State
+    ensures { λ r. ⌜ (r ≡ stepParts (areas (now (vertices .entry)) (now (triangles .entry)) (now («node_boxes» .entry))
+        (now («triangle_boxes» .entry)) (now («node_words» .entry)) (now (order .entry))) (length (now (list .entry)))
+        (length (now (stack .entry))) (turned (stepParts
+        (areas (now (vertices .entry)) (now (triangles .entry)) (now («node_boxes» .entry)) (now («triangle_boxes» .entry))
+        (now («node_words» .entry)) (now (order .entry))) (length (now (list .entry))) (length (now (stack .entry))) start
+        (now (parts .entry)))) (now (parts .entry)))
+        × KeptByBoth (areas (now (vertices .entry)) (now (triangles .entry)) (now («node_boxes» .entry)) (now («triangle_boxes» .entry))
+        (now («node_words» .entry)) (now (order .entry))) (length (now (list .entry))) (length (now (stack .entry))) start
+        (now (parts .entry)) (now (list .entry)) (now (list .exit)) (now (stack .entry)) (now (stack .exit)) ⌝ }
+{
+    let first = cast_all(
+        parts,
+        vertices,
+        triangles,
+        node_boxes,
+        triangle_boxes,
+        node_words,
+        order,
+        list,
+        stack,
+        start,
+    );
+    let between = turn(first);
+    cast_all(
+        parts,
+        vertices,
+        triangles,
+        node_boxes,
+        triangle_boxes,
+        node_words,
+        order,
+        list,
+        stack,
+        between,
+    )
+}
+
+// Before the first pass: a ray that is not admitted is 1, and result slices that do not fit are 3.
+pub fn begin(ray: Ray, limit: usize, fits: bool) -> State
+    ensures { λ r. ⌜ r ≡ begun ray limit fits ⌝ }
+{
+    if !ray.validate() {
+        let refused = Progress {
+            part: 0,
+            spent: 0,
+            found: Found::Refused(answer::INVALID_INPUT),
+        };
+        return State {
+            ray: ray,
+            limit: limit,
+            casting: false,
+            at: refused,
+        };
+    }
+    if !fits {
+        let short = Progress {
+            part: 0,
+            spent: 0,
+            found: Found::Refused(answer::NO_ROOM),
+        };
+        return State {
+            ray: ray,
+            limit: limit,
+            casting: false,
+            at: short,
+        };
+    }
+    let nothing = Progress {
+        part: 0,
+        spent: 0,
+        found: Found::Nothing,
+    };
+    State {
+        ray: ray,
+        limit: limit,
+        casting: false,
+        at: nothing,
+    }
+}

@@ -1,0 +1,1 @@
+// What holds of the converters beside their contracts: proofs/. No code.

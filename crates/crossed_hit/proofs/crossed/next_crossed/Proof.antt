@@ -1,0 +1,45 @@
+-- `crossed_hit::crossed::next_crossed` meets its contract. Assumes nothing.
+use mathlib.Core.Path.{sym, ap, _∙_}
+use Rattle.nearest_hit.specs.Nearest.{nextOf}
+use Rattle.crossed_hit.specs.Crossed.{saysNear, facedIndexed}
+use Rattle.nearest_hit.proofs.NextLaws.{next-none}
+use Rattle.crossed_hit.proofs.CrossedLaws.{next-faced}
+use borrow.Author.Needs.{needs}
+use Rattle.crossed_hit.proofs.crossed.next_crossed.Statement.{statement}
+use Rattle.crossed_hit.proofs.crossed.next_crossed.Tie as tie
+
+-- the first test leaves the others
+returns : tie.Need-returns
+returns c =
+    let (k, e) : tie.After-crossing × tie.After-start = search in
+    (simp (sym (k .crossing .ensures), e .start .given .1, sym (c .next-within .ensures .0)), c .next-within .ensures .1)
+
+-- it misses
+returns-2 : tie.Need-returns-2
+returns-2 c =
+    let k : tie.After-crossing = search in
+    (simp (sym (k .crossing .ensures), c .enum-told .given .1, ← next-none), λ h. h)
+
+-- it refuses
+returns-3 : tie.Need-returns-3
+returns-3 c =
+    let (s, k, e) : tie.Start × tie.After-crossing × tie.After-start2 = search in
+    let index = s .args .index in (
+      ap (facedIndexed (s .args .ray)) (c .stopped .ensures .0 index) ∙ next-faced (s .args .ray) (saysNear (s .args .best)) index _
+          ∙ ap (nextOf _ _) (simp (sym (k .crossing .ensures), e .start2 .given .1)),
+      λ h. c .stopped .ensures .1,
+    )
+
+pub next-crossed-spec : {M : Type 1} → statement M
+next-crossed-spec =
+    tie.close
+    (tie.spec
+    (λ c κs. search needs)  -- crossing-requires
+    (search needs)  -- enum-known-start
+    (λ c κs. search needs)  -- next-within-requires
+    returns
+    (search needs)  -- enum-told
+    returns-2
+    (search needs)  -- enum-known-start-2
+    (λ c κs. search needs)  -- stopped-requires
+    returns-3)

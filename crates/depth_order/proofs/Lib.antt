@@ -1,0 +1,2 @@
+-- Laws about the order by depth. Assumes nothing.
+pub mod OrderLaws

@@ -1,0 +1,2 @@
+-- Hits along a ray in order of depth. Definitions only. Assumes nothing.
+pub mod Order

@@ -1,0 +1,60 @@
+-- The exact cast and the mesh cast through a tree, at a ray and a mesh on whole millimetres. Definitions only. Assumes nothing.
+use Prim.Native.Nat.{ℕ, _*_}
+use mathlib.Core.Path.{_≡_}
+use mathlib.Core.Bool.{true}
+use lib.IntN.{ℤ, pos, _+ℤ_}
+use lib.Signed.{_≤ℤ_}
+use lib.Ieee.{Float}
+use lib.ListN.{length}
+use Rattle.vectors.specs.declared.vec3.Vec3.{Vec3}
+use Rattle.geometry.specs.declared.ray.Ray.{Ray}
+use Rattle.nearest_hit.specs.Nearest.{Indexed, hitAt, noHit, stopped}
+use Rattle.tree.specs.Layout.{Tree}
+use Rattle.tree.specs.Mesh.{Mesh, lengthsAdmitted}
+use Rattle.mesh.specs.MeshCast.{roomFor, rayMesh}
+use Rattle.mesh.specs.Demand3.{PassesCheck, Candidate}
+use Rattle.exact_triangle.specs.declared.line.Line.{Line}
+use Rattle.exact_triangle.specs.declared.line.Ruled.the-variants.{On}
+use Rattle.exact_triangle.specs.Line.{lineOf}
+use Rattle.mesh_exact.specs.ExactCast.{rayMeshExactPlain}
+use Rattle.mesh_exact.specs.Certain.{LeastDepth}
+use Rattle.whole_numbers.specs.Board.{Parallel, Crossing, Within}
+use Rattle.whole_numbers.specs.Boards.{Plan, drawingOf, Boards}
+
+-- ---- the open cases
+-- the crossing lies in the closed triangle
+pub record Closed (D : ℕ) (u v : ℤ) : Type 0 where
+  pub first : pos 0 ≤ℤ u
+  pub second : pos 0 ≤ℤ v
+  pub sum : (u +ℤ v) ≤ℤ pos D
+
+-- 'no candidate's crossing lies on the side opposite its first corner or at the maximum, and no candidate is parallel'
+pub record NoOpenCase (r : Ray) (m : Mesh) (p : Plan) : Type 0 where
+  pub parallel : (i : ℕ) → Candidate r m i → Parallel (drawingOf p i) → ⊥
+  pub opposite : (i : ℕ) → Candidate r m i → (D : ℕ) (u v t : ℤ) → Crossing (drawingOf p i) D u v t → Closed D u v
+      → u +ℤ v ≡ pos D → ⊥
+  pub at-maximum : (i : ℕ) → Candidate r m i → (D : ℕ) (u v t : ℤ) → Crossing (drawingOf p i) D u v t → Closed D u v
+      → t ≡ pos (p .maximum * D) → ⊥
+
+-- ---- 'both agree in none and in the triangle's exact depth within M-112's bound'
+-- t / D is the least depth: the exact cast's distance is the float nearest to it, and the other's lies within 2^-51 of it, as a share of it
+pub record SameDepth (m : Mesh) (l : Line) (distance exact : Float) : Type 0 where
+  pub least : LeastDepth m l exact
+  pub close : Within distance (least .t) (least .D)
+
+pub record Agree (m : Mesh) (l : Line) (rounded exact : Indexed) : Type 0 where
+  -- neither refuses
+  pub answers : (number : ℕ) → rounded ≡ stopped number → ⊥
+  pub exact-answers : (number : ℕ) → exact ≡ stopped number → ⊥
+  pub none : rounded ≡ noHit → exact ≡ noHit
+  pub none-only : exact ≡ noHit → rounded ≡ noHit
+  pub depth : (normal : Vec3) (distance : Float) (index : ℕ) → rounded ≡ hitAt normal distance index
+      → (normal' : Vec3) (distance' : Float) (index' : ℕ) → exact ≡ hitAt normal' distance' index' → SameDepth m l distance distance'
+
+-- 'where `ray_mesh` answers a hit or none on such a board and no candidate's crossing lies on the side opposite its first corner or at the
+-- maximum, and no candidate is parallel': through any tree that passes the check, on M-112's boards, whose ray is a line of the exact cast
+abbrev pub BoardsAgree : Type 0
+BoardsAgree =
+    (r : Ray) (m : Mesh) (t : Tree) (list stack : ℕ) (p : Plan) → lengthsAdmitted (length (m .vertices)) (length (m .triangles)) ≡ true
+    → PassesCheck m t → roomFor m t list stack ≡ true → Boards r m p → NoOpenCase r m p
+    → (l : Line) × ((lineOf r ≡ On l) × Agree m l (rayMesh r m (m .vertices) t list stack) (rayMeshExactPlain r m))

@@ -1,0 +1,3 @@
+-- The exact cast beside the mesh cast. Definitions only. Assumes nothing.
+pub mod Refusals
+pub mod Agreement

@@ -1,0 +1,6 @@
+-- Laws about floats in two forms. Assumes nothing.
+pub mod Numbers
+pub mod PlaceLaws
+pub mod RunLaws
+pub mod RunSteps
+pub mod HoldLaws

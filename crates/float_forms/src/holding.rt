@@ -1,0 +1,78 @@
+use crate::forms::Form;
+ghost use mathlib.Core.Path.{_≡_};
+ghost use mathlib.Core.Bool.{true};
+ghost use Prim.Native.Nat.{_*_, _<_};
+ghost use lib.Ieee.{nan, top, toBits};
+ghost use Rattle.float_forms.specs.Forms.{formatOf};
+ghost use Rattle.float_forms.specs.Holding.{held, fitsIn};
+ghost use Rattle.float_forms.specs.Holding.{patternFor};
+
+// The pattern that stands for a float exactly, if the form holds it.
+pub enum Pattern {
+    Bits(u64),
+    Unheld,
+}
+
+// In eight bytes every number is held.
+fn long_for(x: f64) -> Pattern
+    ensures { λ r. ⌜ r ≡ patternFor Form.Long x ⌝ }
+{
+    if x != x {
+        return Pattern::Unheld;
+    }
+    Pattern::Bits(f64::to_bits(x))
+}
+
+fn short_for(x: f64) -> Pattern
+    ensures { λ r. ⌜ r ≡ patternFor Form.Short x ⌝ }
+{
+    let short = short_floats::short_of(x);
+    let short_floats::Short::Pattern(bits) = short else {
+        return Pattern::Unheld;
+    };
+    Pattern::Bits(bits as u64)
+}
+
+pub fn pattern_for(form: Form, x: f64) -> Pattern
+    ensures { λ r. ⌜ r ≡ patternFor form x ⌝ }
+{
+    match form {
+        Form::Long => long_for(x),
+        Form::Short => short_for(x),
+    }
+}
+
+pub fn is_held(form: Form, x: f64) -> bool
+    ensures { λ r. ⌜ r ≡ held form x ⌝ }
+{
+    let pattern = pattern_for(form, x);
+    match pattern {
+        Pattern::Bits(_) => true,
+        Pattern::Unheld => false,
+    }
+}
+
+// The pattern that stands for NaN.
+fn nan_bits(form: Form) -> u64
+    ensures { λ r. ⌜ r ≡ toBits (formatOf form) nan ⌝ }
+{
+    match form {
+        Form::Long => 0x7ff8_0000_0000_0000,
+        Form::Short => 0x7fc0_0000,
+    }
+}
+
+// The pattern of a float of the form's format. Callers show that it is of it.
+pub fn bits_for(form: Form, x: f64) -> u64
+    requires { ⌜ fitsIn form x ≡ true ⌝ }
+    ensures { λ r. ⌜ (r ≡ toBits (formatOf form) x) × (r < 2 * top (formatOf form)) ⌝ }
+{
+    if x != x {
+        return nan_bits(form);
+    }
+    let pattern = pattern_for(form, x);
+    let Pattern::Bits(bits) = pattern else {
+        return 0;
+    };
+    bits
+}

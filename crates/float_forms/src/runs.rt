@@ -1,0 +1,78 @@
+use crate::bytes;
+use crate::forms;
+use crate::forms::Form;
+use crate::holding;
+ghost use mathlib.Core.Path.{_≡_};
+ghost use mathlib.Core.Bool.{true};
+ghost use Prim.Native.Nat.{_+_, _*_, _≤_};
+ghost use lib.ListN.{length, drop};
+ghost use lib.Seq.{sets};
+ghost use Rattle.float_forms.specs.Forms.{sizeOf};
+ghost use Rattle.float_forms.specs.Bytes.{numbersOf, numbersBytes, wordsOf, wordsBytes};
+ghost use Rattle.float_forms.specs.Holding.{every, held, fitsIn};
+
+// Whether the form q holds each of so many floats of the form p, from a place on. Callers show that they are there.
+pub fn floats_held(p: Form, q: Form, source: &[u8], place: usize, count: usize) -> bool
+    requires { ⌜ place + sizeOf p * count ≤ length (now source) ⌝ }
+    ensures { λ r. ⌜ r ≡ every (held q) (numbersOf p count (drop place (now (source .entry)))) ⌝ }
+{
+    let size = forms::size_of(p);
+    let mut from = place;
+    let mut left = count;
+    while left > 0 {
+        if !holding::is_held(q, bytes::number_at(p, source, from)) {
+            return false;
+        }
+        from += size;
+        left -= 1;
+    }
+    true
+}
+
+// So many floats, each of the form q's format, from one record's place to another's. Callers show that both places are there and that each
+// is.
+pub fn put_floats(
+    p: Form,
+    q: Form,
+    source: &[u8],
+    place: usize,
+    count: usize,
+    out: &mut [u8],
+    at: usize,
+)
+    requires { ⌜ place + sizeOf p * count ≤ length (now source) ⌝ }
+    requires { ⌜ at + sizeOf q * count ≤ length (now out) ⌝ }
+    requires { ⌜ every (fitsIn q) (numbersOf p count (drop place (now source))) ≡ true ⌝ }
+    ensures { λ r. ⌜ now (out .exit) ≡ sets (now (out .entry)) at
+        (numbersBytes q (numbersOf p count (drop place (now (source .entry))))) ⌝ }
+{
+    let size = forms::size_of(p);
+    let step = forms::size_of(q);
+    let mut from = place;
+    let mut to = at;
+    let mut left = count;
+    while left > 0 {
+        let bits = holding::bits_for(q, bytes::number_at(p, source, from));
+        bytes::put_pattern(q, out, to, bits);
+        from += size;
+        to += step;
+        left -= 1;
+    }
+}
+
+// So many u32. Callers show that both places are there.
+pub fn put_words(source: &[u8], place: usize, count: usize, out: &mut [u8], at: usize)
+    requires { ⌜ place + 4 * count ≤ length (now source) ⌝ }
+    requires { ⌜ at + 4 * count ≤ length (now out) ⌝ }
+    ensures { λ r. ⌜ now (out .exit) ≡ sets (now (out .entry)) at (wordsBytes (wordsOf count (drop place (now (source .entry))))) ⌝ }
+{
+    let mut from = place;
+    let mut to = at;
+    let mut left = count;
+    while left > 0 {
+        bytes::put_word(out, to, bytes::word_at(source, from));
+        from += 4;
+        to += 4;
+        left -= 1;
+    }
+}

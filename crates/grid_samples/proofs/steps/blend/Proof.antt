@@ -1,0 +1,12 @@
+-- `grid_samples::steps::blend` meets its contract. Assumes nothing.
+use Rattle.grid_samples.specs.Steps.{blend}
+use mathlib.Core.Path.{refl}
+use Rattle.grid_samples.proofs.steps.blend.Statement.{statement}
+use Rattle.grid_samples.proofs.steps.blend.Tie as tie
+
+returns : tie.Need-returns
+unfolding blend
+returns c = refl
+
+pub blend-spec : {M : Type 1} → statement M
+blend-spec = tie.close (tie.spec returns)

@@ -1,0 +1,15 @@
+-- `grid_samples::valued::fair_side` meets its contract. Assumes nothing.
+use Rattle.grid_samples.specs.Valued.{fairSide}
+use Rattle.grid_samples.proofs.valued.fair_side.Statement.{statement}
+use Rattle.grid_samples.proofs.valued.fair_side.Tie as tie
+
+returns : tie.Need-returns
+unfolding fairSide
+returns c = simp (c .if1 .taken)
+
+returns-2 : tie.Need-returns-2
+unfolding fairSide
+returns-2 c = simp (c .if1 .left)
+
+pub fair-side-spec : {M : Type 1} → statement M
+fair-side-spec = tie.close (tie.spec returns returns-2)

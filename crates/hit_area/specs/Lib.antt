@@ -1,0 +1,3 @@
+-- The hit area of a listing, after document 02's M-107. Definitions only. Assumes nothing.
+pub mod HitArea
+pub mod Rows

@@ -1,0 +1,3 @@
+-- The nearest of many triangles. Definitions only. Assumes nothing.
+pub mod Nearest
+pub mod Summary

@@ -1,0 +1,6 @@
+// The nearest of many triangles.
+
+// In ascending order, by the answers.
+pub mod nearest;
+// In whatever order they come, by what decides it.
+pub mod summary;

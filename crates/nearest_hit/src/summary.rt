@@ -1,0 +1,170 @@
+use casts::answer::Reach;
+ghost use mathlib.Core.Path.{_≡_};
+ghost use Rattle.nearest_hit.specs.Summary.{keepOf, found, lower, nearer, nothing, noteOf, struckOf, winner, saysChosenRefusal};
+ghost use Rattle.nearest_hit.specs.Summary.{saysChosenHit, saysNotes};
+
+// An index with the number of its refusal, or nobody yet.
+pub enum ChosenRefusal {
+    Nobody,
+    At { index: u32, number: u32 },
+}
+
+// An index with its distance, or nobody yet.
+pub enum ChosenHit {
+    Nobody,
+    At { index: u32, distance: f64 },
+}
+
+// The answer of all, without a normal: nobody's, a refusal with its number, or that of a triangle hit at a distance.
+pub enum Outcome {
+    Nobody,
+    Refused(u32),
+    Struck { index: u32, distance: f64 },
+}
+
+// What of many triangles decides the nearest hit, in whatever order they come: the lowest that refuses, and the nearest that is hit.
+pub struct Notes {
+    pub refuser: ChosenRefusal,
+    pub least: ChosenHit,
+}
+
+// Before any triangle.
+pub fn empty() -> Notes
+    ensures { λ r. ⌜ saysNotes r ≡ nothing ⌝ }
+{
+    Notes {
+        refuser: ChosenRefusal::Nobody,
+        least: ChosenHit::Nobody,
+    }
+}
+
+// The refusal of the lower index, with its number.
+fn lower_refusal(chosen: ChosenRefusal, index: u32, number: u32) -> ChosenRefusal
+    ensures { λ r. ⌜ saysChosenRefusal r ≡ keepOf lower (saysChosenRefusal chosen) (found index number) ⌝ }
+{
+    match chosen {
+        ChosenRefusal::Nobody => {
+            return ChosenRefusal::At {
+                index: index,
+                number: number,
+            };
+        }
+        ChosenRefusal::At {
+            index: lowest,
+            number: its,
+        } => {
+            if index < lowest {
+                return ChosenRefusal::At {
+                    index: index,
+                    number: number,
+                };
+            }
+            return ChosenRefusal::At {
+                index: lowest,
+                number: its,
+            };
+        }
+    }
+}
+
+// Whether a hit is nearer than another, or as near and of a lower index.
+fn is_nearer(index: u32, distance: f64, other: u32, reach: f64) -> bool
+    ensures { λ r. ⌜ r ≡ nearer (found index distance) (found other reach) ⌝ }
+{
+    if distance < reach {
+        return true;
+    }
+    if distance <= reach {
+        return index < other;
+    }
+    false
+}
+
+// The nearer hit.
+fn nearer_hit(chosen: ChosenHit, index: u32, distance: f64) -> ChosenHit
+    ensures { λ r. ⌜ saysChosenHit r ≡ keepOf nearer (saysChosenHit chosen) (found index distance) ⌝ }
+{
+    match chosen {
+        ChosenHit::Nobody => {
+            return ChosenHit::At {
+                index: index,
+                distance: distance,
+            };
+        }
+        ChosenHit::At {
+            index: other,
+            distance: reach,
+        } => {
+            if is_nearer(index, distance, other, reach) {
+                return ChosenHit::At {
+                    index: index,
+                    distance: distance,
+                };
+            }
+            return ChosenHit::At {
+                index: other,
+                distance: reach,
+            };
+        }
+    }
+}
+
+// One more triangle.
+pub fn note(notes: Notes, index: u32, reach: Reach) -> Notes
+    ensures { λ r. ⌜ saysNotes r ≡ noteOf (saysNotes notes) index reach ⌝ }
+{
+    let refuser = notes.refuser;
+    let least = notes.least;
+    match reach {
+        Reach::Miss => {
+            return notes;
+        }
+        Reach::Refused(number) => {
+            let lowest = lower_refusal(refuser, index, number);
+            return Notes {
+                refuser: lowest,
+                least: least,
+            };
+        }
+        Reach::At(distance) => {
+            let nearest = nearer_hit(least, index, distance);
+            return Notes {
+                refuser: refuser,
+                least: nearest,
+            };
+        }
+    }
+}
+
+// A hit as the winner.
+fn struck(chosen: ChosenHit) -> Outcome
+    ensures { λ r. ⌜ r ≡ struckOf (saysChosenHit chosen) ⌝ }
+{
+    match chosen {
+        ChosenHit::Nobody => {
+            return Outcome::Nobody;
+        }
+        ChosenHit::At { index, distance } => {
+            return Outcome::Struck {
+                index: index,
+                distance: distance,
+            };
+        }
+    }
+}
+
+// Whose answer is the answer of all.
+pub fn winner(notes: Notes) -> Outcome
+    ensures { λ r. ⌜ r ≡ winner (saysNotes notes) ⌝ }
+{
+    let refuser = notes.refuser;
+    let least = notes.least;
+    match refuser {
+        ChosenRefusal::At { index: _, number } => {
+            return Outcome::Refused(number);
+        }
+        ChosenRefusal::Nobody => {
+            return struck(least);
+        }
+    }
+}

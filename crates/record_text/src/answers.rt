@@ -1,0 +1,96 @@
+use crate::text;
+use casts::answer::Cast;
+use nearest_hit::nearest;
+use nearest_hit::nearest::IndexedCast;
+use vectors::vec3::Vec3;
+ghost use mathlib.Core.List.{[], _∷_, _++_};
+ghost use Prim.Native.Nat.{_+_, _≤_};
+ghost use lib.ListN.{length};
+ghost use Rattle.casts.specs.Answer.{says};
+ghost use Rattle.nearest_hit.specs.Nearest.{saysIndexed};
+ghost use Rattle.record_text.specs.Text.{Put, decimal};
+ghost use Rattle.record_text.specs.AnswerText.{floatText, hitText, answerText, indexText, indexedText};
+
+// A line's answer has at most 92 bytes: `hit` with four floats of 17 bytes, and a triangle's index after a space; 20 digits are set aside
+// for each whole number. Callers show that there is as much room.
+
+// A space and a float's bits. Callers show that they have room.
+fn put_float(out: &mut [u8], at: usize, x: f64) -> usize
+    requires { ⌜ at + 17 ≤ length (now out) ⌝ }
+    ensures { λ r. ⌜ Put (now (out .entry)) at (floatText x) (now (out .exit)) r ⌝ }
+{
+    let next = text::put_byte(out, at, b' ');
+    text::put_hexadecimal(out, next, text::printed_bits(x))
+}
+
+// The word, the normal and the distance of a hit. Callers show that they have room.
+fn put_hit(out: &mut [u8], at: usize, normal: Vec3, distance: f64) -> usize
+    requires { ⌜ at + 71 ≤ length (now out) ⌝ }
+    ensures { λ r. ⌜ Put (now (out .entry)) at (hitText normal distance) (now (out .exit)) r ⌝ }
+{
+    let word = text::put_text(out, at, b"hit");
+    let x = put_float(out, word, normal.x);
+    let y = put_float(out, x, normal.y);
+    let z = put_float(out, y, normal.z);
+    put_float(out, z, distance)
+}
+
+// An answer's text. Callers show that it has room.
+pub fn put_answer(out: &mut [u8], at: usize, cast: Cast) -> usize
+    requires { ⌜ at + 71 ≤ length (now out) ⌝ }
+    ensures { λ r. ⌜ Put (now (out .entry)) at (answerText (says cast)) (now (out .exit)) r ⌝ }
+{
+    match cast {
+        Cast::Hit { normal, distance } => {
+            return put_hit(out, at, normal, distance);
+        }
+        Cast::None => {
+            return text::put_text(out, at, b"none");
+        }
+        Cast::Refused(number) => {
+            let word = text::put_text(out, at, b"refused ");
+            return text::put_decimal(out, word, number as u64);
+        }
+    }
+}
+
+// What a mesh adds to an answer. Callers show that it has room.
+fn put_index(out: &mut [u8], at: usize, cast: IndexedCast) -> usize
+    requires { ⌜ at + 21 ≤ length (now out) ⌝ }
+    ensures { λ r. ⌜ Put (now (out .entry)) at (indexText (saysIndexed cast)) (now (out .exit)) r ⌝ }
+{
+    match cast {
+        IndexedCast::Hit {
+            normal: _,
+            distance: _,
+            index,
+        } => {
+            let next = text::put_byte(out, at, b' ');
+            return text::put_decimal(out, next, index as u64);
+        }
+        IndexedCast::None => {
+            return at;
+        }
+        IndexedCast::Refused(_) => {
+            return at;
+        }
+    }
+}
+
+// An answer's text with its index. Callers show that it has room.
+pub fn put_indexed(out: &mut [u8], at: usize, cast: IndexedCast) -> usize
+    requires { ⌜ at + 92 ≤ length (now out) ⌝ }
+    ensures { λ r. ⌜ Put (now (out .entry)) at (indexedText (saysIndexed cast)) (now (out .exit)) r ⌝ }
+{
+    let next = put_answer(out, at, nearest::without_index(cast));
+    put_index(out, next, cast)
+}
+
+// The record number and a space, at the front. Callers show that they have room.
+pub fn put_number(out: &mut [u8], number: u64) -> usize
+    requires { ⌜ 21 ≤ length (now out) ⌝ }
+    ensures { λ r. ⌜ Put (now (out .entry)) 0 (decimal number ++ (32 ∷ [])) (now (out .exit)) r ⌝ }
+{
+    let end = text::put_decimal(out, 0, number);
+    text::put_byte(out, end, b' ')
+}

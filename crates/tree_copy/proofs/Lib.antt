@@ -1,0 +1,3 @@
+-- Laws of moved lists and of copying. Assumes nothing.
+pub mod MovedLists
+pub mod CopyLaws

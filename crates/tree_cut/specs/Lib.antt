@@ -1,0 +1,2 @@
+-- Where a range of triangles is cut. Definitions only. Assumes nothing.
+pub mod Cutting

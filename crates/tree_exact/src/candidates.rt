@@ -1,0 +1,87 @@
+use casts::answer;
+use casts::answer::Reach;
+use exact_triangle::cast;
+use exact_triangle::line::Line;
+use geometry::ray::Ray;
+use nearest_hit::nearest;
+use nearest_hit::nearest::IndexedCast;
+use nearest_hit::summary;
+use nearest_hit::summary::Notes;
+use nearest_hit::summary::Outcome;
+use tree::mesh as triangle_mesh;
+use triangle_cast::triangle;
+ghost use mathlib.Core.Path.{_≡_};
+ghost use mathlib.Core.Bool.{true};
+ghost use Prim.Native.Nat.{_+_, _*_, _≤_};
+ghost use lib.ListN.{length, take};
+ghost use Rattle.geometry.specs.declared.ray.Ray.{Ray as AnyRay};
+ghost use Rattle.casts.specs.Reach.{reachOf};
+ghost use Rattle.nearest_hit.specs.Nearest.{saysIndexed, nearestOf};
+ghost use Rattle.nearest_hit.specs.Summary.{nothing, summaryFrom, saysNotes};
+ghost use Rattle.lists.specs.Lists.{sorted, allBelow};
+ghost use Rattle.tree.specs.Mesh.{thirds};
+ghost use Rattle.exact_triangle.specs.Exact.{Ruled as RuledLine};
+ghost use Rattle.mesh_exact.specs.ExactCast.{exactAnswer};
+
+// The answer of one triangle without its normal: an index past the vertices is 5. The caller, the loop below,
+// shows that the index is a triangle's.
+fn reach_of(line: Line, pose: &[f64], triangles: &[u32], index: usize) -> Reach
+    requires { ⌜ 3 * index + 3 ≤ length (now triangles) ⌝ ∗ ⌜ RuledLine line ⌝ }
+    ensures { λ r. ⌜ ((ray : AnyRay) → r ≡ reachOf (exactAnswer ray line (now (pose .entry)) (now (triangles .entry)) index)) ⌝ }
+{
+    if !triangle_mesh::corners_inside(pose.len() / 3, triangles, index) {
+        return Reach::Refused(answer::OUT_OF_BOUNDS);
+    }
+    cast::exact_reach(line, triangle_mesh::corners_of(pose, triangles, index))
+}
+
+// The notes of the triangles in the first places of a list, for every ray on the line. A refusal does not end them: one of a lower index
+// may follow. Callers show, by the walk, that they are triangles of the mesh.
+fn note_all(line: Line, pose: &[f64], triangles: &[u32], list: &[u32], found: usize) -> Notes
+    requires { ⌜ RuledLine line ⌝ ∗ ⌜ (found ≤ length (now list))
+        × (allBelow (thirds (length (now triangles))) (take found (now list)) ≡ true) ⌝ }
+    ensures { λ r. ⌜ ((ray : AnyRay) → saysNotes r ≡ summaryFrom (exactAnswer ray line (now (pose .entry)) (now (triangles .entry)))
+        nothing (take found (now (list .entry)))) ⌝ }
+{
+    let mut notes = summary::empty();
+    let mut i: usize = 0;
+    while i < found {
+        let index = list[i];
+        let reach = reach_of(line, pose, triangles, index as usize);
+        notes = summary::note(notes, index, reach);
+        i += 1;
+    }
+    notes
+}
+
+// The nearest of the triangles in the first places of a list: as if they stood there ascending, in whatever order they do. Only the
+// winner's normal is computed. Callers show, by the walk, that they are triangles of the mesh.
+pub fn nearest_of(
+    ray: Ray,
+    line: Line,
+    pose: &[f64],
+    triangles: &[u32],
+    list: &[u32],
+    found: usize,
+) -> IndexedCast
+    requires { ⌜ RuledLine line ⌝ ∗ ⌜ (found ≤ length (now list))
+        × (allBelow (thirds (length (now triangles))) (take found (now list)) ≡ true) ⌝ }
+    ensures { λ r. ⌜ saysIndexed r ≡ nearestOf (exactAnswer ray line (now (pose .entry)) (now (triangles .entry)))
+        (sorted (take found (now (list .entry)))) ⌝ }
+{
+    let notes = note_all(line, pose, triangles, list, found);
+    let winner = summary::winner(notes);
+    match winner {
+        Outcome::Nobody => {
+            return IndexedCast::None;
+        }
+        Outcome::Refused(number) => {
+            return IndexedCast::Refused(number);
+        }
+        Outcome::Struck { index, distance } => {
+            let corners = triangle_mesh::corners_of(pose, triangles, index as usize);
+            let hit = triangle::hit_at(ray, corners, distance);
+            return nearest::next(IndexedCast::None, index, hit);
+        }
+    }
+}

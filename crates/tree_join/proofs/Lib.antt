@@ -1,0 +1,2 @@
+-- Laws of runs that are joined. Assumes nothing.
+pub mod JoinLaws

@@ -1,0 +1,32 @@
+-- `triangle_cast::triangle::settled_cast` meets its contract. Assumes nothing.
+use Rattle.arithmetic.proofs.Order.{ne-self-is-nan}
+use mathlib.Core.Path.{sym, _∙_}
+use borrow.Author.Needs.{needs}
+use Rattle.triangle_cast.proofs.triangle.settled_cast.Statement.{statement}
+use Rattle.triangle_cast.proofs.triangle.settled_cast.Tie as tie
+
+-- flat
+returns : tie.Need-returns
+returns c = simp (sym (c .before .is-flat .ensures), c .if1 .taken)
+
+-- a distance that is not a number
+returns-2 : tie.Need-returns-2
+returns-2 c =
+    let (f, e1) : tie.After-is-flat × tie.Else1 = search in
+    simp (sym (f .is-flat .ensures), e1 .if1 .left, sym (ne-self-is-nan _) ∙ c .if2 .taken)
+
+-- the normal
+returns-3 : tie.Need-returns-3
+returns-3 c =
+    let (f, e1, e2) : tie.After-is-flat × tie.Else1 × tie.Else2 = search in
+    simp (sym (f .is-flat .ensures), e1 .if1 .left, sym (ne-self-is-nan _) ∙ e2 .if2 .left, sym (c .triangle-normal .ensures))
+
+pub settled-cast-spec : {M : Type 1} → statement M
+settled-cast-spec =
+    tie.close
+    (tie.spec
+    (λ c κs. search needs)  -- is-flat-requires
+    returns
+    returns-2
+    (λ c κs. search needs)  -- triangle-normal-requires
+    returns-3)

@@ -1,0 +1,12 @@
+-- `vectors::vec3::Vec3::cross` meets its contract. Assumes nothing.
+use mathlib.Core.Path.{refl}
+use Rattle.vectors.specs.Vector.{crossOf}
+use Rattle.vectors.proofs.vec3.Vec3.cross.Statement.{statement}
+use Rattle.vectors.proofs.vec3.Vec3.cross.Tie as tie
+
+returns : tie.Need-returns
+unfolding crossOf
+returns c = refl
+
+pub cross-spec : {M : Type 1} → statement M
+cross-spec = tie.close (tie.spec returns)

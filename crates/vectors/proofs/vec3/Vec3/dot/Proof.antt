@@ -1,0 +1,12 @@
+-- `vectors::vec3::Vec3::dot` meets its contract. Assumes nothing.
+use mathlib.Core.Path.{refl}
+use Rattle.vectors.specs.Vector.{dotOf}
+use Rattle.vectors.proofs.vec3.Vec3.dot.Statement.{statement}
+use Rattle.vectors.proofs.vec3.Vec3.dot.Tie as tie
+
+returns : tie.Need-returns
+unfolding dotOf
+returns c = refl
+
+pub dot-spec : {M : Type 1} → statement M
+dot-spec = tie.close (tie.spec returns)
