@@ -24,13 +24,16 @@ const RTLD_NOW: c_int = 2;
 
 type Build = unsafe extern "C" fn(*const f64, *const u32, usize) -> *mut c_void;
 type Free = unsafe extern "C" fn(*mut c_void);
-type First = unsafe extern "C" fn(*const c_void, *const f64, *mut f64) -> u32;
+type Cast = unsafe extern "C" fn(*mut c_void, *const f64, *mut f64) -> u32;
 
 #[derive(Clone, Copy)]
 struct Side {
     build: Build,
     free: Free,
-    first: First,
+    /// The first triangle along the ray.
+    first: Cast,
+    /// The nearest of all triangles that the segment meets.
+    nearest: Cast,
 }
 
 /// A mesh as CGAL's side holds it.
@@ -42,7 +45,7 @@ struct Board {
 impl Side {
     fn loaded(file: &str) -> Self {
         let file = CString::new(file).expect("a file's name");
-        // SAFETY: the names are C strings, and the types are those of the three functions in bench/cgal.cpp.
+        // SAFETY: the names are C strings, and the types are those of the four functions in bench/cgal.cpp.
         unsafe {
             let library = dlopen(file.as_ptr(), RTLD_NOW);
             assert!(!library.is_null(), "{file:?} cannot be loaded");
@@ -54,7 +57,8 @@ impl Side {
             Self {
                 build: transmute::<*mut c_void, Build>(named(c"cgal_build")),
                 free: transmute::<*mut c_void, Free>(named(c"cgal_free")),
-                first: transmute::<*mut c_void, First>(named(c"cgal_first")),
+                first: transmute::<*mut c_void, Cast>(named(c"cgal_first")),
+                nearest: transmute::<*mut c_void, Cast>(named(c"cgal_nearest")),
             }
         }
     }
@@ -68,11 +72,11 @@ impl Side {
 }
 
 impl Board {
-    /// A hit's distance.
-    fn first(&self, ray: &[f64; 7]) -> Option<f64> {
+    /// A hit's distance, by one of the side's two casts.
+    fn hit(&self, cast: Cast, ray: &[f64; 7]) -> Option<f64> {
         let mut distance = 0.0;
         // SAFETY: the board is one that was built, and the ray has seven numbers.
-        let hit = unsafe { (self.side.first)(self.board, ray.as_ptr(), &mut distance) };
+        let hit = unsafe { cast(self.board, ray.as_ptr(), &mut distance) };
         (hit == 1).then_some(distance)
     }
 }
@@ -106,12 +110,12 @@ fn build(name: &str, side: Side, mesh: Mesh) -> Row {
 }
 
 /// Both answers are compared first: a hit on both sides or none, and distances that agree but for rounding.
-fn casts(name: &str, side: Side, both: &Rc<Both>, rays: Vec<Ray>) -> Row {
+fn casts(name: &str, side: Side, cast: Cast, both: &Rc<Both>, rays: Vec<Ray>) -> Row {
     let (both, board) = (both.clone(), side.built(&both.mesh));
     let mut lent = both.lent();
     for ray in &rays {
         let number = areas::mesh(ray, &both.mesh, &both.tree, &mut lent);
-        match board.first(&numbers(ray)) {
+        match board.hit(cast, &numbers(ray)) {
             None => assert_eq!(number, NONE, "{name}: {ray:?}"),
             Some(distance) => {
                 assert_eq!(number, HIT, "{name}: {ray:?}");
@@ -133,7 +137,7 @@ fn casts(name: &str, side: Side, both: &Rc<Both>, rays: Vec<Ray>) -> Row {
             *hit = lent.hit;
             number
         },
-        move |ray| board.first(ray),
+        move |ray| board.hit(cast, ray),
     )
 }
 
@@ -143,9 +147,9 @@ pub fn rows() -> Vec<Planned> {
         return Vec::new();
     };
     let side = Side::loaded(&file.to_string_lossy());
-    let at = |name: &str, mesh: fn() -> Mesh, rays: Vec<Ray>| {
+    let at = |name: &str, cast: Cast, mesh: fn() -> Mesh, rays: Vec<Ray>| {
         plan(name, move |name: &str| {
-            casts(name, side, &Both::of(mesh()), rays)
+            casts(name, side, cast, &Both::of(mesh()), rays)
         })
     };
     vec![
@@ -154,21 +158,25 @@ pub fn rows() -> Vec<Planned> {
         }),
         at(
             "drawer front, hit, beside CGAL",
+            side.nearest,
             inputs::front,
             inputs::front_rays(256),
         ),
         at(
             "panel, short axis probes, beside CGAL",
+            side.nearest,
             inputs::panel,
             inputs::short_probes(1_024),
         ),
         at(
             "panel, long oblique rays, beside CGAL",
+            side.first,
             inputs::panel,
             inputs::long_rays(8),
         ),
         at(
             "panel, miss through a hole, beside CGAL",
+            side.nearest,
             inputs::panel,
             inputs::through_holes(1_024),
         ),

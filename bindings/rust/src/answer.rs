@@ -165,9 +165,13 @@ impl fmt::Display for Refusal {
             Refusal::NoNormal => "no normal: the surface hit has no unit normal",
             Refusal::NotConvergent => "not convergent: the walk through the grid has no answer",
             Refusal::BadRange => "bad range: a range of heights is out of order or not finite",
-            Refusal::LimitReached => "limit reached: the cast would look at more nodes than admitted",
+            Refusal::LimitReached => {
+                "limit reached: the cast would look at more nodes than admitted"
+            }
             Refusal::NotHeld => "not held: a record's float is NaN, or is no f32 exactly",
-            Refusal::NotWhole => "not whole: the ray or a corner is not on whole millimetres in its range",
+            Refusal::NotWhole => {
+                "not whole: the ray or a corner is not on whole millimetres in its range"
+            }
             Refusal::Other(_) => "a refusal that this version does not know",
         };
         write!(out, "refused {}, {words}", self.number())

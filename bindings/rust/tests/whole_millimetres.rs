@@ -41,7 +41,10 @@ impl Board {
     fn judged(&self) -> (Verdict, Option<(i128, i128)>) {
         let [a, b, c] = self.corners;
         let normal = cross(sub(b, a), sub(c, a));
-        let (mut along, mut depth) = (dot(self.direction, normal), dot(sub(a, self.origin), normal));
+        let (mut along, mut depth) = (
+            dot(self.direction, normal),
+            dot(sub(a, self.origin), normal),
+        );
         if along == 0 {
             return (Verdict::None, None);
         }
@@ -52,7 +55,8 @@ impl Board {
         let at = |k: usize| self.origin[k] * along + self.direction[k] * depth;
         let point = [at(0), at(1), at(2)];
         let times = |p: Point| [p[0] * along, p[1] * along, p[2] * along];
-        let area = |p: Point, q: Point| dot(normal, cross(sub(times(q), times(p)), sub(point, times(p))));
+        let area =
+            |p: Point, q: Point| dot(normal, cross(sub(times(q), times(p)), sub(point, times(p))));
         let (opposite, second, third) = (area(b, c), area(c, a), area(a, b));
         let outside = opposite < 0 || second < 0 || third < 0;
         let verdict = if outside || depth < 0 || depth > self.maximum * along {
@@ -164,17 +168,32 @@ fn a_million_hard_boards() {
     for number in 0..1_000_000 {
         let board = hard(&mut random);
         // a zero has either sign
-        let mut float = |z: i128| if z == 0 { random.one_of(&[0.0, -0.0]) } else { z as f64 };
+        let mut float = |z: i128| {
+            if z == 0 {
+                random.one_of(&[0.0, -0.0])
+            } else {
+                z as f64
+            }
+        };
         let mut vector = |p: Point| [float(p[0]), float(p[1]), float(p[2])];
         let corners = board.corners.map(&mut vector);
-        let ray = Ray::new(vector(board.origin), vector(board.direction), board.maximum as f64);
+        let ray = Ray::new(
+            vector(board.origin),
+            vector(board.direction),
+            board.maximum as f64,
+        );
         let (verdict, depth) = board.judged();
         let text = || format!("board {number}: {ray:?} {corners:?}, {verdict:?}, {depth:?}");
         let cast = ray_triangle(&ray, &corners);
         let hit = match cast {
             Cast::Hit(hit) => {
                 let (depth, along) = depth.unwrap_or_else(|| panic!("{}", text()));
-                assert!(near(hit.distance, depth, along), "{}: {}", text(), hit.distance);
+                assert!(
+                    near(hit.distance, depth, along),
+                    "{}: {}",
+                    text(),
+                    hit.distance
+                );
                 true
             }
             Cast::None => false,
@@ -189,7 +208,10 @@ fn a_million_hard_boards() {
     }
     // hits, nones, and the open cases both ways
     let [[_, hits], [nones, _], open] = met;
-    assert!(hits > 50_000 && nones > 50_000 && open.iter().all(|&n| n > 100), "{met:?}");
+    assert!(
+        hits > 50_000 && nones > 50_000 && open.iter().all(|&n| n > 100),
+        "{met:?}"
+    );
 }
 
 /// The open cases that the theorem's examples compute (crates/whole_numbers/proofs/Examples.antt).

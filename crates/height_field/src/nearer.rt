@@ -1,28 +1,8 @@
+use nearest_hit::nearest;
 use nearest_hit::nearest::IndexedCast;
 ghost use mathlib.Core.Path.{_≡_};
-ghost use Rattle.nearest_hit.specs.Nearest.{saysIndexed, givesWay};
+ghost use Rattle.nearest_hit.specs.Nearest.{saysIndexed};
 ghost use Rattle.height_field.specs.Pass.{isStopped, nearerOf};
-
-// Whether a hit at a distance would take the place of what was found so far.
-fn gives_way(best: IndexedCast, distance: f64) -> bool
-    ensures { λ r. ⌜ r ≡ givesWay (saysIndexed best) distance ⌝ }
-{
-    match best {
-        IndexedCast::Hit {
-            normal: _,
-            distance: least,
-            index: _,
-        } => {
-            return distance < least;
-        }
-        IndexedCast::None => {
-            return true;
-        }
-        IndexedCast::Refused(_) => {
-            return false;
-        }
-    }
-}
 
 // Whether a triangle refused, after which no answer counts.
 fn is_stopped(best: IndexedCast) -> bool
@@ -56,7 +36,7 @@ pub fn nearer(best: IndexedCast, found: IndexedCast) -> IndexedCast
             distance,
             index,
         } => {
-            if gives_way(best, distance) {
+            if nearest::gives_way(best, distance) {
                 return IndexedCast::Hit {
                     normal: normal,
                     distance: distance,

@@ -101,7 +101,7 @@ pub fn next(best: IndexedCast, index: u32, cast: Cast) -> IndexedCast
 }
 
 // Whether a hit at a distance would take the place of what was found so far.
-fn gives_way(best: IndexedCast, distance: f64) -> bool
+pub fn gives_way(best: IndexedCast, distance: f64) -> bool
     ensures { λ r. ⌜ r ≡ givesWay (saysIndexed best) distance ⌝ }
 {
     match best {

@@ -80,7 +80,11 @@ pub fn first_depth(o: Point, d: Point, near: i128, far: i128, t: [Point; 3]) -> 
 }
 
 fn divisor(a: i128, b: i128) -> i128 {
-    if b == 0 { a.abs() } else { divisor(b, a % b) }
+    if b == 0 {
+        a.abs()
+    } else {
+        divisor(b, a % b)
+    }
 }
 
 /// The float nearest to a depth: both numbers are exact once the fraction is reduced.
