@@ -14,3 +14,6 @@ pub mod Merging
 pub mod Inserting
 pub mod Exchanging
 pub mod InOrder
+pub mod Sorted
+pub mod Apart
+pub mod Splitting

@@ -1,23 +1,29 @@
 -- One call of the recursion: what a leaf, a branch and a refusal give. Assumes nothing.
 use mathlib.Core.Path.{_≡_, refl, sym, ap, _∙_, subst}
-use mathlib.Core.Bool.{Bool, true, false, _&&_, cond, true≢false, false≢true}
+use mathlib.Core.Bool.{Bool, true, false, _&&_, cond, true≢false, false≢true, and-false}
 use mathlib.Core.List.{List, [], _∷_, _++_, append-assoc}
 use Prim.Native.Nat.{ℕ, _+_, _-_, _*_, _/_, _<_, _≤_}
 use native.Mathlib.Omega.{arith}
+use lib.Dec.{ltb}
 use lib.Ieee.{Float}
 use lib.ListN.{length, take, drop, length-append, length-drop}
 use lib.Seq.{sets, length-take-le}
 use Rattle.vectors.specs.Vector.{finiteVec}
 use Rattle.casts.specs.Answer.{overflow}
 use Rattle.tree_build.specs.Shape.{Shape, leaf, branch, shapeOf, sizeOf, nodesOf, wordsOf}
-use Rattle.tree.specs.Layout.{boxNumbers}
+use borrow.Author.Tests.{lt-ltb, le-ltb}
+use Rattle.geometry.specs.Box.{unionOf}
+use Rattle.tree.specs.Layout.{boxAt, boxNumbers}
 use Rattle.tree_ranges.specs.Extents.{hullOf, extentOf}
-use Rattle.tree_build.specs.Ranges.{sortedRange, leftRange, rightRange, extentsFinite, orderBelow, boxesBelow}
+use Rattle.tree_build.specs.Ranges.{leftRange, rightRange, extentsFinite, orderBelow, boxesBelow}
 use Rattle.tree_build.specs.Build.{Answer, nodes, refused, says}
-use Rattle.tree_build.specs.Node.{RoomAt, Written, Grown}
+use Rattle.tree_build.specs.Node.{RoomAt, Arranged, Written, Grown}
 use Rattle.tree_build.specs.declared.build.Built.{Built}
 use Rattle.tree_build.specs.declared.build.Built.the-variants.{Nodes, Refused}
 use Rattle.lists.proofs.Runs.{sets-append, sets-before}
+use Rattle.tree_plain.specs.Plain.{plainRange}
+use Rattle.tree_build.proofs.Alikeness.{grown-alike, hull-of-halves}
+use Rattle.tree_build.proofs.Readback.{hull-first, hull-last}
 use Rattle.tree_build.proofs.Shapes.{few-are-a-leaf, many-are-halved, sizeOf-shapeOf, nodes-halved, three-words-a-node}
 use Rattle.tree_build.proofs.Shapes.{six-numbers-a-node}
 
@@ -71,31 +77,17 @@ module _ (boxes : List Float) (ts : List ℕ) (start node : ℕ) (nodeBoxes : Li
 
   -- both halves, the left one's nodes directly behind the branch and the right one's behind those
   module _ (l r : Shape) (finite : finiteVec (extentOf boxes ts) ≡ true) (front back : List ℕ) (left right : Built) (next : ℕ)
-      (went : left ≡ Nodes next) (nodeBoxes₁ nodeBoxes₂ : List Float) (nodeWords₁ nodeWords₂ : List ℕ)
-      (on-left : Grown boxes l (leftRange boxes l ts) start (node + 1) left front (sets nodeBoxes (6 * node) (boxNumbers (hullOf boxes ts)))
-      nodeBoxes₁ nodeWords nodeWords₁)
+      (went : left ≡ Nodes next) (nodeBoxes₀ nodeBoxes₁ nodeBoxes₂ nodeBoxes₃ : List Float) (nodeWords₁ nodeWords₂ : List ℕ)
+      (on-left : Grown boxes l (leftRange boxes l ts) start (node + 1) left front nodeBoxes₀ nodeBoxes₁ nodeWords nodeWords₁)
       (on-right : Grown boxes r (rightRange boxes l ts) (start + sizeOf l) next right back nodeBoxes₁ nodeBoxes₂
       (sets nodeWords₁ (3 * node) (1 ∷ ((node + 1) ∷ (next ∷ [])))) nodeWords₂)
+      (boxes-joined : next ≡ node + 1 + nodesOf l
+      → nodeBoxes₁ ≡ sets nodeBoxes₀ (6 * (node + 1)) (boxesBelow boxes l (leftRange boxes l ts))
+      → nodeBoxes₂ ≡ sets nodeBoxes₁ (6 * next) (boxesBelow boxes r (rightRange boxes l ts))
+      → nodeBoxes₃ ≡ sets nodeBoxes (6 * node) (boxesBelow boxes (branch l r) ts))
     where
       told : (extentsFinite boxes l (leftRange boxes l ts) ≡ true) × (next ≡ node + 1 + nodesOf l)
       told = was-grown (extentsFinite boxes l (leftRange boxes l ts)) (node + 1 + nodesOf l) next (sym (ap says went) ∙ on-left .answer)
-
-      boxes-joined : (w : Written boxes r (rightRange boxes l ts) (start + sizeOf l) next back nodeBoxes₁ nodeBoxes₂ (sets nodeWords₁ (3 *
-          node) (1 ∷ ((node + 1) ∷ (next ∷ [])))) nodeWords₂)
-          → nodeBoxes₂ ≡ sets nodeBoxes (6 * node) (boxesBelow boxes (branch l r) ts)
-      unfolding boxesBelow boxNumbers
-      boxes-joined w =
-          let hull = boxNumbers (hullOf boxes ts) in
-          let below = boxesBelow boxes l (leftRange boxes l ts) in
-          let behind = boxesBelow boxes r (rightRange boxes l ts) in
-          let first : 6 * (node + 1) ≡ 6 * node + 6 = omega arith in
-          let second : 6 * next ≡ 6 * node + 6 + length below = omega (arith, told .1, six-numbers-a-node boxes l (leftRange boxes l ts)) in
-          w .boxed
-          ∙ ap (λ (z : List Float). sets z (6 * next) behind)
-          (on-left .written (told .0) .boxed ∙ ap (λ (k : ℕ). sets (sets nodeBoxes (6 * node) hull) k below) first)
-          ∙ ap (λ (k : ℕ). sets (sets (sets nodeBoxes (6 * node) hull) (6 * node + 6) below) k behind) second
-          ∙ sym (sets-append (sets nodeBoxes (6 * node) hull) (6 * node + 6) below behind)
-          ∙ sym (sets-append nodeBoxes (6 * node) hull (below ++ behind))
 
       words-joined : (w : Written boxes r (rightRange boxes l ts) (start + sizeOf l) next back nodeBoxes₁ nodeBoxes₂ (sets nodeWords₁ (3 *
           node) (1 ∷ ((node + 1) ∷ (next ∷ [])))) nodeWords₂)
@@ -117,7 +109,7 @@ module _ (boxes : List Float) (ts : List ℕ) (start node : ℕ) (nodeBoxes : Li
           ∙ ap (sets nodeWords (3 * node)) (append-assoc own below behind)
           ∙ ap (λ (k : ℕ). sets nodeWords (3 * node) ((1 ∷ ((node + 1) ∷ (k ∷ []))) ++ (below ++ wordsOf k (start + sizeOf l) r))) (told .1)
 
-      pub branch-grown : Grown boxes (branch l r) ts start node right (front ++ back) nodeBoxes nodeBoxes₂ nodeWords nodeWords₂
+      pub branch-grown : Grown boxes (branch l r) ts start node right (front ++ back) nodeBoxes nodeBoxes₃ nodeWords nodeWords₂
       unfolding extentsFinite nodesOf orderBelow
       branch-grown =
           let b = extentsFinite boxes l (leftRange boxes l ts) in
@@ -135,7 +127,7 @@ module _ (boxes : List Float) (ts : List ℕ) (start node : ℕ) (nodeBoxes : Li
                   order =
                       ap (λ (z : List ℕ). z ++ back) (on-left .written (told .0) .order)
                       ∙ ap (λ (z : List ℕ). orderBelow boxes l (leftRange boxes l ts) ++ z) (w .order);
-                  boxed = boxes-joined w;
+                  boxed = boxes-joined (told .1) (on-left .written (told .0) .boxed) (w .boxed);
                   worded = words-joined w;
                 };
           }
@@ -180,6 +172,11 @@ next-is boxes n n′ ts start node left next front nodeBoxes nodeBoxes₁ nodeWo
     was-grown (extentsFinite boxes (shapeOf n′) ts) (node + 1 + nodesOf (shapeOf n′)) next (sym (ap says went) ∙ g .answer) .1
     ∙ ap (λ (k : ℕ). node + 1 + nodesOf (shapeOf k)) e
 
+-- a leaf's box is written at once
+pub written-now : (unseen : Bool) (n : ℕ) (x y z : List Float) → n ≤ 4 → x ≡ cond (unseen && ltb 4 n) y z → x ≡ z
+written-now unseen n x y z h e =
+    e ∙ ap (λ (b : Bool). cond (unseen && b) y z) (le-ltb 4 n h) ∙ ap (λ (b : Bool). cond b y z) (and-false unseen)
+
 -- ---- each return of the code
 module _ (boxes : List Float) (ts : List ℕ) (start node : ℕ) (nodeBoxes nodeBoxes′ : List Float) (nodeWords nodeWords′ : List ℕ) where
   pub few-returned : length ts ≤ 4 → nodeBoxes′ ≡ sets nodeBoxes (6 * node) (boxNumbers (hullOf boxes ts)) → nodeWords′ ≡ sets nodeWords
@@ -195,15 +192,7 @@ module _ (boxes : List Float) (ts : List ℕ) (start node : ℕ) (nodeBoxes node
         (extent-refused boxes ts start node nodeBoxes nodeWords (shapeOf (length ts / 2)) (shapeOf (length ts - length ts / 2)) ts′
         nodeBoxes′ nodeWords′ (sym h))
 
-    module _ (arranged : List ℕ) (is : arranged ≡ sortedRange boxes ts) (as-long : length arranged ≡ length ts) where
-      left-range : take (length ts / 2) arranged ≡ leftRange boxes (shapeOf (length ts / 2)) ts
-      unfolding leftRange
-      left-range = ap (take (length ts / 2)) is ∙ ap (λ (k : ℕ). take k (sortedRange boxes ts)) (sym (sizeOf-shapeOf (length ts / 2)))
-
-      right-range : drop (length ts / 2) arranged ≡ rightRange boxes (shapeOf (length ts / 2)) ts
-      unfolding rightRange
-      right-range = ap (drop (length ts / 2)) is ∙ ap (λ (k : ℕ). drop k (sortedRange boxes ts)) (sym (sizeOf-shapeOf (length ts / 2)))
-
+    module _ (arranged : List ℕ) (is : Arranged boxes ts arranged) (as-long : length arranged ≡ length ts) where
       pub left-long : length (take (length ts / 2) arranged) ≡ length ts / 2
       left-long = length-take-le (length ts / 2) arranged (omega arith)
 
@@ -214,8 +203,8 @@ module _ (boxes : List Float) (ts : List ℕ) (start node : ℕ) (nodeBoxes node
           left-half : Grown boxes (shapeOf (length ts / 2)) (leftRange boxes (shapeOf (length ts / 2)) ts) start (node + 1) left front
               nodeBoxes₁ nodeBoxes₂ nodeWords nodeWords₁
           left-half =
-              subst (λ (z : List ℕ). Grown boxes (shapeOf (length ts / 2)) z start (node + 1) left front nodeBoxes₁ nodeBoxes₂ nodeWords
-              nodeWords₁) left-range
+              grown-alike boxes (shapeOf (length ts / 2)) (leftRange boxes (shapeOf (length ts / 2)) ts) (take (length ts / 2) arranged)
+              start (node + 1) left front nodeBoxes₁ nodeBoxes₂ nodeWords nodeWords₁ (is .left)
               (subst (λ (k : ℕ). Grown boxes (shapeOf k) (take (length ts / 2) arranged) start (node + 1) left front nodeBoxes₁ nodeBoxes₂
               nodeWords nodeWords₁) left-long on-left)
 
@@ -229,25 +218,55 @@ module _ (boxes : List Float) (ts : List ℕ) (start node : ℕ) (nodeBoxes node
 
           module _ (right : Built) (next : ℕ) (part back : List ℕ) (same-part : part ≡ drop (length ts / 2) arranged)
               (whole : ts′ ≡ front ++ back) (finite : true ≡ finiteVec (extentOf boxes ts)) (went : left ≡ Nodes next)
-              (hull : nodeBoxes₁ ≡ sets nodeBoxes (6 * node) (boxNumbers (hullOf boxes ts))) (nodeWords₂ : List ℕ)
+              (unseen : Bool) (plains : unseen ≡ true → plainRange boxes ts ≡ true)
+              (roomy : 6 * (node + nodesOf (shapeOf (length ts))) ≤ length nodeBoxes)
+              (first : nodeBoxes₁ ≡ cond (unseen && ltb 4 (length ts)) nodeBoxes
+              (sets nodeBoxes (6 * node) (boxNumbers (hullOf boxes ts))))
+              (nodeBoxes₃ : List Float)
+              (last : nodeBoxes′ ≡ cond unseen (sets nodeBoxes₃ (6 * node)
+              (boxNumbers (unionOf (boxAt nodeBoxes₃ (node + 1)) (boxAt nodeBoxes₃ next)))) nodeBoxes₃)
+              (nodeWords₂ : List ℕ)
               (own : nodeWords₂ ≡ sets nodeWords₁ (3 * node) (1 ∷ ((node + 1) ∷ (next ∷ []))))
-              (on-right : Grown boxes (shapeOf (length part)) part (start + length ts / 2) next right back nodeBoxes₂ nodeBoxes′ nodeWords₂
+              (on-right : Grown boxes (shapeOf (length part)) part (start + length ts / 2) next right back nodeBoxes₂ nodeBoxes₃ nodeWords₂
               nodeWords′)
             where
               part-long : length part ≡ length ts - length ts / 2
               part-long = ap length same-part ∙ length-drop (length ts / 2) arranged ∙ ap (λ (k : ℕ). k - length ts / 2) as-long
 
               right-half : Grown boxes (shapeOf (length ts - length ts / 2)) (rightRange boxes (shapeOf (length ts / 2)) ts)
-                  (start + sizeOf (shapeOf (length ts / 2))) next right back nodeBoxes₂ nodeBoxes′
+                  (start + sizeOf (shapeOf (length ts / 2))) next right back nodeBoxes₂ nodeBoxes₃
                   (sets nodeWords₁ (3 * node) (1 ∷ ((node + 1) ∷ (next ∷ [])))) nodeWords′
               right-half =
-                  rw (← part-long, ← right-range, ← same-part, sizeOf-shapeOf (length ts / 2), ← own) on-right
+                  grown-alike boxes (shapeOf (length ts - length ts / 2)) (rightRange boxes (shapeOf (length ts / 2)) ts)
+                  (drop (length ts / 2) arranged) (start + sizeOf (shapeOf (length ts / 2))) next right back nodeBoxes₂ nodeBoxes₃
+                  (sets nodeWords₁ (3 * node) (1 ∷ ((node + 1) ∷ (next ∷ [])))) nodeWords′ (is .right)
+                  (rw (← part-long, ← same-part, sizeOf-shapeOf (length ts / 2), ← own) on-right)
+
+              -- the box is written last, or first
+              boxes-joined : (b : Bool) → unseen ≡ b → next ≡ node + 1 + nodesOf (shapeOf (length ts / 2))
+                  → nodeBoxes₂ ≡ sets nodeBoxes₁ (6 * (node + 1))
+                  (boxesBelow boxes (shapeOf (length ts / 2)) (leftRange boxes (shapeOf (length ts / 2)) ts))
+                  → nodeBoxes₃ ≡ sets nodeBoxes₂ (6 * next)
+                  (boxesBelow boxes (shapeOf (length ts - length ts / 2)) (rightRange boxes (shapeOf (length ts / 2)) ts))
+                  → nodeBoxes′ ≡ sets nodeBoxes (6 * node)
+                  (boxesBelow boxes (branch (shapeOf (length ts / 2)) (shapeOf (length ts - length ts / 2))) ts)
+              boxes-joined true e follows below behind =
+                  let size = sizeOf-shapeOf (length ts / 2) in
+                  let later : nodeBoxes₁ ≡ nodeBoxes = rw (e, lt-ltb 4 (length ts) many) at first in
+                  hull-last boxes (shapeOf (length ts / 2)) (shapeOf (length ts - length ts / 2)) ts node next nodeBoxes nodeBoxes₂
+                  nodeBoxes₃ nodeBoxes′ follows (omega (arith, nodes-halved (length ts) many))
+                  (hull-of-halves boxes (shapeOf (length ts / 2)) ts (omega arith) (omega arith) (plains e))
+                  (below ∙ ap (λ (z : List Float). sets z (6 * (node + 1))
+                  (boxesBelow boxes (shapeOf (length ts / 2)) (leftRange boxes (shapeOf (length ts / 2)) ts))) later)
+                  behind (rw e at last)
+              boxes-joined false e follows below behind =
+                  rw e at last
+                  ∙ hull-first boxes (shapeOf (length ts / 2)) (shapeOf (length ts - length ts / 2)) ts node next nodeBoxes nodeBoxes₁
+                  nodeBoxes₂ nodeBoxes₃ follows (rw e at first) below behind
 
               pub branch-returned : Grown boxes (shapeOf (length ts)) ts start node right ts′ nodeBoxes nodeBoxes′ nodeWords nodeWords′
               branch-returned =
                   rw (many-are-halved (length ts) many, whole)
                   (branch-grown boxes ts start node nodeBoxes nodeWords (shapeOf (length ts / 2)) (shapeOf (length ts - length ts / 2))
-                  (sym finite) front back left right next went nodeBoxes₂ nodeBoxes′ nodeWords₁ nodeWords′
-                  (subst (λ (z : List Float). Grown boxes (shapeOf (length ts / 2)) (leftRange boxes (shapeOf (length ts / 2)) ts) start
-                  (node + 1) left front z nodeBoxes₂ nodeWords nodeWords₁) hull left-half)
-                  right-half)
+                  (sym finite) front back left right next went nodeBoxes₁ nodeBoxes₂ nodeBoxes₃ nodeBoxes′ nodeWords₁ nodeWords′ left-half
+                  right-half (boxes-joined unseen refl))

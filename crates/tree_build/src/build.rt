@@ -88,6 +88,7 @@ fn grow(
         return Built::Refused(answer::OUT_OF_BOUNDS);
     }
     fill::number(&mut order[..count]);
+    let unseen = nodes::order_unseen(triangle_boxes, &order[..count]);
     nodes::build_node(
         triangle_boxes,
         &mut order[..count],
@@ -96,6 +97,7 @@ fn grow(
         node_boxes,
         node_words,
         work,
+        unseen,
     )
 }
 

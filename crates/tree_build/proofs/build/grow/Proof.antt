@@ -82,26 +82,44 @@ number-requires c κs =
     let s : tie.Start = search in
     omega (arith, length-take-le (count s) (s .args .order .now) (roomy s .forOrder), few s)
 
+-- the front of the numbered order, looked at and then lent
+within : (order part : List ℕ) (n : ℕ) → length part ≡ length (take n order) → n ≤ length order → n ≤ length (part ++ drop n order)
+within order part n e h = omega (arith, length-front order part n e)
+
+slice-reshare-prefix-order-unseen : tie.Need-slice-reshare-prefix-order-unseen
+slice-reshare-prefix-order-unseen c =
+    let (s, k) : tie.Start × tie.After-number = search in
+    within (s .args .order .now) (numbers k) (count s) (k .number .kept .0) (roomy s .forOrder)
+
+slice-aggregate-order-unseen : tie.Need-slice-aggregate-order-unseen
+slice-aggregate-order-unseen c =
+    let (s, k) : tie.Start × tie.After-number = search in
+    let inside = within (s .args .order .now) (numbers k) (count s) (k .number .kept .0) (roomy s .forOrder) in
+    sym (length-take-le (count s) (ordered s k) inside)
+
 slice-relend-prefix-build-node : tie.Need-slice-relend-prefix-build-node
 slice-relend-prefix-build-node c =
     let (s, k) : tie.Start × tie.After-number = search in
-    omega (arith, length-front (s .args .order .now) (numbers k) (count s) (k .number .kept .0), roomy s .forOrder)
+    within (s .args .order .now) (numbers k) (count s) (k .number .kept .0) (roomy s .forOrder)
 
 slice-aggregate-build-node : tie.Need-slice-aggregate-build-node
 slice-aggregate-build-node c =
     let (s, k) : tie.Start × tie.After-number = search in
-    let long = length-front (s .args .order .now) (numbers k) (count s) (k .number .kept .0) in
-    sym (length-take-le (count s) (ordered s k) (omega (arith, long, roomy s .forOrder)))
+    let inside = within (s .args .order .now) (numbers k) (count s) (k .number .kept .0) (roomy s .forOrder) in
+    sym (length-take-le (count s) (ordered s k) inside)
 
 build-node-requires : tie.Need-build-node-requires
 build-node-requires c κs =
-    let (s, some, k) : tie.Start × tie.Else1 × tie.After-number = search in
+    let (s, some, k, u) : tie.Start × tie.Else1 × tie.After-number × tie.After-order-unseen = search in
     let a = s .args in
     let room = roomy s in
     let is = numbered (count s) (a .order .now) (numbers k) (room .forOrder) (k .number .ensures) in
-    let long : length (take (count s) (ordered s k)) ≡ count s = ap length is ∙ length-range 0 (count s) in
-    first-room (count s) (length (take (count s) (ordered s k))) (length (a .node-boxes .now)) (length (a .node-words .now))
-    (length (a .work .now)) long (pos-of-ne-zero (some .if1 .left)) (few s) (room .forNodeBoxes) (room .forNodeWords) (room .forWork)
+    let long : length (take (count s) (ordered s k)) ≡ count s = ap length is ∙ length-range 0 (count s) in (
+      first-room (count s) (length (take (count s) (ordered s k))) (length (a .node-boxes .now)) (length (a .node-words .now))
+          (length (a .work .now)) long (pos-of-ne-zero (some .if1 .left)) (few s) (room .forNodeBoxes) (room .forNodeWords)
+          (room .forWork),
+      u .order-unseen .ensures,
+    )
 
 -- each area is as long as it was
 same-length-2 : tie.Need-same-length-2
@@ -168,6 +186,9 @@ grow-spec =
     slice-relend-prefix-number
     slice-aggregate-number
     number-requires
+    slice-reshare-prefix-order-unseen
+    slice-aggregate-order-unseen
+    (search needs)  -- order-unseen-requires
     slice-relend-prefix-build-node
     slice-aggregate-build-node
     build-node-requires

@@ -1,0 +1,2 @@
+-- Ranges of plain boxes. Definitions only. Assumes nothing.
+pub mod Plain

@@ -1,0 +1,4 @@
+-- Laws of parted ranges. Assumes nothing.
+pub mod SelectLaws
+pub mod Sides
+pub mod Lent

@@ -1,0 +1,2 @@
+-- What a range parted at a place is. Definitions only. Assumes nothing.
+pub mod Selecting
