@@ -1,9 +1,8 @@
 use geometry::aabb::Aabb;
 use index_sort::sort;
 use tree::layout;
+use tree_walk::ahead;
 use tree_walk::step::Filled;
-use tree_walk::within;
-use tree_walk::within::Limited;
 ghost use mathlib.Core.Path.{_≡_};
 ghost use mathlib.Core.List.{[]};
 ghost use Prim.Native.Nat.{_<_};
@@ -13,7 +12,6 @@ ghost use Rattle.tree.specs.Layout.{treeOf};
 
 // The touching triangles in the walk's own order, in the first places of the list, whose rest is as it was; the stack may hold anything
 // afterwards.
-// It is the walk under a limit that no walk uses up: at most one node more is taken from the stack than there are, and that one is 5.
 // A box far off the tree leaves at its first node, here, where the walk itself stays out of line.
 // Callers show that the tree's areas and those of the walk are long enough.
 pub fn gather(
@@ -40,7 +38,7 @@ pub fn gather(
     if !layout::box_at(node_boxes, 0).touches(bounds) {
         return Filled::Count(0);
     }
-    let walked = within::gather_within(
+    ahead::gather_ahead(
         bounds,
         count,
         nodes,
@@ -50,19 +48,7 @@ pub fn gather(
         order,
         list,
         stack,
-        nodes + 1,
-    );
-    match walked {
-        Limited::Count { found, spent: _ } => {
-            return Filled::Count(found);
-        }
-        Limited::Broken(_) => {
-            return Filled::Broken;
-        }
-        Limited::UsedUp(_) => {
-            return Filled::Broken;
-        }
-    }
+    )
 }
 
 // The same triangles, ascending. Callers show that the areas are long enough and that a triangle's index is a u32.
@@ -83,7 +69,7 @@ pub fn walk(
         ≡ walkOf (treeOf nodes (now («node_boxes» .entry)) (now («triangle_boxes» .entry)) (now («node_words» .entry))
         (now (order .entry))) count bounds) × GrownTo count (now (list .entry)) 0 r (now (list .exit)) ⌝ }
 {
-    let walked = gather(
+    let walked = ahead::gather_ahead(
         bounds,
         count,
         nodes,

@@ -28,7 +28,7 @@ on-stack-set area i v (suc k) h =
     (λ (r : List ℕ). wordAt area k ∷ r) (on-stack-set area i v k k≤i)
 
 -- a push
-on-stack-push : (area : List ℕ) (k v : ℕ) → k < length area → onStack (set area k v) (suc k) ≡ v ∷ onStack area k
+pub on-stack-push : (area : List ℕ) (k v : ℕ) → k < length area → onStack (set area k v) (suc k) ≡ v ∷ onStack area k
 unfolding onStack
 on-stack-push area k v h =
     let r : k ≤ k = omega arith in

@@ -24,7 +24,7 @@ use Rattle.lists.proofs.EveryLaws.{every-snoc}
 pub grown-none : (n found : ℕ) (list : List ℕ) → found ≤ length list → allBelow n (take found list) ≡ true → Grown n list list found found
 grown-none n found list h a = record { grows = omega arith; inside = h; rest = refl; below = a }
 
-drop-later : (k m : ℕ) (xs ys : List ℕ) → k ≤ m → drop k xs ≡ drop k ys → drop m xs ≡ drop m ys
+pub drop-later : (k m : ℕ) (xs ys : List ℕ) → k ≤ m → drop k xs ≡ drop k ys → drop m xs ≡ drop m ys
 drop-later k m xs ys h e =
     let s : k + (m - k) ≡ m = omega arith in
     ap (λ (j : ℕ). drop j xs) (sym s) ∙ sym (drop-drop (m - k) k xs) ∙ ap (drop (m - k)) e ∙ drop-drop (m - k) k ys ∙ ap

@@ -3,3 +3,4 @@ pub mod Walk
 pub mod Areas
 pub mod Looking
 pub mod LookAreas
+pub mod Opening

@@ -60,7 +60,7 @@ fn take_place(
 
 // The places of the order from start to below end. Callers show that the places are the order's and that the list has one for each
 // triangle.
-fn take_places(
+pub fn take_places(
     bounds: Aabb,
     count: usize,
     triangle_boxes: &[f64],
@@ -123,7 +123,7 @@ fn at_leaf(
 }
 
 // A child above its parent and below the node count.
-fn child_fits(nodes: usize, node: usize, child: usize) -> bool
+pub fn child_fits(nodes: usize, node: usize, child: usize) -> bool
     ensures { λ r. ⌜ r ≡ (ltb node child && ltb child nodes) ⌝ }
 {
     if node < child {
