@@ -17,6 +17,7 @@ pub mod RootHalves
 pub mod RootLaws
 pub mod RootNearest
 pub mod RootPatterns
+pub mod RootProduct
 pub mod RootScaled
 pub mod RootWhole
 pub mod RoundingError

@@ -30,6 +30,14 @@ above-no-nan x h = go x (subst (λ (z : Float). lt z x ≡ true) zero-pattern h)
     go (inf s) h = unfold isNan in tt
     go (fin s m e) h = unfold isNan in tt
 
+pub below-no-nan : (x y : Float) → lt x y ≡ true → T (not (isNan x))
+unfolding lt
+below-no-nan nan nan h = absurd (false≢true h)
+below-no-nan nan (inf s) h = absurd (false≢true h)
+below-no-nan nan (fin s m e) h = absurd (false≢true h)
+below-no-nan (inf s) y h = unfold isNan in tt
+below-no-nan (fin s m e) y h = unfold isNan in tt
+
 none-above-itself : lt none none ≡ false
 unfolding lt
 none-above-itself = refl

@@ -5,7 +5,7 @@
 use mathlib.Core.Path.{_≡_, refl, sym, ap, _∙_, subst}
 use mathlib.Core.Bool.{Bool, true, false, not, true≢false}
 use Prim.Native.Nat.{ℕ, _+_, _-_, _*_, _/_, _^_, _≤_, _<_}
-use native.Mathlib.Nat.{add-mul, mul-add, mul-le-mul, mul-lt-mul-of-pos-right, lt-of-lt-of-le, lt-trans, mul-assoc, mul-comm}
+use native.Mathlib.Nat.{add-mul, mul-le-mul, mul-lt-mul-of-pos-right, lt-of-lt-of-le, lt-trans, mul-assoc, mul-comm}
 use native.Mathlib.Nat.{mul-right-comm, mul-pos, mul-le-mul-right, lt-of-not-le}
 use native.Mathlib.Omega.{arith}
 use lib.Dec.{T, lit≤}
@@ -29,7 +29,7 @@ gap = round binary64 false 1 (2 ^ 43)
 abbrev pub gapSquared : Float
 gapSquared = ofBits binary64 0x3a90_0000_0000_0000
 
--- the test of `quick_root`
+-- the test of `is_root`
 abbrev pub passes : Float → Float → Bool
 passes x g = let d = sub binary64 x (mul binary64 g g) in lt (mul binary64 d d) gapSquared
 
@@ -192,24 +192,21 @@ passed-number x nan h = absurd (true≢false (sym h ∙ nan-square x))
 passed-number x (inf s) h = unfold isNan in tt
 passed-number x (fin s m e) h = unfold isNan in tt
 
--- ---- a guess from 1 to 2 that passes the test is close, and so is the number below its digits
-pub passed-close : (x g : Float) (m q : ℕ) → HasValue x false m (2 ^ 52) → 2 ^ 52 ≤ m → m < 2 ^ 54 → T (fits binary64 g)
+-- ---- a guess from 1 to 2 that passes the test is close. c is the pattern's part below the exponent.
+pub record Passed (m c : ℕ) (g : Float) : Type 0 where
+  pub value : HasValue g false (c + 2 ^ 52) (2 ^ 52)
+  pub close : CloseRoot m (c + 2 ^ 52)
+
+pub passed-close : (x g : Float) (m c : ℕ) → HasValue x false m (2 ^ 52) → 2 ^ 52 ≤ m → m < 2 ^ 54 → T (fits binary64 g)
     → passes x g ≡ true
-    → toBits binary64 g ≡ q + 0x3fe0_0000_0000_0001 → 2 ^ 52 ≤ q + 1 → q + 1 ≤ 2 ^ 53 → CloseRoot m q
-passed-close x g m q v M N f t e l u =
-    let c = q + 1 - 2 ^ 52 in
-    let b : c + 1023 * 2 ^ 52 ≡ toBits binary64 g = omega arith in
-    let p : c + 2 ^ 52 ≡ q + 1 = omega arith in
-    let w : HasValue g false (q + 1) (2 ^ 52) =
-    subst (λ (y : Float). HasValue y false (q + 1) (2 ^ 52)) (ap (ofBits binary64) b ∙ ofBits-toBits binary64 g f)
-    (subst (λ (n : ℕ). HasValue (ofBits binary64 (c + 1023 * 2 ^ 52)) false n (2 ^ 52)) (sym (digits-plain c (omega arith)) ∙ p)
+    → toBits binary64 g ≡ c + 1023 * 2 ^ 52 → c < 2 ^ 52 → Passed m c g
+passed-close x g m c v M N f t e l =
+    let w : HasValue g false (c + 2 ^ 52) (2 ^ 52) =
+    subst (λ (y : Float). HasValue y false (c + 2 ^ 52) (2 ^ 52)) (ap (ofBits binary64) (sym e) ∙ ofBits-toBits binary64 g f)
+    (subst (λ (n : ℕ). HasValue (ofBits binary64 (c + 1023 * 2 ^ 52)) false n (2 ^ 52)) (sym (digits-plain c (omega arith)))
     (from-one-value c (omega arith))) in
-    let n = squares-near x g m (q + 1) v w M N l u t in
-    let s : (q + 1) * (q + 1) ≡ q * q + 2 * q + 1 = square-next q in
-    record { small = omega arith; lower = omega (arith, n .0); upper = omega (arith, n .1) }
-  where
-    square-next : (q : ℕ) → (q + 1) * (q + 1) ≡ q * q + 2 * q + 1
-    square-next q =
-        let a : (q + 1) * (q + 1) ≡ q * (q + 1) + 1 * (q + 1) = add-mul q 1 (q + 1) in
-        let b : q * (q + 1) ≡ q * q + q * 1 = mul-add q q 1 in
-        omega arith
+    let n = squares-near x g m (c + 2 ^ 52) v w M N (omega arith) (omega arith) t in
+    record {
+      value = w;
+      close = record { small = omega arith; lower = omega (arith, n .0); upper = omega (arith, n .1) };
+    }

@@ -1,15 +1,14 @@
 -- A square by the halves of its root, of 27 digits each, and how it compares with a multiple of a power of two. Assumes nothing.
-use mathlib.Core.Path.{_≡_, refl, sym, ap, _∙_, subst}
+use mathlib.Core.Path.{_≡_, refl, ap, _∙_, subst}
 use mathlib.Core.Logic.{inl, inr}
-use Prim.Native.Nat.{ℕ, suc, _+_, _-_, _*_, _/_, _%_, _^_, _≤_, _<_, zero-le}
-use native.Mathlib.Nat.{le-of-suc-le-suc, lt-of-not-le, add-mul, mul-add, mul-comm, mul-right-comm, mul-mul-mul-comm, mul-le-mul, le-refl}
-use native.Mathlib.Nat.{add-zero, add-assoc, eq-zero-or-pos}
+use Prim.Native.Nat.{ℕ, suc, _+_, _-_, _*_, _/_, _%_, _^_, _≤_, _<_}
+use native.Mathlib.Nat.{le-of-suc-le-suc, lt-of-not-le, add-mul, mul-add, mul-comm, mul-right-comm, mul-mul-mul-comm, mul-le-mul}
+use native.Mathlib.Nat.{eq-zero-or-pos}
 use native.Mathlib.Omega.{arith}
 use mathlib.Core.Bool.{Bool, true, false}
-use lib.Dec.{leb, ltb}
-use mir.Val.{boolByte}
+use lib.Dec.{leb}
 use Rattle.arithmetic.specs.Root.{NearestRoot, CloseRoot}
-use borrow.Author.Tests.{leb-true, leb-false, ltb-true, ltb-false}
+use borrow.Author.Tests.{leb-true, leb-false}
 
 pub product-le : (a b : ℕ) → a ≤ 2 ^ 27 → b ≤ 2 ^ 27 → a * b ≤ 2 ^ 54
 product-le a b h k = mul-le-mul h k
@@ -128,7 +127,7 @@ between-nearest m low high b w =
     half-nearest (m * 2 ^ 52) low (omega (arith, b)) (omega (arith, b))
     (let u : m * 2 ^ 54 < (low + 1) * (low + 1) = subst (λ (z : ℕ). m * 2 ^ 54 < z * z) e (b .upper) in omega arith)
 
--- ---- by halves of 32 digits: the rest that `mended_root` finds of a close q, modulo 2 ^ 64, is m * 2 ^ 52 - q * q
+-- ---- by halves of 32 digits: the rest that `is_nearest` finds of a close q, modulo 2 ^ 64, tells whether q is nearest
 square-of-words : (t : ℕ) → t * t ≡ t / 2 ^ 32 * (t / 2 ^ 32) * 2 ^ 64 + t / 2 ^ 32 * (t % 2 ^ 32) * 2 ^ 33 + t % 2 ^ 32 * (t % 2 ^ 32)
 square-of-words t =
     let e : t ≡ t / 2 ^ 32 * 2 ^ 32 + t % 2 ^ 32 = omega arith in
@@ -160,63 +159,26 @@ same-word x y w p e h k =
     fewer : suc p ≤ w → ⊥
     fewer l = omega arith
 
-put-together : (m s aa ab bb square rest : ℕ) → s ≡ aa * 2 ^ 64 + ab * 2 ^ 33 + bb → m * 2 ^ 52 < s + 2 ^ 63 → s < m * 2 ^ 52 + 2 ^ 63
-    → square ≡ (ab % 2 ^ 31 * 2 ^ 33 + bb) % 2 ^ 64 → (rest + square) % 2 ^ 64 ≡ m % 2 ^ 12 * 2 ^ 52 → rest < 2 ^ 56 → m * 2 ^ 52 ≡ s + rest
-put-together m s aa ab bb square rest e l u p q h =
+put-together : (m q s aa ab bb square rest sum : ℕ) → s ≡ aa * 2 ^ 64 + ab * 2 ^ 33 + bb → m * 2 ^ 52 < s + 2 ^ 63 → s < m * 2 ^ 52 + 2 ^ 63
+    → q < 2 ^ 53 → square ≡ (ab % 2 ^ 31 * 2 ^ 33 + bb) % 2 ^ 64 → (rest + square) % 2 ^ 64 ≡ m % 2 ^ 12 * 2 ^ 52
+    → sum ≡ (rest + (q - 1)) % 2 ^ 64 → sum < 2 * q → m * 2 ^ 52 + (q - 1) ≡ s + sum
+put-together m q s aa ab bb square rest sum e l u small p r t h =
     let a : ab ≡ ab / 2 ^ 31 * 2 ^ 31 + ab % 2 ^ 31 = omega arith in
     let k = (ab % 2 ^ 31 * 2 ^ 33 + bb) / 2 ^ 64 in
     let b : ab % 2 ^ 31 * 2 ^ 33 + bb ≡ k * 2 ^ 64 + square = omega arith in
     let j = (rest + square) / 2 ^ 64 in
     let c : rest + square ≡ j * 2 ^ 64 + m % 2 ^ 12 * 2 ^ 52 = omega arith in
     let d : m ≡ m / 2 ^ 12 * 2 ^ 12 + m % 2 ^ 12 = omega arith in
-    same-word (m * 2 ^ 52) (s + rest) (aa + ab / 2 ^ 31 + k + j) (m / 2 ^ 12) (omega arith) (omega arith) (omega arith)
+    let i = (rest + (q - 1)) / 2 ^ 64 in
+    let f : rest + (q - 1) ≡ i * 2 ^ 64 + sum = omega arith in
+    same-word (m * 2 ^ 52 + (q - 1)) (s + sum) (aa + ab / 2 ^ 31 + k + j) (m / 2 ^ 12 + i) (omega arith) (omega arith) (omega arith)
 
-pub rest-is : (m q square rest : ℕ) → CloseRoot m q → square ≡ (q / 2 ^ 32 * (q % 2 ^ 32) % 2 ^ 31 * 2 ^ 33 + q % 2 ^ 32 * (q % 2 ^ 32)) % 2
-    ^ 64
-    → (rest + square) % 2 ^ 64 ≡ m % 2 ^ 12 * 2 ^ 52 → rest ≤ 5 * q + 6 → m * 2 ^ 52 ≡ q * q + rest
-rest-is m q square rest c p r h =
-    put-together m (q * q) (q / 2 ^ 32 * (q / 2 ^ 32)) (q / 2 ^ 32 * (q % 2 ^ 32)) (q % 2 ^ 32 * (q % 2 ^ 32)) square rest
-    (square-of-words q) (c .lower) (c .upper) p r (omega (arith, c .small))
-
--- ---- by the rest, the nearest root is the guess or one of the two numbers above it
-pub guess-nearest : (n q rest : ℕ) → 0 < n → n ≡ q * q + rest → rest ≤ q → NearestRoot n q
-guess-nearest n q rest N e h = record { above = at (q * q) e; below = omega arith }
-  where
-    zero-square : (z : ℕ) → z ≡ 0 → z * z ≡ 0
-    zero-square z f = ap (λ (k : ℕ). k * k) f
-
-    at : (s : ℕ) → n ≡ s + rest → s < n + q
-    at s f = elim (eq-zero-or-pos q) [
-      | inl z ↦ (let r : rest ≡ 0 = omega arith in let y : q * q ≡ 0 = zero-square q z in omega arith)
-      | inr
-          z ↦ omega arith
-    ]
-
-pub one-up-nearest : (n q rest : ℕ) → n ≡ q * q + rest → q < rest → rest ≤ 3 * q + 2 → NearestRoot n (q + 1)
-one-up-nearest n q rest e h k =
-    let s : (q + 1) * (q + 1) ≡ q * q + 2 * (q * 1) + 1 = square-sum q 1 in
+-- sum is the rest with q - 1 added, modulo 2 ^ 64
+pub rest-nearest : (m q square rest sum : ℕ) → 0 < q → CloseRoot m q
+    → square ≡ (q / 2 ^ 32 * (q % 2 ^ 32) % 2 ^ 31 * 2 ^ 33 + q % 2 ^ 32 * (q % 2 ^ 32)) % 2 ^ 64
+    → (rest + square) % 2 ^ 64 ≡ m % 2 ^ 12 * 2 ^ 52 → sum ≡ (rest + (q - 1)) % 2 ^ 64 → sum < 2 * q → NearestRoot (m * 2 ^ 52) q
+rest-nearest m q square rest sum Q c p r t h =
+    let e : m * 2 ^ 52 + (q - 1) ≡ q * q + sum =
+    put-together m q (q * q) (q / 2 ^ 32 * (q / 2 ^ 32)) (q / 2 ^ 32 * (q % 2 ^ 32)) (q % 2 ^ 32 * (q % 2 ^ 32)) square rest sum
+    (square-of-words q) (c .lower) (c .upper) (c .small) p r t h in
     record { above = omega arith; below = omega arith }
-
-pub two-up-nearest : (n q rest : ℕ) → n ≡ q * q + rest → 3 * q + 2 < rest → rest ≤ 5 * q + 6 → NearestRoot n (q + 2)
-two-up-nearest n q rest e h k =
-    let s : (q + 2) * (q + 2) ≡ q * q + 2 * (q * 2) + 4 = square-sum q 2 in
-    record { above = omega arith; below = omega arith }
-
-pub corrected-nearest : (n q rest : ℕ) → 0 < n → n ≡ q * q + rest → rest ≤ 5 * q + 6 → NearestRoot n
-    (q + boolByte (ltb q rest) + boolByte (ltb (3 * q + 2) rest))
-corrected-nearest n q rest N e h = go (ltb q rest) (ltb (3 * q + 2) rest) (ltb-true q rest) (ltb-false q rest) (ltb-true (3 * q + 2) rest)
-    (ltb-false (3 * q + 2) rest)
-  where
-    clash : rest ≤ q → 3 * q + 2 < rest → ⊥
-    clash x y = omega arith
-
-    go : (a b : Bool) → (a ≡ true → q < rest) → (a ≡ false → rest ≤ q) → (b ≡ true → 3 * q + 2 < rest) → (b ≡ false → rest ≤ 3 * q + 2) →
-        NearestRoot n (q + boolByte a + boolByte b)
-    go false false p p' r r' = subst (NearestRoot n) (sym (add-zero (q + 0) ∙ add-zero q)) (guess-nearest n q rest N e (p' refl))
-    go false true p p' r r' = absurd (clash (p' refl) (r refl))
-    go true false p p' r r' = subst (NearestRoot n) (sym (add-zero (q + 1))) (one-up-nearest n q rest e (p refl) (r' refl))
-    go true true p p' r r' = subst (NearestRoot n) (sym (add-assoc q 1 1)) (two-up-nearest n q rest e (r refl) h)
-
-pub bit-small : (a : Bool) → boolByte a ≤ 1
-bit-small true = le-refl 1
-bit-small false = zero-le

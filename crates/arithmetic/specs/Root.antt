@@ -3,6 +3,7 @@ use Prim.Native.Nat.{ℕ, zero, suc, _+_, _-_, _*_, _/_, _^_, _≤_, _<_, compar
 use mathlib.Core.Bool.{true, false, cond}
 use lib.Dec.{leb}
 use lib.Ieee.{Float, nan, inf, fin, Format, binary64, prec, low, up, down, size, nearest, units}
+use lib.Ieee.Exact.{HasValue}
 
 -- The largest number from r up to r + 2 ^ b - 1 whose square is at most n, if r is one: its b lowest digits, from the highest down.
 unfoldable pub rootDigits : ℕ → ℕ → ℕ → ℕ
@@ -43,3 +44,9 @@ pub record CloseRoot (m q : ℕ) : Type 0 where
   pub small : q < 2 ^ 53
   pub lower : m * 2 ^ 52 < q * q + 2 ^ 63
   pub upper : q * q < m * 2 ^ 52 + 2 ^ 63
+
+-- the float g is r * 2 ^ -52, for the whole number r nearest to the root of m * 2 ^ 52
+pub record RootGuessed (m : ℕ) (g : Float) : Type 0 where
+  pub digits : ℕ
+  pub value : HasValue g false digits (2 ^ 52)
+  pub nearest-root : NearestRoot (m * 2 ^ 52) digits

@@ -1,6 +1,6 @@
 -- A product with 1 or -1 is the float or its negative. Assumes nothing.
 use mathlib.Core.Path.{_≡_, refl, sym, ap, _∙_}
-use mathlib.Core.Bool.{Bool, true, false, cond}
+use mathlib.Core.Bool.{Bool, true, false, cond, Bool·beq, false≢true}
 use Prim.Native.Nat.{ℕ, _*_}
 use native.Mathlib.Nat.{mul-one}
 use lib.Dec.{T, lit<}
@@ -60,3 +60,10 @@ pub turned-each : (v : Vec3) (b : Bool) → vector (cond b (neg (v .x)) (v .x)) 
 unfolding negOf
 turned-each v true = refl
 turned-each v false = refl
+
+-- ---- two tests that are the same, one of them known
+pub same-tests : (a b c : Bool) → Bool·beq a b ≡ true → b ≡ c → a ≡ c
+same-tests true true c h k = k
+same-tests true false c h k = absurd (false≢true h)
+same-tests false true c h k = absurd (false≢true h)
+same-tests false false c h k = k

@@ -43,3 +43,21 @@ pub fn facing(normal: Vec3, along: f64) -> Vec3
         z: turned(normal.z, along),
     }
 }
+
+// The same, where `turn` tells beforehand whether the normal is to be turned. It nearly always tells right, and a jump tells that it does,
+// so that what is done with the normal need not wait for `along`; whatever it tells, the normal faces the ray.
+pub fn facing_as(normal: Vec3, along: f64, turn: bool) -> Vec3
+    ensures { λ r. ⌜ r ≡ facing normal along ⌝ }
+{
+    if (0.0 < along) == turn {
+        if turn {
+            return Vec3 {
+                x: -normal.x,
+                y: -normal.y,
+                z: -normal.z,
+            };
+        }
+        return normal;
+    }
+    facing(normal, along)
+}

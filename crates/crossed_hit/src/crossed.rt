@@ -201,9 +201,10 @@ pub fn with_normal(ray: Ray, best: Near) -> IndexedCast
             distance,
             index,
         } => {
+            let turn = ray.direction.dot(cross) > 0.0;
             let normal = unit_of(cross, square);
             return IndexedCast::Hit {
-                normal: surface::facing(normal, ray.direction.dot(normal)),
+                normal: surface::facing_as(normal, ray.direction.dot(normal), turn),
                 distance: distance,
                 index: index,
             };

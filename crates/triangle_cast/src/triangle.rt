@@ -126,17 +126,33 @@ pub fn settled(
     Reach::Refused(answer::NO_NORMAL)
 }
 
-// The same with the normal.
+// The hit at a distance, as `triangle_normal` finds it, where the determinant is known: but for its sign and for rounding that is the
+// direction's dot with the edges' cross, and so tells beforehand whether the normal is to be turned.
+pub fn normal_by(ray: Ray, determinant: f64, a: Vec3, b: Vec3, distance: f64) -> Cast
+    ensures { λ r. ⌜ says r ≡ triangleNormal ray a b distance ⌝ }
+{
+    let unit = a.cross(b).normalize();
+    let Normalized::Unit(normal) = unit else {
+        return Cast::Refused(answer::NO_NORMAL);
+    };
+    Cast::Hit {
+        normal: surface::facing_as(normal, ray.direction.dot(normal), determinant < 0.0),
+        distance: distance,
+    }
+}
+
+// The same with the normal, which takes longest and so is begun first: what comes here is nearly always a hit.
 fn settled_cast(ray: Ray, determinant: f64, a: Vec3, b: Vec3, distance: f64) -> Cast
     ensures { λ r. ⌜ says r ≡ settledAnswer ray determinant a b distance ⌝ }
 {
+    let hit = normal_by(ray, determinant, a, b, distance);
     if is_flat(determinant, a, b) {
         return Cast::None;
     }
     if distance != distance {
         return Cast::Refused(answer::OVERFLOW);
     }
-    triangle_normal(ray, a, b, distance)
+    hit
 }
 
 // What the first test tells where the determinant is finite; a NaN u is a miss.

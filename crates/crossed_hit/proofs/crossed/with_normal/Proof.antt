@@ -15,7 +15,7 @@ returns : tie.Need-returns
 unfolding faced
 returns c =
     let (b, u) : tie.After-best × tie.After-unit-of = search in
-    simp (b .best .given .1, sym (u .unit-of .ensures), sym (c .before .dot .ensures), sym (c .facing .ensures))
+    simp (b .best .given .1, sym (u .unit-of .ensures), sym (c .before .dot2 .ensures), sym (c .facing-as .ensures))
 
 -- a refusal
 returns-3 : tie.Need-returns-3
@@ -28,9 +28,10 @@ with-normal-spec =
     tie.close
     (tie.spec
     (search needs)  -- enum-known-best
-    unit-of-requires
     (λ c κs. search needs)  -- dot-requires
-    (λ c κs. search needs)  -- facing-requires
+    unit-of-requires
+    (λ c κs. search needs)  -- dot-requires-2
+    (λ c κs. search needs)  -- facing-as-requires
     returns
     (search needs)  -- enum-told
     (λ c. search needs)  -- returns-2

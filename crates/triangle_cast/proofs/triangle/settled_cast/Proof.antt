@@ -18,15 +18,15 @@ returns-2 c =
 -- the normal
 returns-3 : tie.Need-returns-3
 returns-3 c =
-    let (f, e1, e2) : tie.After-is-flat × tie.Else1 × tie.Else2 = search in
-    simp (sym (f .is-flat .ensures), e1 .if1 .left, sym (ne-self-is-nan _) ∙ e2 .if2 .left, sym (c .triangle-normal .ensures))
+    let (n, f, e1) : tie.After-normal-by × tie.After-is-flat × tie.Else1 = search in
+    simp (sym (f .is-flat .ensures), e1 .if1 .left, sym (ne-self-is-nan _) ∙ c .if2 .left, sym (n .normal-by .ensures))
 
 pub settled-cast-spec : {M : Type 1} → statement M
 settled-cast-spec =
     tie.close
     (tie.spec
+    (λ c κs. search needs)  -- normal-by-requires
     (λ c κs. search needs)  -- is-flat-requires
     returns
     returns-2
-    (λ c κs. search needs)  -- triangle-normal-requires
     returns-3)
