@@ -453,6 +453,33 @@ uint32_t probe_ray_mesh_near(
     size_t index_length
 );
 
+/* The casts at a plane and at a triangle of a ray with a near distance, the numbers of both as slices: a ray's eight in
+ * the order of the calls above (origin, direction, maximum, near), a plane's four (normal, distance), a triangle's nine
+ * (corners a, b and c). For numbers that stand in memory, as in an array of rays: the call is handed addresses. Numbers
+ * that were computed just before are handed over faster one by one.
+ *
+ * A ray of another length than 8 is 1, and so is one that is not admitted; then a plane of another length than 4, or a
+ * triangle of another than 9, is 2. Else the answer, the refusals and what is written are those of probe_ray_plane_near
+ * and probe_ray_triangle_near, for the same numbers.
+ */
+uint32_t probe_ray_plane_slices(
+    const double *ray,
+    size_t ray_length,
+    const double *plane,
+    size_t plane_length,
+    double *hit,
+    size_t hit_length
+);
+
+uint32_t probe_ray_triangle_slices(
+    const double *ray,
+    size_t ray_length,
+    const double *triangle,
+    size_t triangle_length,
+    double *hit,
+    size_t hit_length
+);
+
 /* Casts a ray at a mesh without a tree: for parts of few triangles, such as a drawer front of a dozen. Nothing is lent
  * but the mesh and the result slices. Every triangle is looked at by its index, and those whose box does not touch the
  * box of the ray's segment are skipped. Surfaces nearer than near_distance are passed over; it is finite, from 0 to

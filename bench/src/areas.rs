@@ -109,6 +109,17 @@ pub fn triangle(ray: &Ray, corners: &[[f64; 3]; 3], hit: &mut [f64; 4]) -> u32 {
     calls::ray_triangle(ray, corners, hit)
 }
 
+/// The same casts, with the numbers of ray and shape as slices.
+#[inline(always)]
+pub fn plane_slices(ray: &[f64; 8], plane: &[f64; 4], hit: &mut [f64; 4]) -> u32 {
+    calls::ray_plane_slices(ray, plane, hit)
+}
+
+#[inline(always)]
+pub fn triangle_slices(ray: &[f64; 8], corners: &[f64; 9], hit: &mut [f64; 4]) -> u32 {
+    calls::ray_triangle_slices(ray, corners, hit)
+}
+
 #[inline(always)]
 pub fn mesh(ray: &Ray, mesh: &Mesh, tree: &Tree, lent: &mut Lent) -> u32 {
     calls::ray_mesh(

@@ -113,11 +113,36 @@ pub fn rust_rays(rays: &[Ray]) -> Vec<RustRay> {
 
 type TrianglePair = (Ray, [[f64; 3]; 3]);
 
-fn triangles(name: &str, wanted: u32, pairs: Vec<TrianglePair>) -> Row {
-    let rust = pairs
+/// A ray's eight numbers, in the order of the calls.
+fn eight(ray: &Ray) -> [f64; 8] {
+    let ([x, y, z], [dx, dy, dz]) = (ray.origin, ray.direction);
+    [x, y, z, dx, dy, dz, ray.max_distance, ray.near_distance]
+}
+
+fn rust_pairs(pairs: &[TrianglePair]) -> Vec<(RustRay, [Vec3; 3])> {
+    pairs
         .iter()
         .map(|(ray, corners)| (rust_ray(ray), corners.map(Vec3::from_array)))
-        .collect();
+        .collect()
+}
+
+/// Ours is handed the numbers as slices, as the Rust is handed two addresses.
+fn triangles(name: &str, wanted: u32, pairs: Vec<TrianglePair>) -> Row {
+    let nine = |corners: &[[f64; 3]; 3]| std::array::from_fn(|place| corners[place / 3][place % 3]);
+    let slices = |(ray, corners): &TrianglePair| (eight(ray), nine(corners));
+    casts(
+        name,
+        wanted,
+        pairs.iter().map(slices).collect(),
+        rust_pairs(&pairs),
+        |(ray, corners), hit| areas::triangle_slices(ray, corners, hit),
+        |(ray, corners)| timed::triangle(*ray, *corners),
+    )
+}
+
+/// Ours is handed each number by itself.
+fn triangles_by_numbers(name: &str, wanted: u32, pairs: Vec<TrianglePair>) -> Row {
+    let rust = rust_pairs(&pairs);
     casts(
         name,
         wanted,
@@ -128,15 +153,34 @@ fn triangles(name: &str, wanted: u32, pairs: Vec<TrianglePair>) -> Row {
     )
 }
 
-fn plane(name: &str) -> Row {
-    let items = inputs::at_planes(256);
-    let rust = items
+type PlanePair = (Ray, [f64; 3], f64);
+
+fn rust_planes(items: &[PlanePair]) -> Vec<(RustRay, shape::Plane)> {
+    items
         .iter()
         .map(|(ray, normal, distance)| {
             let normal = Vec3::from_array(*normal);
             (rust_ray(ray), shape::plane::unchecked(normal, *distance))
         })
-        .collect();
+        .collect()
+}
+
+fn plane(name: &str) -> Row {
+    let items = inputs::at_planes(256);
+    let slices = |(ray, n, distance): &PlanePair| (eight(ray), [n[0], n[1], n[2], *distance]);
+    casts(
+        name,
+        HIT,
+        items.iter().map(slices).collect(),
+        rust_planes(&items),
+        |(ray, plane), hit| areas::plane_slices(ray, plane, hit),
+        |(ray, plane)| timed::plane(*ray, plane),
+    )
+}
+
+fn plane_by_numbers(name: &str) -> Row {
+    let items = inputs::at_planes(256);
+    let rust = rust_planes(&items);
     casts(
         name,
         HIT,
@@ -474,13 +518,29 @@ fn shapes() -> Vec<Planned> {
     let point = with(|(_, corners)| *corners = [corners[0]; 3]);
     let hits = inputs::at_triangles(256, true);
     let misses = inputs::at_triangles(256, false);
-    vec![
-        plan("validate, refused", |name| triangles(name, 1, long)),
-        plan("validate, passed", |name| triangles(name, NONE, point)),
+    let both = |name: &str, wanted: u32, pairs: Vec<TrianglePair>| {
+        let same = pairs.clone();
+        [
+            plan(name, move |name| triangles(name, wanted, pairs)),
+            plan(&format!("{name}, by numbers"), move |name| {
+                triangles_by_numbers(name, wanted, same)
+            }),
+        ]
+    };
+    let planes = [
         plan("plane, hit", plane),
-        plan("triangle, hit", |name| triangles(name, HIT, hits)),
-        plan("triangle, miss", |name| triangles(name, NONE, misses)),
+        plan("plane, hit, by numbers", plane_by_numbers),
+    ];
+    [
+        both("validate, refused", 1, long),
+        both("validate, passed", NONE, point),
+        planes,
+        both("triangle, hit", HIT, hits),
+        both("triangle, miss", NONE, misses),
     ]
+    .into_iter()
+    .flatten()
+    .collect()
 }
 
 fn meshes() -> Vec<Planned> {

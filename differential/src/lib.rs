@@ -17,4 +17,5 @@ pub mod plain;
 pub mod ranges;
 pub mod run;
 pub mod shapes;
+pub mod slices;
 pub mod solids;

@@ -9,7 +9,7 @@ use crate::{
     log::Log,
     merge,
     other_trees::{any_words, one_clause},
-    panel, plain, ranges, shapes,
+    panel, plain, ranges, shapes, slices,
 };
 use oracle::{
     answer::{self, Answer, Constructed, MOST_TRIANGLES, MOST_VERTICES, Ray},
@@ -106,6 +106,7 @@ pub fn compare(log: &mut Log, seed: u64, number: u64, mesh: &Mesh) {
         with_tree(log, random, &another, sound, None);
     }
     shapes::compare(log, random, seed, number);
+    slices::compare(log, seed, number);
     plain::compare(log, seed, number, mesh);
     exact::compare(log, seed, number, mesh);
     ranges::compare(log, random, seed, number);

@@ -156,6 +156,52 @@ pub fn ray_level_set(ray: &Ray, grid: &LevelSet<'_>, hit: &mut [f64]) -> u32 {
     }
 }
 
+/// The cast at a plane, the numbers of both as slices: a ray's eight (origin, direction, maximum, near), else 1; a
+/// plane's four (normal, distance), else 2. Faster than [`ray_plane`] where the numbers stand in memory, and slower where
+/// they were computed just before.
+///
+/// ```
+/// use probe_rays::{calls, sys};
+///
+/// let (ray, plane) = ([0.0, 0.0, 2.0, 0.0, 0.0, -1.0, 5.0, 0.0], [0.0, 0.0, 1.0, 0.0]);
+/// let mut hit = [0.0; 4];
+/// assert_eq!(calls::ray_plane_slices(&ray, &plane, &mut hit), sys::HIT);
+/// assert_eq!(hit, [0.0, 0.0, 1.0, 2.0]);
+/// assert_eq!(calls::ray_plane_slices(&ray[..7], &plane, &mut hit), 1);
+/// assert_eq!(calls::ray_plane_slices(&ray, &plane[..3], &mut hit), 2);
+/// ```
+#[inline]
+pub fn ray_plane_slices(ray: &[f64], plane: &[f64], hit: &mut [f64]) -> u32 {
+    // SAFETY: every pointer and length is a slice's, and Rust lets no mutable one overlap another.
+    unsafe {
+        sys::probe_ray_plane_slices(
+            ray.as_ptr(),
+            ray.len(),
+            plane.as_ptr(),
+            plane.len(),
+            hit.as_mut_ptr(),
+            hit.len(),
+        )
+    }
+}
+
+/// The cast at a triangle, the numbers of both as slices: a ray's eight, else 1; a triangle's nine, corner after corner,
+/// else 2.
+#[inline]
+pub fn ray_triangle_slices(ray: &[f64], triangle: &[f64], hit: &mut [f64]) -> u32 {
+    // SAFETY: every pointer and length is a slice's, and Rust lets no mutable one overlap another.
+    unsafe {
+        sys::probe_ray_triangle_slices(
+            ray.as_ptr(),
+            ray.len(),
+            triangle.as_ptr(),
+            triangle.len(),
+            hit.as_mut_ptr(),
+            hit.len(),
+        )
+    }
+}
+
 /// The mesh cast; `index` has one place.
 #[allow(clippy::too_many_arguments)]
 #[inline]

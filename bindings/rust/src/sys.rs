@@ -490,6 +490,26 @@ extern "C" {
         index_length: usize,
     ) -> u32;
 
+    /// Casts a ray with a near distance at a plane, both as slices of their numbers, eight and four.
+    pub fn probe_ray_plane_slices(
+        ray: *const f64,
+        ray_length: usize,
+        plane: *const f64,
+        plane_length: usize,
+        hit: *mut f64,
+        hit_length: usize,
+    ) -> u32;
+
+    /// Casts a ray with a near distance at a triangle, both as slices of their numbers, eight and nine.
+    pub fn probe_ray_triangle_slices(
+        ray: *const f64,
+        ray_length: usize,
+        triangle: *const f64,
+        triangle_length: usize,
+        hit: *mut f64,
+        hit_length: usize,
+    ) -> u32;
+
     /// Casts a ray at a cabinet of many parts under one limit of nodes.
     pub fn probe_ray_cabinet(
         origin_x: f64,

@@ -3,3 +3,4 @@ pub mod SegmentBoxLaws
 pub mod SideLaws
 pub mod AnswerLists
 pub mod HitLaws
+pub mod LateTests

@@ -42,8 +42,9 @@ fn plane_at(plane: Plane, ray: Ray, denominator: f64, distance: f64) -> Cast
     }
 }
 
-// The Rust's ray_plane, with nothing tested before it.
-fn plane_cast(plane: Plane, ray: Ray) -> Cast
+// The Rust's ray_plane, with nothing tested before it. Where the origin's dot is not finite the distance is not either, and refuses with
+// the same number: the dot is not tested by itself.
+pub fn plane_cast(plane: Plane, ray: Ray) -> Cast
     ensures { λ r. ⌜ says r ≡ planeCast plane ray ⌝ }
 {
     let along = ray.direction.checked_dot(plane.normal);
@@ -54,10 +55,7 @@ fn plane_cast(plane: Plane, ray: Ray) -> Cast
     if basic::abs(denominator) <= 7.105427357601002e-15 {
         return Cast::None;
     }
-    let above = ray.origin.checked_dot(plane.normal);
-    let Checked::Value(height) = above else {
-        return Cast::Refused(answer::OVERFLOW);
-    };
+    let height = ray.origin.dot(plane.normal);
     plane_at(
         plane,
         ray,

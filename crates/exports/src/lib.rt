@@ -6,6 +6,8 @@
 pub mod shapes;
 // The same casts of a ray with a near distance.
 pub mod near;
+// The casts at a plane and a triangle whose ray and shape are slices of numbers.
+pub mod slices;
 // All hits along a ray.
 pub mod listings;
 // The mesh cast, build, query and tree check.

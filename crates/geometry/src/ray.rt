@@ -30,12 +30,19 @@ pub fn close_to_unit_length(vector: Vec3) -> bool
     false
 }
 
+// Whether a vector is finite, by one comparison: a finite number less itself is 0, any other is NaN, and a NaN stays in the sum.
+fn all_finite(vector: Vec3) -> bool
+    ensures { λ r. ⌜ r ≡ finiteVec vector ⌝ }
+{
+    (vector.x - vector.x) + (vector.y - vector.y) + (vector.z - vector.z) == 0.0
+}
+
 impl Ray {
     // Whether refusal 1 lets the ray pass. A direction whose length is close to 1 is finite.
     pub fn validate(self) -> bool
         ensures { λ r. ⌜ r ≡ rayAdmitted self ⌝ }
     {
-        if !self.origin.is_finite() {
+        if !all_finite(self.origin) {
             return false;
         }
         if !close_to_unit_length(self.direction) {

@@ -1,15 +1,13 @@
 -- A coordinate outside an axis' nodes is drawn to the nearest that a sample admits, by monotone rounding alone. Assumes nothing.
 use mathlib.Core.Path.{_≡_, refl, sym, ap, subst, _∙_}
 use mathlib.Core.Bool.{Bool, true, false, cond, true≢false, false≢true, _&&_}
-use Prim.Native.Nat.{ℕ, _-_, _*_, _<_}
-use native.Mathlib.Nat.{zero-mul, mul-pos}
+use Prim.Native.Nat.{ℕ, _-_, _*_}
 use native.Mathlib.Omega.{arith}
-use lib.Dec.{T, ltb, lit<}
-use lib.Ieee.{Float, nan, inf, fin, binary64, up, down, ofBits, fits, isNan, neg, round, sum, add, sub, mul, div, lt, le}
+use lib.Dec.{T}
+use lib.Ieee.{Float, nan, inf, fin, binary64, up, down, ofBits, fits, isNan, neg, add, sub, mul, div, lt, le}
 use lib.Ieee.Exact.{HasValue}
 use lib.Ieee.Bits.{ofBits-fits}
-use lib.Ieee.Fits.{down-pos, cond-fits, neg-fits, add-fits, mul-fits}
-use lib.Ieee.Scale.{round-same}
+use lib.Ieee.Fits.{cond-fits, neg-fits, add-fits, mul-fits}
 use borrow.Author.Tests.{le-ltb}
 use Rattle.arithmetic.specs.Basic.{isFinite, negative, clampTo}
 use Rattle.arithmetic.specs.Below.{justBelow}
@@ -21,6 +19,7 @@ use Rattle.arithmetic.proofs.RoundedSigns.{round-not-negative}
 use Rattle.arithmetic.proofs.SumOrder.{nothing, sum-at-most, sum-above, difference-at-most, difference-not-negative, difference-mono}
 use Rattle.arithmetic.proofs.SumOrder.{neg-finite}
 use Rattle.arithmetic.proofs.QuotientOrder.{Positive, positive, positive-of, between-finite, quotient-finite, product-divided}
+use Rattle.geometry.proofs.Differences.{own-difference as less-itself}
 use Rattle.lists.proofs.JoinedTests.{and-first, and-second}
 use Rattle.vectors.specs.Numbers.{_+ᶠ_, _-ᶠ_, _*ᶠ_, _/ᶠ_, zeroᶠ}
 use Rattle.grids.specs.Spacing.{spacingAdmitted}
@@ -55,30 +54,8 @@ divided-finite nan s (positive n d l) h = h
 divided-finite (inf t) s (positive n d l) h = h
 divided-finite (fin t m e) s (positive n d l) h = refl
 
-zero-rounds : (c : ℕ) → 0 < c → round binary64 false 0 c ≡ nothing
-zero-rounds c l = round-same binary64 false 0 c 0 1 l (lit< tt) (sym (zero-mul c)) ∙ one-zero
-  where
-    one-zero : round binary64 false 0 1 ≡ nothing
-    one-zero = unfold round in refl
-
-no-way : (a c : ℕ) → 0 < c → cond (ltb a a) (round binary64 true (a - a) c) (round binary64 false (a - a) c) ≡ nothing
-no-way a c l =
-    ap (λ (b : Bool). cond b (round binary64 true (a - a) c) (round binary64 false (a - a) c)) (le-ltb a a (omega arith))
-    ∙ (let e : a - a ≡ 0 = omega arith in ap (λ (z : ℕ). round binary64 false z c) e)
-    ∙ zero-rounds c l
-
-no-way-back : (a c : ℕ) → 0 < c → cond (ltb a a) (round binary64 false (a - a) c) (round binary64 (ltb a a) (a - a) c) ≡ nothing
-no-way-back a c l =
-    ap (λ (b : Bool). cond b (round binary64 false (a - a) c) (round binary64 b (a - a) c)) (le-ltb a a (omega arith))
-    ∙ (let e : a - a ≡ 0 = omega arith in ap (λ (z : ℕ). round binary64 false z c) e)
-    ∙ zero-rounds c l
-
-pub own-difference : (o : Float) → isFinite o ≡ true → o -ᶠ o ≡ nothing
-unfolding isFinite sub add neg sum
-own-difference nan h = absurd (false≢true h)
-own-difference (inf s) h = absurd (false≢true h)
-own-difference (fin false m e) h = no-way (m * up e * down e) (down e * down e) (mul-pos (down-pos e) (down-pos e))
-own-difference (fin true m e) h = no-way-back (m * up e * down e) (down e * down e) (mul-pos (down-pos e) (down-pos e))
+own-difference : (o : Float) → isFinite o ≡ true → o -ᶠ o ≡ nothing
+own-difference o h = less-itself o ∙ ap (λ (b : Bool). cond b nothing nan) h
 
 just-below-fits : (x : Float) → T (fits binary64 x) → T (fits binary64 (justBelow x))
 unfolding justBelow

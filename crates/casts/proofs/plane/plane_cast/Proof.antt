@@ -2,6 +2,7 @@
 use Rattle.casts.specs.Plane.{planeCast}
 use mathlib.Core.Path.{sym}
 use borrow.Author.Needs.{needs}
+use Rattle.casts.proofs.LateTests.{height-tested-late}
 use Rattle.casts.proofs.plane.plane_cast.Statement.{statement}
 use Rattle.casts.proofs.plane.plane_cast.Tie as tie
 
@@ -17,34 +18,19 @@ returns-2 c =
     let (at-checked-dot, at-along) : tie.After-checked-dot × tie.After-along = search in
     simp (sym (at-checked-dot .checked-dot .ensures), at-along .along .given .1, sym (c .before .abs .ensures), c .if1 .taken)
 
+-- the height is tested with the distance
 returns-3 : tie.Need-returns-3
 unfolding planeCast
 returns-3 c =
-    let (at-checked-dot, at-along, at-abs, else1, at-checked-dot2) :
-    tie.After-checked-dot × tie.After-along × tie.After-abs × tie.Else1 × tie.After-checked-dot2 = search in
+    let (start, at-checked-dot, at-along, at-abs, else1, at-dot) :
+    tie.Start × tie.After-checked-dot × tie.After-along × tie.After-abs × tie.Else1 × tie.After-dot = search in
     simp (
       sym (at-checked-dot .checked-dot .ensures),
       at-along .along .given .1,
       sym (at-abs .abs .ensures),
       else1 .if1 .left,
-      sym
-          (at-checked-dot2 .checked-dot2 .ensures),
-      c .enum-told2 .given .1,
-    )
-
-returns-4 : tie.Need-returns-4
-unfolding planeCast
-returns-4 c =
-    let (at-checked-dot, at-along, at-abs, else1, at-checked-dot2, at-above) :
-    tie.After-checked-dot × tie.After-along × tie.After-abs × tie.Else1 × tie.After-checked-dot2 × tie.After-above = search in
-    simp (
-      sym (at-checked-dot .checked-dot .ensures),
-      at-along .along .given .1,
-      sym (at-abs .abs .ensures),
-      else1 .if1 .left,
-      sym
-          (at-checked-dot2 .checked-dot2 .ensures),
-      at-above .above .given .1,
+      sym (height-tested-late (start .args .plane) (start .args .ray) (at-along .along .given .0 .0)),
+      sym (at-dot .dot .ensures),
       sym (c .plane-at .ensures),
     )
 
@@ -58,9 +44,6 @@ plane-cast-spec =
     returns
     (search needs)  -- abs-requires
     returns-2
-    (search needs)  -- checked-dot-requires-2
-    (search needs)  -- enum-known-above
-    (search needs)  -- enum-told-2
-    returns-3
+    (search needs)  -- dot-requires
     (search needs)  -- plane-at-requires
-    returns-4)
+    returns-3)

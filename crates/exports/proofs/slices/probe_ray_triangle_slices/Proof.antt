@@ -1,0 +1,17 @@
+-- `exports::slices::probe_ray_triangle_slices` meets its contract. Assumes nothing.
+use borrow.Author.Needs.{needs}
+use Rattle.exports.proofs.slices.probe_ray_triangle_slices.Statement.{statement}
+use Rattle.exports.proofs.slices.probe_ray_triangle_slices.Tie as tie
+
+returns : tie.Need-returns
+returns c =
+    let k : tie.After-told-triangle = search in
+    k .told-triangle .ensures
+
+pub probe-ray-triangle-slices-spec : {M : Type 1} → statement M
+probe-ray-triangle-slices-spec =
+    tie.close
+    (tie.spec
+    (λ c κs. search needs)  -- told-triangle-requires
+    (search needs)  -- same-length
+    returns)

@@ -1,0 +1,2 @@
+-- Laws about what the casts of slices answer. Assumes nothing.
+pub mod Answers

@@ -1,0 +1,2 @@
+-- What the casts of slices answer. Definitions only. Assumes nothing.
+pub mod Slices
