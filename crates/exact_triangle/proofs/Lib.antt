@@ -1,4 +1,5 @@
 -- Whole numbers from floats, the ray as a line, the corners as it sees them. Assumes nothing.
+pub mod RoundedSums
 pub mod WholeLaws
 pub mod LineLaws
 pub mod SeenLaws

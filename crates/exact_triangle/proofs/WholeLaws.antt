@@ -1,36 +1,30 @@
 -- A float that is told to be a whole number is one, within its range. Assumes nothing.
 use mathlib.Core.Path.{_≡_, refl, sym, ap, _∙_, subst}
 use mathlib.Core.Bool.{Bool, true, false, cond, true≢false, false≢true}
+use native.Mathlib.Nat.{le-trans}
 use native.Mathlib.Omega.{arith}
+use lib.Dec.{lit≤}
 use lib.IntN.{ℤ, pos, negsuc}
 use lib.Signed.{ltZ}
-use lib.Ieee.{Float, binary64, ofInt, toSigned, le, lt, eq, ne}
-use borrow.Author.Tests.{ltb-false, not-false}
+use lib.Ieee.{Float, binary64, ofBits, ofInt, toSigned, le, lt, eq, ne}
+use borrow.Author.Tests.{ltb-false, not-true, not-false}
 use Rattle.vectors.specs.declared.vec3.Vec3.{Vec3}
+use Rattle.arithmetic.proofs.Order.{le-transitive, lt-of-le-lt}
 use Rattle.exact_depth.specs.Sizes.{Sized}
+use Rattle.exact_depth.proofs.Integers.{pp, np, size-is}
+use Rattle.exact_depth.proofs.Standing.{Stands, stands, is-le}
 use Rattle.exact_triangle.specs.declared.whole.Whole.{Whole}
 use Rattle.exact_triangle.specs.declared.whole.Whole.the-variants.{Is, Not}
 use Rattle.exact_triangle.specs.declared.whole.Point.{Point}
 use Rattle.exact_triangle.specs.declared.whole.Placed.{Placed}
 use Rattle.exact_triangle.specs.declared.whole.Placed.the-variants.{At, Off}
 use Rattle.exact_triangle.specs.Whole.{within, least, past, wholeIn, withWhole, coordinate, pointOf}
+use Rattle.exact_triangle.specs.Whole.{lowest, highest, Rounds}
 use Rattle.exact_triangle.specs.Exact.{Near}
+use Rattle.exact_triangle.proofs.RoundedSums.{lowest-stands, highest-stands, cast-whole, whole-part}
 
 -- ---- the definition's arms
-pub off-least : (x : Float) (low high : ℤ) → le least x ≡ false → Not ≡ wholeIn x low high
-unfolding wholeIn
-off-least x low high h = simp h
-
-pub off-past : (x : Float) (low high : ℤ) → le least x ≡ true → lt x past ≡ false → Not ≡ wholeIn x low high
-unfolding wholeIn
-off-past x low high h g = simp (h, g)
-
-pub off-part : (x : Float) (low high : ℤ) → le least x ≡ true → lt x past ≡ true → ne x (ofInt binary64 (toSigned 63 x)) ≡ true
-    → Not ≡ wholeIn x low high
-unfolding wholeIn
-off-part x low high h g k = simp (h, g, k)
-
-pub in-range : (x : Float) (low high : ℤ) (r : Whole) → le least x ≡ true → lt x past ≡ true
+in-range : (x : Float) (low high : ℤ) (r : Whole) → le least x ≡ true → lt x past ≡ true
     → ne x (ofInt binary64 (toSigned 63 x)) ≡ false → r ≡ within (toSigned 63 x) low high → r ≡ wholeIn x low high
 unfolding wholeIn
 in-range x low high r h g k e = e ∙ (simp (h, g, k))
@@ -112,6 +106,68 @@ whole-equals x low high z h = go (le least x) (lt x past) (ne x (ofInt binary64 
     go true true false e h =
         ap (λ (k : ℤ). eq x (ofInt binary64 k)) (sym (within-is (toSigned 63 x) low high z h))
         ∙ equals x (ofInt binary64 (toSigned 63 x)) e
+
+-- ---- by the whole number beside it, where low and high are from -16,384 to 16,384
+between-size : (low high z : ℤ) → Sized 16384 low → Sized 16384 high → Between low high z → Sized 16384 z
+between-size low (pos m) (pos n) l h b = let s = h .size in let k = ltb-false m n (b .most) in record { size = omega (arith, s, k) }
+between-size low (negsuc m) (pos n) l h b = absurd (true≢false (b .most))
+between-size (pos m) high (negsuc n) l h b = absurd (true≢false (b .least))
+between-size (negsuc m) high (negsuc n) l h b =
+    let s = l .size in let k = ltb-false m n (b .least) in record { size = omega (arith, s, k) }
+
+not-told : (w : Whole) → ((z : ℤ) → w ≡ Is z → ⊥) → Not ≡ w
+not-told Not f = refl
+not-told (Is z) f = absurd (f z refl)
+
+equal-stands : (x : Float) (z : ℤ) → Sized 16384 z → eq x (ofInt binary64 z) ≡ true → Stands x z
+equal-stands x z s h = stands x z (le-trans (s .size) (lit≤ tt)) h
+
+least-lowest : le least lowest ≡ true
+unfolding ofBits le lt eq
+least-lowest = refl
+
+highest-past : lt highest past ≡ true
+unfolding ofBits lt
+highest-past = refl
+
+module _ (x : Float) (low high : ℤ) (l : Sized 16384 low) (h : Sized 16384 high) where
+  told-size : (z : ℤ) → wholeIn x low high ≡ Is z → Sized 16384 z
+  told-size z t = between-size low high z l h (whole-told x low high z t)
+
+  pub off-lowest : le lowest x ≡ false → Not ≡ wholeIn x low high
+  off-lowest k = not-told (wholeIn x low high) (λ z t.
+      let s = told-size z t in
+      let m = s .size in
+      let n = size-is z in
+      true≢false (sym (is-le lowest x 0 16384 (pp z) (np z) lowest-stands (equal-stands x z s (whole-equals x low high z t))
+      (omega (arith, m, n))) ∙ k))
+
+  pub off-highest : le x highest ≡ false → Not ≡ wholeIn x low high
+  off-highest k = not-told (wholeIn x low high) (λ z t.
+      let s = told-size z t in
+      let m = s .size in
+      let n = size-is z in
+      true≢false (sym (is-le x highest (pp z) (np z) 16384 0 (equal-stands x z s (whole-equals x low high z t)) highest-stands
+      (omega (arith, m, n))) ∙ k))
+
+  pub off-rounded : (near : Float) → ((z : ℤ) → Sized 16384 z → eq x (ofInt binary64 z) ≡ true → near ≡ ofInt binary64 z)
+      → ne x near ≡ true → Not ≡ wholeIn x low high
+  unfolding ne
+  off-rounded near own k = not-told (wholeIn x low high) (λ z t.
+      let e = whole-equals x low high z t in
+      let same : eq x near ≡ true = ap (eq x) (own z (told-size z t) e) ∙ e in
+      true≢false (sym same ∙ not-true (eq x near) k))
+
+pub in-rounded : (x : Float) (low high : ℤ) (near : Float) (r : Whole) → le lowest x ≡ true → le x highest ≡ true → Rounds near
+    → ne x near ≡ false → r ≡ within (toSigned 63 near) low high → r ≡ wholeIn x low high
+in-rounded x low high near r l h b k e =
+    let z = b .number in
+    let v = equal-stands x z (b .size) (ap (eq x) (sym (b .is)) ∙ equals x near k) in
+    let own : toSigned 63 x ≡ z = whole-part x z (b .size) v in
+    let its : toSigned 63 near ≡ z = ap (toSigned 63) (b .is) ∙ cast-whole z (b .size) .1 in
+    in-range x low high r (le-transitive least lowest x least-lowest l) (lt-of-le-lt x highest past h highest-past)
+    (ap (λ (n : ℤ). ne x (ofInt binary64 n)) own ∙ ap (ne x) (sym (b .is)) ∙ k)
+    (e ∙ ap (λ (n : ℤ). within n low high) (its ∙ sym own))
 
 near-of : (x : ℤ) → Between (negsuc 4095) (pos 4096) x → Sized 4096 x
 near-of (pos n) b = let m = ltb-false 4096 n (b .most) in record { size = m }

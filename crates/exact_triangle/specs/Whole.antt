@@ -1,9 +1,11 @@
 -- Whole numbers from floats. Definitions only. Assumes nothing.
+use mathlib.Core.Path.{_≡_}
 use mathlib.Core.Bool.{cond}
 use lib.IntN.{ℤ, pos, negsuc}
 use lib.Signed.{ltZ}
 use lib.Ieee.{Float, binary64, ofBits, ofInt, toSigned, le, lt, ne}
 use Rattle.vectors.specs.declared.vec3.Vec3.{Vec3}
+use Rattle.exact_depth.specs.Sizes.{Sized}
 use Rattle.exact_triangle.specs.declared.whole.Whole.{Whole}
 use Rattle.exact_triangle.specs.declared.whole.Whole.the-variants.{Is, Not}
 use Rattle.exact_triangle.specs.declared.whole.Point.{Point}
@@ -43,3 +45,15 @@ pointOf v =
     (λ (x : ℤ). withWhole (coordinate (v .y)) Off
     (λ (y : ℤ). withWhole (coordinate (v .z)) Off
     (λ (z : ℤ). At (record { x = x; y = y; z = z }))))
+
+-- ---- inner contracts only: a whole number beside a float
+abbrev pub lowest : Float
+lowest = ofBits binary64 0xc0d0_0000_0000_0000
+
+abbrev pub highest : Float
+highest = ofBits binary64 0x40d0_0000_0000_0000
+
+pub record Rounds (y : Float) : Type 0 where
+  pub number : ℤ
+  pub size : Sized 16384 number
+  pub is : y ≡ ofInt binary64 number

@@ -4,18 +4,14 @@ use crate::whole;
 use crate::whole::Placed;
 use crate::whole::Point;
 use casts::answer;
-use casts::answer::Cast;
 use casts::answer::Reach;
 use exact_depth::spots::Depth;
 use exact_depth::spots::Fraction;
-use geometry::ray::Ray;
-use triangle_cast::triangle;
 use vectors::vec3::Vec3;
 ghost use mathlib.Core.Path.{_≡_};
 ghost use Rattle.vectors.specs.Vector.{subOf};
 ghost use Rattle.geometry.specs.Box.{corner};
 ghost use Rattle.geometry.specs.declared.ray.Ray.{Ray as AnyRay};
-ghost use Rattle.casts.specs.Answer.{says};
 ghost use Rattle.casts.specs.Reach.{reachOf};
 ghost use Rattle.triangle_cast.specs.Triangle.{hasNormal};
 ghost use Rattle.exact_triangle.specs.Exact.{boardOf, distanceOf, exactTriangle, Ruled};
@@ -54,22 +50,6 @@ fn distance(at: Fraction) -> f64
     std::num::nearest_i64_to_f64(at.t) / std::num::nearest_i64_to_f64(at.w)
 }
 
-// The cast at a triangle of a ray that is a line on whole millimetres. Callers show that it is.
-pub fn exact_triangle(ray: Ray, line: Line, corners: [Vec3; 3]) -> Cast
-    requires { ⌜ Ruled line ⌝ }
-    ensures { λ r. ⌜ says r ≡ exactTriangle ray line corners ⌝ }
-{
-    let board = board_of(corners);
-    let Board::At { a, b, c } = board else {
-        return Cast::Refused(NOT_WHOLE);
-    };
-    let depth = seen::depth_of(line, a, b, c);
-    let Depth::At(at) = depth else {
-        return Cast::None;
-    };
-    triangle::hit_at(ray, corners, distance(at))
-}
-
 // Whether the corners' normal can be told: decided by the edges' cross alone, without the root.
 fn has_normal(corners: [Vec3; 3]) -> bool
     ensures { λ r. ⌜ r ≡ hasNormal (subOf (corner corners 1) (corner corners 0)) (subOf (corner corners 2) (corner corners 0)) ⌝ }
@@ -80,7 +60,7 @@ fn has_normal(corners: [Vec3; 3]) -> bool
     second.sub(first).cross(third.sub(first)).has_direction()
 }
 
-// What such a ray reaches the corners at, without the normal, and so without its root: the same for every ray on the line. Callers show
+// What a ray on the line reaches the corners at, without the normal, and so without its root: the same for every ray on it. Callers show
 // that it is a line on whole millimetres.
 pub fn exact_reach(line: Line, corners: [Vec3; 3]) -> Reach
     requires { ⌜ Ruled line ⌝ }

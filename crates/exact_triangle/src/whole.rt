@@ -1,16 +1,24 @@
 use vectors::vec3::Vec3;
 ghost use mathlib.Core.Path.{_≡_};
-ghost use Rattle.exact_triangle.specs.Whole.{within, wholeIn, pointOf};
+ghost use mathlib.Core.Bool.{true};
+ghost use lib.IntN.{ℤ};
+ghost use lib.Ieee.{binary64, ofInt, eq, le};
+ghost use Rattle.exact_depth.specs.Sizes.{Sized};
+ghost use Rattle.exact_triangle.specs.Whole.{within, wholeIn, pointOf, lowest, highest, Rounds};
 
 pub enum Whole {
     Is(i64),
     Not,
 }
 
-// The range of an i64.
-const LEAST: f64 = -9223372036854775808.0;
+// Each number that is asked for is from here ..
+const LOWEST: f64 = -16384.0;
 
-const PAST: f64 = 9223372036854775808.0;
+// .. to here.
+const HIGHEST: f64 = 16384.0;
+
+// 1.5 · 2^52: the floats about it are the whole numbers.
+const ROUNDER: f64 = 6755399441055744.0;
 
 fn within(n: i64, low: i64, high: i64) -> Whole
     ensures { λ r. ⌜ r ≡ within n low high ⌝ }
@@ -24,22 +32,32 @@ fn within(n: i64, low: i64, high: i64) -> Whole
     Whole::Is(n)
 }
 
-// A float that is a whole number from low to high; -0 is 0.
+// A whole number beside a float, which it equals if any does: what is added about 1.5 · 2^52 is rounded to one, and what is taken off again
+// is exact. Never -0, so that it can be cast. Callers show that the float is from LOWEST to HIGHEST.
+fn rounded(x: f64) -> f64
+    requires { ⌜ (le lowest x ≡ true) × (le x highest ≡ true) ⌝ }
+    ensures { λ r. ⌜ Rounds r ⌝ }
+    ensures { λ r. ⌜ ((z : ℤ) → Sized 16384 z → eq x (ofInt binary64 z) ≡ true → r ≡ ofInt binary64 z) ⌝ }
+{
+    x + ROUNDER - ROUNDER
+}
+
+// A float that is a whole number from low to high; -0 is 0. Callers show that both are from LOWEST to HIGHEST.
 pub fn whole_in(x: f64, low: i64, high: i64) -> Whole
+    requires { ⌜ Sized 16384 low × Sized 16384 high ⌝ }
     ensures { λ r. ⌜ r ≡ wholeIn x low high ⌝ }
 {
-    if !(x >= LEAST) {
+    if !(x >= LOWEST) {
         return Whole::Not;
     }
-    if !(x < PAST) {
+    if !(x <= HIGHEST) {
         return Whole::Not;
     }
-    let n = std::num::truncating_f64_to_i64(x);
-    let back = std::num::nearest_i64_to_f64(n);
-    if x != back {
+    let near = rounded(x);
+    if x != near {
         return Whole::Not;
     }
-    within(n, low, high)
+    within(near as i64, low, high)
 }
 
 // A point in whole millimetres.

@@ -1,6 +1,7 @@
 -- The pass over the triangles, the exact cast refusal by refusal, and that a triangle that the segment meets is a candidate. Assumes
 -- nothing.
-pub mod Passing
+pub mod Reaching
+pub mod Noting
 pub mod Casting
 pub mod Answered
 pub mod OneCandidate

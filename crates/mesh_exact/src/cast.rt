@@ -1,48 +1,48 @@
+use crate::noted;
 use casts::answer;
+use casts::answer::Cast;
 use exact_triangle::cast as triangle;
 use exact_triangle::line;
 use exact_triangle::line::Line;
 use exact_triangle::line::Ruled;
 use geometry::aabb::Aabb;
 use geometry::ray::Ray;
+use mesh_plain::boxes;
 use nearest_hit::nearest;
 use nearest_hit::nearest::IndexedCast;
+use nearest_hit::summary::Outcome;
 use tree::mesh as triangle_mesh;
+use triangle_cast::triangle as rounded;
 use vectors::vec3::Vec3;
 ghost use mathlib.Core.Path.{_≡_};
-ghost use mathlib.Core.Bool.{true, cond};
+ghost use mathlib.Core.Bool.{true};
 ghost use Prim.Native.Nat.{_≤_};
 ghost use lib.ListN.{length};
-ghost use Rattle.geometry.specs.Box.{touches};
+ghost use Rattle.vectors.specs.Vector.{subOf};
+ghost use Rattle.geometry.specs.Box.{corner};
 ghost use Rattle.geometry.specs.Segment.{rayAdmitted};
-ghost use Rattle.nearest_hit.specs.Nearest.{saysIndexed, nextOf};
+ghost use Rattle.casts.specs.Answer.{says};
+ghost use Rattle.triangle_cast.specs.Triangle.{triangleNormal};
+ghost use Rattle.nearest_hit.specs.Nearest.{saysIndexed};
 ghost use Rattle.tree.specs.Mesh.{lengthsAdmitted, mesh};
-ghost use Rattle.exact_triangle.specs.Exact.{exactTriangle, Ruled as RuledLine};
+ghost use Rattle.exact_triangle.specs.Exact.{Ruled as RuledLine};
 ghost use Rattle.mesh_exact.specs.ExactCast.{overExact, exactCast, rayMeshExactPlain};
 ghost use Rattle.mesh_exact.specs.Certain.{CertainMesh};
 
-// One more triangle, which counts where its box touches the segment's box. Callers show that the line is on whole millimetres.
-fn next_exact(
-    best: IndexedCast,
-    index: u32,
-    ray: Ray,
-    line: Line,
-    bounds: Aabb,
-    around: Aabb,
-    corners: [Vec3; 3],
-) -> IndexedCast
-    requires { ⌜ RuledLine line ⌝ }
-    ensures { λ r. ⌜ saysIndexed r ≡ cond (touches around bounds) (nextOf (saysIndexed best) index (exactTriangle ray line corners))
-        (saysIndexed best) ⌝ }
+// The hit at the distance that the corners are reached at. It has one user, into which it is compiled: a call would be handed the corners
+// through memory.
+fn hit_on(ray: Ray, corners: [Vec3; 3], distance: f64) -> Cast
+    ensures { λ r. ⌜ says r ≡ triangleNormal ray (subOf (corner corners 1) (corner corners 0))
+        (subOf (corner corners 2) (corner corners 0)) distance ⌝ }
 {
-    if !around.touches(bounds) {
-        return best;
-    }
-    nearest::next(best, index, triangle::exact_triangle(ray, line, corners))
+    let first = corners[0];
+    let second = corners[1];
+    let third = corners[2];
+    rounded::triangle_normal(ray, second.sub(first), third.sub(first), distance)
 }
 
-// All triangles in one pass. The first without a valid box ends it with 5, whatever was found before it.
-// Callers show that the line is on whole millimetres and the triangles are few enough for an index.
+// The answer over all triangles; only the winner's normal is computed. Of up to 32 vertices it is told first on which sides of the
+// segment's box they lie. Callers show that the line is on whole millimetres and the triangles are few enough for an index.
 fn over_triangles(
     ray: Ray,
     line: Line,
@@ -53,23 +53,25 @@ fn over_triangles(
     requires { ⌜ length (now triangles) ≤ 196608 ⌝ ∗ ⌜ RuledLine line ⌝ }
     ensures { λ r. ⌜ saysIndexed r ≡ overExact ray line bounds (mesh (now (vertices .entry)) (now (triangles .entry))) ⌝ }
 {
-    let limit = vertices.len() / 3;
-    let count = triangles.len() / 3;
-    let mut best = IndexedCast::None;
-    let mut i: usize = 0;
-    while i < count {
-        if !triangle_mesh::corners_inside(limit, triangles, i) {
-            return IndexedCast::Refused(answer::OUT_OF_BOUNDS);
-        }
-        let corners = triangle_mesh::corners_of(vertices, triangles, i);
-        let around = Aabb::of_corners(corners);
-        if !around.is_valid() {
-            return IndexedCast::Refused(answer::OUT_OF_BOUNDS);
-        }
-        best = next_exact(best, i as u32, ray, line, bounds, around, corners);
-        i += 1;
+    if !noted::boxes_hold(vertices, triangles) {
+        return IndexedCast::Refused(answer::OUT_OF_BOUNDS);
     }
-    best
+    let mut codes = [0u64; 32];
+    let told = boxes::put_codes(&mut codes, bounds, vertices);
+    let winner = noted::winner_of(line, bounds, vertices, triangles, told, &codes);
+    match winner {
+        Outcome::Nobody => {
+            return IndexedCast::None;
+        }
+        Outcome::Refused(number) => {
+            return IndexedCast::Refused(number);
+        }
+        Outcome::Struck { index, distance } => {
+            let corners = triangle_mesh::corners_of(vertices, triangles, index as usize);
+            let hit = hit_on(ray, corners, distance);
+            return nearest::next(IndexedCast::None, index, hit);
+        }
+    }
 }
 
 // The cast once refusals 1, 12 of the ray and 2 have let it pass. Callers show that they have.

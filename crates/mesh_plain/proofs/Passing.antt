@@ -24,13 +24,13 @@ use Rattle.mesh_plain.specs.Boxes.{BoxesHold}
 use Rattle.mesh_plain.specs.PlainCast.{triangleFits, trianglesFit, overTriangles}
 
 -- a range that is not empty
-range-next : (i n : ℕ) → i < n → range i (n - i) ≡ i ∷ range (i + 1) (n - (i + 1))
+pub range-next : (i n : ℕ) → i < n → range i (n - i) ≡ i ∷ range (i + 1) (n - (i + 1))
 unfolding range
 range-next i n h =
     let size : n - i ≡ suc (n - (i + 1)) = omega arith in
     ap (range i) size ∙ ap (λ (k : ℕ). i ∷ range k (n - (i + 1))) (sym (add-one i))
 
-range-empty : (i n : ℕ) → n ≤ i → range i (n - i) ≡ []
+pub range-empty : (i n : ℕ) → n ≤ i → range i (n - i) ≡ []
 unfolding range
 range-empty i n h =
     let size : n - i ≡ 0 = omega arith in

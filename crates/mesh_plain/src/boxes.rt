@@ -14,7 +14,7 @@ ghost use Rattle.mesh_plain.specs.Boxes.{AllFinite, BoxesHold, Coded, on
 
 // Whether each vertex is finite: an infinity or NaN stays in a sum. Only a yes is promised to be right, since finite numbers may have a
 // sum that is not: after a no each box is looked at.
-fn all_finite(vertices: &[f64]) -> bool
+pub fn all_finite(vertices: &[f64]) -> bool
     ensures { λ r. ⌜ (r ≡ true → AllFinite (now (vertices .entry))) ⌝ }
 {
     let limit = vertices.len() / 3;
@@ -32,7 +32,7 @@ fn all_finite(vertices: &[f64]) -> bool
 }
 
 // Whether each triangle has a valid box. Callers show that the triangles are few enough for an index.
-fn all_fit(vertices: &[f64], triangles: &[u32]) -> bool
+pub fn all_fit(vertices: &[f64], triangles: &[u32]) -> bool
     requires { ⌜ length (now triangles) ≤ 196608 ⌝ }
     ensures { λ r. ⌜ r ≡ trianglesFit (mesh (now (vertices .entry)) (now (triangles .entry))) ⌝ }
 {
@@ -153,7 +153,7 @@ pub fn put_codes(codes: &mut [u64], bounds: Aabb, vertices: &[f64]) -> bool
 
 // Whether a triangle's box touches, by its vertices' codes: it does not where all three lie on one side. Callers show that its indices are
 // below the vertex count and that the codes are the vertices'.
-fn codes_touch(
+pub fn codes_touch(
     codes: &[u64],
     bounds: Aabb,
     vertices: &[f64],

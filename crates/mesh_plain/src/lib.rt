@@ -1,6 +1,6 @@
 // The cast of a ray at a mesh without a tree (document 02, M-100): for parts of few triangles.
 
 // Which triangles have valid boxes, and which boxes touch.
-mod boxes;
+pub mod boxes;
 // The public call.
 pub mod cast;

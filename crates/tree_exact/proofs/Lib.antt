@@ -1,6 +1,5 @@
--- What the listed triangles are reached at, the exact cast through a tree refusal by refusal, its agreement with the one without a tree,
+-- The exact cast through a tree refusal by refusal, its agreement with the one without a tree,
 -- and casts computed. Assumes nothing.
-pub mod Reaching
 pub mod Casting
 pub mod Agreement
 pub mod Examples

@@ -1,8 +1,7 @@
-use casts::answer;
-use casts::answer::Reach;
-use exact_triangle::cast;
+use casts::answer::Cast;
 use exact_triangle::line::Line;
 use geometry::ray::Ray;
+use mesh_exact::noted;
 use nearest_hit::nearest;
 use nearest_hit::nearest::IndexedCast;
 use nearest_hit::summary;
@@ -10,30 +9,22 @@ use nearest_hit::summary::Notes;
 use nearest_hit::summary::Outcome;
 use tree::mesh as triangle_mesh;
 use triangle_cast::triangle;
+use vectors::vec3::Vec3;
 ghost use mathlib.Core.Path.{_≡_};
 ghost use mathlib.Core.Bool.{true};
-ghost use Prim.Native.Nat.{_+_, _*_, _≤_};
+ghost use Prim.Native.Nat.{_≤_};
 ghost use lib.ListN.{length, take};
+ghost use Rattle.vectors.specs.Vector.{subOf};
+ghost use Rattle.geometry.specs.Box.{corner};
 ghost use Rattle.geometry.specs.declared.ray.Ray.{Ray as AnyRay};
-ghost use Rattle.casts.specs.Reach.{reachOf};
+ghost use Rattle.casts.specs.Answer.{says};
+ghost use Rattle.triangle_cast.specs.Triangle.{triangleNormal};
 ghost use Rattle.nearest_hit.specs.Nearest.{saysIndexed, nearestOf};
 ghost use Rattle.nearest_hit.specs.Summary.{nothing, summaryFrom, saysNotes};
 ghost use Rattle.lists.specs.Lists.{sorted, allBelow};
 ghost use Rattle.tree.specs.Mesh.{thirds};
 ghost use Rattle.exact_triangle.specs.Exact.{Ruled as RuledLine};
 ghost use Rattle.mesh_exact.specs.ExactCast.{exactAnswer};
-
-// The answer of one triangle without its normal: an index past the vertices is 5. The caller, the loop below,
-// shows that the index is a triangle's.
-fn reach_of(line: Line, pose: &[f64], triangles: &[u32], index: usize) -> Reach
-    requires { ⌜ 3 * index + 3 ≤ length (now triangles) ⌝ ∗ ⌜ RuledLine line ⌝ }
-    ensures { λ r. ⌜ ((ray : AnyRay) → r ≡ reachOf (exactAnswer ray line (now (pose .entry)) (now (triangles .entry)) index)) ⌝ }
-{
-    if !triangle_mesh::corners_inside(pose.len() / 3, triangles, index) {
-        return Reach::Refused(answer::OUT_OF_BOUNDS);
-    }
-    cast::exact_reach(line, triangle_mesh::corners_of(pose, triangles, index))
-}
 
 // The notes of the triangles in the first places of a list, for every ray on the line. A refusal does not end them: one of a lower index
 // may follow. Callers show, by the walk, that they are triangles of the mesh.
@@ -47,11 +38,23 @@ fn note_all(line: Line, pose: &[f64], triangles: &[u32], list: &[u32], found: us
     let mut i: usize = 0;
     while i < found {
         let index = list[i];
-        let reach = reach_of(line, pose, triangles, index as usize);
+        let reach = noted::reach_of(line, pose, triangles, index as usize);
         notes = summary::note(notes, index, reach);
         i += 1;
     }
     notes
+}
+
+// The hit at the distance that the corners are reached at. It has one user, into which it is compiled: a call would be handed the corners
+// through memory.
+fn hit_on(ray: Ray, corners: [Vec3; 3], distance: f64) -> Cast
+    ensures { λ r. ⌜ says r ≡ triangleNormal ray (subOf (corner corners 1) (corner corners 0))
+        (subOf (corner corners 2) (corner corners 0)) distance ⌝ }
+{
+    let first = corners[0];
+    let second = corners[1];
+    let third = corners[2];
+    triangle::triangle_normal(ray, second.sub(first), third.sub(first), distance)
 }
 
 // The nearest of the triangles in the first places of a list: as if they stood there ascending, in whatever order they do. Only the
@@ -80,7 +83,7 @@ pub fn nearest_of(
         }
         Outcome::Struck { index, distance } => {
             let corners = triangle_mesh::corners_of(pose, triangles, index as usize);
-            let hit = triangle::hit_at(ray, corners, distance);
+            let hit = hit_on(ray, corners, distance);
             return nearest::next(IndexedCast::None, index, hit);
         }
     }

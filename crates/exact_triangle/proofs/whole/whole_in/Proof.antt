@@ -1,60 +1,61 @@
 -- `exact_triangle::whole::whole_in` meets its contract. Assumes nothing.
-use mathlib.Core.Path.{_≡_, refl, sym, ap, _∙_, subst}
-use mathlib.Core.Bool.{Bool, true, false}
+use mathlib.Core.Path.{_≡_, sym, _∙_, subst}
 use lib.Dec.{T}
-use lib.IntN.{ℤ}
-use lib.Ieee.{Float, binary64, ofBits, ofInt, toSigned, le, lt, ne}
+use lib.Ieee.{Float, binary64, toSigned, inSigned}
+use lib.Ieee.Casts.{toSigned-in}
 use mir.Syntax.{w64}
 use mir.Val.{toZ, ofZ}
 use mir.ValLaws.{toZ-ofZ}
 use borrow.Author.Tests.{not-true, not-false}
-use Rattle.exact_triangle.specs.Whole.{within, least, past, wholeIn}
-use Rattle.exact_triangle.proofs.WholeLaws.{off-least, off-past, off-part, in-range}
+use Rattle.exact_triangle.specs.Whole.{within}
+use Rattle.exact_triangle.proofs.RoundedSums.{cast-whole}
+use Rattle.exact_triangle.proofs.WholeLaws.{off-lowest, off-highest, off-rounded, in-rounded}
 use borrow.Author.Needs.{needs}
 use Rattle.exact_triangle.proofs.whole.whole_in.Statement.{statement}
 use Rattle.exact_triangle.proofs.whole.whole_in.Tie as tie
 
+-- a whole number from low to high is not below the lowest
 returns : tie.Need-returns
-returns c = off-least _ _ _ (not-true _ (c .if1 .taken))
+returns c =
+    let s : tie.Start = search in
+    off-lowest (s .args .x) _ _ (s .pre .0) (s .pre .1) (not-true _ (c .if1 .taken))
 
+-- .. nor above the highest
 returns-2 : tie.Need-returns-2
 returns-2 c =
+    let s : tie.Start = search in
+    off-highest (s .args .x) _ _ (s .pre .0) (s .pre .1) (not-true _ (c .if2 .taken))
+
+rounded-requires : tie.Need-rounded-requires
+rounded-requires c κs =
     let e : tie.Else1 = search in
-    off-past _ _ _ (not-false _ (e .if1 .left)) (not-true _ (c .if2 .taken))
+    (not-false _ (e .if1 .left), not-false _ (c .if2 .left))
 
-truncating-f64-to-i64-requires : tie.Need-truncating-f64-to-i64-requires
-unfolding ofBits
-truncating-f64-to-i64-requires c κs =
-    let (s, e) : tie.Start × tie.Else1 = search in (
-      subst T (sym (not-false (le least (s .args .x)) (e .if1 .left))) tt,
-      subst T (sym (not-false (lt (s .args .x) past) (c .if2 .left))) tt,
-    )
-
--- the whole part, as it comes
-part : (k : tie.After-truncating-f64-to-i64) (x : Float) → k .truncating-f64-to-i64 .result ≡ toSigned 63 x
-    → toZ w64 (ofZ w64 (k .truncating-f64-to-i64 .result)) ≡ toSigned 63 x
-part k x e = toZ-ofZ w64 (k .truncating-f64-to-i64 .result) (record { sfits = k .truncating-f64-to-i64 .ok }) ∙ e
-
+-- .. and is its own whole number
 returns-3 : tie.Need-returns-3
 returns-3 c =
-    let (s, e, d, k, n) : tie.Start × tie.Else1 × tie.Else2 × tie.After-truncating-f64-to-i64 × tie.After-nearest-i64-to-f64 = search in
-    off-part _ _ _ (not-false _ (e .if1 .left)) (not-false _ (d .if2 .left))
-    (ap (λ (z : Float). ne (s .args .x) z)
-    (sym (n .nearest-i64-to-f64 .ensures ∙ ap (ofInt binary64) (part k (s .args .x) (k .truncating-f64-to-i64 .ensures))))
-    ∙ c .if3 .taken)
+    let (s, n) : tie.Start × tie.After-rounded = search in
+    off-rounded (s .args .x) _ _ (s .pre .0) (s .pre .1) _ (n .rounded .ensures .1) (c .if3 .taken)
 
+-- a whole number's float, never -0, is cast without a loss
+float-to-int-within : tie.Need-float-to-int-within
+float-to-int-within c =
+    let n : tie.After-rounded = search in
+    let b = n .rounded .ensures .0 in
+    subst (λ (x : Float). T (inSigned binary64 63 x)) (sym (b .is)) (cast-whole (b .number) (b .size) .0)
+
+read-back : (x : Float) → toZ w64 (ofZ w64 (toSigned 63 x)) ≡ toSigned 63 x
+read-back x = toZ-ofZ w64 (toSigned 63 x) (record { sfits = toSigned-in 63 x })
+
+-- what equals the whole number beside it has it as its whole part
 returns-4 : tie.Need-returns-4
 returns-4 c =
-    let (s, e, d, k, n, l) : tie.Start × tie.Else1 × tie.Else2 × tie.After-truncating-f64-to-i64 × tie.After-nearest-i64-to-f64 × tie.Else3
-    = search in
+    let (s, e, d, n, l) : tie.Start × tie.Else1 × tie.Else2 × tie.After-rounded × tie.Else3 = search in
     let v = s .args in
-    in-range _ _ _ _ (not-false _ (e .if1 .left)) (not-false _ (d .if2 .left))
-    (ap (λ (z : Float). ne (v .x) z)
-    (sym (n .nearest-i64-to-f64 .ensures ∙ ap (ofInt binary64) (part k (v .x) (k .truncating-f64-to-i64 .ensures))))
-    ∙ l .if3 .left)
+    in-rounded (v .x) _ _ (n .rounded .result) _ (not-false _ (e .if1 .left)) (not-false _ (d .if2 .left)) (n .rounded .ensures .0)
+    (l .if3 .left)
     (c .within .ensures
-    ∙ (λ i. within (part k (v .x) (k .truncating-f64-to-i64 .ensures) i) (toZ-ofZ w64 (v .low) (s .fits .low) i)
-    (toZ-ofZ w64 (v .high) (s .fits .high) i)))
+    ∙ (λ i. within (read-back (n .rounded .result) i) (toZ-ofZ w64 (v .low) (s .fits .low) i) (toZ-ofZ w64 (v .high) (s .fits .high) i)))
 
 pub whole-in-spec : {M : Type 1} → statement M
 whole-in-spec =
@@ -62,8 +63,8 @@ whole-in-spec =
     (tie.spec
     returns
     returns-2
-    truncating-f64-to-i64-requires
-    (search needs)  -- nearest-i64-to-f64-requires
+    rounded-requires
     returns-3
+    float-to-int-within
     (search needs)  -- within-requires
     returns-4)

@@ -2,7 +2,7 @@
 use mathlib.Core.Path.{_∙_}
 use native.Mathlib.Omega.{arith}
 use Rattle.mesh.proofs.Folding.{nobody-wins, refusal-wins, hit-wins, winner-reached}
-use Rattle.tree_exact.proofs.Reaching.{answers-are-numbers, hit-inside, hit-answer}
+use Rattle.mesh_exact.proofs.Reaching.{answers-are-numbers, hit-inside, hit-answer}
 use borrow.Author.Needs.{needs}
 use Rattle.tree_exact.proofs.candidates.nearest_of.Statement.{statement}
 use Rattle.tree_exact.proofs.candidates.nearest_of.Tie as tie
@@ -41,7 +41,7 @@ returns-3 c =
     let noted = n .note-all .ensures (s .args .ray) in
     let reached = winner-reached _ numbers _ _ noted _ (w .winner .ensures) _ _ (h .winner3 .given .1) _ (s .pre .1 .1) in
     hit-wins _ numbers _ _ noted _ (w .winner .ensures) _ _ (h .winner3 .given .1)
-    _ (c .before .hit-at .ensures ∙ hit-answer (s .args .ray) _ _ _ _ _ (reached .1) _ (k .corners-of .ensures)) _ (c .next .ensures)
+    _ (c .before .hit-on .ensures ∙ hit-answer (s .args .ray) _ _ _ _ _ (reached .1) _ (k .corners-of .ensures)) _ (c .next .ensures)
 
 pub nearest-of-spec : {M : Type 1} → statement M
 nearest-of-spec =
@@ -56,6 +56,6 @@ nearest-of-spec =
     (search needs)  -- enum-known-winner-2
     (search needs)  -- cast-corners-of
     corners-of-requires
-    (λ c κs. search needs)  -- hit-at-requires
+    (λ c κs. search needs)  -- hit-on-requires
     (λ c κs. search needs)  -- next-requires
     returns-3)

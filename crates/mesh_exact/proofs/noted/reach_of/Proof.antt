@@ -1,9 +1,9 @@
--- `tree_exact::candidates::reach_of` meets its contract. Assumes nothing.
+-- `mesh_exact::noted::reach_of` meets its contract. Assumes nothing.
 use Rattle.lists.proofs.JoinedTests.{test-passed, test-failed}
-use Rattle.tree_exact.proofs.Reaching.{outside-refused, reach-is}
+use Rattle.mesh_exact.proofs.Reaching.{outside-refused, reach-is}
 use borrow.Author.Needs.{needs}
-use Rattle.tree_exact.proofs.candidates.reach_of.Statement.{statement}
-use Rattle.tree_exact.proofs.candidates.reach_of.Tie as tie
+use Rattle.mesh_exact.proofs.noted.reach_of.Statement.{statement}
+use Rattle.mesh_exact.proofs.noted.reach_of.Tie as tie
 
 -- an index lies past the vertices
 returns : tie.Need-returns
