@@ -5,6 +5,7 @@ pub mod Alone
 pub mod Numbers
 pub mod Promises
 pub mod PartSteps
+pub mod LookTests
 pub mod Idle
 pub mod LastAnswer
 pub mod Passes

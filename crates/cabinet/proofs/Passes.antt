@@ -1,32 +1,46 @@
 -- Two passes of the step over all parts are the cast at the cabinet. Assumes nothing.
-use Prim.Native.Nat.{ℕ, _*_, _-_}
+use Prim.Native.Nat.{ℕ, _+_, _*_, _-_, _≤_}
 use mathlib.Core.Path.{_≡_, refl, sym, ap, _∙_}
 use mathlib.Core.Bool.{Bool, true, false, _&&_, cond, true≢false}
 use mathlib.Core.List.{List, [], _∷_}
+use native.Mathlib.Omega.{arith}
 use lib.Dec.{leb}
-use lib.ListN.{length}
+use lib.Ieee.{Float}
+use lib.ListN.{length, drop, length-drop}
+use lib.Seq.{length-take-le}
 use Rattle.geometry.specs.Segment.{rayAdmitted}
 use Rattle.geometry.specs.declared.ray.Ray.{Ray}
 use Rattle.casts.specs.Answer.{invalidInput, badShape, noRoom}
 use Rattle.tree.specs.Mesh.{thirds, lengthsAdmitted}
 use Rattle.lists.proofs.JoinedTests.{and-first, and-second}
-use Rattle.tree_query.specs.Query.{walkFits}
+use Rattle.tree_query.specs.Query.{treeFits, walkFits}
 use Rattle.mesh.specs.MeshCast.{shapeAdmitted, roomFor}
+use Rattle.cabinet.specs.declared.part.Span.{Span}
 use Rattle.cabinet.specs.declared.part.Part.{Part}
+use Rattle.cabinet.specs.declared.part.Look.{Look}
 use Rattle.cabinet.specs.declared.part.Found.{Found}
 use Rattle.cabinet.specs.declared.part.Found.the-variants.{Nothing, Hit, Refused}
 use Rattle.cabinet.specs.declared.part.Progress.{Progress}
 use Rattle.cabinet.specs.declared.part.State.{State}
-use Rattle.cabinet.specs.Parts.{Areas, meshOf, treeOfPart, rangesInside, shapeFits, roomFits}
+use Rattle.cabinet.specs.Parts.{Areas, floatsAt, wordsAt, meshOf, treeOfPart, rangesInside, shapeFits, roomFits}
 use Rattle.cabinet.specs.PartCast.{castMoved}
 use Rattle.cabinet.specs.Cabinet.{Answer, refused, answerWith, answerOf, isRefused, beginning, castPart, castParts, allParts}
 use Rattle.cabinet.specs.Cabinet.{castCabinet}
 use Rattle.cabinet.specs.Cabinet.{withResults, testsPass}
-use Rattle.cabinet.specs.Steps.{lowerRefusal, refuseWith, isOver, isIdle, ownStep, stepPart, stepParts, looking, begun, turned}
-use Rattle.cabinet.specs.Steps.{passes, lastAnswer}
+use Rattle.cabinet.specs.Looks.{lowerNumber, lowered, lookShape, lookRoom, lookPart, lookParts, numberOf, foundBy, lookFrom}
+use Rattle.cabinet.specs.Looks.{turnedBy}
+use Rattle.cabinet.specs.Steps.{isOver, isIdle, ownStep, stepPart, stepParts, looking, begun, turned, between, passes, lastAnswer}
+use Rattle.cabinet.proofs.PartSteps.{Inside, inside-is}
 use Rattle.cabinet.proofs.Limits.{after-refused}
 use Rattle.cabinet.proofs.Alone.{all-first, all-rest}
 use Rattle.cabinet.proofs.LastAnswer.{last-of-casts}
+
+-- a range inside an area is as long as it says
+floats-long : (s : Span) (area : List Float) → s .start + s .length ≤ length area → length (floatsAt s area) ≡ s .length
+floats-long s area h = length-take-le (s .length) (drop (s .start) area) (omega (arith, length-drop (s .start) area, h))
+
+words-long : (s : Span) (area : List ℕ) → s .start + s .length ≤ length area → length (wordsAt s area) ≡ s .length
+words-long s area h = length-take-le (s .length) (drop (s .start) area) (omega (arith, length-drop (s .start) area, h))
 
 -- a length tested twice
 twice : (l n : Bool) → (l && (l && n)) ≡ (l && n)
@@ -54,80 +68,119 @@ module _ (a : Areas) (list stack : ℕ) where
   unfolding roomFits roomFor walkFits
   room-is p = refl
 
+  -- ---- a part is looked at by lengths alone
+  abbrev lookAt : ℕ → Look
+  lookAt k = record {
+    vertices = length (a .vertices);
+    triangles = length (a .triangles);
+    «node_boxes» = length (a .nodeBoxes);
+    «triangle_boxes» = length (a .triangleBoxes);
+    «node_words» = length (a .nodeWords);
+    order = length (a .order);
+    list = list;
+    stack = stack;
+    number = k;
+  }
+
+  part-inside : (p : Part) → inside p ≡ true → Inside p (length (a .vertices)) (length (a .triangles)) (length (a .nodeBoxes))
+      (length (a .triangleBoxes)) (length (a .nodeWords)) (length (a .order))
+  part-inside p = inside-is p (length (a .vertices)) (length (a .triangles)) (length (a .nodeBoxes)) (length (a .triangleBoxes))
+      (length (a .nodeWords)) (length (a .order))
+
+  look-shape : (k : ℕ) (p : Part) → lookShape (lookAt k) p ≡ shapeFits a p
+  unfolding lookShape
+  look-shape k p = go (inside p) refl ∙ sym (shape-is p)
+    where
+      go : (x : Bool) → inside p ≡ x → (inside p && (lengthsAdmitted (p .vertices .length) (p .triangles .length) && leb (p .nodes)
+          (2 * thirds (p .triangles .length)))) ≡ (inside p && admitted p)
+      go false e = simp e
+      go true e =
+          let i = part-inside p e in
+          rw (floats-long (p .vertices) (a .vertices) (i .vertices), words-long (p .triangles) (a .triangles) (i .triangles)) refl
+
+  look-room : (k : ℕ) (p : Part) → shapeFits a p ≡ true → lookRoom (lookAt k) p ≡ roomFits a list stack p
+  unfolding lookRoom walkFits treeFits
+  look-room k p h =
+      let i = part-inside p (and-first (inside p) (admitted p) (sym (shape-is p) ∙ h)) in
+      rw (
+        words-long (p .triangles) (a .triangles) (i .triangles),
+        floats-long (p .«node_boxes») (a .nodeBoxes) (i .nodeBoxes),
+        floats-long (p .«triangle_boxes») (a .triangleBoxes) (i .triangleBoxes),
+        words-long (p .«node_words») (a .nodeWords) (i .nodeWords),
+        words-long (p .order) (a .order) (i .order),
+      )
+      refl
+      ∙ sym (room-is p)
+
   module _ (r : Ray) (limit : ℕ) where
     -- ---- the first pass
-    abbrev looksAt : Found → Part → Found
-    looksAt f p = cond (shapeFits a p) (cond (roomFits a list stack p) f (lowerRefusal noRoom f)) (lowerRefusal badShape f)
+    abbrev looksAt : ℕ → Part → ℕ
+    looksAt k p = cond (shapeFits a p) (cond (roomFits a list stack p) k (lowerNumber noRoom k)) (lowerNumber badShape k)
 
-    look-is : (f : Found) (p : Part) (i d w : Bool) → inside p ≡ i → admitted p ≡ d
-        → walkFits (thirds (length (meshOf a p .triangles))) (treeOfPart a p) list stack ≡ w
-        → stepPart a list stack (looking r limit f) p ≡ looking r limit (cond (i && d) (cond w f (lowerRefusal noRoom f))
-        (lowerRefusal badShape f))
-    unfolding stepPart isOver ownStep refuseWith
-    look-is f p false d w x y z = simp x
-    look-is f p true false w x y z = simp (x, y)
-    look-is f p true true false x y z = simp (x, y, z)
-    look-is f p true true true x y z = simp (x, y, z)
+    look-step : (k : ℕ) (p : Part) → lookPart (lookAt k) p ≡ lookAt (looksAt k p)
+    unfolding lookPart lowered
+    look-step k p = go (shapeFits a p) refl (roomFits a list stack p) refl
+      where
+        go : (x : Bool) → shapeFits a p ≡ x → (y : Bool) → roomFits a list stack p ≡ y
+            → cond (lookShape (lookAt k) p) (cond (lookRoom (lookAt k) p) (lookAt k) (lookAt (lowerNumber noRoom k)))
+            (lookAt (lowerNumber badShape k)) ≡ lookAt (looksAt k p)
+        go false e y f = simp (look-shape k p, e)
+        go true e true f = simp (look-shape k p, look-room k p e, e, f)
+        go true e false f = simp (look-shape k p, look-room k p e, e, f)
 
-    look-step : (f : Found) (p : Part) → stepPart a list stack (looking r limit f) p ≡ looking r limit (looksAt f p)
-    look-step f p =
-        look-is f p (inside p) (admitted p) (walkFits (thirds (length (meshOf a p .triangles))) (treeOfPart a p) list stack) refl refl
-        refl
-        ∙ sym (rw (shape-is p, room-is p) refl)
+    unfoldable looksAll : ℕ → List Part → ℕ
+    looksAll k [] = k
+    looksAll k (p ∷ ps) = looksAll (looksAt k p) ps
 
-    unfoldable looksAll : Found → List Part → Found
-    looksAll f [] = f
-    looksAll f (p ∷ ps) = looksAll (looksAt f p) ps
-
-    look-steps : (f : Found) (ps : List Part) → stepParts a list stack (looking r limit f) ps ≡ looking r limit (looksAll f ps)
-    unfolding stepParts looksAll
-    look-steps f [] = refl
-    look-steps f (p ∷ ps) = ap (λ (s : State). stepParts a list stack s ps) (look-step f p) ∙ look-steps (looksAt f p) ps
+    look-steps : (k : ℕ) (ps : List Part) → lookParts (lookAt k) ps ≡ lookAt (looksAll k ps)
+    unfolding lookParts looksAll
+    look-steps k [] = refl
+    look-steps k (p ∷ ps) = ap (λ (s : Look). lookParts s ps) (look-step k p) ∙ look-steps (looksAt k p) ps
 
     -- 1 stays, 2 stays, 3 gives way to a later 2
-    both : (x y : Bool) (f : Found) → cond x (cond y f f) f ≡ f
-    both true true f = refl
-    both true false f = refl
-    both false y f = refl
+    both : (x y : Bool) (k : ℕ) → cond x (cond y k k) k ≡ k
+    both true true k = refl
+    both true false k = refl
+    both false y k = refl
 
-    invalid-stays : (ps : List Part) → looksAll (Refused invalidInput) ps ≡ Refused invalidInput
-    unfolding looksAll lowerRefusal
+    invalid-stays : (ps : List Part) → looksAll invalidInput ps ≡ invalidInput
+    unfolding looksAll lowerNumber
     invalid-stays [] = refl
-    invalid-stays (p ∷ ps) = ap (λ (f : Found). looksAll f ps) (both (shapeFits a p) (roomFits a list stack p) (Refused invalidInput))
+    invalid-stays (p ∷ ps) = ap (λ (k : ℕ). looksAll k ps) (both (shapeFits a p) (roomFits a list stack p) invalidInput)
         ∙ invalid-stays ps
 
-    bad-stays : (ps : List Part) → looksAll (Refused badShape) ps ≡ Refused badShape
-    unfolding looksAll lowerRefusal
+    bad-stays : (ps : List Part) → looksAll badShape ps ≡ badShape
+    unfolding looksAll lowerNumber
     bad-stays [] = refl
-    bad-stays (p ∷ ps) = ap (λ (f : Found). looksAll f ps) (both (shapeFits a p) (roomFits a list stack p) (Refused badShape)) ∙
+    bad-stays (p ∷ ps) = ap (λ (k : ℕ). looksAll k ps) (both (shapeFits a p) (roomFits a list stack p) badShape) ∙
         bad-stays ps
 
-    short-gives : (ps : List Part) → looksAll (Refused noRoom) ps ≡ cond (allParts (shapeFits a) ps) (Refused noRoom) (Refused badShape)
-    unfolding looksAll lowerRefusal allParts
+    short-gives : (ps : List Part) → looksAll noRoom ps ≡ cond (allParts (shapeFits a) ps) noRoom badShape
+    unfolding looksAll lowerNumber allParts
     short-gives [] = refl
     short-gives (p ∷ ps) = go (shapeFits a p) refl (roomFits a list stack p) refl (short-gives ps)
       where
         go : (x : Bool) → shapeFits a p ≡ x → (y : Bool) → roomFits a list stack p ≡ y
-            → looksAll (Refused noRoom) ps ≡ cond (allParts (shapeFits a) ps) (Refused noRoom) (Refused badShape)
-            → looksAll (looksAt (Refused noRoom) p) ps ≡ cond (cond (shapeFits a p) (allParts (shapeFits a) ps) false) (Refused noRoom)
-            (Refused badShape)
+            → looksAll noRoom ps ≡ cond (allParts (shapeFits a) ps) noRoom badShape
+            → looksAll (looksAt noRoom p) ps ≡ cond (cond (shapeFits a p) (allParts (shapeFits a) ps) false) noRoom
+            badShape
         go false e y g ih = simp e (bad-stays ps)
         go true e true g ih = simp (e, g) ih
         go true e false g ih = simp (e, g) ih
 
-    looked-through : (ps : List Part) → looksAll Nothing ps ≡ cond (allParts (shapeFits a) ps)
-        (cond (allParts (roomFits a list stack) ps) Nothing (Refused noRoom)) (Refused badShape)
-    unfolding looksAll lowerRefusal allParts
+    looked-through : (ps : List Part) → looksAll 0 ps ≡ cond (allParts (shapeFits a) ps)
+        (cond (allParts (roomFits a list stack) ps) 0 noRoom) badShape
+    unfolding looksAll lowerNumber allParts
     looked-through [] = refl
     looked-through (p ∷ ps) = go (shapeFits a p) refl (roomFits a list stack p) refl (looked-through ps)
       where
         go : (x : Bool) → shapeFits a p ≡ x → (y : Bool) → roomFits a list stack p ≡ y
-            → looksAll Nothing ps ≡ cond (allParts (shapeFits a) ps) (cond (allParts (roomFits a list stack) ps) Nothing
-            (Refused noRoom)) (Refused badShape)
-            → looksAll (looksAt Nothing p) ps
+            → looksAll 0 ps ≡ cond (allParts (shapeFits a) ps) (cond (allParts (roomFits a list stack) ps) 0
+            noRoom) badShape
+            → looksAll (looksAt 0 p) ps
             ≡ cond (cond (shapeFits a p) (allParts (shapeFits a) ps) false)
-            (cond (cond (roomFits a list stack p) (allParts (roomFits a list stack) ps) false) Nothing (Refused noRoom))
-            (Refused badShape)
+            (cond (cond (roomFits a list stack p) (allParts (roomFits a list stack) ps) false) 0 noRoom)
+            badShape
         go false e y g ih = simp e (bad-stays ps)
         go true e true g ih = simp (e, g) ih
         go true e false g ih = simp (e, g) (short-gives ps)
@@ -192,18 +245,39 @@ module _ (a : Areas) (list stack : ℕ) where
       firstFound admits shaped fitting roomy = cond admits (cond shaped (cond (fitting && roomy) Nothing (Refused noRoom))
           (Refused badShape)) (Refused invalidInput)
 
+      abbrev turnedTo : ℕ → State
+      turnedTo k = turned (looking r limit (foundBy k))
+
+      look-turns : (f : Found) → turnedBy (looking r limit f) (lookParts (lookAt (numberOf f)) parts) ≡ turnedTo
+          (looksAll (numberOf f) parts)
+      unfolding turnedBy
+      look-turns f = ap (λ (s : Look). turnedTo (s .number)) (look-steps (numberOf f) parts)
+
+      short-found : (x w : Bool) → foundBy (cond x noRoom badShape) ≡ firstFound true x false w
+      unfolding foundBy
+      short-found true w = refl
+      short-found false w = refl
+
+      none-found : (x w : Bool) → foundBy (cond x (cond w 0 noRoom) badShape) ≡ firstFound true x true w
+      unfolding foundBy
+      none-found true true = refl
+      none-found true false = refl
+      none-found false w = refl
+
       first-found : (x : Bool) → rayAdmitted r ≡ x → (y : Bool) → fits ≡ y
-          → stepParts a list stack (begun r limit fits) parts ≡ looking r limit (firstFound x shapes y rooms)
-      unfolding begun
-      first-found false e y f = simp e (look-steps (Refused invalidInput) parts ∙ ap (looking r limit) (invalid-stays parts))
-      first-found true e false f = simp (e, f) (look-steps (Refused noRoom) parts ∙ ap (looking r limit) (short-gives parts))
-      first-found true e true f = simp (e, f) (look-steps Nothing parts ∙ ap (looking r limit) (looked-through parts))
+          → between a list stack (begun r limit fits) parts ≡ turned (looking r limit (firstFound x shapes y rooms))
+      unfolding between begun lookFrom foundBy
+      first-found false e y f = simp e (look-turns (Refused invalidInput) ∙ ap turnedTo (invalid-stays parts))
+      first-found true e false f = simp (e, f) (look-turns (Refused noRoom) ∙ ap turnedTo (short-gives parts)
+          ∙ ap (λ (g : Found). turned (looking r limit g)) (short-found shapes rooms))
+      first-found true e true f = simp (e, f) (look-turns Nothing ∙ ap turnedTo (looked-through parts)
+          ∙ ap (λ (g : Found). turned (looking r limit g)) (none-found shapes rooms))
 
       -- where a test fails, the second pass casts at no part
       pub tests-keep : testsPass r a list stack fits parts ≡ false → isIdle
-          (turned (stepParts a list stack (begun r limit fits) parts)) ≡ true
+          (between a list stack (begun r limit fits) parts) ≡ true
       unfolding testsPass isIdle
-      tests-keep h = ap (λ (s : State). isRefused (s .at .found)) (first-found (rayAdmitted r) refl fits refl) ∙ go (rayAdmitted r)
+      tests-keep h = ap isIdle (first-found (rayAdmitted r) refl fits refl) ∙ go (rayAdmitted r)
           shapes fits rooms h
         where
           go : (x y z w : Bool) → (x && (y && (z && w))) ≡ false → isRefused (firstFound x y z w) ≡ true
@@ -215,13 +289,13 @@ module _ (a : Areas) (list stack : ℕ) where
 
       -- ---- both passes: the last state's answer
       abbrev ends : State → Answer
-      ends s = lastAnswer (stepParts a list stack (turned s) parts .at)
+      ends s = lastAnswer (stepParts a list stack s parts .at)
 
-      refused-answers : (number : ℕ) → ends (looking r limit (Refused number)) ≡ refused number
+      refused-answers : (number : ℕ) → ends (turned (looking r limit (Refused number))) ≡ refused number
       unfolding lastAnswer
       refused-answers number = ap (λ (s : State). lastAnswer (s .at)) (refused-stays number parts)
 
-      cast-answers : shapes ≡ true → rooms ≡ true → ends (looking r limit Nothing) ≡ answerOf (castParts r a limit beginning parts)
+      cast-answers : shapes ≡ true → rooms ≡ true → ends (turned (looking r limit Nothing)) ≡ answerOf (castParts r a limit beginning parts)
       cast-answers f g = ap (λ (s : State). lastAnswer (s .at)) (cast-steps beginning parts f g) ∙ last-of-casts r a limit parts
 
       -- an answer of the casts, where the result slices do not fit
@@ -241,7 +315,7 @@ module _ (a : Areas) (list stack : ℕ) where
           after = castParts r a limit beginning parts
 
           go : (x : Bool) → rayAdmitted r ≡ x → (y : Bool) → shapes ≡ y → (z w : Bool) → rooms ≡ w
-              → ends (looking r limit (firstFound x y z w))
+              → ends (turned (looking r limit (firstFound x y z w)))
               ≡ withResults z (cond x (cond y (cond w (answerOf after) (refused noRoom)) (refused badShape)) (refused invalidInput))
           go false e y f true w g = refused-answers invalidInput
           go false e y f false w g = refused-answers invalidInput

@@ -1,5 +1,5 @@
--- One part of a pass, as the loop over the parts takes it: State in, State out. The first pass looks for refusals 2 and 3, the second
--- casts. Definitions only. Assumes nothing.
+-- One part of the second pass, as the loop over the parts takes it: State in, State out; and both passes. Definitions only. Assumes
+-- nothing.
 use Prim.Native.Nat.{ℕ, _*_, _-_}
 use mathlib.Core.Path.{_≡_}
 use mathlib.Core.Bool.{Bool, true, false, _&&_, cond}
@@ -22,6 +22,7 @@ use Rattle.cabinet.specs.declared.part.Progress.{Progress}
 use Rattle.cabinet.specs.declared.part.State.{State}
 use Rattle.cabinet.specs.declared.part.CastCost.{CastCost}
 use Rattle.cabinet.specs.Parts.{Areas, meshOf, treeOfPart, rangesInside}
+use Rattle.cabinet.specs.Looks.{lookParts, lookFrom, turnedBy}
 use Rattle.cabinet.specs.PartCast.{Costed, costing, castMoved}
 use Rattle.cabinet.specs.Cabinet.{Answer, hitIn, noneAfter, refused, refusedAfter, answerOf, plainly, isRefused, afterPart}
 
@@ -92,7 +93,7 @@ unfoldable pub stepParts : Areas → ℕ → ℕ → State → List Part → Sta
 stepParts a list stack s [] = s
 stepParts a list stack s (p ∷ ps) = stepParts a list stack (stepPart a list stack s p) ps
 
--- in the first pass, and after a refusal, no part is cast at
+-- after a refusal no part is cast at
 unfoldable pub isIdle : State → Bool
 isIdle s = cond (s .casting) (isRefused (s .at .found)) true
 
@@ -100,7 +101,7 @@ isIdle s = cond (s .casting) (isRefused (s .at .found)) true
 abbrev pub Kept : State → List ℕ → List ℕ → List ℕ → List ℕ → Type 0
 Kept s list list' stack stack' = isIdle s ≡ true → (list' ≡ list) × (stack' ≡ stack)
 
--- the first pass: 1 is known before it, and only 2 and 3 are looked for
+-- before the first pass: 1 is known, and only 2 and 3 are looked for
 abbrev pub looking : Ray → ℕ → Found → State
 looking r limit found = record { ray = r; limit = limit; casting = false; at = record { part = 0; spent = 0; found = found } }
 
@@ -108,18 +109,24 @@ looking r limit found = record { ray = r; limit = limit; casting = false; at = r
 unfoldable pub begun : Ray → ℕ → Bool → State
 begun r limit fits = looking r limit (cond (rayAdmitted r) (cond fits Nothing (Refused noRoom)) (Refused invalidInput))
 
--- the second pass casts, from what the first found
+-- the second pass casts
 abbrev pub turned : State → State
 turned s = record { ray = s .ray; limit = s .limit; casting = true; at = s .at }
 
+-- what the first pass finds, with which the second begins
+unfoldable pub between : Areas → ℕ → ℕ → State → List Part → State
+between a list stack start parts =
+    turnedBy start
+    (lookParts (lookFrom start (length (a .vertices)) (length (a .triangles)) (length (a .nodeBoxes)) (length (a .triangleBoxes))
+    (length (a .nodeWords)) (length (a .order)) list stack) parts)
+
 -- both passes
 unfoldable pub passes : Areas → ℕ → ℕ → State → List Part → State
-passes a list stack start parts = stepParts a list stack (turned (stepParts a list stack start parts)) parts
+passes a list stack start parts = stepParts a list stack (between a list stack start parts) parts
 
 -- after both, the work areas are as they were where the first pass refused
 abbrev pub KeptByBoth : Areas → ℕ → ℕ → State → List Part → List ℕ → List ℕ → List ℕ → List ℕ → Type 0
-KeptByBoth a m k start parts list list' stack stack' =
-    isIdle start ≡ true → isIdle (turned (stepParts a m k start parts)) ≡ true → (list' ≡ list) × (stack' ≡ stack)
+KeptByBoth a m k start parts list list' stack stack' = Kept (between a m k start parts) list list' stack stack'
 
 -- the answer as the last state has it: a refusal met before a part was begun carries no count
 unfoldable pub lastAnswer : Progress → Answer

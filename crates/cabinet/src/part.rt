@@ -47,10 +47,24 @@ pub struct Progress {
     pub found: Found,
 }
 
-// With what every part is cast at; in the first pass, not casting, only refusals 2 and 3 are looked for.
+// With what every part is cast at, and what is known before the next; nothing is cast at unless `casting`.
 pub struct State {
     pub ray: Ray,
     pub limit: usize,
     pub casting: bool,
     pub at: Progress,
+}
+
+// What the first pass goes by: the lengths of the lent areas, and the lowest refusal so far, 0 where there is none.
+// Numbers alone, so that they stay in registers.
+pub struct Look {
+    pub vertices: usize,
+    pub triangles: usize,
+    pub node_boxes: usize,
+    pub triangle_boxes: usize,
+    pub node_words: usize,
+    pub order: usize,
+    pub list: usize,
+    pub stack: usize,
+    pub number: u32,
 }

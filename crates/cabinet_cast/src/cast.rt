@@ -1,26 +1,46 @@
 use cabinet::part::CastCost;
 use casts::answer;
+use geometry::aabb::Aabb;
 use geometry::ray::Ray;
 use mesh::candidates;
 use nearest_hit::nearest::IndexedCast;
+use tree::layout;
 use tree_walk::within;
 use tree_walk::within::Limited;
 use vectors::vec3::Vec3;
 ghost use mathlib.Core.Path.{_≡_};
 ghost use mathlib.Core.Bool.{true};
+ghost use Prim.Native.Nat.{_*_, _≤_};
 ghost use lib.ListN.{length};
 ghost use Rattle.vectors.specs.Vector.{finiteVec};
 ghost use Rattle.tree.specs.Mesh.{thirds, mesh};
 ghost use Rattle.tree.specs.Layout.{treeOf};
 ghost use Rattle.tree_walk.specs.Areas.{WalkRoom};
+ghost use Rattle.cabinet_cast.specs.Root.{leavesAtRoot};
 ghost use Rattle.cabinet.specs.PartCast.{castWithin, castMoved};
 ghost use Rattle.cabinet.specs.Steps.{saysCost};
 
 // The table's number for a limit that is used up.
 pub const LIMIT_REACHED: u32 = 10;
 
+// Whether a box leaves the tree at its first node: there is one, the limit lets it be taken, and its box does not touch.
+// Callers show that the nodes' boxes are there.
+fn leaves_at_root(bounds: Aabb, nodes: usize, node_boxes: &[f64], limit: usize) -> bool
+    requires { ⌜ 6 * nodes ≤ length (now «node_boxes») ⌝ }
+    ensures { λ r. ⌜ r ≡ leavesAtRoot limit nodes (now («node_boxes» .entry)) bounds ⌝ }
+{
+    if limit == 0 {
+        return false;
+    }
+    if nodes == 0 {
+        return false;
+    }
+    !layout::box_at(node_boxes, 0).touches(bounds)
+}
+
 // The cast at a mesh whose refusals 2 and 3 let it pass, for a ray whose origin is finite; the list and the stack may hold anything
 // afterwards.
+// A box that leaves the tree at its first node, as at most parts of a cabinet, is answered before the walk, which stays out of line.
 // Callers show that they have and that it is.
 fn cast_within(
     ray: Ray,
@@ -48,6 +68,12 @@ fn cast_within(
         };
     }
     let bounds = ray.segment_box(end);
+    if leaves_at_root(bounds, nodes, node_boxes, limit) {
+        return CastCost {
+            spent: 1,
+            cast: IndexedCast::None,
+        };
+    }
     let count = triangles.len() / 3;
     let walked = within::gather_within(
         bounds,

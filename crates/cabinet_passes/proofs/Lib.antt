@@ -1,2 +1,3 @@
--- A slice that is lent again. Assumes nothing.
+-- A slice that is lent again, and what the walks by hand over the parts share. Assumes nothing.
 pub mod Again
+pub mod PassTypes

@@ -1,5 +1,8 @@
 use crate::step::cast_part;
+use cabinet::look;
+use cabinet::look::look_part;
 use cabinet::part::Found;
+use cabinet::part::Look;
 use cabinet::part::Part;
 use cabinet::part::Progress;
 use cabinet::part::State;
@@ -7,9 +10,23 @@ use casts::answer;
 use geometry::ray::Ray;
 ghost use mathlib.Core.Path.{_≡_};
 ghost use lib.ListN.{length};
-ghost use Rattle.cabinet.specs.Steps.{begun, stepParts, turned, areas, Kept, KeptByBoth};
+ghost use Rattle.cabinet.specs.Steps.{begun, stepParts, passes, areas, Kept, KeptByBoth};
+ghost use Rattle.cabinet.specs.Looks.{lookParts};
 
-// All parts, in list order. The list and the stack are work areas; a pass that casts at no part leaves them as they were.
+// The first pass: all parts are looked at, in list order, before the first is cast at.
+pub fn look_all(parts: &[Part], start: Look) -> Look
+    ensures { λ r. ⌜ r ≡ lookParts start (now (parts .entry)) ⌝ }
+{
+    let mut s = start;
+    let mut i = 0;
+    while i < parts.len() {
+        s = look_part(parts[i], s);
+        i += 1;
+    }
+    s
+}
+
+// The second pass: all parts, in list order. The list and the stack are work areas; a pass that casts at no part leaves them as they were.
 pub fn cast_all(
     parts: &[Part],
     vertices: &[f64],
@@ -47,20 +64,6 @@ pub fn cast_all(
     s
 }
 
-// Between the two passes.
-pub fn turn(s: State) -> State
-    ensures { λ r. ⌜ r ≡ turned s ⌝ }
-{
-    let ray = s.ray;
-    let at = s.at;
-    State {
-        ray: ray,
-        limit: s.limit,
-        casting: true,
-        at: at,
-    }
-}
-
 // Two passes over the list: nothing of the second is done before the first has seen every part.
 pub fn cast_twice(
     parts: &[Part],
@@ -74,29 +77,26 @@ pub fn cast_twice(
     stack: &mut [u32],
     start: State,
 ) -> State
-    ensures { λ r. ⌜ (r ≡ stepParts (areas (now (vertices .entry)) (now (triangles .entry)) (now («node_boxes» .entry))
+    ensures { λ r. ⌜ (r ≡ passes (areas (now (vertices .entry)) (now (triangles .entry)) (now («node_boxes» .entry))
         (now («triangle_boxes» .entry)) (now («node_words» .entry)) (now (order .entry))) (length (now (list .entry)))
-        (length (now (stack .entry))) (turned (stepParts
-        (areas (now (vertices .entry)) (now (triangles .entry)) (now («node_boxes» .entry)) (now («triangle_boxes» .entry))
-        (now («node_words» .entry)) (now (order .entry))) (length (now (list .entry))) (length (now (stack .entry))) start
-        (now (parts .entry)))) (now (parts .entry)))
+        (length (now (stack .entry))) start (now (parts .entry)))
         × KeptByBoth (areas (now (vertices .entry)) (now (triangles .entry)) (now («node_boxes» .entry)) (now («triangle_boxes» .entry))
         (now («node_words» .entry)) (now (order .entry))) (length (now (list .entry))) (length (now (stack .entry))) start
         (now (parts .entry)) (now (list .entry)) (now (list .exit)) (now (stack .entry)) (now (stack .exit)) ⌝ }
 {
-    let first = cast_all(
-        parts,
-        vertices,
-        triangles,
-        node_boxes,
-        triangle_boxes,
-        node_words,
-        order,
-        list,
-        stack,
+    let looking = look::look_from(
         start,
+        vertices.len(),
+        triangles.len(),
+        node_boxes.len(),
+        triangle_boxes.len(),
+        node_words.len(),
+        order.len(),
+        list.len(),
+        stack.len(),
     );
-    let between = turn(first);
+    let looked = look_all(parts, looking);
+    let between = look::turn(start, looked);
     cast_all(
         parts,
         vertices,

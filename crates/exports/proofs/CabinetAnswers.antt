@@ -19,7 +19,7 @@ use Rattle.cabinet.specs.declared.part.Progress.{Progress}
 use Rattle.cabinet.specs.declared.part.State.{State}
 use Rattle.cabinet.specs.Parts.{Areas}
 use Rattle.cabinet.specs.Cabinet.{Answer, hitIn, noneAfter, refused, refusedAfter, castCabinet, testsPass, withResults}
-use Rattle.cabinet.specs.Steps.{isIdle, KeptByBoth, begun, turned, stepParts, passes, lastAnswer}
+use Rattle.cabinet.specs.Steps.{isIdle, KeptByBoth, begun, between, passes, lastAnswer}
 use Rattle.cabinet.proofs.Passes.{tests-keep, passes-are-cabinet}
 use Rattle.results.specs.Results.{hitCode, noneCode}
 use Rattle.exports.specs.CabinetResults.{cabinetFits, CabinetTold, cabinetTold, toldCabinet}
@@ -95,19 +95,14 @@ results-twice false (noneAfter spent) = refl
 results-twice false (refused number) = refl
 results-twice false (refusedAfter number spent) = refl
 
-begun-idle : (r : Ray) (limit : ℕ) (fits : Bool) → isIdle (begun r limit fits) ≡ true
-unfolding begun isIdle
-begun-idle r limit fits = refl
-
 module _ (r : Ray) (a : Areas) (m k limit : ℕ) (fits : Bool) (parts : List Part) where
-  last-is : (f s : State) → f ≡ begun r limit fits → s ≡ stepParts a m k (turned (stepParts a m k f parts)) parts
+  last-is : (f s : State) → f ≡ begun r limit fits → s ≡ passes a m k f parts
       → lastAnswer (s .at) ≡ withResults fits (castCabinet r a m k limit parts)
-  unfolding passes
   last-is f s e g =
-      ap (λ (x : State). lastAnswer (x .at)) (g ∙ ap (λ (x : State). stepParts a m k (turned (stepParts a m k x parts)) parts) e)
+      ap (λ (x : State). lastAnswer (x .at)) (g ∙ ap (λ (x : State). passes a m k x parts) e)
       ∙ passes-are-cabinet a m k r limit fits parts
 
-  pub cabinet-answers : (f s : State) → f ≡ begun r limit fits → s ≡ stepParts a m k (turned (stepParts a m k f parts)) parts
+  pub cabinet-answers : (f s : State) → f ≡ begun r limit fits → s ≡ passes a m k f parts
       → (hit : List Float) (index part spent : List ℕ) (x : CabinetTold)
       → x ≡ toldCabinet (withResults fits (lastAnswer (s .at))) hit index part spent
       → x ≡ toldCabinet (withResults fits (castCabinet r a m k limit parts)) hit index part spent
@@ -119,5 +114,4 @@ module _ (r : Ray) (a : Areas) (m k limit : ℕ) (fits : Bool) (parts : List Par
   pub cabinet-keeps : (f : State) → f ≡ begun r limit fits → (list list' stack stack' : List ℕ)
       → KeptByBoth a m k f parts list list' stack stack' → testsPass r a m k fits parts ≡ false → (list' ≡ list) × (stack' ≡ stack)
   cabinet-keeps f e list list' stack stack' kept h =
-      kept (ap isIdle e ∙ begun-idle r limit fits)
-      (ap (λ (x : State). isIdle (turned (stepParts a m k x parts))) e ∙ tests-keep a m k r limit fits parts h)
+      kept (ap (λ (x : State). isIdle (between a m k x parts)) e ∙ tests-keep a m k r limit fits parts h)

@@ -50,9 +50,11 @@ use Rattle.cabinet.specs.declared.part.Part.{Part}
 use Rattle.cabinet.specs.declared.part.State.{State}
 use Rattle.cabinet.specs.Cabinet.{castCabinet, testsPass, withResults}
 use Rattle.cabinet.specs.Promises.{Passes, LimitPromises}
-use Rattle.cabinet.specs.Steps.{areas, begun, stepParts, turned, KeptByBoth, lastAnswer}
+use Rattle.cabinet.specs.Steps.{areas, begun, passes, KeptByBoth, lastAnswer}
 use Rattle.cabinet.proofs.Promises.{limits-hold}
 use Rattle.cabinet_passes.proofs.Again.{LentAgain, lends-again, comes-back}
+use Rattle.cabinet_passes.proofs.PassTypes.{P, R, machS, word, partsTy, sharedTy0, sharedTy1, sharedTy2, sharedTy3, sharedTy4, sharedTy5}
+use Rattle.cabinet_passes.proofs.PassTypes.{lentTy0, refTy0, againTy0, lentTy1, refTy1, againTy1}
 use Rattle.cabinet.proofs.part.Part as T
 use Rattle.cabinet.proofs.part.State as S
 use Rattle.cabinet.proofs.part.State.Laws as S′
@@ -78,59 +80,8 @@ use Rattle.exports.proofs.cabinets.probe_ray_cabinet.Code as code
 use Rattle.exports.proofs.cabinets.probe_ray_cabinet.Code.Mir as pieces
 
 -- ---- the types
-abbrev P : RattleType
-P = T.the-row
-
-abbrev R : RattleType
-R = S.the-row
-
-abbrev machS : State → Val
-machS = LL.val S.the-type S′.the-laws
-
-abbrev word : Ty
-word = tyInt w64
-
 abbrev double : Ty
 double = tyFloat binary64
-
-abbrev partsTy : Ty
-partsTy = sliceTy (tyRef (named 0) imm (pointee (T.the-row .written)))
-
-abbrev sharedTy0 : Ty
-sharedTy0 = sliceTy (tyRef (named 1) imm (tyFloat binary64))
-
-abbrev sharedTy1 : Ty
-sharedTy1 = sliceTy (tyRef (named 2) imm (tyInt w32))
-
-abbrev sharedTy2 : Ty
-sharedTy2 = sliceTy (tyRef (named 3) imm (tyFloat binary64))
-
-abbrev sharedTy3 : Ty
-sharedTy3 = sliceTy (tyRef (named 4) imm (tyFloat binary64))
-
-abbrev sharedTy4 : Ty
-sharedTy4 = sliceTy (tyRef (named 5) imm (tyInt w32))
-
-abbrev sharedTy5 : Ty
-sharedTy5 = sliceTy (tyRef (named 6) imm (tyInt w32))
-
-abbrev lentTy0 : Ty
-lentTy0 = sliceTy (tyRef (named 7) mut (tyInt w32))
-
-abbrev refTy0 : Ty
-refTy0 = tyRef erased mut (tyInt w32)
-
-abbrev againTy0 : Ty
-againTy0 = sliceTy refTy0
-
-abbrev lentTy1 : Ty
-lentTy1 = sliceTy (tyRef (named 8) mut (tyInt w32))
-
-abbrev refTy1 : Ty
-refTy1 = tyRef erased mut (tyInt w32)
-
-abbrev againTy1 : Ty
-againTy1 = sliceTy refTy1
 
 abbrev lentTy2 : Ty
 lentTy2 = sliceTy (tyRef (named 9) mut (tyFloat binary64))
@@ -896,9 +847,8 @@ module _ {M : Type 1} (𝓤 : URA M) (H : Heap 𝓤) (A : Atoms 𝓤) (W : Given
 
     -- the answer of the last state is written
     writes : (f s : State) (zs0 zs1 : List ℕ) → Is R s (machS s ∷ []) → f ≡ begun (rayFrom d0 d1 d2 d3 d4 d5 d6 d7) limit
-        (cabinetFits (length w2) (length w3) (length w4) (length w5)) → s ≡ stepParts (areas (now x0) (now x1) (now x2) (now x3)
-        (now x4) (now x5)) (length w0) (length w1) (turned (stepParts (areas (now x0) (now x1) (now x2) (now x3) (now x4) (now x5))
-        (length w0) (length w1) f ys)) ys
+        (cabinetFits (length w2) (length w3) (length w4) (length w5)) → s ≡ passes (areas (now x0) (now x1) (now x2) (now x3) (now x4)
+        (now x5)) (length w0) (length w1) f ys
         → KeptByBoth (areas (now x0) (now x1) (now x2) (now x3) (now x4) (now x5)) (length w0) (length w1) f ys w0 zs0 w1 zs1 → length
         zs0 ≡ length w0 → length zs1 ≡ length w1
         → Sq W (‵ (froom (tyInt w32) l0 0) ∷ ‵ (fat fullShare double l1 0 (vfloat binary64 d0)) ∷ ‵
@@ -1293,14 +1243,12 @@ module _ {M : Type 1} (𝓤 : URA M) (H : Heap 𝓤) (A : Atoms 𝓤) (W : Given
         use1 W (some (λ (ls : Unit {0} × (Unit {0} × (Unit {0} ×
         (Unit {0} × (Unit {0} × (Unit {0} × (Unit {0} × (List ℕ × (List ℕ × (Unit {0} × Unit {0})))))))))). ‵
         (lasts step.ended (κ, (κ0, (κ1, (κ2, (κ3, (κ4, (κ5, (ν0 ∷ [], (ν1 ∷ [], tt))))))))) (given-to s δ0 δ1) ls) ⊛ raw
-        (fact 𝓤 ((r ≡ stepParts (areas (now x0) (now x1) (now x2) (now x3) (now x4) (now x5)) (length w0) (length w1)
-        (turned (stepParts (areas (now x0) (now x1) (now x2) (now x3) (now x4) (now x5)) (length w0) (length w1) s ys)) ys) ×
+        (fact 𝓤 ((r ≡ passes (areas (now x0) (now x1) (now x2) (now x3) (now x4) (now x5)) (length w0) (length w1) s ys) ×
         KeptByBoth (areas (now x0) (now x1) (now x2) (now x3) (now x4) (now x5)) (length w0) (length w1) s ys w0
         (ls .1 .1 .1 .1 .1 .1 .1 .0) w1 (ls .1 .1 .1 .1 .1 .1 .1 .1 .0))))) (id⊢ 𝓤 _) $ pick ! (λ ls.
         split ! $
         move ! (1 ∷ []) $
-        heard ! ((r ≡ stepParts (areas (now x0) (now x1) (now x2) (now x3) (now x4) (now x5)) (length w0) (length w1)
-        (turned (stepParts (areas (now x0) (now x1) (now x2) (now x3) (now x4) (now x5)) (length w0) (length w1) s ys)) ys) ×
+        heard ! ((r ≡ passes (areas (now x0) (now x1) (now x2) (now x3) (now x4) (now x5)) (length w0) (length w1) s ys) ×
         KeptByBoth (areas (now x0) (now x1) (now x2) (now x3) (now x4) (now x5)) (length w0) (length w1) s ys w0
         (ls .1 .1 .1 .1 .1 .1 .1 .0) w1 (ls .1 .1 .1 .1 .1 .1 .1 .1 .0)) (λ e.
         fsplit ! $
