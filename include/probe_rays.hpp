@@ -432,6 +432,24 @@ inline Cast<Hit> ray_triangle(const Ray &ray, const Vec3 &a, const Vec3 &b, cons
     return detail::cast_of(answer, places.plain());
 }
 
+/* The same by numbers that stand in arrays: a ray's eight are its origin, direction, maximum and near distance, a plane's four
+ * its normal and distance, a triangle's nine its corners. Faster, unless the numbers were written just before. */
+inline Cast<Hit> ray_plane_slices(const std::array<double, 8> &ray, const std::array<double, 4> &plane)
+{
+    detail::Places places;
+    const std::uint32_t answer = probe_ray_plane_slices(
+        ray.data(), ray.size(), plane.data(), plane.size(), places.hit.data(), places.hit.size());
+    return detail::cast_of(answer, places.plain());
+}
+
+inline Cast<Hit> ray_triangle_slices(const std::array<double, 8> &ray, const std::array<double, 9> &triangle)
+{
+    detail::Places places;
+    const std::uint32_t answer = probe_ray_triangle_slices(
+        ray.data(), ray.size(), triangle.data(), triangle.size(), places.hit.data(), places.hit.size());
+    return detail::cast_of(answer, places.plain());
+}
+
 inline Cast<Hit> ray_height_field(const Ray &ray, const HeightField &field)
 {
     detail::Places places;

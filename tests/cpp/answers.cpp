@@ -120,6 +120,14 @@ void marked()
     CHECK(hits_at(ray_height_field(from(0.75, 0.25, 1, 2), field), 1));
     const LevelSet grid{{2, 2, 2}, {0, 0, 0}, {1, 1, 1}, std::vector<double>(8, 0.0)}; // K13
     CHECK(refuses(ray_level_set(from(0.5, 0.5, 2, 5), grid), 8));
+    // K1, K2, K4 and K6 by numbers in arrays
+    const std::array<double, 4> level{0, 0, 1, 0};
+    const std::array<double, 9> corners{T[0].x, T[0].y, T[0].z, T[1].x, T[1].y, T[1].z, T[2].x, T[2].y, T[2].z};
+    CHECK(hits_at(ray_plane_slices({0, 0, 2, 0, 0, -1, 2, 0}, level), 2));
+    CHECK(ray_plane_slices({0, 0, 2, 0, 0, -1, 1, 0}, level).is_none());
+    CHECK(hits_at(ray_triangle_slices({0.25, 0.25, 1, 0, 0, -1, 1, 0}, corners), 1));
+    CHECK(ray_triangle_slices({0.75, 0.5, 1, 0, 0, -1, 1, 0}, corners).is_none());
+    CHECK(refuses(ray_triangle_slices({0.25, 0.25, 1, 0, 0, -1, 1, 2}, corners), 1));
     // document 01's printed result
     CHECK(hits_at(ray_plane(from(0, 0, 2, 5), ground), 2));
     CHECK(refuses(ray_plane(Ray{{0, 0, 2}, {0, 0, -2}, 5}, ground), 1));
