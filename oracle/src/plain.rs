@@ -20,8 +20,17 @@ pub const NAN: &str = "a triangle's distance is not a number";
 pub const NEAR_GRID: &str = "a distance grid with a near distance above 0";
 pub const NEAR_NORMAL: &str = "a triangle nearer than near has no normal, which the Rust asks";
 
+/// Document 02, M-104: 'Where the old rule succeeded, the bits are as before, and the Rust is compared there.' Where both rules
+/// fail, for a zero vector or a component that is not finite, both refuse, and the Rust is compared too.
+pub const SCALED: &str = "a vector is scaled before it is normalised, which the Rust refuses";
+
 thread_local! {
     static CHANGED: Cell<Option<&'static str>> = const { Cell::new(None) };
+}
+
+/// Notes why an input is not held against the Rust. The first reason stands.
+fn changed(reason: &'static str) {
+    CHANGED.set(CHANGED.get().or(Some(reason)));
 }
 
 /// Runs a cast of this model, and says why its input is not held against the Rust, if it is not: a rule of document 02 was met
@@ -109,6 +118,7 @@ fn normalised(v: Vec3) -> Option<Vec3> {
     if !v.is_finite() || largest == 0.0 || (slipped(NormalZero) && square == 0.0) {
         return None;
     }
+    changed(SCALED);
     let e = exponent(largest) - or(NormalHalf, 0, -1);
     let scaled = Vec3::new(
         times_two_to_minus(e, v.x),
@@ -398,7 +408,7 @@ fn triangle_cast(ray: &Ray, corners: [Vec3; 3]) -> Step<(Vec3, f64)> {
     }
     let distance = dot(b, q) * inverse;
     if distance >= 0.0 && distance < ray.near && normalised(a.cross(b)).is_none() {
-        CHANGED.set(Some(NEAR_NORMAL));
+        changed(NEAR_NORMAL);
         if slipped(NearAfterNormal) {
             return refuse(7);
         }
@@ -415,7 +425,7 @@ fn triangle_cast(ray: &Ray, corners: [Vec3; 3]) -> Step<(Vec3, f64)> {
         a.cross(b)
     };
     if distance.is_nan() {
-        CHANGED.set(Some(NAN));
+        changed(NAN);
         if !slipped(NanKept) && !(slipped(NanAfterNormal) && normalised(across).is_none()) {
             return refuse(or(NanSeven, 6, 7));
         }
@@ -675,7 +685,7 @@ impl Grid<'_> {
         }
         let (low, high) = (low.to_array(), high.to_array());
         if ray.near > 0.0 {
-            CHANGED.set(Some(NEAR_GRID));
+            changed(NEAR_GRID);
         }
         let (mut entry, mut exit) = (or(NearGrid, ray.near, 0.0), ray.maximum);
         for axis in 0..3 {
