@@ -27,39 +27,45 @@
  *
  * A refusal, a number below 256:
  *
- *   no.  name            when                                                          result areas afterwards
- *   1    invalid input   a ray's origin or maximum is not finite, its maximum is       unchanged
- *                        below 0, its direction is not finite or has a length more
- *                        than 1e-12 from 1, its near distance is not finite, below 0
- *                        or above the maximum; a query's box has a corner that is
- *                        not finite, or a minimum above its maximum
- *   2    bad shape       a count, length, spacing, normal, plane distance or grid      unchanged
- *                        origin outside the limits below
- *   3    no room         a lent slice shorter than stated                              unchanged
- *   4    wrong pose      the vertices to cast at are not as many as the mesh's         unchanged
- *   5    out of bounds   an index or a box that does not fit, a tree that is broken    build, query: zeros;
- *                        where the walk meets it                                       else unchanged
- *   6    overflow        a number on the way is not finite                             build: zeros; else unchanged
- *   7    no normal       the cross of the hit triangle's edges is zero or not finite   unchanged
- *   8    not convergent  the walk through a distance grid ends without an answer, or   unchanged
- *                        the gradient at its hit is zero or not finite
- *   9    bad range       a range of a visited cell is out of order or not finite       unchanged
- *   10   limit reached   the next node of a cabinet's walks would exceed the limit     unchanged but for spent
- *   11   not held        a float of a record is NaN, or no f32 is exactly that number  unchanged
- *   12   not whole       on whole millimetres: the ray or a candidate's corner is not   unchanged
+ *   no.  name            when
+ *   1    invalid input   a ray's origin or maximum is not finite, its maximum is below 0, its direction is not finite or has a
+ *                        length more than 1e-12 from 1, its near distance is not finite, below 0 or above the maximum; a
+ *                        query's box has a corner that is not finite, or a minimum above its maximum
+ *   2    bad shape       a count, length, spacing, normal, plane distance or grid origin outside the limits below; bytes that
+ *                        are not one well-formed record
+ *   3    no room         a lent slice is shorter than stated; a listing has more hits than places (the late 3)
+ *   4    wrong pose      the vertices to cast at are not as many as the mesh's
+ *   5    out of bounds   an index or a box that does not fit, a tree that is broken where the walk meets it, a tree to merge
+ *                        that does not pass the check
+ *   6    overflow        a number on the way is not finite
+ *   7    no normal       the cross of the hit triangle's edges is zero or not finite
+ *   8    not convergent  the walk through a distance grid ends without an answer, or the gradient at its hit is zero
+ *   9    bad range       a range of a visited cell is out of order or not finite
+ *   10   limit reached   the next node of a cabinet's walks would exceed the limit
+ *   11   not held        a float of a record is NaN, or no f32 is exactly that number
+ *   12   not whole       the ray or a candidate's corner is not on whole millimetres in its range
  *
  * Or one of the codes PROBE_HIT, PROBE_NONE, PROBE_YES, PROBE_NO, PROBE_DONE, PROBE_CLEAR and PROBE_POSSIBLE, which no
  * refusal has.
  * Numbers from 13 on may be added to the refusals; all stay below 256.
  *
- * Tested are 1, 2, 3 and 4 in this order, then the others as the cast meets them. The result slices hit, index, nodes
- * (of probe_build), found and cell are lent slices like the others: one that is too short is 3, after 1 and 2.
- * The result slices hit, index, nodes, found and cell are written only with PROBE_HIT, PROBE_DONE and PROBE_POSSIBLE;
- * their places past those stated are unchanged.
- * 'Zeros' fill every place of the build's node_boxes, triangle_boxes, node_words and order, or of the query's list,
- * however long they are.
- * Work areas are the mesh cast's list and stack, the query's stack, the build's work and the check's marks: they
- * need not be cleared before a call, they are unchanged after 1 to 4, and hold anything after any other answer.
+ * Tested are 1, 2, 3 and 4 in this order, then the others as the cast meets them. 12 of the ray comes directly after 1, the
+ * late 3 last. The result slices hit, index, nodes (of probe_build and probe_merge), found, cell, part, spent and written are
+ * lent slices like the others: one that is too short is 3, after 1 and 2.
+ *
+ * After a refusal every result area and result slice is unchanged, but for these:
+ *
+ *   call                after                      what is written
+ *   probe_build         5, 6                       zeros: every place of node_boxes, triangle_boxes, node_words and order
+ *   probe_query         5                          zeros: every place of list
+ *   probe_ray_mesh_all  5, 6, 7 and the late 3     zeros: every place of indices and numbers
+ *   probe_ray_cabinet   5, 6, 7 and 10             the nodes spent, in spent[0]
+ *
+ * Else the result slices are written only with PROBE_HIT, PROBE_DONE and PROBE_POSSIBLE, and spent with PROBE_NONE too; their
+ * places past those stated are unchanged.
+ * Work areas are the list and the stack of a mesh cast, a listing and a cabinet, the query's stack, the build's work, and the
+ * marks of the check and of the merge. They need not be cleared before a call. They are unchanged after 1, 2, 4, 12 of the ray
+ * and every 3 but the late one, and hold anything after any other answer.
  *
  * LIMITS
  *
@@ -88,10 +94,10 @@ extern "C" {
 
 /* What a call answers where it does not refuse. */
 #define PROBE_HIT 256u  /* a hit: hit, and index of a mesh, are written */
-#define PROBE_NONE 257u /* no surface within the maximum distance */
+#define PROBE_NONE 257u /* no hit from near to the maximum, by the cast's definition */
 #define PROBE_YES 258u  /* the tree fits the mesh */
 #define PROBE_NO 259u   /* the tree does not fit the mesh */
-#define PROBE_DONE 260u /* the build wrote a tree, or the query its list */
+#define PROBE_DONE 260u /* the results are written: a tree, a list, a record */
 #define PROBE_CLEAR 261u /* no grid within the ranges is touched */
 #define PROBE_POSSIBLE 262u /* a grid within the ranges may be touched: cell is written */
 
@@ -264,7 +270,8 @@ uint32_t probe_ray_height_ranges(
  * stands at values[(k * side_y + j) * side_x + i].
  *
  * Answers PROBE_HIT, PROBE_NONE, or refuses with 1, 2, 3, 5, 6 or 8. The normal is the gradient's direction: it
- * points to where the values grow, and is not turned towards the ray.
+ * points to where the values grow, and is not turned towards the ray. A hit may lie one float past the maximum, because the
+ * steps of the walk are rounded; none lies below near.
  */
 uint32_t probe_ray_level_set(
     double origin_x,

@@ -93,7 +93,7 @@ inline std::string told(Refusal refusal)
     case Refusal::not_held: words = "not held: a record's float is NaN, or is no f32 exactly"; break;
 #endif
 #ifdef PROBE_REFUSED_NOT_WHOLE
-    case Refusal::not_whole: words = "not whole: a ray or a corner that is not on whole millimetres"; break;
+    case Refusal::not_whole: words = "not whole: the ray or a candidate's corner is not on whole millimetres in its range"; break;
 #endif
     }
     return "refused " + std::to_string(number(refusal)) + ", " + words;
@@ -215,7 +215,7 @@ private:
     std::variant<T, Why> held_;
 };
 
-/* No surface within the ray's maximum distance. */
+/* No hit from near to the maximum, by the cast's definition. */
 struct None {};
 
 /* What a switch tells apart. */

@@ -620,13 +620,13 @@ pub const VERSION: u32 = 2;
 
 /// A hit: its values are written.
 pub const HIT: u32 = 256;
-/// No surface within the maximum distance.
+/// No hit from near to the maximum, by the cast's definition.
 pub const NONE: u32 = 257;
 /// The tree fits the mesh.
 pub const YES: u32 = 258;
 /// The tree does not fit the mesh.
 pub const NO: u32 = 259;
-/// The build wrote a tree, or the query its list.
+/// The results are written: a tree, a list, a record.
 pub const DONE: u32 = 260;
 /// The ray is clear of every grid within the ranges.
 pub const CLEAR: u32 = 261;
