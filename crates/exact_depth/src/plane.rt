@@ -83,7 +83,7 @@ fn inside(first: Side, second: Side, third: Side, at: Fraction) -> bool
     three >= 0
 }
 
-// A triangle whose corners turn to the left. Callers show that they do and are small.
+// For a triangle whose corners turn to the left, which the contract does not ask. Callers show that the corners are small.
 fn along(a: Plot, b: Plot, c: Plot, near: i64, far: i64) -> Depth
     requires { ⌜ (Flat a × (Flat b × Flat c)) × (Range near × Range far) ⌝ }
     ensures { λ r. ⌜ r ≡ alongPlane a b c near far ⌝ }
@@ -145,8 +145,8 @@ fn up_plot(s: Spot) -> Plot
     }
 }
 
-// The line lies in the triangle's plane. A plane that is no wider across is looked at from the side.
-// Callers show that it does and that the corners are small.
+// For a line that lies in the triangle's plane, which the contract does not ask. A plane that is no wider across is looked at from the side.
+// Callers show that the corners are small.
 pub fn beside(a: Spot, b: Spot, c: Spot, near: i64, far: i64) -> Depth
     requires { ⌜ (Close a × (Close b × Close c)) × (Range near × Range far) ⌝ }
     ensures { λ r. ⌜ r ≡ beside a b c near far ⌝ }
