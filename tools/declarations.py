@@ -6,7 +6,8 @@
 
 Compared are, of every call, its name, its parameters' order, names and types, and what it returns; the codes and the
 refusals with their numbers; the version; the lengths of the areas; and of every struct that a call reads through a
-pointer its size, and its fields' names, types and offsets. The proved source decides:
+pointer its size, and its fields' names, types and offsets. The proved source decides. A refusal's words, as C++, Rust and
+Python tell it, are the same in all three, and begin with its name in the header's table:
 
   crates/exports/src/*.rt       the calls, the version, and the codes
   crates/casts/src/answer.rt    the refusals, and that of the ranges in crates/height_ranges/src/answer.rt,
@@ -16,6 +17,7 @@ pointer its size, and its fields' names, types and offsets. The proved source de
   crates/tree/src/lib.rt        the table of areas
   include/probe_rays.h          for C and C++
   bindings/rust/src/sys.rs      for Rust; src/lent.rs has the lengths
+  include/probe_rays.hpp, bindings/rust/src/answer.rs, bindings/python/probe_rays/answers.py    a refusal's words
 """
 import pathlib
 import re
@@ -37,6 +39,12 @@ AREAS = "crates/tree/src/lib.rt"
 HEADER = "include/probe_rays.h"
 RUST = "bindings/rust/src/sys.rs"
 LENGTHS = "bindings/rust/src/lent.rs"
+# where a refusal is told in words, and how
+WORDS = {
+    "include/probe_rays.hpp": r'case Refusal::(\w+): words = "([^"]*)"',
+    "bindings/rust/src/answer.rs": r'Refusal::(\w+) => (?:\{\s*)?"([^"]*)"',
+    "bindings/python/probe_rays/answers.py": r'^    "(\w+)": "([^"]*)",',
+}
 
 # the areas whose lengths have a macro and a function; the table of the source has more rows
 SIZED = ["node_boxes", "triangle_boxes", "node_words", "order", "work", "list", "stack", "marks"]
@@ -249,6 +257,28 @@ def read(folder):
     }
 
 
+def snake(name):
+    return re.sub(r"(?<=[a-z])(?=[A-Z])", "_", name).upper()
+
+
+def words_differ(folder, refusals):
+    """Where a refusal's words differ, or do not begin with its name in the header's table."""
+    rows = re.findall(r"^ \*   (\d+) +(\w+(?: \w+)*)  ", (folder / HEADER).read_text(), re.M)
+    names = {int(number): name for number, name in rows}
+    told = {
+        path: {snake(name): words for name, words in re.findall(pattern, (folder / path).read_text(), re.M)}
+        for path, pattern in WORDS.items()
+    }
+    found = []
+    for refusal, number in sorted(refusals.items()):
+        said = {path: words.get(refusal) for path, words in told.items()}
+        if None in said.values() or len(set(said.values())) > 1:
+            found.append(f"refusal {number} is worded in more than one way: {said}")
+        elif not said[next(iter(WORDS))].startswith(f"{names.get(number)}: "):
+            found.append(f"{HEADER}: refusal {number} is {names.get(number)} in the table")
+    return found
+
+
 def difference(name, ours, theirs):
     """Where two declarations of a call differ first."""
     if ours[1] != theirs[1]:
@@ -293,7 +323,9 @@ def compare(folder):
                     found.append(f"{side}: {name} {struct_difference(ours, theirs)}")
                 else:
                     found.append(f"{side}: {what} {name} is {theirs}, in the source {ours}")
-    return found, {what: len(values) for what, values in source.items()}
+    refusals = {name[8:]: number for name, number in source["code"].items() if name.startswith("REFUSED_")}
+    found += words_differ(folder, refusals)
+    return found, {**{what: len(values) for what, values in source.items()}, "wording": len(refusals)}
 
 
 # one fault each: the file, the text (its first place), and what it becomes
@@ -358,6 +390,10 @@ FAULTS = [
     (REFUSALS[2], "pub const NOT_HELD: u32 = 11;", "pub const NOT_HELD: u32 = 10;"),
     (HEADER, "    const uint8_t *bytes,", "    const uint32_t *bytes,"),
     (RUST, "        out: *mut u8,", "        out: *const u8,"),
+    (HEADER, " *   12   not whole  ", " *   12   not exact  "),
+    ("include/probe_rays.hpp", "no room: a lent slice", "no room: a slice"),
+    ("bindings/rust/src/answer.rs", "not whole: the ray or", "not whole: a ray or"),
+    ("bindings/python/probe_rays/answers.py", '    "NOT_HELD"', '    "HELD"'),
 ]
 
 
@@ -367,7 +403,7 @@ def self_test(folder, loud):
     for file, old, new in [(HEADER, "", "")] + FAULTS:
         with tempfile.TemporaryDirectory() as name:
             copy = pathlib.Path(name)
-            for path in [RATTLE, CODES, *REFUSALS, AREAS, HEADER, RUST, LENGTHS] + STRUCTS:
+            for path in [RATTLE, CODES, *REFUSALS, AREAS, HEADER, RUST, LENGTHS, *WORDS] + STRUCTS:
                 (copy / path).parent.mkdir(parents=True, exist_ok=True)
                 if (folder / path).is_dir():
                     shutil.copytree(folder / path, copy / path)
