@@ -729,13 +729,14 @@ public:
     }
 
     /* Along an axis and on whole millimetres, decided in whole numbers: what PlainMesh::cast_exact answers, through the tree;
-     * that the two agree is proved. Refuses with 1, or with 12 for the ray or a corner of a triangle whose box touches the
-     * segment's. */
+     * that the two agree is proved, so a none at the mesh's own vertices is certain. Refuses with 1, or with 12 for the ray or a
+     * corner of a triangle whose box touches the segment's. */
     Cast<MeshHit> cast_exact(const Ray &ray) { return cast_exact(ray, scratch_); }
 
     Cast<MeshHit> cast_exact(const Ray &ray, Scratch &scratch) const { return cast_exact_at(ray, shape_.vertices, scratch); }
 
-    /* The same at other vertices, as `cast_at` has them. */
+    /* The same at other vertices, as `cast_at` has them: a surface that has left the tree's boxes may be missed, so a none is
+     * not certain. */
     Cast<MeshHit> cast_exact_at(const Ray &ray, const std::vector<Vec3> &pose, Scratch &scratch) const
     {
         return cast_exact_at(ray, Shape::flat(pose), scratch);
