@@ -145,8 +145,8 @@ fn up_plot(s: Spot) -> Plot
     }
 }
 
-// For a line that lies in the triangle's plane, which the contract does not ask. A plane that is no wider across is looked at from the side.
-// Callers show that the corners are small.
+// For a line that lies in the triangle's plane, which the contract does not ask. A plane that is no wider across is looked at from the
+// side. Callers show that the corners are small.
 pub fn beside(a: Spot, b: Spot, c: Spot, near: i64, far: i64) -> Depth
     requires { ⌜ (Close a × (Close b × Close c)) × (Range near × Range far) ⌝ }
     ensures { λ r. ⌜ r ≡ beside a b c near far ⌝ }
