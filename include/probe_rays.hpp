@@ -460,7 +460,7 @@ inline Cast<Hit> ray_height_field(const Ray &ray, const HeightField &field)
     return detail::cast_of(answer, places.plain());
 }
 
-/* The normal points to where the distances grow, and is not turned towards the ray. */
+/* The normal points to where the distances grow, and is not turned towards the ray. A hit may lie one float past the maximum. */
 inline Cast<Hit> ray_level_set(const Ray &ray, const LevelSet &grid)
 {
     detail::Places places;
