@@ -23,9 +23,9 @@ use Rattle.grid_triangle.specs.declared.cast.Board.{Board}
 use Rattle.grid_triangle.specs.declared.cast.Board.the-variants.{At as Placed, Off}
 use Rattle.grid_triangle.specs.Sizes.{Near}
 
--- 12, 'not on the grid'
-abbrev pub offGrid : ℕ
-offGrid = 12
+-- 12, 'out of range'
+abbrev pub outOfRange : ℕ
+outOfRange = 12
 
 -- every corner is within 8,192 mm
 unfoldable pub cornersRead : List Vec3 → Bool
@@ -55,7 +55,7 @@ millimetres d g = fractionOf (value (d .t)) (value (d .w) *ℤ pos g *ℤ pos un
 unfoldable pub cornersReach : Line → List Vec3 → Reach
 cornersReach l vs =
     cond (cornersRead vs) (reachAt (depthOf l (gridPoint (corner vs 0)) (gridPoint (corner vs 1)) (gridPoint (corner vs 2))))
-    (Refused offGrid)
+    (Refused outOfRange)
 
 unfoldable pub gridReach : Ray → List Vec3 → Reach
-gridReach r vs = cond (gridAdmitted r) (cornersReach (gridLine r) vs) (Refused offGrid)
+gridReach r vs = cond (gridAdmitted r) (cornersReach (gridLine r) vs) (Refused outOfRange)

@@ -33,10 +33,10 @@ ghost use Rattle.any_direction.specs.Grid.{gridLine};
 ghost use Rattle.grid_triangle.specs.Sizes.{Near};
 ghost use Rattle.grid_triangle.specs.Sight.{Sees, Aimed};
 ghost use Rattle.grid_triangle.specs.Reach.{cornersRead, Boarded, millimetres, cornersReach, gridReach};
-ghost use Rattle.grid_triangle.specs.Cast.{gridNormal, gridTriangle};
+ghost use Rattle.grid_triangle.specs.Cast.{gridNormal, gridHit, gridTriangle};
 
-// Refusal 12, 'not on the grid', beyond document 01's table.
-pub const OFF_GRID: u32 = 12;
+// Refusal 12, 'out of range', beyond document 01's table.
+pub const OUT_OF_RANGE: u32 = 12;
 
 // The three corners on the grid.
 pub enum Board {
@@ -107,7 +107,7 @@ pub fn reach_on(line: Sight, corners: [Vec3; 3]) -> Reach
 {
     let board = board_of(corners);
     let Board::At { a, b, c } = board else {
-        return Reach::Refused(OFF_GRID);
+        return Reach::Refused(OUT_OF_RANGE);
     };
     let depth = seen::depth_of(line, a, b, c);
     let Found::At(at) = depth else {
@@ -122,7 +122,7 @@ pub fn exact_reach(ray: Ray, corners: [Vec3; 3]) -> Reach
 {
     let aim = sight::sight_of(ray);
     let Aim::On(line) = aim else {
-        return Reach::Refused(OFF_GRID);
+        return Reach::Refused(OUT_OF_RANGE);
     };
     reach_on(line, corners)
 }
@@ -141,6 +141,17 @@ fn normal_at(ray: Ray, n: Point, distance: f64) -> Cast
     }
 }
 
+// The hit of the corners at a distance, with the normal of the grid's edges.
+pub fn hit_on(ray: Ray, corners: [Vec3; 3], distance: f64) -> Cast
+    ensures { λ r. ⌜ says r ≡ gridHit ray corners distance ⌝ }
+{
+    let board = board_of(corners);
+    let Board::At { a, b, c } = board else {
+        return Cast::Refused(OUT_OF_RANGE);
+    };
+    normal_at(ray, normal::cross_of(a, b, c), distance)
+}
+
 // The cast of a ray at the corners.
 pub fn exact_cast(ray: Ray, corners: [Vec3; 3]) -> Cast
     ensures { λ r. ⌜ says r ≡ gridTriangle ray corners ⌝ }
@@ -154,11 +165,7 @@ pub fn exact_cast(ray: Ray, corners: [Vec3; 3]) -> Cast
             return Cast::Refused(number);
         }
         Reach::At(distance) => {
-            let board = board_of(corners);
-            let Board::At { a, b, c } = board else {
-                return Cast::Refused(OFF_GRID);
-            };
-            return normal_at(ray, normal::cross_of(a, b, c), distance);
+            return hit_on(ray, corners, distance);
         }
     }
 }
