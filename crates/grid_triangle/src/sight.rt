@@ -38,7 +38,7 @@ pub enum Aim {
 }
 
 // |x|. Callers show that it is up to 2^31.
-fn size(x: i64) -> i64
+pub fn size(x: i64) -> i64
     requires { ⌜ Sized 2147483648 x ⌝ }
     ensures { λ r. ⌜ r ≡ pos (natAbs x) ⌝ }
 {
