@@ -1,5 +1,5 @@
--- A ray that is admitted is read on the grid unless its origin or an end is out of range: its direction, of length 1, has no component above
--- 2. Assumes nothing.
+-- A ray that is admitted is read on the grid unless its origin or an end is out of range: its direction has length 1, so that no component
+-- is above 2. Assumes nothing.
 use mathlib.Core.Path.{_≡_, refl, sym, ap, _∙_, subst}
 use mathlib.Core.Bool.{Bool, true, false, not, _&&_, true≢false, false≢true}
 use Prim.Native.Nat.{ℕ, _+_, _*_, _≤_, _<_}

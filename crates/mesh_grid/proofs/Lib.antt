@@ -10,3 +10,4 @@ pub mod OneTriangle
 pub mod Leasts
 pub mod Refusals
 pub mod Certainty
+pub mod Examples

@@ -31,7 +31,8 @@ use Rattle.grid_triangle.specs.Cast.{gridTriangle}
 use Rattle.grid_triangle.proofs.Laws.{first-read, second-read, third-read}
 use Rattle.grid_triangle.proofs.Hits.{off-hit, never-refused}
 use Rattle.mesh_grid.specs.GridCast.{exactAnswer, overTriangles, rayMeshExactPlain}
-use Rattle.mesh_grid.specs.Certain.{OutOfRange, origin, near, maximum, corner as atCorner, Reason, ray, lengths, triangles, range as byRange}
+use Rattle.mesh_grid.specs.Certain.{OutOfRange, origin, near, maximum, corner as atCorner, Reason, ray, lengths, triangles}
+use Rattle.mesh_grid.specs.Certain.{range as byRange}
 use Rattle.mesh_grid.proofs.Directions.{grid-by-ends, end-above}
 use Rattle.mesh_grid.proofs.Reaching.{inside-answer}
 
