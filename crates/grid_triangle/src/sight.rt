@@ -131,7 +131,7 @@ pub fn admitted(ray: Ray) -> bool
 }
 
 // The depth of an end of the line: its distance on the grid, times the gain. Callers show that it is within 32,768 mm.
-fn depth_at(x: f64, gain: i64) -> i64
+pub fn depth_at(x: f64, gain: i64) -> i64
     requires { ⌜ (within longest x ≡ true) × Sized 2147483648 gain ⌝ }
     ensures { λ r. ⌜ (r ≡ pos (natAbs (nearestTo units x)) *ℤ gain) × Sized 2305843009213693952 r ⌝ }
 {
