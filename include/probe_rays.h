@@ -548,8 +548,8 @@ uint32_t probe_ray_mesh_exact_plain(
 /* The same through a tree: the arguments are probe_ray_mesh_near's. Of the triangles that the tree lists for the box of
  * the ray's segment, at the vertices `pose`, a hit is the first point of the segment in any of them. At the mesh's own
  * vertices, through a tree for which probe_tree_check says PROBE_YES, it answers what probe_ray_mesh_exact_plain answers:
- * that the two agree is proved, and a none is certain there. At other vertices, or through any other tree, the call ends too,
- * but a surface may be missed.
+ * that the two agree is proved, so that a none is certain. At other vertices, and through any other tree, the call ends
+ * too, but a surface may be missed: there a none is not certain.
  *
  * Answers PROBE_HIT, PROBE_NONE, or refuses with 1, 12 (the ray), 2, 3, 4 or 5 (the tree is broken where the walk meets
  * it), tested in this order, and then as the listed triangle of the lowest index that refuses: 5 where an index of it is

@@ -728,15 +728,15 @@ public:
         return detail::cast_of(answer, places.of_mesh());
     }
 
-    /* Along an axis and on whole millimetres, decided in whole numbers: what PlainMesh::cast_exact answers, through the tree;
-     * that the two agree is proved, so a none at the mesh's own vertices is certain. Refuses with 1, or with 12 for the ray or a
-     * corner of a triangle whose box touches the segment's. */
+    /* Along an axis and on whole millimetres, decided in whole numbers: at the mesh's own vertices what PlainMesh::cast_exact
+     * answers, through the tree; that the two agree is proved, so that a none is certain. Refuses with 1, or with 12 for the
+     * ray or a corner of a triangle whose box touches the segment's. */
     Cast<MeshHit> cast_exact(const Ray &ray) { return cast_exact(ray, scratch_); }
 
     Cast<MeshHit> cast_exact(const Ray &ray, Scratch &scratch) const { return cast_exact_at(ray, shape_.vertices, scratch); }
 
-    /* The same at other vertices, as `cast_at` has them: a surface that has left the tree's boxes may be missed, so a none is
-     * not certain. */
+    /* The same at other vertices, as `cast_at` has them. Here a none is not certain: the tree encloses the mesh's own
+     * vertices, and a triangle that it does not list is missed. */
     Cast<MeshHit> cast_exact_at(const Ray &ray, const std::vector<Vec3> &pose, Scratch &scratch) const
     {
         return cast_exact_at(ray, Shape::flat(pose), scratch);
@@ -846,8 +846,8 @@ public:
     }
 
     /* Along an axis and on whole millimetres, decided in whole numbers: the first point of the segment that lies in a closed
-     * triangle, sides, corners and triangles along the ray included. probe_rays.h says which rays and corners are admitted.
-     * Refuses with 1, 12 (the ray, or a corner of a triangle whose box touches the segment's), 2 or 5. */
+     * triangle, sides, corners and triangles along the ray included, so that a none is certain. probe_rays.h says which rays
+     * and corners are admitted. Refuses with 1, 12 (the ray, or a corner of a triangle whose box touches the segment's), 2 or 5. */
     Cast<MeshHit> cast_exact(const Ray &ray) const
     {
         detail::Places places;

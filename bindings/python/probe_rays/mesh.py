@@ -119,8 +119,8 @@ class PlainMesh:
         return settled(answer, place.met)
 
     def cast_exact(self, ray):
-        """The first MeshHit of a ray along an axis at a mesh on whole millimetres, decided in whole numbers, or None. A ray down a
-        side, through a corner or along a face is a hit.
+        """The first MeshHit of a ray along an axis at a mesh on whole millimetres, decided in whole numbers, or None, which is
+        certain. A ray down a side, through a corner or along a face is a hit.
 
         The origin is whole from -4,096 to 4,096, the direction one of the six axis directions, near and maximum whole from 0 to
         16,384, and so are the corners of every triangle whose box touches the segment's, from -4,096 to 4,096. Else it raises
@@ -211,8 +211,9 @@ class Mesh:
         return settled(answer, place.met)
 
     def cast_exact(self, ray, pose=None):
-        """What PlainMesh.cast_exact answers, through the tree: that the two agree is proved. With a pose it casts at those
-        vertices, as `cast` does.
+        """What PlainMesh.cast_exact answers, through the tree, at the mesh's own vertices: that the two agree is proved, so that
+        None is certain. With a pose it casts at those vertices, as `cast` does; there None is not certain, because the tree
+        encloses the mesh's own vertices, and a triangle that it does not list is missed.
 
         >>> from probe_rays import Mesh, Ray
         >>> part = Mesh([(0, 0, 0), (31, 0, 0), (0, 31, 0), (31, 31, 0)], [(0, 1, 2), (3, 2, 1)])

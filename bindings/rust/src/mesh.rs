@@ -289,9 +289,9 @@ impl Mesh {
     }
 
     /// The first point of a ray along an axis in a closed triangle of a mesh on whole millimetres, decided in whole
-    /// numbers, with the mesh's own work areas: a none is certain, and a ray down a side, through a corner or along a
-    /// face is a hit. It answers what [`PlainMesh::cast_exact`](crate::PlainMesh::cast_exact) answers: that the two agree
-    /// is proved.
+    /// numbers, at the mesh's own vertices and with its own work areas: a none is certain, and a ray down a side, through
+    /// a corner or along a face is a hit. It answers what [`PlainMesh::cast_exact`](crate::PlainMesh::cast_exact)
+    /// answers: that the two agree is proved.
     ///
     /// The origin is whole from -4,096 to 4,096, the direction one of the six axis directions, near and maximum whole
     /// from 0 to 16,384, else 12, as where a triangle whose box touches the segment's has a corner that is not whole from
@@ -326,7 +326,8 @@ impl Mesh {
     }
 
     /// The same at other vertices, as [`cast_at`](Mesh::cast_at) has them; the vertices of the triangles cast at are to be
-    /// whole there.
+    /// whole there. Here a none is not certain: the tree encloses the mesh's own vertices, and a triangle that it does not
+    /// list is missed.
     pub fn cast_exact_at(
         &self,
         ray: &Ray,

@@ -29,6 +29,7 @@ use Rattle.results.specs.Results.{ToldIndexed, toldIndexed, resultsFit, withRoo
 use Rattle.exports.specs.Plain.{toldNumber}
 use Rattle.exports.specs.ExactResults.{exactTold, shortExact, treeTold, ToldAsPlain}
 use Rattle.exports.proofs.Kept.{room-there}
+use Rattle.exports.proofs.ExactCalls.{exact-certain}
 
 -- ---- the number where a result slice is too short, test by test
 module _ (r : Ray) (shape : Bool) where
@@ -92,8 +93,8 @@ module _ (hit : List Float) (index : List ℕ) where
     plain-told s true v Off e = simp (v, e)
     plain-told s true v (On l) e = simp (v, e, s)
 
-    pub tree-as-plain : (t : Tree) (list stack : ℕ)
-        → ToldAsPlain r m t list stack hit index (treeTold r m (m .vertices) t list stack hit index)
+    tree-as-plain : (t : Tree) (list stack : ℕ) → PassesCheck m t → roomFor m t list stack ≡ true
+        → treeTold r m (m .vertices) t list stack hit index ≡ exactTold r m hit index
     unfolding treeTold
     tree-as-plain t list stack p room =
         let lengths = yes-lengths m t (p .marks) (p .says-yes) in
@@ -110,6 +111,7 @@ module _ (hit : List Float) (index : List ℕ) where
     (
       k,
       λ own p room.
-          e ∙ ap (λ (vs : List Float). treeTold r m vs t list stack hit index) own ∙ tree-as-plain r m t list stack p room,
+          exact-certain r m hit index told
+          (e ∙ ap (λ (vs : List Float). treeTold r m vs t list stack hit index) own ∙ tree-as-plain r m t list stack p room),
     ),
   )

@@ -1,10 +1,13 @@
 -- Laws about what the calls answer and leave. Assumes nothing.
 pub mod Kept
+pub mod RefusalNumbers
+pub mod GridNumbers
+pub mod Codes
+pub mod Reading
 pub mod RangeCalls
 pub mod Counts
 pub mod PlainCalls
 pub mod MeshTold
-pub mod Demands
 pub mod CabinetAnswers
 pub mod FoundHits
 pub mod BoardCalls

@@ -19,6 +19,7 @@ use Rattle.mesh_exact.specs.ExactCast.{exactCast}
 use Rattle.tree_exact.specs.ExactMesh.{isRuled, rayMeshExact}
 use Rattle.results.specs.Results.{ToldIndexed, toldIndexed, resultsFit, withRoom}
 use Rattle.exports.specs.Plain.{toldNumber}
+use Rattle.exports.specs.Reading.{CertainRead}
 
 -- Refusals as the mesh cast's in their order, and 12 .. (after 1), the result slices' 3 after 2; then the cast
 unfoldable pub exactTold : Ray → Mesh → List Float → List ℕ → ToldIndexed
@@ -42,6 +43,10 @@ treeTold r m pose t list stack hit index =
     (toldIndexed (rayMeshExact r m pose t list stack) hit index)
     (toldNumber noRoom hit index)
 
--- through any tree that passes the check the answer is the same as without one
+-- what the call without a tree promises: its answer, and that what is read back is certain
+abbrev pub ExactPlainCall : Ray → Mesh → List Float → List ℕ → ToldIndexed → Type 0
+ExactPlainCall r m hit index told = (told ≡ exactTold r m hit index) × CertainRead r m hit index told
+
+-- through any tree that passes the check the same holds
 abbrev pub ToldAsPlain : Ray → Mesh → Tree → ℕ → ℕ → List Float → List ℕ → ToldIndexed → Type 0
-ToldAsPlain r m t list stack hit index told = PassesCheck m t → roomFor m t list stack ≡ true → told ≡ exactTold r m hit index
+ToldAsPlain r m t list stack hit index told = PassesCheck m t → roomFor m t list stack ≡ true → ExactPlainCall r m hit index told

@@ -16,10 +16,11 @@ ghost use lib.ListN.{length};
 ghost use Rattle.tree.specs.Mesh.{thirds, lengthsAdmitted, mesh};
 ghost use Rattle.tree.specs.Layout.{treeOf};
 ghost use Rattle.results.specs.Results.{rayFrom};
-ghost use Rattle.exports.specs.ExactResults.{exactTold, shortExact};
+ghost use Rattle.exports.specs.ExactResults.{shortExact, ExactPlainCall};
 ghost use Rattle.exports.specs.Calls.{ExactCall};
 
 // The cast of an axis ray at a mesh on whole millimetres, without a tree, and without a work area.
+// The second clause: what is read back from the number and the slices is certain of the whole mesh.
 #[no_mangle]
 pub extern "C" fn probe_ray_mesh_exact_plain(
     origin_x: f64,
@@ -35,9 +36,10 @@ pub extern "C" fn probe_ray_mesh_exact_plain(
     hit: &mut [f64],
     index: &mut [u32],
 ) -> u32
-    ensures { λ r. ⌜ record { number = r; hit = now (hit .exit); index = now (index .exit) }
-        ≡ exactTold (rayFrom «origin_x» «origin_y» «origin_z» «direction_x» «direction_y» «direction_z» «max_distance» «near_distance»)
-        (mesh (now (vertices .entry)) (now (triangles .entry))) (now (hit .entry)) (now (index .entry)) ⌝ }
+    ensures { λ r. ⌜ ExactPlainCall (rayFrom «origin_x» «origin_y» «origin_z» «direction_x» «direction_y» «direction_z» «max_distance»
+        «near_distance»)
+        (mesh (now (vertices .entry)) (now (triangles .entry))) (now (hit .entry)) (now (index .entry))
+        (record { number = r; hit = now (hit .exit); index = now (index .exit) }) ⌝ }
 {
     let ray = results::ray_from(
         origin_x,
@@ -90,7 +92,8 @@ fn short_exact(ray: Ray, vertices: usize, triangles: usize, pose: usize, nodes: 
 // The cast of an axis ray at a mesh on whole millimetres, through its tree.
 // The list and the stack are work areas: unchanged until the result slices and refusals 1, 12 of the ray and 2 to 4 have let the call pass,
 // and then they may hold anything.
-// The third clause: at the mesh's own vertices, with any tree that passes the check, it tells what the call without a tree tells.
+// The third clause: at the mesh's own vertices, with any tree that passes the check, it promises what the call without a tree does; at
+// other vertices a none is not certain.
 #[no_mangle]
 pub extern "C" fn probe_ray_mesh_exact(
     origin_x: f64,

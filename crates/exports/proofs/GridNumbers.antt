@@ -1,0 +1,411 @@
+-- Every refusal of a definition that a call answers has a number below the codes: the casts at grids and at a cabinet, and the converter.
+-- Assumes nothing.
+use Prim.Native.Nat.{ℕ, zero, suc, _+_, _*_, _-_, _/_}
+use mathlib.Core.Path.{_≡_, refl}
+use mathlib.Core.Bool.{Bool, true, false, cond}
+use mathlib.Core.List.{List, [], _∷_}
+use lib.Dec.{ltb}
+use lib.Ieee.{Float, lt, le, eq}
+use lib.ListN.{length}
+use Rattle.lists.specs.Lists.{every}
+use Rattle.arithmetic.specs.Extremes.{minimumOf}
+use Rattle.vectors.specs.Vector.{finiteVec, subOf, tryNormalize}
+use Rattle.vectors.specs.Numbers.{zeroᶠ, oneᶠ}
+use Rattle.vectors.specs.declared.vec3.Vec3.{Vec3}
+use Rattle.vectors.specs.declared.vec3.Checked.{Checked}
+use Rattle.vectors.specs.declared.vec3.Checked.the-variants.{Value, Overflow}
+use Rattle.vectors.specs.declared.vec3.Normalized.{Normalized}
+use Rattle.vectors.specs.declared.vec3.Normalized.the-variants.{Unit as UnitOf, Degenerate}
+use Rattle.geometry.specs.Box.{validBox}
+use Rattle.geometry.specs.Segment.{rayAdmitted, segmentEnd, segmentBox}
+use Rattle.geometry.specs.declared.aabb.Aabb.{Aabb}
+use Rattle.geometry.specs.declared.ray.Ray.{Ray}
+use Rattle.float_forms.specs.declared.forms.Form.{Form}
+use Rattle.float_forms.specs.declared.forms.Converted.{Converted}
+use Rattle.float_forms.specs.declared.forms.Converted.the-variants.{Written, Refused as NotConverted}
+use Rattle.record_forms.specs.Records.{saidOf, wellFormed}
+use Rattle.record_forms.specs.Writing.{turned}
+use Rattle.conversion.specs.Convert.{saidHeld, Outcome, converted}
+use Rattle.casts.specs.Answer.{Answer, hit, none, refused, withNormal}
+use Rattle.casts.specs.Answer.{invalidInput, badShape, noRoom, outOfBounds, overflow, notConvergent}
+use Rattle.nearest_hit.specs.Nearest.{Indexed, hitAt, noHit, stopped, withoutIndex}
+use Rattle.height_field.specs.declared.field.Field.{Field}
+use Rattle.height_field.specs.Cells.{visitedCells}
+use Rattle.height_field.specs.Grid.{fieldAdmitted, cellRow, cellColumn, featureCorners}
+use Rattle.height_field.specs.Listing.{Listing, listed, unlisted, both, listAll, cellFinite, featureBox, listCell, gridListing}
+use Rattle.height_field.specs.Cast.{answerOf, castListed, spanFinite, heightCast, rayHeightField}
+use Rattle.height_ranges.specs.declared.answer.Clearance.{Clearance}
+use Rattle.height_ranges.specs.declared.answer.Clearance.the-variants.{Clear, Possible, Refused as NotClear}
+use Rattle.tree.specs.Layout.{Tree}
+use Rattle.tree.specs.Mesh.{Mesh, thirds}
+use Rattle.tree_walk.specs.Looking.{Looked, looked, usedUp, walkWithin}
+use Rattle.cabinet.specs.declared.part.Part.{Part}
+use Rattle.cabinet.specs.declared.part.Found.{Found}
+use Rattle.cabinet.specs.declared.part.Found.the-variants.{Nothing, Hit, Refused as NotFound}
+use Rattle.cabinet.specs.declared.part.Progress.{Progress}
+use Rattle.cabinet.specs.Parts.{Areas, meshOf, treeOfPart, shapeFits, roomFits}
+use Rattle.cabinet.specs.PartCast.{limitReached, Costed, costing, afterLook, castWithin, movedRay, castMoved}
+use Rattle.cabinet.specs.Cabinet.{foundNext, isRefused, afterPart, beginning, castPart, castParts, answerWith, allParts, castCabinet}
+use Rattle.cabinet.specs.Cabinet as Cabinet
+use Rattle.height_ranges.specs.Ranges.{rangesAdmitted, nodesOf, nodeInOrder, nearestHeights}
+use Rattle.height_ranges.specs.RangesCast.{badRange, answerListed, visitedAnswer, rangesCast, rayHeightRanges}
+use Rattle.distance_grid.specs.declared.grid.Grid.{Grid}
+use Rattle.distance_grid.specs.declared.places.Place.{Place}
+use Rattle.distance_grid.specs.declared.places.Place.the-variants.{At as PlaceAt, Overflow as NoPlace}
+use Rattle.distance_grid.specs.declared.places.Located.{Located}
+use Rattle.distance_grid.specs.declared.places.Located.the-variants.{At as LocatedAt, Refused as NotLocated}
+use Rattle.distance_grid.specs.Grid.{gridAdmitted, gridBox}
+use Rattle.distance_grid.specs.Places.{drawnPoint, locateAxis, withPlace, locateInside, locate}
+use Rattle.grid_samples.specs.declared.sampling.Sampled.{Sampled}
+use Rattle.grid_samples.specs.declared.sampling.Sampled.the-variants.{At as SampledAt, Refused as NotSampled}
+use Rattle.grid_samples.specs.declared.valued.Valued.{Valued}
+use Rattle.grid_samples.specs.declared.valued.Valued.the-variants.{At as ValuedAt, Refused as NoValue}
+use Rattle.grid_samples.specs.Sampling.{gathered, sampleFaces, sampleCell, withLocated, sample}
+use Rattle.grid_samples.specs.Valued.{valueOf}
+use Rattle.grid_steps.specs.Slab.{rayAabbInterval}
+use Rattle.grid_steps.specs.Cells.{rayCellIndices, nextCellBoundary}
+use Rattle.grid_steps.specs.declared.interval.Interval.{Interval}
+use Rattle.grid_steps.specs.declared.interval.Interval.the-variants.{Within, Miss}
+use Rattle.grid_steps.specs.declared.cells.Cells.{Cells}
+use Rattle.grid_steps.specs.declared.cells.Cells.the-variants.{At as CellsAt, Overflow as NoCells}
+use Rattle.grid_steps.specs.declared.cells.Boundary.{Boundary}
+use Rattle.grid_steps.specs.declared.cells.Boundary.the-variants.{At as BoundaryAt, Overflow as NoBoundary}
+use Rattle.cubic.specs.declared.roots.Root.{Root}
+use Rattle.cubic.specs.declared.roots.Root.the-variants.{At as RootAt, None as NoRoot, Overflow as RootOverflow}
+use Rattle.cubic.specs.Roots.{firstCubicRoot}
+use Rattle.level_set.specs.declared.hits.Samples.{Samples}
+use Rattle.level_set.specs.declared.hits.Samples.the-variants.{All, Refused as NoSamples}
+use Rattle.level_set.specs.Hits.{pointAt, along, withSample, hitWith, hitAlong, touchAt, valueAlong, third, twoThirds, samplesOf}
+use Rattle.level_set.specs.Hits.{samplesAlong}
+use Rattle.level_set.specs.Walk.{Turn, done, on, goesOn, rootTurn, cellBy, withSamples, cellCast, goesTo, withBoundary, withCells}
+use Rattle.level_set.specs.Walk.{walkStep, follow, cellLimit, walkFrom, withInterval, levelSetCast, rayLevelSet}
+use Rattle.exports.proofs.RefusalNumbers.{Small, leaf, chosen, boxed, answerNumber, refuses, misses, hits, corners-small}
+use Rattle.exports.proofs.RefusalNumbers.{indexedNumber, stops, nearest-small, over-walk-small}
+
+-- ---- the height grid
+unfoldable listingNumber : Listing → ℕ
+listingNumber (listed features) = 0
+listingNumber (unlisted number) = number
+
+lists : (features : List ℕ) → Small listingNumber (listed features)
+unfolding listingNumber
+lists features = leaf listingNumber (listed features) refl
+
+both-small : (a b : Listing) → Small listingNumber a → Small listingNumber b → Small listingNumber (both a b)
+unfolding both
+both-small (unlisted k) b p q = p
+both-small (listed features) (unlisted k) p q = q
+both-small (listed features) (listed others) p q = lists _
+
+module _ (f : Field) (heights : List Float) (box : Aabb) where
+  cell-small : (cell : ℕ) → Small listingNumber (listCell f heights box cell)
+  unfolding listCell listingNumber
+  cell-small cell =
+      chosen (cellFinite f heights (cellRow f cell) (cellColumn f cell)) (chosen (validBox (featureBox f heights (cell * 2)))
+      (chosen (validBox (featureBox f heights (cell * 2 + 1))) (lists _) (leaf listingNumber (unlisted outOfBounds) refl))
+      (leaf listingNumber (unlisted outOfBounds) refl)) (leaf listingNumber (unlisted overflow) refl)
+
+  cells-small : (cells : List ℕ) → Small listingNumber (listAll (listCell f heights box) cells)
+  unfolding listAll
+  cells-small [] = lists []
+  cells-small (cell ∷ cells) = both-small (listCell f heights box cell) _ (cell-small cell) (cells-small cells)
+
+  listing-small : Small listingNumber (gridListing f heights box)
+  unfolding gridListing
+  listing-small = cells-small (visitedCells f box)
+
+without-small : (x : Indexed) → Small indexedNumber x → Small answerNumber (withoutIndex x)
+unfolding withoutIndex indexedNumber answerNumber
+without-small (hitAt n d i) p = hits n d
+without-small noHit p = misses
+without-small (stopped k) p = record { below = p .below }
+
+pub height-field-small : (r : Ray) (f : Field) (heights : List Float) → Small answerNumber (rayHeightField r f heights)
+unfolding rayHeightField heightCast castListed answerOf listingNumber answerNumber
+height-field-small r f heights =
+    chosen (rayAdmitted r) (chosen (fieldAdmitted f heights) (boxed answerNumber refused refuses r
+    (λ (box : Aabb). cond (spanFinite f) (castListed (answerOf r f heights) (gridListing f heights box)) (refused overflow))
+    (λ box. chosen (spanFinite f) (all (gridListing f heights box) (listing-small f heights box)) (refuses overflow refl)))
+    (refuses badShape refl)) (refuses invalidInput refl)
+  where
+    all : (l : Listing) → Small listingNumber l → Small answerNumber (castListed (answerOf r f heights) l)
+    all (listed features) p =
+        without-small _ (nearest-small (answerOf r f heights) (λ i. corners-small r (featureCorners f heights i)) features)
+    all (unlisted k) p = record { below = p .below }
+
+unfoldable pub clearanceNumber : Clearance → ℕ
+clearanceNumber Clear = 0
+clearanceNumber (Possible cell) = 0
+clearanceNumber (NotClear number) = number
+
+found-small : (l : Listing) → Small listingNumber l → Small clearanceNumber (answerListed l)
+unfolding answerListed listingNumber clearanceNumber
+found-small (listed []) p = leaf clearanceNumber Clear refl
+found-small (listed (feature ∷ rest)) p = leaf clearanceNumber (Possible (feature / 2)) refl
+found-small (unlisted k) p = record { below = p .below }
+
+refuses-clear : (k : ℕ) → ltb k 256 ≡ true → Small clearanceNumber (NotClear k)
+unfolding clearanceNumber
+refuses-clear k h = leaf clearanceNumber (NotClear k) h
+
+pub ranges-small : (r : Ray) (f : Field) (lows highs : List Float) → Small clearanceNumber (rayHeightRanges r f lows highs)
+unfolding rayHeightRanges rangesCast visitedAnswer
+ranges-small r f lows highs =
+    chosen (rayAdmitted r) (chosen (rangesAdmitted f lows highs) (boxed clearanceNumber NotClear refuses-clear r
+    (λ (box : Aabb). cond (spanFinite f) (visitedAnswer f lows highs box) (NotClear overflow))
+    (λ box. chosen (spanFinite f) (visited box) (refuses-clear overflow refl)))
+    (refuses-clear badShape refl)) (refuses-clear invalidInput refl)
+  where
+    visited : (box : Aabb) → Small clearanceNumber (visitedAnswer f lows highs box)
+    visited box =
+        chosen (every (nodeInOrder lows highs) (nodesOf f (visitedCells f box)))
+        (found-small _ (listing-small f (nearestHeights (box .min .z) lows highs) box)) (refuses-clear badRange refl)
+
+-- ---- the distance grid: a sample
+unfoldable sampledNumber : Sampled → ℕ
+sampledNumber (SampledAt value gradient) = 0
+sampledNumber (NotSampled number) = number
+
+unfoldable locatedNumber : Located → ℕ
+locatedNumber (LocatedAt x tx y ty z tz) = 0
+locatedNumber (NotLocated number) = number
+
+inside-small : (a b c : Place) → Small locatedNumber (withPlace a (λ (x : ℕ) (tx : Float). withPlace b (λ (y : ℕ) (ty : Float).
+    withPlace c (λ (z : ℕ) (tz : Float). LocatedAt x tx y ty z tz))))
+unfolding locatedNumber
+inside-small NoPlace b c = leaf locatedNumber (NotLocated overflow) refl
+inside-small (PlaceAt x tx) NoPlace c = leaf locatedNumber (NotLocated overflow) refl
+inside-small (PlaceAt x tx) (PlaceAt y ty) NoPlace = leaf locatedNumber (NotLocated overflow) refl
+inside-small (PlaceAt x tx) (PlaceAt y ty) (PlaceAt z tz) = leaf locatedNumber (LocatedAt x tx y ty z tz) refl
+
+located-small : (g : Grid) (p : Vec3) → Small locatedNumber (locate g p)
+unfolding locate locateInside locatedNumber
+located-small g p =
+    let q = drawnPoint g p in
+    chosen (finiteVec p)
+    (inside-small (locateAxis (q .x) (g .origin .x) (g .spacing .x) (g .sides .x))
+    (locateAxis (q .y) (g .origin .y) (g .spacing .y) (g .sides .y)) (locateAxis (q .z) (g .origin .z) (g .spacing .z) (g .sides .z)))
+    (leaf locatedNumber (NotLocated overflow) refl)
+
+gathered-small : (v x y z : Checked) → Small sampledNumber (gathered v x y z)
+unfolding gathered sampledNumber
+gathered-small Overflow x y z = leaf sampledNumber (NotSampled overflow) refl
+gathered-small (Value v) Overflow y z = leaf sampledNumber (NotSampled overflow) refl
+gathered-small (Value v) (Value x) Overflow z = leaf sampledNumber (NotSampled overflow) refl
+gathered-small (Value v) (Value x) (Value y) Overflow = leaf sampledNumber (NotSampled overflow) refl
+gathered-small (Value v) (Value x) (Value y) (Value z) =
+    chosen (finiteVec (record { x = x; y = y; z = z }))
+    (leaf sampledNumber (SampledAt v (record { x = x; y = y; z = z })) refl) (leaf sampledNumber (NotSampled overflow) refl)
+
+sample-small : (g : Grid) (values : List Float) (p : Vec3) → Small sampledNumber (sample g values p)
+unfolding sample sampleCell sampleFaces locatedNumber sampledNumber
+sample-small g values p = go (locate g p) (located-small g p)
+  where
+    go : (l : Located) → Small locatedNumber l → Small sampledNumber
+        (withLocated l (λ (x y z : ℕ) (at : Vec3). sampleCell g values x y z at))
+    go (LocatedAt x tx y ty z tz) q = gathered-small _ _ _ _
+    go (NotLocated k) q = record { below = q .below }
+
+-- four values of a cell
+unfoldable samplesNumber : Samples → ℕ
+samplesNumber (All y0 y1 y2 y3) = 0
+samplesNumber (NoSamples number) = number
+
+four-small : (a b c d : Sampled) → Small sampledNumber a → Small sampledNumber b → Small sampledNumber c → Small sampledNumber d
+    → Small samplesNumber (samplesOf (valueOf a) (valueOf b) (valueOf c) (valueOf d))
+unfolding samplesOf sampledNumber samplesNumber
+four-small (NotSampled k) b c d p q s t = record { below = p .below }
+four-small (SampledAt v g) (NotSampled k) c d p q s t = record { below = q .below }
+four-small (SampledAt v g) (SampledAt w h) (NotSampled k) d p q s t = record { below = s .below }
+four-small (SampledAt v g) (SampledAt w h) (SampledAt x i) (NotSampled k) p q s t = record { below = t .below }
+four-small (SampledAt v g) (SampledAt w h) (SampledAt x i) (SampledAt y j) p q s t = leaf samplesNumber (All v w x y) refl
+
+-- ---- its walk
+unfoldable turnNumber : Turn → ℕ
+turnNumber (done answer) = answerNumber answer
+turnNumber (on distance) = 0
+
+ends : (answer : Answer) → Small answerNumber answer → Small turnNumber (done answer)
+unfolding turnNumber
+ends answer p = record { below = p .below }
+
+hit-with-small : (gradient : Vec3) (distance : Float) → Small answerNumber (hitWith gradient distance)
+unfolding hitWith
+hit-with-small gradient distance = go (tryNormalize gradient)
+  where
+    go : (n : Normalized) → Small answerNumber (withNormal n notConvergent (λ (normal : Vec3). hit normal distance))
+    go (UnitOf normal) = hits normal distance
+    go Degenerate = refuses notConvergent refl
+
+module _ (r : Ray) (g : Grid) (values : List Float) where
+  along-small : (distance : Float) → Small answerNumber (hitAlong r g values distance)
+  unfolding hitAlong sampledNumber answerNumber
+  along-small distance = go (sample g values (pointAt r distance)) (sample-small g values (pointAt r distance))
+    where
+      go : (s : Sampled) → Small sampledNumber s
+          → Small answerNumber (withSample s (λ (value : Float) (gradient : Vec3). hitWith gradient distance))
+      go (SampledAt value gradient) p = hit-with-small gradient distance
+      go (NotSampled k) p = record { below = p .below }
+
+  touch-small : (distance : Float) → Small answerNumber (touchAt r g values distance)
+  unfolding touchAt sampledNumber answerNumber
+  touch-small distance = go (sample g values (pointAt r distance)) (sample-small g values (pointAt r distance))
+    where
+      go : (s : Sampled) → Small sampledNumber s → Small answerNumber
+          (withSample s (λ (value : Float) (gradient : Vec3). cond (eq value zeroᶠ) (hitWith gradient distance) none))
+      go (SampledAt value gradient) p = chosen (eq value zeroᶠ) (hit-with-small gradient distance) misses
+      go (NotSampled k) p = record { below = p .below }
+
+  root-small : (t : Root) (current end exit : Float) → Small turnNumber (rootTurn t r g values current end exit)
+  unfolding goesOn turnNumber
+  root-small (RootAt fraction) current end exit = ends _ (along-small (along current end fraction))
+  root-small NoRoot current end exit = chosen (le exit end) (ends none misses) (leaf turnNumber (on end) refl)
+  root-small RootOverflow current end exit = ends (refused overflow) (refuses overflow refl)
+
+  cell-cast-small : (current end exit : Float) → Small turnNumber (cellCast r g values current end exit)
+  unfolding cellCast cellBy samplesAlong valueAlong samplesNumber turnNumber answerNumber
+  cell-cast-small current end exit =
+      go _ (four-small _ _ _ _ (at zeroᶠ) (at third) (at twoThirds) (at oneᶠ))
+    where
+      at : (fraction : Float) → Small sampledNumber (sample g values (pointAt r (along current end fraction)))
+      at fraction = sample-small g values (pointAt r (along current end fraction))
+
+      go : (s : Samples) → Small samplesNumber s → Small turnNumber (withSamples s
+          (λ (y0 y1 y2 y3 : Float). cellBy r g values current end exit (y0 ∷ y1 ∷ y2 ∷ y3 ∷ [])))
+      go (All y0 y1 y2 y3) q = root-small (firstCubicRoot (y0 ∷ y1 ∷ y2 ∷ y3 ∷ [])) current end exit
+      go (NoSamples k) q = record { below = q .below }
+
+  goes-small : (current exit next : Float) → Small turnNumber (goesTo r g values current exit next)
+  unfolding goesTo
+  goes-small current exit next =
+      chosen (le next current) (ends _ (touch-small current)) (cell-cast-small current (minimumOf next exit) exit)
+
+  step-small : (current exit : Float) → Small turnNumber (walkStep r g values current exit)
+  unfolding walkStep
+  step-small current exit =
+      chosen (lt exit current) (ends none misses) (cells (rayCellIndices g (pointAt r current) (r .direction)))
+    where
+      bounded : (b : Boundary) → Small turnNumber (withBoundary b (λ (next : Float). goesTo r g values current exit next))
+      bounded (BoundaryAt next) = goes-small current exit next
+      bounded NoBoundary = ends (refused overflow) (refuses overflow refl)
+
+      cells : (c : Cells) → Small turnNumber (withCells c (λ (x y z : ℕ).
+          withBoundary (nextCellBoundary g current (pointAt r current) (r .direction) x y z exit)
+          (λ (next : Float). goesTo r g values current exit next)))
+      cells (CellsAt x y z) = bounded (nextCellBoundary g current (pointAt r current) (r .direction) x y z exit)
+      cells NoCells = ends (refused overflow) (refuses overflow refl)
+
+  follow-small : (t : Turn) (k : Float → Answer) → Small turnNumber t → ((next : Float) → Small answerNumber (k next))
+      → Small answerNumber (follow t k)
+  unfolding turnNumber
+  follow-small (done answer) k p q = record { below = p .below }
+  follow-small (on distance) k p q = q distance
+
+  walk-small : (exit : Float) (n : ℕ) (current : Float) → Small answerNumber (walkFrom r g values exit n current)
+  unfolding walkFrom
+  walk-small exit zero current = refuses notConvergent refl
+  walk-small exit (suc n) current =
+      follow-small (walkStep r g values current exit) (λ (next : Float). walkFrom r g values exit n next) (step-small current exit)
+      (λ next. walk-small exit n next)
+
+  pub level-set-small : Small answerNumber (rayLevelSet r g values)
+  unfolding rayLevelSet levelSetCast
+  level-set-small =
+      chosen (rayAdmitted r) (chosen (gridAdmitted g (length values))
+      (chosen (validBox (gridBox g)) (go (rayAabbInterval r (gridBox g))) (refuses outOfBounds refl))
+      (refuses badShape refl)) (refuses invalidInput refl)
+    where
+      go : (i : Interval) → Small answerNumber
+          (withInterval i (λ (entry exit : Float). walkFrom r g values exit (cellLimit g) entry))
+      go (Within entry exit) = walk-small exit (cellLimit g) entry
+      go Miss = misses
+
+-- ---- the converter
+unfoldable pub convertedNumber : Converted → ℕ
+convertedNumber (Written count) = 0
+convertedNumber (NotConverted number) = number
+
+converts : (answer : Converted) (area : List ℕ) → ltb (convertedNumber answer) 256 ≡ true
+    → Small (λ (o : Outcome). convertedNumber (o .answer)) (record { answer = answer; area = area })
+converts answer area h = leaf (λ (o : Outcome). convertedNumber (o .answer)) (record { answer = answer; area = area }) h
+
+pub converted-small : (p q : Form) (bytes area : List ℕ) → Small (λ (o : Outcome). convertedNumber (o .answer)) (converted p q bytes area)
+unfolding converted convertedNumber
+converted-small p q bytes area =
+    chosen (wellFormed p bytes) (chosen (ltb (length area) (length (turned p q bytes))) (converts (NotConverted 3) _ refl)
+    (chosen (saidHeld q (saidOf p bytes)) (converts (Written _) _ refl) (converts (NotConverted 11) _ refl)))
+    (converts (NotConverted 2) _ refl)
+
+-- ---- the cabinet
+unfoldable foundNumber : Found → ℕ
+foundNumber Nothing = 0
+foundNumber (Hit part index normal distance) = 0
+foundNumber (NotFound number) = number
+
+next-found : (f : Found) (part : ℕ) (x : Indexed) → Small foundNumber f → Small indexedNumber x → Small foundNumber (foundNext f part x)
+unfolding foundNext foundNumber indexedNumber
+next-found (NotFound k) part x p q = p
+next-found Nothing part (hitAt n d i) p q = leaf foundNumber (Hit part i n d) refl
+next-found Nothing part noHit p q = p
+next-found Nothing part (stopped k) p q = record { below = q .below }
+next-found (Hit a j m e) part (hitAt n d i) p q = chosen (lt d e) (leaf foundNumber (Hit part i n d) refl) p
+next-found (Hit a j m e) part noHit p q = p
+next-found (Hit a j m e) part (stopped k) p q = record { below = q .below }
+
+abbrev costNumber : Costed → ℕ
+costNumber c = indexedNumber (c .answer)
+
+costs : (spent : ℕ) (answer : Indexed) → Small indexedNumber answer → Small costNumber (costing spent answer)
+costs spent answer p = record { below = p .below }
+
+moved-small : (limit : ℕ) (r : Ray) (o : Vec3) (m : Mesh) (t : Tree) → Small costNumber (castMoved limit r o m t)
+unfolding castMoved castWithin afterLook
+moved-small limit r o m t =
+    chosen (finiteVec (subOf (r .origin) o)) (chosen (finiteVec (segmentEnd (movedRay r o)))
+    (go (walkWithin t (thirds (length (m .triangles))) (segmentBox (movedRay r o)) limit)) (costs 0 _ (stops overflow refl)))
+    (costs 0 _ (stops overflow refl))
+  where
+    go : (l : Looked) → Small costNumber (afterLook (movedRay r o) m l)
+    go (looked spent w) = costs spent _ (over-walk-small (movedRay r o) (m .vertices) (m .triangles) w)
+    go (usedUp spent) = costs spent _ (stops limitReached refl)
+
+abbrev progressNumber : Progress → ℕ
+progressNumber s = foundNumber (s .found)
+
+module _ (r : Ray) (a : Areas) (limit : ℕ) where
+  part-small : (s : Progress) (c : Costed) → Small progressNumber s → Small costNumber c → Small progressNumber (afterPart s c)
+  unfolding afterPart
+  part-small s c p q =
+      let next = next-found (s .found) (s .part) (c .answer) (record { below = p .below }) (record { below = q .below }) in
+      chosen {f = progressNumber} (isRefused (s .found)) p (record { below = next .below })
+
+  parts-small : (ps : List Part) (s : Progress) → Small progressNumber s → Small progressNumber (castParts r a limit s ps)
+  unfolding castParts castPart
+  parts-small [] s p = p
+  parts-small (q ∷ ps) s p =
+      parts-small ps (castPart r a limit s q)
+      (part-small s _ p (moved-small (limit - s .spent) r (q .origin) (meshOf a q) (treeOfPart a q)))
+
+unfoldable pub cabinetNumber : Cabinet.Answer → ℕ
+cabinetNumber (Cabinet.hitIn part triangle n d spent) = 0
+cabinetNumber (Cabinet.noneAfter spent) = 0
+cabinetNumber (Cabinet.refused number) = number
+cabinetNumber (Cabinet.refusedAfter number spent) = number
+
+pub cabinet-small : (r : Ray) (a : Areas) (list stack limit : ℕ) (parts : List Part)
+    → Small cabinetNumber (castCabinet r a list stack limit parts)
+unfolding castCabinet cabinetNumber foundNumber
+cabinet-small r a list stack limit parts =
+    let last = castParts r a limit beginning parts in
+    chosen (rayAdmitted r) (chosen (allParts (shapeFits a) parts) (chosen (allParts (roomFits a list stack) parts)
+    (go (last .found) (last .spent) (record { below = all .below }))
+    (leaf cabinetNumber (Cabinet.refused noRoom) refl)) (leaf cabinetNumber (Cabinet.refused badShape) refl))
+    (leaf cabinetNumber (Cabinet.refused invalidInput) refl)
+  where
+    all : Small progressNumber (castParts r a limit beginning parts)
+    all = parts-small r a limit parts beginning (leaf progressNumber beginning refl)
+
+    go : (f : Found) (spent : ℕ) → Small foundNumber f → Small cabinetNumber (answerWith f spent)
+    go Nothing spent p = leaf cabinetNumber (Cabinet.noneAfter spent) refl
+    go (Hit part index n d) spent p = leaf cabinetNumber (Cabinet.hitIn part index n d spent) refl
+    go (NotFound k) spent p = record { below = p .below }

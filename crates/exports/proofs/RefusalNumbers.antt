@@ -1,0 +1,331 @@
+-- Every refusal of a definition that a call answers has a number below the codes: the casts at planes, triangles and meshes, and the calls
+-- about trees. Assumes nothing.
+use Prim.Native.Nat.{ℕ, _<_}
+use mathlib.Core.Path.{_≡_, refl, ap, subst, _∙_}
+use mathlib.Core.Bool.{Bool, true, false, _&&_, cond}
+use mathlib.Core.List.{List, [], _∷_}
+use borrow.Author.Tests.{ltb-true}
+use lib.Dec.{ltb, eqb}
+use lib.Ieee.{Float, lt, le}
+use lib.ListN.{length}
+use Rattle.lists.proofs.JoinedTests.{and-first, and-second}
+use Rattle.lists.specs.Lists.{range}
+use Rattle.lists.specs.Refusals.{Test, unlessRefused}
+use Rattle.arithmetic.specs.Basic.{isFinite, absolute}
+use Rattle.vectors.specs.Numbers.{_-ᶠ_, _/ᶠ_}
+use Rattle.vectors.specs.Vector.{finiteVec, checkedDot}
+use Rattle.vectors.specs.declared.vec3.Vec3.{Vec3}
+use Rattle.vectors.specs.declared.vec3.Checked.{Checked}
+use Rattle.vectors.specs.declared.vec3.Checked.the-variants.{Value, Overflow}
+use Rattle.geometry.specs.Box.{corner, validBox}
+use Rattle.geometry.specs.Segment.{rayAdmitted, segmentEnd, segmentBox}
+use Rattle.geometry.specs.declared.aabb.Aabb.{Aabb}
+use Rattle.geometry.specs.declared.ray.Ray.{Ray}
+use Rattle.casts.specs.Answer.{Answer, hit, none, refused, withValue}
+use Rattle.casts.specs.Answer.{invalidInput, badShape, noRoom, wrongPose, outOfBounds, overflow}
+use Rattle.casts.specs.SegmentBox.{withSegmentBox}
+use Rattle.casts.specs.Surface.{outOfRange}
+use Rattle.casts.specs.Plane.{parallel, planeAdmitted, planeAt, planeCast, rayPlane}
+use Rattle.casts.specs.declared.plane.Plane.{Plane}
+use Rattle.triangle_cast.specs.Triangle.{triangleCast, rayTriangle}
+use Rattle.nearest_hit.specs.Nearest.{Indexed, hitAt, noHit, stopped, nextOf, foldFrom}
+use Rattle.tree.specs.Layout.{Tree, Areas}
+use Rattle.tree.specs.Mesh.{Mesh, thirds, triangleCount, lengthsAdmitted, cornersInside, cornersOf, triangleAnswer, candidates}
+use Rattle.tree.specs.Mesh.{trianglesFit, boxesWritten}
+use Rattle.tree_walk.specs.Walk.{Walking, walking, broken, walkOf}
+use Rattle.tree_build.specs.Shape.{shapeOf}
+use Rattle.tree_build.specs.Ranges.{extentsFinite}
+use Rattle.tree_build.specs.Build as Build
+use Rattle.tree_query.specs.Query as Query
+use Rattle.tree_check.specs.Check.{treePasses}
+use Rattle.tree_check.specs.Verdict as Verdict
+use Rattle.mesh.specs.MeshCast.{overWalk, meshCast, meshTests, rayMesh}
+use Rattle.mesh_plain.specs.PlainCast.{overTriangles, plainCast, rayMeshPlain}
+use Rattle.exact_depth.specs.declared.spots.Depth.{Depth}
+use Rattle.exact_depth.specs.declared.spots.Depth.the-variants.{At as Reached, Miss}
+use Rattle.exact_triangle.specs.declared.whole.Point.{Point}
+use Rattle.exact_triangle.specs.declared.line.Line.{Line}
+use Rattle.exact_triangle.specs.declared.line.Ruled.{Ruled}
+use Rattle.exact_triangle.specs.declared.line.Ruled.the-variants.{On, Off}
+use Rattle.exact_triangle.specs.declared.cast.Board.{Board}
+use Rattle.exact_triangle.specs.declared.cast.Board.the-variants.{At as BoardAt, Off as OffBoard}
+use Rattle.exact_triangle.specs.Line.{lineOf, withLine}
+use Rattle.exact_triangle.specs.Exact.{notWhole, boardOf, depthOf, depthTold, withBoard, exactTriangle}
+use Rattle.mesh_exact.specs.ExactCast.{exactAnswer, overExact, exactCast, rayMeshExactPlain}
+use Rattle.tree_exact.specs.ExactMesh.{overListed, exactThrough, exactTests, rayMeshExact}
+use Rattle.board_tests.specs.Merge as Merge
+use Rattle.mesh_hits.proofs.RefusalNumbers.{normal-small, triangle-small, answer-small}
+use Rattle.slice_casts.specs.Slices.{rayIn, ofSlices}
+use Rattle.exports.specs.Codes.{Below}
+
+-- ---- a number that is read off an answer stays below the codes
+pub record Small {A : Type 0} (numberOf : A → ℕ) (answer : A) : Type 0 where
+  pub below : numberOf answer < 256
+
+pub is-small : {A : Type 0} {f : A → ℕ} {x : A} → f x < 256 → Small f x
+is-small h = record { below = h }
+
+pub leaf : {A : Type 0} (f : A → ℕ) (x : A) → ltb (f x) 256 ≡ true → Small f x
+leaf f x h = record { below = ltb-true (f x) 256 h }
+
+-- where a refusal's number is read off it, every refusal that the answer can be is below
+pub small-below : {A : Type 0} (f : A → ℕ) (refuse : ℕ → A) → ((n : ℕ) → f (refuse n) ≡ n) → (answer : A) → Small f answer
+    → Below refuse answer
+small-below f refuse back answer s number e = subst (λ (n : ℕ). n < 256) (ap f e ∙ back number) (s .below)
+
+-- what a test chooses
+pub chosen : {A : Type 0} {f : A → ℕ} {x y : A} (b : Bool) → Small f x → Small f y → Small f (cond b x y)
+chosen true p q = p
+chosen false p q = q
+
+-- what tests refuse with, and what is asked with a segment's box, as long as all else is small
+smallTests : List Test → Bool
+smallTests [] = true
+smallTests (t ∷ ts) = ltb (t .number) 256 && smallTests ts
+
+module _ {A : Type 0} (f : A → ℕ) (refuse : ℕ → A) (such : (k : ℕ) → ltb k 256 ≡ true → Small f (refuse k)) where
+  tested : (ts : List Test) (x : A) → smallTests ts ≡ true → Small f x → Small f (unlessRefused refuse ts x)
+  unfolding smallTests
+  tested [] x h p = p
+  tested (t ∷ ts) x h p =
+      chosen (t .passes) (tested ts x (and-second (ltb (t .number) 256) (smallTests ts) h) p)
+      (such (t .number) (and-first (ltb (t .number) 256) (smallTests ts) h))
+
+  pub boxed : (r : Ray) (next : Aabb → A) → ((box : Aabb) → Small f (next box)) → Small f (withSegmentBox refuse r next)
+  boxed r next p =
+      chosen (finiteVec (segmentEnd r))
+      (chosen (validBox (segmentBox r)) (p (segmentBox r)) (such outOfBounds refl)) (such overflow refl)
+
+-- ---- one shape
+unfoldable pub answerNumber : Answer → ℕ
+answerNumber (hit n d) = 0
+answerNumber none = 0
+answerNumber (refused number) = number
+
+pub refuses : (k : ℕ) → ltb k 256 ≡ true → Small answerNumber (refused k)
+unfolding answerNumber
+refuses k h = leaf answerNumber (refused k) h
+
+pub misses : Small answerNumber none
+unfolding answerNumber
+misses = leaf answerNumber none refl
+
+pub hits : (n : Vec3) (d : Float) → Small answerNumber (hit n d)
+unfolding answerNumber
+hits n d = leaf answerNumber (hit n d) refl
+
+-- by a law that speaks of refusals
+by-refusals : (a : Answer) → ((number : ℕ) → a ≡ refused number → number < 256) → Small answerNumber a
+unfolding answerNumber
+by-refusals (hit n d) h = hits n d
+by-refusals none h = misses
+by-refusals (refused k) h = is-small (h k refl)
+
+at-small : (s : Plane) (r : Ray) (x y : Float) → Small answerNumber (planeAt s r x y)
+unfolding planeAt
+at-small s r x y = chosen (isFinite y) (chosen (outOfRange r y) misses (hits _ _)) (refuses overflow refl)
+
+pub plane-small : (s : Plane) (r : Ray) → Small answerNumber (rayPlane s r)
+unfolding rayPlane planeCast
+plane-small s r =
+    chosen (rayAdmitted r)
+    (chosen (planeAdmitted s) (cast (checkedDot (r .direction) (s .normal)) (checkedDot (r .origin) (s .normal))) (refuses badShape refl))
+    (refuses invalidInput refl)
+  where
+    past : (x : Float) (c : Checked) → Small answerNumber
+        (withValue c (λ (height : Float). planeAt s r x ((s .distance -ᶠ height) /ᶠ x)))
+    past x (Value height) = at-small s r x _
+    past x Overflow = refuses overflow refl
+
+    cast : (c e : Checked) → Small answerNumber (withValue c (λ (x : Float). cond (le (absolute x) parallel) none
+        (withValue e (λ (height : Float). planeAt s r x ((s .distance -ᶠ height) /ᶠ x)))))
+    cast (Value x) e = chosen (le (absolute x) parallel) misses (past x e)
+    cast Overflow e = refuses overflow refl
+
+pub corners-small : (r : Ray) (vs : List Vec3) → Small answerNumber (triangleCast r vs)
+corners-small r vs = by-refusals _ (triangle-small r (corner vs 0) (corner vs 1) (corner vs 2) .below)
+
+pub ray-triangle-small : (r : Ray) (vs : List Vec3) → Small answerNumber (rayTriangle r vs)
+unfolding rayTriangle
+ray-triangle-small r vs = chosen (rayAdmitted r) (corners-small r vs) (refuses invalidInput refl)
+
+pub slices-small : (stated : ℕ) (ray shape : List Float) (answer : Answer) → Small answerNumber answer
+    → Small answerNumber (ofSlices stated ray shape answer)
+unfolding ofSlices
+slices-small stated ray shape answer p =
+    chosen (eqb (length ray) 8 && rayAdmitted (rayIn ray)) (chosen (eqb (length shape) stated) p (refuses badShape refl))
+    (refuses invalidInput refl)
+
+-- ---- many triangles
+unfoldable pub indexedNumber : Indexed → ℕ
+indexedNumber (hitAt n d i) = 0
+indexedNumber noHit = 0
+indexedNumber (stopped number) = number
+
+pub stops : (k : ℕ) → ltb k 256 ≡ true → Small indexedNumber (stopped k)
+unfolding indexedNumber
+stops k h = leaf indexedNumber (stopped k) h
+
+next-small : (best : Indexed) (i : ℕ) (a : Answer) → Small indexedNumber best → Small answerNumber a → Small indexedNumber (nextOf best i a)
+unfolding nextOf indexedNumber answerNumber
+next-small (stopped k) i a p q = p
+next-small noHit i (hit n d) p q = leaf indexedNumber (hitAt n d i) refl
+next-small noHit i none p q = p
+next-small noHit i (refused k) p q = record { below = q .below }
+next-small (hitAt n d j) i (hit n' d') p q = chosen (lt d' d) (leaf indexedNumber (hitAt n' d' i) refl) p
+next-small (hitAt n d j) i none p q = p
+next-small (hitAt n d j) i (refused k) p q = record { below = q .below }
+
+module _ (answer : ℕ → Answer) (each : (i : ℕ) → Small answerNumber (answer i)) where
+  fold-small : (l : List ℕ) (best : Indexed) → Small indexedNumber best → Small indexedNumber (foldFrom answer best l)
+  unfolding foldFrom
+  fold-small [] best p = p
+  fold-small (i ∷ l) best p = fold-small l (nextOf best i (answer i)) (next-small best i (answer i) p (each i))
+
+  pub nearest-small : (l : List ℕ) → Small indexedNumber (foldFrom answer noHit l)
+  unfolding indexedNumber
+  nearest-small l = fold-small l noHit (leaf indexedNumber noHit refl)
+
+  -- over a walk's list
+  listed-small : (w : Walking) → Small indexedNumber (overListed answer w)
+  unfolding overListed
+  listed-small (walking s l) = nearest-small l
+  listed-small broken = stops outOfBounds refl
+
+-- each triangle of a mesh, by the rounded cast and by the exact one
+each-small : (r : Ray) (pose : List Float) (triangles : List ℕ) (i : ℕ) → Small answerNumber (triangleAnswer r pose triangles i)
+each-small r pose triangles i = by-refusals _ (answer-small r pose triangles i .below)
+
+exact-small : (r : Ray) (l : Line) (pose : List Float) (triangles : List ℕ) (i : ℕ)
+    → Small answerNumber (exactAnswer r l pose triangles i)
+unfolding exactAnswer exactTriangle
+exact-small r l pose triangles i =
+    chosen (cornersInside (thirds (length pose)) triangles i) (go (boardOf (cornersOf pose triangles i))) (refuses outOfBounds refl)
+  where
+    depth : (d : Depth) → Small answerNumber (depthTold r (cornersOf pose triangles i) d)
+    depth (Reached f) = by-refusals _ (normal-small r _ _ _ .below)
+    depth Miss = misses
+
+    go : (b : Board) → Small answerNumber (withBoard b (λ (a b c : Point). depthTold r (cornersOf pose triangles i) (depthOf l a b c)))
+    go (BoardAt a b c) = depth (depthOf l a b c)
+    go OffBoard = refuses notWhole refl
+
+pub over-walk-small : (r : Ray) (pose : List Float) (triangles : List ℕ) (w : Walking) → Small indexedNumber (overWalk r pose triangles w)
+unfolding overWalk
+over-walk-small r pose triangles (walking s l) = nearest-small _ (each-small r pose triangles) l
+over-walk-small r pose triangles broken = stops outOfBounds refl
+
+pub mesh-small : (r : Ray) (m : Mesh) (pose : List Float) (t : Tree) (list stack : ℕ) → Small indexedNumber (rayMesh r m pose t list stack)
+unfolding rayMesh meshCast smallTests
+mesh-small r m pose t list stack =
+    tested indexedNumber stopped stops (meshTests r m pose t list stack) _ refl
+    (boxed indexedNumber stopped stops r
+    (λ (box : Aabb). overWalk r pose (m .triangles) (walkOf t (thirds (length (m .triangles))) box))
+    (λ box. over-walk-small r pose (m .triangles) (walkOf t (thirds (length (m .triangles))) box)))
+
+over-triangles-small : (r : Ray) (m : Mesh) (box : Aabb) → Small indexedNumber (overTriangles r box m)
+unfolding overTriangles
+over-triangles-small r m box =
+    chosen (trianglesFit m) (nearest-small _ (each-small r (m .vertices) (m .triangles)) (candidates m box)) (stops outOfBounds refl)
+
+pub plain-small : (r : Ray) (m : Mesh) → Small indexedNumber (rayMeshPlain r m)
+unfolding rayMeshPlain plainCast
+plain-small r m =
+    chosen (rayAdmitted r) (chosen (lengthsAdmitted (length (m .vertices)) (length (m .triangles)))
+    (boxed indexedNumber stopped stops r (λ (box : Aabb). overTriangles r box m) (over-triangles-small r m))
+    (stops badShape refl)) (stops invalidInput refl)
+
+-- the exact cast, without a tree and through one
+over-exact-small : (r : Ray) (l : Line) (m : Mesh) (box : Aabb) → Small indexedNumber (overExact r l box m)
+unfolding overExact
+over-exact-small r l m box =
+    chosen (trianglesFit m) (nearest-small _ (exact-small r l (m .vertices) (m .triangles)) (candidates m box)) (stops outOfBounds refl)
+
+pub exact-plain-small : (r : Ray) (m : Mesh) → Small indexedNumber (rayMeshExactPlain r m)
+unfolding rayMeshExactPlain exactCast
+exact-plain-small r m = chosen (rayAdmitted r) (go (lineOf r)) (stops invalidInput refl)
+  where
+    go : (k : Ruled) → Small indexedNumber (withLine k (stopped notWhole)
+        (λ (l : Line). cond (lengthsAdmitted (length (m .vertices)) (length (m .triangles))) (exactCast r l m) (stopped badShape)))
+    go (On l) =
+        chosen (lengthsAdmitted (length (m .vertices)) (length (m .triangles)))
+        (boxed indexedNumber stopped stops r (λ (box : Aabb). overExact r l box m) (over-exact-small r l m)) (stops badShape refl)
+    go Off = stops notWhole refl
+
+pub exact-tree-small : (r : Ray) (m : Mesh) (pose : List Float) (t : Tree) (list stack : ℕ)
+    → Small indexedNumber (rayMeshExact r m pose t list stack)
+unfolding rayMeshExact exactThrough smallTests
+exact-tree-small r m pose t list stack =
+    tested indexedNumber stopped stops (exactTests r m pose t list stack) _ refl (go (lineOf r))
+  where
+    go : (k : Ruled) → Small indexedNumber (withLine k (stopped notWhole) (λ (l : Line). exactThrough r l (m .triangles) pose t))
+    go (On l) =
+        boxed indexedNumber stopped stops r
+        (λ (box : Aabb). overListed (exactAnswer r l pose (m .triangles)) (walkOf t (thirds (length (m .triangles))) box))
+        (λ box. listed-small _ (exact-small r l pose (m .triangles)) (walkOf t (thirds (length (m .triangles))) box))
+    go Off = stops notWhole refl
+
+-- ---- trees
+unfoldable pub buildNumber : Build.Answer → ℕ
+buildNumber (Build.nodes count) = 0
+buildNumber (Build.refused number) = number
+
+builds : (answer : Build.Answer) (after : Areas) → ltb (buildNumber answer) 256 ≡ true
+    → Small (λ (o : Build.Outcome). buildNumber (o .answer)) (Build.outcome answer after)
+builds answer after h = leaf (λ (o : Build.Outcome). buildNumber (o .answer)) (Build.outcome answer after) h
+
+pub build-small : (m : Mesh) (a : Areas) (work : ℕ) → Small (λ (o : Build.Outcome). buildNumber (o .answer)) (Build.buildOf m a work)
+unfolding Build.buildOf Build.builtOf buildNumber smallTests
+build-small m a work =
+    tested (λ (o : Build.Outcome). buildNumber (o .answer)) (λ (k : ℕ). Build.outcome (Build.refused k) a)
+    (λ k h. builds (Build.refused k) a h) (Build.buildTests m a work) _ refl
+    (chosen (eqb (triangleCount m) 0) (builds (Build.refused outOfBounds) _ refl)
+    (chosen (trianglesFit m)
+    (chosen (extentsFinite (boxesWritten m (a .triangleBoxes)) (shapeOf (triangleCount m)) (range 0 (triangleCount m)))
+    (builds (Build.nodes _) _ refl) (builds (Build.refused overflow) _ refl)) (builds (Build.refused outOfBounds) _ refl)))
+
+unfoldable pub queryNumber : Query.Listing → ℕ
+queryNumber (Query.count count) = 0
+queryNumber (Query.refused number) = number
+
+queries : (answer : Query.Listing) (list : List ℕ) → ltb (queryNumber answer) 256 ≡ true
+    → Small (λ (q : Query.Queried). queryNumber (q .answer)) (record { answer = answer; list = list })
+queries answer list h = leaf (λ (q : Query.Queried). queryNumber (q .answer)) (record { answer = answer; list = list }) h
+
+pub query-small : (box : Aabb) (n : ℕ) (t : Tree) (list : List ℕ) (stack : ℕ)
+    → Small (λ (q : Query.Queried). queryNumber (q .answer)) (Query.queryOf box n t list stack)
+unfolding Query.queryOf Query.afterWalk queryNumber smallTests
+query-small box n t list stack =
+    tested (λ (q : Query.Queried). queryNumber (q .answer)) (λ (k : ℕ). record { answer = Query.refused k; list = list })
+    (λ k h. queries (Query.refused k) list h) (Query.queryTests box n t (length list) stack) _ refl (walked (walkOf t n box))
+  where
+    walked : (w : Walking) → Small (λ (q : Query.Queried). queryNumber (q .answer)) (Query.afterWalk list w)
+    walked (walking s l) = queries (Query.count _) _ refl
+    walked broken = queries (Query.refused outOfBounds) _ refl
+
+unfoldable pub checkNumber : Verdict.Ruling → ℕ
+checkNumber Verdict.yes = 0
+checkNumber Verdict.no = 0
+checkNumber (Verdict.refused number) = number
+
+pub check-small : (m : Mesh) (t : Tree) (marks : ℕ) → Small checkNumber (Verdict.checkOf m t marks)
+unfolding Verdict.checkOf checkNumber smallTests
+check-small m t marks =
+    tested checkNumber Verdict.refused (λ k h. leaf checkNumber (Verdict.refused k) h) (Verdict.checkTests m t marks) _ refl
+    (chosen (treePasses m t) (leaf checkNumber Verdict.yes refl) (leaf checkNumber Verdict.no refl))
+
+unfoldable pub mergeNumber : Merge.Answer → ℕ
+mergeNumber (Merge.nodes count) = 0
+mergeNumber (Merge.refused number) = number
+
+merges : (answer : Merge.Answer) (after : Merge.Areas) → ltb (mergeNumber answer) 256 ≡ true
+    → Small (λ (o : Merge.Outcome). mergeNumber (o .answer)) (record { answer = answer; after = after })
+merges answer after h = leaf (λ (o : Merge.Outcome). mergeNumber (o .answer)) (record { answer = answer; after = after }) h
+
+pub merge-small : (a b : Merge.Board) (old : Merge.Areas) (marks : ℕ)
+    → Small (λ (o : Merge.Outcome). mergeNumber (o .answer)) (Merge.mergeOf a b old marks)
+unfolding Merge.mergeOf mergeNumber
+merge-small a b old marks =
+    chosen (Merge.shapesAdmitted a b) (chosen (Merge.areasFit a b old marks)
+    (chosen (Merge.treesPass a b) (merges (Merge.nodes _) _ refl) (merges (Merge.refused outOfBounds) _ refl))
+    (merges (Merge.refused noRoom) _ refl)) (merges (Merge.refused badShape) _ refl)
