@@ -6,6 +6,7 @@ pub mod PlainCalls
 pub mod MeshTold
 pub mod Demands
 pub mod CabinetAnswers
+pub mod CabinetReads
 pub mod FoundHits
 pub mod BoardCalls
 pub mod ConversionCalls
