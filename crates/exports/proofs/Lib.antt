@@ -9,6 +9,7 @@ pub mod Counts
 pub mod PlainCalls
 pub mod MeshTold
 pub mod CabinetAnswers
+pub mod CabinetReads
 pub mod FoundHits
 pub mod BoardCalls
 pub mod ConversionCalls

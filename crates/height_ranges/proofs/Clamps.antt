@@ -12,7 +12,7 @@ chosen P false x y p q = q refl
 
 module _ (z low high : Float) where
   -- one of the three numbers
-  clamp-one : (P : Float → Type 0) → P z → P low → P high → P (clampTo z low high)
+  pub clamp-one : (P : Float → Type 0) → P z → P low → P high → P (clampTo z low high)
   unfolding clampTo
   clamp-one P pz pl ph = chosen P (lt high (cond (lt z low) low z)) high (cond (lt z low) low z) (λ e. ph)
       (λ e. chosen P (lt z low) low z (λ d. pl) (λ d. pz))
