@@ -15,7 +15,8 @@ use Rattle.cabinet.specs.Cabinet as Cabinet
 use Rattle.slice_casts.specs.Slices.{planeOfSlices, triangleOfSlices}
 use Rattle.exports.specs.Codes.{RefusalsBelowCodes}
 use Rattle.exports.proofs.RefusalNumbers.{is-small, small-below, answerNumber, plane-small, ray-triangle-small, slices-small}
-use Rattle.exports.proofs.RefusalNumbers.{indexedNumber, mesh-small, plain-small, exact-plain-small, exact-tree-small}
+use Rattle.exports.proofs.RefusalNumbers.{indexedNumber, mesh-small, plain-small}
+use Rattle.exports.proofs.ExactNumbers.{exact-plain-small, exact-tree-small}
 use Rattle.exports.proofs.RefusalNumbers.{buildNumber, build-small, queryNumber, query-small, checkNumber, check-small}
 use Rattle.exports.proofs.RefusalNumbers.{mergeNumber, merge-small}
 use Rattle.exports.proofs.GridNumbers.{height-field-small, clearanceNumber, ranges-small, level-set-small}
@@ -34,7 +35,7 @@ refusals-below-codes = record {
   level-set = λ r g values. small-below answerNumber refused (λ n. refl) _ (level-set-small r g values);
   mesh = λ r m pose t list stack. small-below indexedNumber stopped (λ n. refl) _ (mesh-small r m pose t list stack);
   plain = λ r m. small-below indexedNumber stopped (λ n. refl) _ (plain-small r m);
-  exact = λ r m pose t list stack. small-below indexedNumber stopped (λ n. refl) _ (exact-tree-small r m pose t list stack);
+  exact = λ r m pose t stack. small-below indexedNumber stopped (λ n. refl) _ (exact-tree-small r m pose t stack);
   exact-plain = λ r m. small-below indexedNumber stopped (λ n. refl) _ (exact-plain-small r m);
   build = λ m a work. small-below buildNumber Build.refused (λ n. refl) _ (is-small (build-small m a work .below));
   query = λ box n t list stack. small-below queryNumber Query.refused (λ n. refl) _ (is-small (query-small box n t list stack .below));

@@ -1,6 +1,7 @@
 -- Laws about what the calls answer and leave. Assumes nothing.
 pub mod Kept
 pub mod RefusalNumbers
+pub mod ExactNumbers
 pub mod GridNumbers
 pub mod Codes
 pub mod Reading
@@ -14,4 +15,3 @@ pub mod FoundHits
 pub mod BoardCalls
 pub mod ConversionCalls
 pub mod ExactCalls
-pub mod ExactTrees

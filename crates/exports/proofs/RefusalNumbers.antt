@@ -41,18 +41,6 @@ use Rattle.tree_check.specs.Check.{treePasses}
 use Rattle.tree_check.specs.Verdict as Verdict
 use Rattle.mesh.specs.MeshCast.{overWalk, meshCast, meshTests, rayMesh}
 use Rattle.mesh_plain.specs.PlainCast.{overTriangles, plainCast, rayMeshPlain}
-use Rattle.exact_depth.specs.declared.spots.Depth.{Depth}
-use Rattle.exact_depth.specs.declared.spots.Depth.the-variants.{At as Reached, Miss}
-use Rattle.exact_triangle.specs.declared.whole.Point.{Point}
-use Rattle.exact_triangle.specs.declared.line.Line.{Line}
-use Rattle.exact_triangle.specs.declared.line.Ruled.{Ruled}
-use Rattle.exact_triangle.specs.declared.line.Ruled.the-variants.{On, Off}
-use Rattle.exact_triangle.specs.declared.cast.Board.{Board}
-use Rattle.exact_triangle.specs.declared.cast.Board.the-variants.{At as BoardAt, Off as OffBoard}
-use Rattle.exact_triangle.specs.Line.{lineOf, withLine}
-use Rattle.exact_triangle.specs.Exact.{notWhole, boardOf, depthOf, depthTold, withBoard, exactTriangle}
-use Rattle.mesh_exact.specs.ExactCast.{exactAnswer, overExact, exactCast, rayMeshExactPlain}
-use Rattle.tree_exact.specs.ExactMesh.{overListed, exactThrough, exactTests, rayMeshExact}
 use Rattle.board_tests.specs.Merge as Merge
 use Rattle.mesh_hits.proofs.RefusalNumbers.{normal-small, triangle-small, answer-small}
 use Rattle.slice_casts.specs.Slices.{rayIn, ofSlices}
@@ -79,12 +67,12 @@ chosen true p q = p
 chosen false p q = q
 
 -- what tests refuse with, and what is asked with a segment's box, as long as all else is small
-smallTests : List Test → Bool
+unfoldable pub smallTests : List Test → Bool
 smallTests [] = true
 smallTests (t ∷ ts) = ltb (t .number) 256 && smallTests ts
 
 module _ {A : Type 0} (f : A → ℕ) (refuse : ℕ → A) (such : (k : ℕ) → ltb k 256 ≡ true → Small f (refuse k)) where
-  tested : (ts : List Test) (x : A) → smallTests ts ≡ true → Small f x → Small f (unlessRefused refuse ts x)
+  pub tested : (ts : List Test) (x : A) → smallTests ts ≡ true → Small f x → Small f (unlessRefused refuse ts x)
   unfolding smallTests
   tested [] x h p = p
   tested (t ∷ ts) x h p =
@@ -115,7 +103,7 @@ unfolding answerNumber
 hits n d = leaf answerNumber (hit n d) refl
 
 -- by a law that speaks of refusals
-by-refusals : (a : Answer) → ((number : ℕ) → a ≡ refused number → number < 256) → Small answerNumber a
+pub by-refusals : (a : Answer) → ((number : ℕ) → a ≡ refused number → number < 256) → Small answerNumber a
 unfolding answerNumber
 by-refusals (hit n d) h = hits n d
 by-refusals none h = misses
@@ -166,7 +154,7 @@ pub stops : (k : ℕ) → ltb k 256 ≡ true → Small indexedNumber (stopped k)
 unfolding indexedNumber
 stops k h = leaf indexedNumber (stopped k) h
 
-next-small : (best : Indexed) (i : ℕ) (a : Answer) → Small indexedNumber best → Small answerNumber a → Small indexedNumber (nextOf best i a)
+pub next-small : (best : Indexed) (i : ℕ) (a : Answer) → Small indexedNumber best → Small answerNumber a → Small indexedNumber (nextOf best i a)
 unfolding nextOf indexedNumber answerNumber
 next-small (stopped k) i a p q = p
 next-small noHit i (hit n d) p q = leaf indexedNumber (hitAt n d i) refl
@@ -186,29 +174,9 @@ module _ (answer : ℕ → Answer) (each : (i : ℕ) → Small answerNumber (ans
   unfolding indexedNumber
   nearest-small l = fold-small l noHit (leaf indexedNumber noHit refl)
 
-  -- over a walk's list
-  listed-small : (w : Walking) → Small indexedNumber (overListed answer w)
-  unfolding overListed
-  listed-small (walking s l) = nearest-small l
-  listed-small broken = stops outOfBounds refl
-
--- each triangle of a mesh, by the rounded cast and by the exact one
+-- each triangle of a mesh
 each-small : (r : Ray) (pose : List Float) (triangles : List ℕ) (i : ℕ) → Small answerNumber (triangleAnswer r pose triangles i)
 each-small r pose triangles i = by-refusals _ (answer-small r pose triangles i .below)
-
-exact-small : (r : Ray) (l : Line) (pose : List Float) (triangles : List ℕ) (i : ℕ)
-    → Small answerNumber (exactAnswer r l pose triangles i)
-unfolding exactAnswer exactTriangle
-exact-small r l pose triangles i =
-    chosen (cornersInside (thirds (length pose)) triangles i) (go (boardOf (cornersOf pose triangles i))) (refuses outOfBounds refl)
-  where
-    depth : (d : Depth) → Small answerNumber (depthTold r (cornersOf pose triangles i) d)
-    depth (Reached f) = by-refusals _ (normal-small r _ _ _ .below)
-    depth Miss = misses
-
-    go : (b : Board) → Small answerNumber (withBoard b (λ (a b c : Point). depthTold r (cornersOf pose triangles i) (depthOf l a b c)))
-    go (BoardAt a b c) = depth (depthOf l a b c)
-    go OffBoard = refuses notWhole refl
 
 pub over-walk-small : (r : Ray) (pose : List Float) (triangles : List ℕ) (w : Walking) → Small indexedNumber (overWalk r pose triangles w)
 unfolding overWalk
@@ -234,36 +202,6 @@ plain-small r m =
     chosen (rayAdmitted r) (chosen (lengthsAdmitted (length (m .vertices)) (length (m .triangles)))
     (boxed indexedNumber stopped stops r (λ (box : Aabb). overTriangles r box m) (over-triangles-small r m))
     (stops badShape refl)) (stops invalidInput refl)
-
--- the exact cast, without a tree and through one
-over-exact-small : (r : Ray) (l : Line) (m : Mesh) (box : Aabb) → Small indexedNumber (overExact r l box m)
-unfolding overExact
-over-exact-small r l m box =
-    chosen (trianglesFit m) (nearest-small _ (exact-small r l (m .vertices) (m .triangles)) (candidates m box)) (stops outOfBounds refl)
-
-pub exact-plain-small : (r : Ray) (m : Mesh) → Small indexedNumber (rayMeshExactPlain r m)
-unfolding rayMeshExactPlain exactCast
-exact-plain-small r m = chosen (rayAdmitted r) (go (lineOf r)) (stops invalidInput refl)
-  where
-    go : (k : Ruled) → Small indexedNumber (withLine k (stopped notWhole)
-        (λ (l : Line). cond (lengthsAdmitted (length (m .vertices)) (length (m .triangles))) (exactCast r l m) (stopped badShape)))
-    go (On l) =
-        chosen (lengthsAdmitted (length (m .vertices)) (length (m .triangles)))
-        (boxed indexedNumber stopped stops r (λ (box : Aabb). overExact r l box m) (over-exact-small r l m)) (stops badShape refl)
-    go Off = stops notWhole refl
-
-pub exact-tree-small : (r : Ray) (m : Mesh) (pose : List Float) (t : Tree) (list stack : ℕ)
-    → Small indexedNumber (rayMeshExact r m pose t list stack)
-unfolding rayMeshExact exactThrough smallTests
-exact-tree-small r m pose t list stack =
-    tested indexedNumber stopped stops (exactTests r m pose t list stack) _ refl (go (lineOf r))
-  where
-    go : (k : Ruled) → Small indexedNumber (withLine k (stopped notWhole) (λ (l : Line). exactThrough r l (m .triangles) pose t))
-    go (On l) =
-        boxed indexedNumber stopped stops r
-        (λ (box : Aabb). overListed (exactAnswer r l pose (m .triangles)) (walkOf t (thirds (length (m .triangles))) box))
-        (λ box. listed-small _ (exact-small r l pose (m .triangles)) (walkOf t (thirds (length (m .triangles))) box))
-    go Off = stops notWhole refl
 
 -- ---- trees
 unfoldable pub buildNumber : Build.Answer → ℕ

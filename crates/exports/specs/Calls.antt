@@ -18,7 +18,7 @@ use Rattle.tree_check.specs.Verdict.{checkOf, marksAfter}
 use Rattle.mesh.specs.MeshCast.{testsPass}
 use Rattle.hit_area.specs.HitArea.{HitArea}
 use Rattle.mesh_hits.specs.Promise.{KeepsPromises}
-use Rattle.tree_exact.specs.ExactMesh.{testsPass as exactTestsPass}
+use Rattle.first_cast.specs.ExactMesh.{testsPass as exactTestsPass}
 use Rattle.results.specs.Results.{ToldIndexed, BuildTold, QueryTold, resultsFit, answeredMesh, buildTold, queryTold, toldVerdict}
 use Rattle.exports.specs.Reading.{DemandRead, YesRead, BuiltRead}
 use Rattle.exports.specs.AllHits.{ListingTold, allTold, foundTold}
@@ -63,9 +63,9 @@ ListingCall r m pose t list list' stack stack' area found told =
 abbrev pub listedTold : ℕ → List ℕ → HitArea → ListingTold
 listedTold number count area = record { told = record { number = number; count = count }; area = area }
 
--- the cast on whole millimetres; at the mesh's own vertices with a tree that passes the check it promises what the one without a tree does
-abbrev pub ExactCall : Ray → Mesh → List Float → Tree → List ℕ → List ℕ → List ℕ → List ℕ → List Float → List ℕ → ToldIndexed → Type 0
-ExactCall r m pose t list list' stack stack' hit index told =
-    (told ≡ treeTold r m pose t (length list) (length stack) hit index)
-    × (((resultsFit hit index && exactTestsPass r m pose t (length list) (length stack)) ≡ false → (list' ≡ list) × (stack' ≡ stack))
-    × (pose ≡ m .vertices → ToldAsPlain r m t (length list) (length stack) hit index told))
+-- the exact cast; at the mesh's own vertices with a tree that passes the check it promises what the one without a tree does
+abbrev pub ExactCall : Ray → Mesh → List Float → Tree → List ℕ → List ℕ → List Float → List ℕ → ToldIndexed → Type 0
+ExactCall r m pose t stack stack' hit index told =
+    (told ≡ treeTold r m pose t (length stack) hit index)
+    × (((resultsFit hit index && exactTestsPass r m pose t (length stack)) ≡ false → stack' ≡ stack)
+    × (pose ≡ m .vertices → ToldAsPlain r m t (length stack) hit index told))

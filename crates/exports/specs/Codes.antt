@@ -28,8 +28,8 @@ use Rattle.tree_query.specs.Query as Query
 use Rattle.tree_check.specs.Verdict as Verdict
 use Rattle.mesh.specs.MeshCast.{rayMesh}
 use Rattle.mesh_plain.specs.PlainCast.{rayMeshPlain}
-use Rattle.mesh_exact.specs.ExactCast.{rayMeshExactPlain}
-use Rattle.tree_exact.specs.ExactMesh.{rayMeshExact}
+use Rattle.mesh_grid.specs.GridCast.{rayMeshExactPlain}
+use Rattle.first_cast.specs.ExactMesh.{rayMeshExact}
 use Rattle.board_tests.specs.Merge as Merge
 use Rattle.hit_area.specs.HitArea.{HitArea}
 use Rattle.mesh_hits.specs.Listing.{rayMeshAll}
@@ -53,7 +53,7 @@ pub record RefusalsBelowCodes : Type 0 where
   pub level-set : (r : Ray) (g : Grid) (values : List Float) → Below refused (rayLevelSet r g values)
   pub mesh : (r : Ray) (m : Mesh) (pose : List Float) (t : Tree) (list stack : ℕ) → Below stopped (rayMesh r m pose t list stack)
   pub plain : (r : Ray) (m : Mesh) → Below stopped (rayMeshPlain r m)
-  pub exact : (r : Ray) (m : Mesh) (pose : List Float) (t : Tree) (list stack : ℕ) → Below stopped (rayMeshExact r m pose t list stack)
+  pub exact : (r : Ray) (m : Mesh) (pose : List Float) (t : Tree) (stack : ℕ) → Below stopped (rayMeshExact r m pose t stack)
   pub exact-plain : (r : Ray) (m : Mesh) → Below stopped (rayMeshExactPlain r m)
   pub build : (m : Mesh) (a : Areas) (work : ℕ) → Below Build.refused (Build.buildOf m a work .answer)
   pub query : (box : Aabb) (n : ℕ) (t : Tree) (list : List ℕ) (stack : ℕ) → Below Query.refused (Query.queryOf box n t list stack .answer)

@@ -13,7 +13,7 @@ use Rattle.tree.specs.Layout.{Tree, treeIn, wordAt, numberAt, vectorAt}
 use Rattle.tree.specs.Mesh.{Mesh, thirds}
 use Rattle.tree_check.specs.Verdict.{yes, checkOf}
 use Rattle.mesh.specs.Demand3.{PassesCheck, Admitted, MeetsDemand}
-use Rattle.mesh_exact.specs.Certain.{CertainMesh}
+use Rattle.mesh_grid.specs.Certain.{CertainMesh}
 use Rattle.results.specs.Results.{ToldIndexed, BuildTold, resultsFit, hitCode, noneCode, yesCode, doneCode}
 
 -- a cast's answer: what the number and the slices of the hit and of the index say together

@@ -52,7 +52,7 @@ module _ (r : Ray) (m : Mesh) (t : Tree) (passes : treePasses m t ≡ true) wher
         finds-nearest m t answer (opensNode (gridLine r) t) (leftFirst (gridLine r) t)
         (hits-are-numbers r (m .vertices) (m .triangles) admitted read) safely passes
 
-  shape-admitted : lengthsAdmitted (length (m .vertices)) (length (m .triangles)) ≡ true → shapeAdmitted m (m .vertices) t ≡ true
+  pub shape-admitted : lengthsAdmitted (length (m .vertices)) (length (m .triangles)) ≡ true → shapeAdmitted m (m .vertices) t ≡ true
   unfolding shapeAdmitted
   shape-admitted h = simp (h, le-leb (t .nodeCount) (2 * thirds (length (m .triangles))) (few-nodes m t passes))
 
