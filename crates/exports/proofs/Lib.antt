@@ -2,6 +2,7 @@
 pub mod Kept
 pub mod RefusalNumbers
 pub mod GridNumbers
+pub mod TreeNumbers
 pub mod Codes
 pub mod Reading
 pub mod RangeCalls
