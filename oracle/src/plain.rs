@@ -241,7 +241,8 @@ fn shape_admitted(shape: &Shape) -> bool {
         } => {
             let sides = sides.map(|side| side as usize);
             let least = or(GridSides, 2, 1);
-            sides.iter().all(|side| (least..=256).contains(side))
+            let most = or(GridMost, or(GridMore, 256, 257), 255);
+            sides.iter().all(|side| (least..=most).contains(side))
                 && spacings_admitted(spacing)
                 && values.len() == sides[0] * sides[1] * sides[2]
                 && (origin.iter().all(|o| o.is_finite()) || slipped(GridOrigin))
@@ -788,7 +789,8 @@ impl Grid<'_> {
             } else if point[axis] <= last[axis] {
                 point[axis]
             } else if admitted {
-                or(SampleOutside, last[axis], origin[axis])
+                let below = or(SampleBelow, last[axis], last[axis].next_down());
+                or(SampleOutside, below, origin[axis])
             } else {
                 last[axis].next_down()
             }
@@ -916,7 +918,7 @@ fn turning_points(a: f64, b: f64, c: f64) -> Vec<f64> {
         };
     }
     let discriminant = db * db - 4.0 * da * c;
-    if !(discriminant >= 0.0) {
+    if !(discriminant >= 0.0) || (slipped(RootDouble) && discriminant == 0.0) {
         return Vec::new();
     }
     let root = discriminant.sqrt();

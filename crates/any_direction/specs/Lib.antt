@@ -5,5 +5,3 @@ pub mod Surface
 pub mod Grid
 pub mod Box
 pub mod Agreement
-pub mod Hull
-pub mod MeshTouch

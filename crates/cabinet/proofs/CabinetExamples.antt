@@ -118,3 +118,8 @@ unfolding castCabinet allParts castParts castPart afterPart foundNext shapeFits 
     absOf maxOf minOf scaleOf negOf subOf addOf finiteVec component rootOf rootRound wholeRoot rootDigits maximumOf minimumOf absolute
     isFinite ofBits ofFields isNan ne le eq lt div mul sub add sum neg round units odd size climb span
 cabinets-answered = refl
+
+-- "The ray's origin less the part's origin": from a part's own origin it is +0 on each axis
+pub from-own-origin : movedRay ray (ray .origin) .origin ≡ record { x = o; y = o; z = o }
+unfolding movedRay subOf ofBits ofFields sub add sum neg round units odd size climb span
+from-own-origin = refl

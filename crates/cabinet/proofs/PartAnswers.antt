@@ -1,20 +1,20 @@
 -- What the answer of the cast at a cabinet says of its parts: the nearest hit, none of them, or the first refusal. Assumes nothing.
-use Prim.Native.Nat.{ℕ, _+_, _≤_, _<_}
-use mathlib.Core.Path.{_≡_, refl, sym, ap, subst, _∙_}
-use mathlib.Core.Bool.{Bool, true, false, _&&_, not, cond, true≢false}
+use Prim.Native.Nat.{ℕ, _<_}
+use mathlib.Core.Path.{_≡_, refl, sym, ap, _∙_}
+use mathlib.Core.Bool.{Bool, true, false, not, cond, true≢false}
 use mathlib.Core.List.{List, List·Memᴰ}
 use native.Mathlib.Omega.{arith}
 use borrow.Author.Tests.{leb-true, leb-false, ne-eqb}
 use lib.Dec.{leb, eqb}
 use lib.Ieee.{Float}
-use lib.ListN.{length, getD}
+use lib.ListN.{length}
 use Rattle.vectors.specs.Vector.{finiteVec, subOf}
 use Rattle.vectors.specs.declared.vec3.Vec3.{Vec3}
 use Rattle.geometry.specs.Segment.{rayAdmitted, segmentEnd}
 use Rattle.geometry.specs.declared.ray.Ray.{Ray}
 use Rattle.casts.specs.Answer as Casts
 use Rattle.casts.specs.Answer.{invalidInput, badShape, noRoom, wrongPose, overflow}
-use Rattle.casts.proofs.AnswerLists.{HitSuch, IsNumber}
+use Rattle.casts.proofs.AnswerLists.{IsNumber}
 use Rattle.nearest_hit.specs.Nearest.{Indexed, hitAt, noHit, stopped, nearestOf, withoutIndex}
 use Rattle.nearest_hit.proofs.IndexedCases.{hit-not-stopped}
 use Rattle.nearest_hit.proofs.IndexedHits.{OfIndexedHit, stopped-such, cond-such, without-index-such}
@@ -23,10 +23,9 @@ use Rattle.nearest_hit.proofs.NearestLaws.{LowestRefusal, LowestNearest, stoppe
 use Rattle.lists.specs.Lists.{range}
 use Rattle.lists.proofs.CountLaws.{count-of-member, range-bounds}
 use Rattle.lists.proofs.JoinedTests.{and-first}
-use Rattle.lists.proofs.Members.{Each}
 use Rattle.lists.proofs.SortLaws.{range-ascends}
 use Rattle.tree.specs.Layout.{Tree}
-use Rattle.tree.specs.Mesh.{Mesh, thirds, lengthsAdmitted}
+use Rattle.tree.specs.Mesh.{Mesh, lengthsAdmitted}
 use Rattle.mesh.specs.MeshCast.{shapeAdmitted, roomFor, meshCast, rayMesh}
 use Rattle.mesh.specs.Demand3.{PassesCheck, Admitted, NearestHit}
 use Rattle.mesh.proofs.Demand3.{demand3}
@@ -39,7 +38,6 @@ use Rattle.cabinet.specs.PartCast.{limitReached, movedRay}
 use Rattle.cabinet.specs.Cabinet.{Answer, hitIn, noneAfter, refused, refusedAfter, answerWith, answerOf, beginning, castParts}
 use Rattle.cabinet.specs.Cabinet.{allParts, castCabinet, withResults}
 use Rattle.cabinet.specs.Promises.{nearestPart, alone, Passes, needed, answerAt}
-use Rattle.cabinet.specs.Steps.{noPart}
 use Rattle.cabinet.specs.PartAnswers.{partAt, aloneAt, NearestOfParts, FirstRefuses, AnswersParts}
 use Rattle.cabinet.proofs.Promises.{limits-hold}
 use Rattle.cabinet.proofs.NearestParts.{byPart, nearest-answered, plainAt, folded, in-range}

@@ -20,7 +20,7 @@ use Rattle.cabinet.specs.Parts.{Areas, shapeFits, roomFits}
 use Rattle.cabinet.specs.PartCast.{limitReached}
 use Rattle.cabinet.specs.Cabinet.{Answer, hitIn, noneAfter, refused, refusedAfter, answerWith, answerOf, beginning, castParts}
 use Rattle.cabinet.specs.Cabinet.{ownParts, allParts, castCabinet}
-use Rattle.cabinet.specs.Promises.{spentOf, nearestPart, nodesOf, AllChecked, alone, Passes, needed, answerAt, LimitPromises}
+use Rattle.cabinet.specs.Promises.{spentOf, nodesOf, AllChecked, Passes, needed, answerAt, LimitPromises}
 use Rattle.cabinet.specs.Promises.{LimitsHold}
 use Rattle.cabinet.proofs.Limits.{Limited, parts-limited}
 use Rattle.cabinet.proofs.Numbers.{ofPart, plainFound, parts-plain}

@@ -17,10 +17,9 @@ use Rattle.exports.specs.Codes.{RefusalsBelowCodes}
 use Rattle.exports.proofs.RefusalNumbers.{is-small, small-below, answerNumber, plane-small, ray-triangle-small, slices-small}
 use Rattle.exports.proofs.RefusalNumbers.{indexedNumber, mesh-small, plain-small}
 use Rattle.exports.proofs.ExactNumbers.{exact-plain-small, exact-tree-small}
-use Rattle.exports.proofs.RefusalNumbers.{buildNumber, build-small, queryNumber, query-small, checkNumber, check-small}
-use Rattle.exports.proofs.RefusalNumbers.{mergeNumber, merge-small}
 use Rattle.exports.proofs.GridNumbers.{height-field-small, clearanceNumber, ranges-small, level-set-small}
-use Rattle.exports.proofs.GridNumbers.{convertedNumber, converted-small, cabinetNumber, cabinet-small}
+use Rattle.exports.proofs.TreeNumbers.{buildNumber, build-small, queryNumber, query-small, checkNumber, check-small}
+use Rattle.exports.proofs.TreeNumbers.{mergeNumber, merge-small, convertedNumber, converted-small, cabinetNumber, cabinet-small}
 
 pub refusals-below-codes : RefusalsBelowCodes
 unfolding answerNumber indexedNumber buildNumber queryNumber checkNumber mergeNumber clearanceNumber convertedNumber cabinetNumber

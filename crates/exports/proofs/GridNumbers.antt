@@ -1,15 +1,14 @@
--- Every refusal of a definition that a call answers has a number below the codes: the casts at grids and at a cabinet, and the converter.
--- Assumes nothing.
-use Prim.Native.Nat.{ℕ, zero, suc, _+_, _*_, _-_, _/_}
+-- Every refusal of a definition that a call answers has a number below the codes: the casts at grids. Assumes nothing.
+use Prim.Native.Nat.{ℕ, zero, suc, _+_, _*_, _/_}
 use mathlib.Core.Path.{_≡_, refl}
-use mathlib.Core.Bool.{Bool, true, false, cond}
+use mathlib.Core.Bool.{true, cond}
 use mathlib.Core.List.{List, [], _∷_}
 use lib.Dec.{ltb}
 use lib.Ieee.{Float, lt, le, eq}
 use lib.ListN.{length}
 use Rattle.lists.specs.Lists.{every}
 use Rattle.arithmetic.specs.Extremes.{minimumOf}
-use Rattle.vectors.specs.Vector.{finiteVec, subOf, tryNormalize}
+use Rattle.vectors.specs.Vector.{finiteVec, tryNormalize}
 use Rattle.vectors.specs.Numbers.{zeroᶠ, oneᶠ}
 use Rattle.vectors.specs.declared.vec3.Vec3.{Vec3}
 use Rattle.vectors.specs.declared.vec3.Checked.{Checked}
@@ -17,17 +16,11 @@ use Rattle.vectors.specs.declared.vec3.Checked.the-variants.{Value, Overflow}
 use Rattle.vectors.specs.declared.vec3.Normalized.{Normalized}
 use Rattle.vectors.specs.declared.vec3.Normalized.the-variants.{Unit as UnitOf, Degenerate}
 use Rattle.geometry.specs.Box.{validBox}
-use Rattle.geometry.specs.Segment.{rayAdmitted, segmentEnd, segmentBox}
+use Rattle.geometry.specs.Segment.{rayAdmitted}
 use Rattle.geometry.specs.declared.aabb.Aabb.{Aabb}
 use Rattle.geometry.specs.declared.ray.Ray.{Ray}
-use Rattle.float_forms.specs.declared.forms.Form.{Form}
-use Rattle.float_forms.specs.declared.forms.Converted.{Converted}
-use Rattle.float_forms.specs.declared.forms.Converted.the-variants.{Written, Refused as NotConverted}
-use Rattle.record_forms.specs.Records.{saidOf, wellFormed}
-use Rattle.record_forms.specs.Writing.{turned}
-use Rattle.conversion.specs.Convert.{saidHeld, Outcome, converted}
 use Rattle.casts.specs.Answer.{Answer, hit, none, refused, withNormal}
-use Rattle.casts.specs.Answer.{invalidInput, badShape, noRoom, outOfBounds, overflow, notConvergent}
+use Rattle.casts.specs.Answer.{invalidInput, badShape, outOfBounds, overflow, notConvergent}
 use Rattle.nearest_hit.specs.Nearest.{Indexed, hitAt, noHit, stopped, withoutIndex}
 use Rattle.height_field.specs.declared.field.Field.{Field}
 use Rattle.height_field.specs.Cells.{visitedCells}
@@ -36,17 +29,6 @@ use Rattle.height_field.specs.Listing.{Listing, listed, unlisted, both, listAll
 use Rattle.height_field.specs.Cast.{answerOf, castListed, spanFinite, heightCast, rayHeightField}
 use Rattle.height_ranges.specs.declared.answer.Clearance.{Clearance}
 use Rattle.height_ranges.specs.declared.answer.Clearance.the-variants.{Clear, Possible, Refused as NotClear}
-use Rattle.tree.specs.Layout.{Tree}
-use Rattle.tree.specs.Mesh.{Mesh, thirds}
-use Rattle.tree_walk.specs.Looking.{Looked, looked, usedUp, walkWithin}
-use Rattle.cabinet.specs.declared.part.Part.{Part}
-use Rattle.cabinet.specs.declared.part.Found.{Found}
-use Rattle.cabinet.specs.declared.part.Found.the-variants.{Nothing, Hit, Refused as NotFound}
-use Rattle.cabinet.specs.declared.part.Progress.{Progress}
-use Rattle.cabinet.specs.Parts.{Areas, meshOf, treeOfPart, shapeFits, roomFits}
-use Rattle.cabinet.specs.PartCast.{limitReached, Costed, costing, afterLook, castWithin, movedRay, castMoved}
-use Rattle.cabinet.specs.Cabinet.{foundNext, isRefused, afterPart, beginning, castPart, castParts, answerWith, allParts, castCabinet}
-use Rattle.cabinet.specs.Cabinet as Cabinet
 use Rattle.height_ranges.specs.Ranges.{rangesAdmitted, nodesOf, nodeInOrder, nearestHeights}
 use Rattle.height_ranges.specs.RangesCast.{badRange, answerListed, visitedAnswer, rangesCast, rayHeightRanges}
 use Rattle.distance_grid.specs.declared.grid.Grid.{Grid}
@@ -58,8 +40,6 @@ use Rattle.distance_grid.specs.Grid.{gridAdmitted, gridBox}
 use Rattle.distance_grid.specs.Places.{drawnPoint, locateAxis, withPlace, locateInside, locate}
 use Rattle.grid_samples.specs.declared.sampling.Sampled.{Sampled}
 use Rattle.grid_samples.specs.declared.sampling.Sampled.the-variants.{At as SampledAt, Refused as NotSampled}
-use Rattle.grid_samples.specs.declared.valued.Valued.{Valued}
-use Rattle.grid_samples.specs.declared.valued.Valued.the-variants.{At as ValuedAt, Refused as NoValue}
 use Rattle.grid_samples.specs.Sampling.{gathered, sampleFaces, sampleCell, withLocated, sample}
 use Rattle.grid_samples.specs.Valued.{valueOf}
 use Rattle.grid_steps.specs.Slab.{rayAabbInterval}
@@ -80,7 +60,7 @@ use Rattle.level_set.specs.Hits.{samplesAlong}
 use Rattle.level_set.specs.Walk.{Turn, done, on, goesOn, rootTurn, cellBy, withSamples, cellCast, goesTo, withBoundary, withCells}
 use Rattle.level_set.specs.Walk.{walkStep, follow, cellLimit, walkFrom, withInterval, levelSetCast, rayLevelSet}
 use Rattle.exports.proofs.RefusalNumbers.{Small, leaf, chosen, boxed, answerNumber, refuses, misses, hits, corners-small}
-use Rattle.exports.proofs.RefusalNumbers.{indexedNumber, stops, nearest-small, over-walk-small}
+use Rattle.exports.proofs.RefusalNumbers.{indexedNumber, nearest-small}
 
 -- ---- the height grid
 unfoldable listingNumber : Listing → ℕ
@@ -319,93 +299,3 @@ module _ (r : Ray) (g : Grid) (values : List Float) where
           (withInterval i (λ (entry exit : Float). walkFrom r g values exit (cellLimit g) entry))
       go (Within entry exit) = walk-small exit (cellLimit g) entry
       go Miss = misses
-
--- ---- the converter
-unfoldable pub convertedNumber : Converted → ℕ
-convertedNumber (Written count) = 0
-convertedNumber (NotConverted number) = number
-
-converts : (answer : Converted) (area : List ℕ) → ltb (convertedNumber answer) 256 ≡ true
-    → Small (λ (o : Outcome). convertedNumber (o .answer)) (record { answer = answer; area = area })
-converts answer area h = leaf (λ (o : Outcome). convertedNumber (o .answer)) (record { answer = answer; area = area }) h
-
-pub converted-small : (p q : Form) (bytes area : List ℕ) → Small (λ (o : Outcome). convertedNumber (o .answer)) (converted p q bytes area)
-unfolding converted convertedNumber
-converted-small p q bytes area =
-    chosen (wellFormed p bytes) (chosen (ltb (length area) (length (turned p q bytes))) (converts (NotConverted 3) _ refl)
-    (chosen (saidHeld q (saidOf p bytes)) (converts (Written _) _ refl) (converts (NotConverted 11) _ refl)))
-    (converts (NotConverted 2) _ refl)
-
--- ---- the cabinet
-unfoldable foundNumber : Found → ℕ
-foundNumber Nothing = 0
-foundNumber (Hit part index normal distance) = 0
-foundNumber (NotFound number) = number
-
-next-found : (f : Found) (part : ℕ) (x : Indexed) → Small foundNumber f → Small indexedNumber x → Small foundNumber (foundNext f part x)
-unfolding foundNext foundNumber indexedNumber
-next-found (NotFound k) part x p q = p
-next-found Nothing part (hitAt n d i) p q = leaf foundNumber (Hit part i n d) refl
-next-found Nothing part noHit p q = p
-next-found Nothing part (stopped k) p q = record { below = q .below }
-next-found (Hit a j m e) part (hitAt n d i) p q = chosen (lt d e) (leaf foundNumber (Hit part i n d) refl) p
-next-found (Hit a j m e) part noHit p q = p
-next-found (Hit a j m e) part (stopped k) p q = record { below = q .below }
-
-abbrev costNumber : Costed → ℕ
-costNumber c = indexedNumber (c .answer)
-
-costs : (spent : ℕ) (answer : Indexed) → Small indexedNumber answer → Small costNumber (costing spent answer)
-costs spent answer p = record { below = p .below }
-
-moved-small : (limit : ℕ) (r : Ray) (o : Vec3) (m : Mesh) (t : Tree) → Small costNumber (castMoved limit r o m t)
-unfolding castMoved castWithin afterLook
-moved-small limit r o m t =
-    chosen (finiteVec (subOf (r .origin) o)) (chosen (finiteVec (segmentEnd (movedRay r o)))
-    (go (walkWithin t (thirds (length (m .triangles))) (segmentBox (movedRay r o)) limit)) (costs 0 _ (stops overflow refl)))
-    (costs 0 _ (stops overflow refl))
-  where
-    go : (l : Looked) → Small costNumber (afterLook (movedRay r o) m l)
-    go (looked spent w) = costs spent _ (over-walk-small (movedRay r o) (m .vertices) (m .triangles) w)
-    go (usedUp spent) = costs spent _ (stops limitReached refl)
-
-abbrev progressNumber : Progress → ℕ
-progressNumber s = foundNumber (s .found)
-
-module _ (r : Ray) (a : Areas) (limit : ℕ) where
-  part-small : (s : Progress) (c : Costed) → Small progressNumber s → Small costNumber c → Small progressNumber (afterPart s c)
-  unfolding afterPart
-  part-small s c p q =
-      let next = next-found (s .found) (s .part) (c .answer) (record { below = p .below }) (record { below = q .below }) in
-      chosen {f = progressNumber} (isRefused (s .found)) p (record { below = next .below })
-
-  parts-small : (ps : List Part) (s : Progress) → Small progressNumber s → Small progressNumber (castParts r a limit s ps)
-  unfolding castParts castPart
-  parts-small [] s p = p
-  parts-small (q ∷ ps) s p =
-      parts-small ps (castPart r a limit s q)
-      (part-small s _ p (moved-small (limit - s .spent) r (q .origin) (meshOf a q) (treeOfPart a q)))
-
-unfoldable pub cabinetNumber : Cabinet.Answer → ℕ
-cabinetNumber (Cabinet.hitIn part triangle n d spent) = 0
-cabinetNumber (Cabinet.noneAfter spent) = 0
-cabinetNumber (Cabinet.refused number) = number
-cabinetNumber (Cabinet.refusedAfter number spent) = number
-
-pub cabinet-small : (r : Ray) (a : Areas) (list stack limit : ℕ) (parts : List Part)
-    → Small cabinetNumber (castCabinet r a list stack limit parts)
-unfolding castCabinet cabinetNumber foundNumber
-cabinet-small r a list stack limit parts =
-    let last = castParts r a limit beginning parts in
-    chosen (rayAdmitted r) (chosen (allParts (shapeFits a) parts) (chosen (allParts (roomFits a list stack) parts)
-    (go (last .found) (last .spent) (record { below = all .below }))
-    (leaf cabinetNumber (Cabinet.refused noRoom) refl)) (leaf cabinetNumber (Cabinet.refused badShape) refl))
-    (leaf cabinetNumber (Cabinet.refused invalidInput) refl)
-  where
-    all : Small progressNumber (castParts r a limit beginning parts)
-    all = parts-small r a limit parts beginning (leaf progressNumber beginning refl)
-
-    go : (f : Found) (spent : ℕ) → Small foundNumber f → Small cabinetNumber (answerWith f spent)
-    go Nothing spent p = leaf cabinetNumber (Cabinet.noneAfter spent) refl
-    go (Hit part index n d) spent p = leaf cabinetNumber (Cabinet.hitIn part index n d spent) refl
-    go (NotFound k) spent p = record { below = p .below }

@@ -3,6 +3,7 @@ pub mod Kept
 pub mod RefusalNumbers
 pub mod ExactNumbers
 pub mod GridNumbers
+pub mod TreeNumbers
 pub mod Codes
 pub mod Reading
 pub mod RangeCalls

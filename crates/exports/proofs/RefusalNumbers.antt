@@ -1,5 +1,5 @@
--- Every refusal of a definition that a call answers has a number below the codes: the casts at planes, triangles and meshes, and the calls
--- about trees. Assumes nothing.
+-- Every refusal of a definition that a call answers has a number below the codes: the casts at planes, triangles and meshes. Assumes
+-- nothing.
 use Prim.Native.Nat.{ℕ, _<_}
 use mathlib.Core.Path.{_≡_, refl, ap, subst, _∙_}
 use mathlib.Core.Bool.{Bool, true, false, _&&_, cond}
@@ -9,7 +9,6 @@ use lib.Dec.{ltb, eqb}
 use lib.Ieee.{Float, lt, le}
 use lib.ListN.{length}
 use Rattle.lists.proofs.JoinedTests.{and-first, and-second}
-use Rattle.lists.specs.Lists.{range}
 use Rattle.lists.specs.Refusals.{Test, unlessRefused}
 use Rattle.arithmetic.specs.Basic.{isFinite, absolute}
 use Rattle.vectors.specs.Numbers.{_-ᶠ_, _/ᶠ_}
@@ -22,26 +21,19 @@ use Rattle.geometry.specs.Segment.{rayAdmitted, segmentEnd, segmentBox}
 use Rattle.geometry.specs.declared.aabb.Aabb.{Aabb}
 use Rattle.geometry.specs.declared.ray.Ray.{Ray}
 use Rattle.casts.specs.Answer.{Answer, hit, none, refused, withValue}
-use Rattle.casts.specs.Answer.{invalidInput, badShape, noRoom, wrongPose, outOfBounds, overflow}
+use Rattle.casts.specs.Answer.{invalidInput, badShape, outOfBounds, overflow}
 use Rattle.casts.specs.SegmentBox.{withSegmentBox}
 use Rattle.casts.specs.Surface.{outOfRange}
 use Rattle.casts.specs.Plane.{parallel, planeAdmitted, planeAt, planeCast, rayPlane}
 use Rattle.casts.specs.declared.plane.Plane.{Plane}
 use Rattle.triangle_cast.specs.Triangle.{triangleCast, rayTriangle}
 use Rattle.nearest_hit.specs.Nearest.{Indexed, hitAt, noHit, stopped, nextOf, foldFrom}
-use Rattle.tree.specs.Layout.{Tree, Areas}
-use Rattle.tree.specs.Mesh.{Mesh, thirds, triangleCount, lengthsAdmitted, cornersInside, cornersOf, triangleAnswer, candidates}
-use Rattle.tree.specs.Mesh.{trianglesFit, boxesWritten}
+use Rattle.tree.specs.Layout.{Tree}
+use Rattle.tree.specs.Mesh.{Mesh, thirds, lengthsAdmitted, cornersInside, cornersOf, triangleAnswer, candidates}
+use Rattle.tree.specs.Mesh.{trianglesFit}
 use Rattle.tree_walk.specs.Walk.{Walking, walking, broken, walkOf}
-use Rattle.tree_build.specs.Shape.{shapeOf}
-use Rattle.tree_build.specs.Ranges.{extentsFinite}
-use Rattle.tree_build.specs.Build as Build
-use Rattle.tree_query.specs.Query as Query
-use Rattle.tree_check.specs.Check.{treePasses}
-use Rattle.tree_check.specs.Verdict as Verdict
 use Rattle.mesh.specs.MeshCast.{overWalk, meshCast, meshTests, rayMesh}
 use Rattle.mesh_plain.specs.PlainCast.{overTriangles, plainCast, rayMeshPlain}
-use Rattle.board_tests.specs.Merge as Merge
 use Rattle.mesh_hits.proofs.RefusalNumbers.{normal-small, triangle-small, answer-small}
 use Rattle.slice_casts.specs.Slices.{rayIn, ofSlices}
 use Rattle.exports.specs.Codes.{Below}
@@ -103,7 +95,7 @@ unfolding answerNumber
 hits n d = leaf answerNumber (hit n d) refl
 
 -- by a law that speaks of refusals
-pub by-refusals : (a : Answer) → ((number : ℕ) → a ≡ refused number → number < 256) → Small answerNumber a
+by-refusals : (a : Answer) → ((number : ℕ) → a ≡ refused number → number < 256) → Small answerNumber a
 unfolding answerNumber
 by-refusals (hit n d) h = hits n d
 by-refusals none h = misses
@@ -202,68 +194,3 @@ plain-small r m =
     chosen (rayAdmitted r) (chosen (lengthsAdmitted (length (m .vertices)) (length (m .triangles)))
     (boxed indexedNumber stopped stops r (λ (box : Aabb). overTriangles r box m) (over-triangles-small r m))
     (stops badShape refl)) (stops invalidInput refl)
-
--- ---- trees
-unfoldable pub buildNumber : Build.Answer → ℕ
-buildNumber (Build.nodes count) = 0
-buildNumber (Build.refused number) = number
-
-builds : (answer : Build.Answer) (after : Areas) → ltb (buildNumber answer) 256 ≡ true
-    → Small (λ (o : Build.Outcome). buildNumber (o .answer)) (Build.outcome answer after)
-builds answer after h = leaf (λ (o : Build.Outcome). buildNumber (o .answer)) (Build.outcome answer after) h
-
-pub build-small : (m : Mesh) (a : Areas) (work : ℕ) → Small (λ (o : Build.Outcome). buildNumber (o .answer)) (Build.buildOf m a work)
-unfolding Build.buildOf Build.builtOf buildNumber smallTests
-build-small m a work =
-    tested (λ (o : Build.Outcome). buildNumber (o .answer)) (λ (k : ℕ). Build.outcome (Build.refused k) a)
-    (λ k h. builds (Build.refused k) a h) (Build.buildTests m a work) _ refl
-    (chosen (eqb (triangleCount m) 0) (builds (Build.refused outOfBounds) _ refl)
-    (chosen (trianglesFit m)
-    (chosen (extentsFinite (boxesWritten m (a .triangleBoxes)) (shapeOf (triangleCount m)) (range 0 (triangleCount m)))
-    (builds (Build.nodes _) _ refl) (builds (Build.refused overflow) _ refl)) (builds (Build.refused outOfBounds) _ refl)))
-
-unfoldable pub queryNumber : Query.Listing → ℕ
-queryNumber (Query.count count) = 0
-queryNumber (Query.refused number) = number
-
-queries : (answer : Query.Listing) (list : List ℕ) → ltb (queryNumber answer) 256 ≡ true
-    → Small (λ (q : Query.Queried). queryNumber (q .answer)) (record { answer = answer; list = list })
-queries answer list h = leaf (λ (q : Query.Queried). queryNumber (q .answer)) (record { answer = answer; list = list }) h
-
-pub query-small : (box : Aabb) (n : ℕ) (t : Tree) (list : List ℕ) (stack : ℕ)
-    → Small (λ (q : Query.Queried). queryNumber (q .answer)) (Query.queryOf box n t list stack)
-unfolding Query.queryOf Query.afterWalk queryNumber smallTests
-query-small box n t list stack =
-    tested (λ (q : Query.Queried). queryNumber (q .answer)) (λ (k : ℕ). record { answer = Query.refused k; list = list })
-    (λ k h. queries (Query.refused k) list h) (Query.queryTests box n t (length list) stack) _ refl (walked (walkOf t n box))
-  where
-    walked : (w : Walking) → Small (λ (q : Query.Queried). queryNumber (q .answer)) (Query.afterWalk list w)
-    walked (walking s l) = queries (Query.count _) _ refl
-    walked broken = queries (Query.refused outOfBounds) _ refl
-
-unfoldable pub checkNumber : Verdict.Ruling → ℕ
-checkNumber Verdict.yes = 0
-checkNumber Verdict.no = 0
-checkNumber (Verdict.refused number) = number
-
-pub check-small : (m : Mesh) (t : Tree) (marks : ℕ) → Small checkNumber (Verdict.checkOf m t marks)
-unfolding Verdict.checkOf checkNumber smallTests
-check-small m t marks =
-    tested checkNumber Verdict.refused (λ k h. leaf checkNumber (Verdict.refused k) h) (Verdict.checkTests m t marks) _ refl
-    (chosen (treePasses m t) (leaf checkNumber Verdict.yes refl) (leaf checkNumber Verdict.no refl))
-
-unfoldable pub mergeNumber : Merge.Answer → ℕ
-mergeNumber (Merge.nodes count) = 0
-mergeNumber (Merge.refused number) = number
-
-merges : (answer : Merge.Answer) (after : Merge.Areas) → ltb (mergeNumber answer) 256 ≡ true
-    → Small (λ (o : Merge.Outcome). mergeNumber (o .answer)) (record { answer = answer; after = after })
-merges answer after h = leaf (λ (o : Merge.Outcome). mergeNumber (o .answer)) (record { answer = answer; after = after }) h
-
-pub merge-small : (a b : Merge.Board) (old : Merge.Areas) (marks : ℕ)
-    → Small (λ (o : Merge.Outcome). mergeNumber (o .answer)) (Merge.mergeOf a b old marks)
-unfolding Merge.mergeOf mergeNumber
-merge-small a b old marks =
-    chosen (Merge.shapesAdmitted a b) (chosen (Merge.areasFit a b old marks)
-    (chosen (Merge.treesPass a b) (merges (Merge.nodes _) _ refl) (merges (Merge.refused outOfBounds) _ refl))
-    (merges (Merge.refused noRoom) _ refl)) (merges (Merge.refused badShape) _ refl)

@@ -1,6 +1,6 @@
 -- Through any tree that passes the check the exact cast answers as without one, whatever it passes over. Assumes nothing.
-use Prim.Native.Nat.{ℕ, _*_, _<_}
-use mathlib.Core.Path.{_≡_, refl, sym, ap, _∙_}
+use Prim.Native.Nat.{ℕ, _*_}
+use mathlib.Core.Path.{_≡_, refl, ap, _∙_}
 use mathlib.Core.Logic.{_⊎_, inl, inr}
 use mathlib.Core.Bool.{Bool, true, false}
 use mathlib.Core.List.{List}
@@ -27,7 +27,7 @@ use Rattle.first_walk.specs.Demand.{PassesSafely}
 use Rattle.first_walk.proofs.Finding.{finds-nearest}
 use Rattle.first_cast.specs.Opening.{opensNode}
 use Rattle.first_cast.specs.Order.{leftFirst}
-use Rattle.first_cast.specs.Plain.{exactAnswer, overTriangles, rayMeshExactPlain}
+use Rattle.mesh_grid.specs.GridCast.{exactAnswer, overTriangles, rayMeshExactPlain}
 use Rattle.first_cast.specs.Numbers.{NoNaN}
 use Rattle.first_cast.specs.ExactMesh.{exactThrough, roomFor, rayMeshExact, AsWithoutTree}
 use Rattle.first_cast.proofs.Safely.{passes-safely}

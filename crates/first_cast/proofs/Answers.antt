@@ -1,8 +1,8 @@
--- A triangle's answer in the exact cast: how it is reached, and that it is as the walk asks: a hit is at the depth of a point, and a triangle
--- whose box is in the grid's range does not refuse. Assumes nothing.
-use Prim.Native.Nat.{ℕ, _+_, _*_, _≤_, _<_}
+-- A triangle's answer in the exact cast is as the walk asks: a hit is at the depth of a point, and a triangle whose box is in the grid's
+-- range does not refuse. Assumes nothing.
+use Prim.Native.Nat.{ℕ, _*_, _<_}
 use mathlib.Core.Path.{_≡_, refl, sym, ap, _∙_, subst}
-use mathlib.Core.Bool.{Bool, true, false, _&&_, cond, false≢true}
+use mathlib.Core.Bool.{Bool, true, false, cond, false≢true}
 use mathlib.Core.List.{List}
 use native.Mathlib.Nat.{mul-pos}
 use native.Mathlib.Omega.{arith}
@@ -17,30 +17,30 @@ use Rattle.lists.proofs.JoinedTests.{and-three}
 use Rattle.arithmetic.specs.Basic.{isFinite, absolute}
 use Rattle.arithmetic.proofs.Order.{le-left-number}
 use Rattle.arithmetic.proofs.SumOrder.{le-parts}
-use Rattle.geometry.specs.Box.{encloses, boxOf, corner}
+use Rattle.geometry.specs.Box.{encloses}
 use Rattle.geometry.specs.Segment.{rayAdmitted}
 use Rattle.vectors.specs.declared.vec3.Vec3.{Vec3}
 use Rattle.geometry.specs.declared.ray.Ray.{Ray}
-use Rattle.casts.specs.Answer.{Answer, hit, none, refused, outOfBounds}
+use Rattle.casts.specs.Answer.{Answer, hit, refused, outOfBounds}
 use Rattle.casts.specs.Reach.{reachOf}
-use Rattle.casts.specs.declared.answer.Reach.{Reach}
-use Rattle.casts.specs.declared.answer.Reach.the-variants.{At, Refused}
+use Rattle.casts.specs.declared.answer.Reach.the-variants.{Refused}
 use Rattle.casts.proofs.AnswerLists.{HitsAreNumbers, hit-not-refused}
 use Rattle.tree.specs.Mesh.{Mesh, thirds, cornerAt, cornersOf, cornersInside, triangleBox, triangleCount}
 use Rattle.any_direction.specs.Line.{Line}
 use Rattle.any_direction.specs.Grid.{units, within, allWithin, furthest, gridAdmitted, gridPoint, gridLine}
 use Rattle.any_direction.specs.Surface.{Surface}
 use Rattle.any_direction.proofs.Touching.{furthest-is}
-use Rattle.grid_triangle.specs.Reach.{outOfRange, cornersRead, cornersReach, gridReach}
-use Rattle.grid_triangle.specs.Cast.{gridHit, gridTriangle}
+use Rattle.grid_triangle.specs.Reach.{outOfRange, cornersRead}
+use Rattle.grid_triangle.specs.Cast.{gridTriangle}
 use Rattle.grid_triangle.specs.Certain.{Nearest}
 use Rattle.grid_triangle.proofs.Laws.{first-read, second-read, third-read}
 use Rattle.grid_triangle.proofs.Certainty.{reach-certain}
-use Rattle.grid_triangle.proofs.Hits.{off-hit, hit-by-distance, reached-as, never-refused}
+use Rattle.grid_triangle.proofs.Hits.{off-hit, reached-as, never-refused}
+use Rattle.mesh_grid.proofs.Reaching.{inside-answer}
 use Rattle.first_cast.specs.Opening.{gridBox, Deep, GridAnswers}
-use Rattle.first_cast.specs.Plain.{exactAnswer}
-use Rattle.first_cast.specs.Numbers.{Numbered, NoNaN}
-use Rattle.first_cast.proofs.Corners.{Among, AmongBox, among-box, Numbers}
+use Rattle.mesh_grid.specs.GridCast.{exactAnswer}
+use Rattle.first_cast.specs.Numbers.{NoNaN}
+use Rattle.first_cast.proofs.Corners.{Among, among-box, Numbers}
 use Rattle.first_cast.proofs.Safely.{top, bottom, negated, parts-le, corners-enclosed}
 
 -- ---- within a bound, from both sides
@@ -85,9 +85,6 @@ nearest-deep l a b c pa pb pc x s =
       nearest = s .rounded;
     }
 
-refusal-is-no-hit : (number : ℕ) (distance : Float) → Refused number ≡ At distance → ⊥
-refusal-is-no-hit number distance h = let z : _≡_ {A = ℕ} 0 1 = cc in omega arith
-
 -- ---- a triangle's answer
 module _ (r : Ray) (pose : List Float) (triangles : List ℕ) where
   abbrev answer : ℕ → Answer
@@ -101,10 +98,6 @@ module _ (r : Ray) (pose : List Float) (triangles : List ℕ) where
     unfolding exactAnswer reachOf
     outside-refused h = simp h
 
-    own : inside i ≡ true → answer i ≡ gridTriangle r (cornersOf pose triangles i)
-    unfolding exactAnswer
-    own h = simp h
-
     hit-own : (normal : Vec3) (distance : Float) → answer i ≡ hit normal distance → inside i ≡ true
     unfolding exactAnswer
     hit-own normal distance h = go (inside i) _ h
@@ -114,45 +107,20 @@ module _ (r : Ray) (pose : List Float) (triangles : List ℕ) where
         go false a e = absurd (hit-not-refused _ normal distance outOfBounds e refl)
 
   module _ (admitted : rayAdmitted r ≡ true) (read : gridAdmitted r ≡ true) where
-    reach-read : (vs : List Vec3) → gridReach r vs ≡ cornersReach (gridLine r) vs
-    unfolding gridReach
-    reach-read vs = ap (λ (b : Bool). cond b (cornersReach (gridLine r) vs) (Refused outOfRange)) read
-
     module _ (i : ℕ) where
-      pub reach-is : inside i ≡ true → (vs : List Vec3) → vs ≡ cornersOf pose triangles i → (reach : Reach)
-          → reach ≡ cornersReach (gridLine r) vs → reach ≡ reachOf (answer i)
-      reach-is h vs c reach e =
-          e ∙ sym (reach-read vs) ∙ reached-as r vs admitted read ∙ ap (λ (k : List Vec3). reachOf (gridTriangle r k)) c
-          ∙ ap reachOf (sym (own i h))
-
-      -- ---- one that is reached
-      module _ (distance : Float) (h : reachOf (answer i) ≡ At distance) where
-        pub hit-inside : inside i ≡ true
-        unfolding exactAnswer reachOf
-        hit-inside = go (inside i) _ h
-          where
-            go : (b : Bool) (a : Answer) → reachOf (cond b a (refused outOfBounds)) ≡ At distance → b ≡ true
-            go true a e = refl
-            go false a e = absurd (refusal-is-no-hit outOfBounds distance e)
-
-        -- the hit at its distance is its answer
-        pub hit-answer : (vs : List Vec3) → vs ≡ cornersOf pose triangles i → gridHit r vs distance ≡ answer i
-        hit-answer vs c =
-            let same : answer i ≡ gridTriangle r vs = own i hit-inside ∙ ap (gridTriangle r) (sym c) in
-            hit-by-distance r vs distance (reached-as r vs admitted read ∙ sym (ap reachOf same) ∙ h) ∙ sym same
-
       hit-deep : (normal : Vec3) (distance : Float) → answer i ≡ hit normal distance
           → Deep (gridLine r) (cornerAt pose triangles i 0) (cornerAt pose triangles i 1) (cornerAt pose triangles i 2) distance
       unfolding cornersOf reachOf
       hit-deep normal distance h =
           let vs = cornersOf pose triangles i in
-          let same : gridTriangle r vs ≡ hit normal distance = sym (own i (hit-own i normal distance h)) ∙ h in
+          let same : gridTriangle r vs ≡ hit normal distance = sym (inside-answer r pose triangles i (hit-own i normal distance h)) ∙ h in
           let within = corners-read vs normal distance same in
           nearest-deep (gridLine r) (cornerAt pose triangles i 0) (cornerAt pose triangles i 1) (cornerAt pose triangles i 2)
           (first-read vs within) (second-read vs within) (third-read vs within) distance
           (reach-certain r vs admitted read within .nearest distance (reached-as r vs admitted read ∙ ap reachOf same))
         where
-          corners-read : (vs : List Vec3) (normal : Vec3) (distance : Float) → gridTriangle r vs ≡ hit normal distance → cornersRead vs ≡ true
+          corners-read : (vs : List Vec3) (normal : Vec3) (distance : Float) → gridTriangle r vs ≡ hit normal distance
+              → cornersRead vs ≡ true
           corners-read vs normal distance e = go (cornersRead vs) refl
             where
               go : (b : Bool) → cornersRead vs ≡ b → b ≡ true
@@ -194,6 +162,6 @@ module _ (r : Ray) (admitted : rayAdmitted r ≡ true) (read : gridAdmitted r �
   grid-answers = record {
     answered = λ x k below h e.
         never-refused r (cornersOf (m .vertices) (m .triangles) x) admitted read (enclosed-read x below h) k
-        (sym (own r (m .vertices) (m .triangles) x (fit x below)) ∙ e);
+        (sym (inside-answer r (m .vertices) (m .triangles) x (fit x below)) ∙ e);
     deep = λ x below n d h. hit-deep r (m .vertices) (m .triangles) admitted read x n d h;
   }

@@ -1,6 +1,6 @@
 -- The exact cast through a tree: what the walk found is its answer, and each refusal. Assumes nothing.
 use Prim.Native.Nat.{ℕ, _+_, _*_, _<_}
-use mathlib.Core.Path.{_≡_, refl, sym, ap, subst, _∙_}
+use mathlib.Core.Path.{_≡_, sym, ap, subst, _∙_}
 use mathlib.Core.Bool.{Bool, true, false, _&&_}
 use mathlib.Core.List.{List}
 use native.Mathlib.Omega.{arith}
@@ -34,9 +34,10 @@ use Rattle.grid_triangle.specs.Sight.{Shown, Sighted}
 use Rattle.first_walk.specs.Onward.{Reached}
 use Rattle.first_cast.specs.Opening.{opensNode}
 use Rattle.first_cast.specs.Order.{leftFirst}
-use Rattle.first_cast.specs.Plain.{exactAnswer}
+use Rattle.mesh_grid.specs.GridCast.{exactAnswer}
+use Rattle.mesh_grid.specs.Noted.{Casts}
 use Rattle.first_cast.specs.ExactMesh.{exactThrough, roomFor, exactTests, testsPass, rayMeshExact}
-use Rattle.first_cast.specs.Walking.{LineOf, Reads, WalkRoom, WalkedBy, Walks}
+use Rattle.first_cast.specs.Walking.{Reads, WalkRoom, WalkedBy, Walks}
 use Rattle.first_cast.specs.declared.walk.Walked.{Walked}
 use Rattle.first_cast.specs.declared.walk.Walked.the-variants.{Ended, Broken}
 
@@ -67,7 +68,7 @@ module _ (t : Tree) (n : ℕ) (answer : ℕ → Answer) (opens : ℕ → Summary
       (subst (λ (d : Float). (best .index < n) × (reachOf (answer (best .index)) ≡ At d)) (ap (struckAt distance) e) h)
 
 module _ (line : Sight) (pose : List Float) (triangles : List ℕ) (nodes : ℕ) (boxes : List Float) (words order : List ℕ)
-    (result : Walked) (walked : Walks line pose triangles nodes boxes words order result) (r : Ray) (on : LineOf line r) (t : Tree)
+    (result : Walked) (walked : Walks line pose triangles nodes boxes words order result) (r : Ray) (on : Casts r line) (t : Tree)
     (reads : Reads t nodes boxes words order) where
   abbrev n : ℕ
   n = thirds (length triangles)
@@ -75,15 +76,15 @@ module _ (line : Sight) (pose : List Float) (triangles : List ℕ) (nodes : ℕ)
   abbrev answer : ℕ → Answer
   answer = exactAnswer r pose triangles
 
-  told : (w : Walked) → result ≡ w → WalkedBy r pose triangles t w
-  told w e = subst (WalkedBy r pose triangles t) e (walked .holds r on t reads)
+  known : (w : Walked) → result ≡ w → WalkedBy r pose triangles t w
+  known w e = subst (WalkedBy r pose triangles t) e (walked .holds r on t reads)
 
   pub through-broken : result ≡ Broken → stopped outOfBounds ≡ exactThrough r pose triangles t
-  through-broken e = told Broken e
+  through-broken e = known Broken e
 
   module _ (notes : Notes) (e : result ≡ Ended notes) (outcome : Outcome) (w : outcome ≡ winner (saysNotes notes)) where
     ends : answerAt answer outcome ≡ exactThrough r pose triangles t
-    ends = ap (answerAt answer) w ∙ told (Ended notes) e .0
+    ends = ap (answerAt answer) w ∙ known (Ended notes) e .0
 
     pub through-nobody : outcome ≡ Nobody → noHit ≡ exactThrough r pose triangles t
     unfolding answerAt
@@ -97,7 +98,7 @@ module _ (line : Sight) (pose : List Float) (triangles : List ℕ) (nodes : ℕ)
       pub through-reached : (index < n) × (reachOf (answer index) ≡ At distance)
       through-reached =
           winner-reached t n answer (opensNode (gridLine r) t) (leftFirst (gridLine r) t) (saysNotes notes .refuser)
-          (saysNotes notes .least) (told (Ended notes) e .1) index distance (sym w ∙ h)
+          (saysNotes notes .least) (known (Ended notes) e .1) index distance (sym w ∙ h)
 
       pub through-hit : (a : Answer) → a ≡ answer index → (x : Indexed) → x ≡ nextOf noHit index a → x ≡ exactThrough r pose triangles t
       unfolding answerAt

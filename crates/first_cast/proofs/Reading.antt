@@ -1,14 +1,14 @@
 -- A float that is at most another is read on the grid as a number that is at most the other's, and lies below the number after its own.
 -- Assumes nothing.
-use Prim.Native.Nat.{ℕ, zero, suc, _+_, _*_, _^_, _≤_, _<_}
+use Prim.Native.Nat.{ℕ, suc, _+_, _*_, _^_, _≤_, _<_}
 use mathlib.Core.Path.{_≡_, refl, sym, ap, _∙_, subst}
 use mathlib.Core.Bool.{Bool, true, false, false≢true}
 use native.Mathlib.Nat.{le-trans, le-of-lt, lt-of-le-of-lt, mul-assoc, mul-le-mul-right, le-of-mul-le-mul-right}
 use native.Mathlib.Omega.{arith}
 use lib.Dec.{lit<, lit≤}
-use lib.IntN.{ℤ, pos, negℤ, natAbs}
+use lib.IntN.{pos, negℤ, natAbs}
 use lib.Signed.{leZ}
-use lib.Ieee.{Float, nan, inf, fin, binary64, up, down, ofBits, le, lt, eq, neg, round, below}
+use lib.Ieee.{Float, nan, inf, fin, binary64, up, down, le, lt, eq, round, below}
 use lib.Ieee.Fits.{down-pos}
 use lib.Ieee.Exact.{HasValue, round-exact}
 use lib.Ieee.Nearest.{closest, closest-mono}
@@ -17,7 +17,7 @@ use Rattle.arithmetic.specs.Basic.{isFinite, absolute}
 use Rattle.arithmetic.proofs.SignedOrder.{plus, less}
 use Rattle.arithmetic.proofs.SumOrder.{le-parts}
 use Rattle.arithmetic.proofs.ValueOrder.{lt-values}
-use Rattle.exact_depth.proofs.Integers.{neg-pp, neg-np, neg-size}
+use Rattle.exact_depth.proofs.Integers.{neg-pp, neg-np}
 use Rattle.exact_depth.proofs.Polynomials.{own}
 use Rattle.exact_depth.proofs.Order.{le-rep}
 use Rattle.any_direction.specs.Grid.{units, signed, nearestTo, within, furthest, longest}

@@ -1,8 +1,7 @@
 -- The steps of the code's test of a room, on numbers as the machine reads them back. Assumes nothing.
-use Prim.Native.Nat.{ℕ, _*_, _+_, _≤_}
-use mathlib.Core.Path.{_≡_, refl, sym, ap, _∙_, subst}
+use Prim.Native.Nat.{ℕ, _*_, _≤_}
+use mathlib.Core.Path.{_≡_, sym, ap, _∙_, subst}
 use mathlib.Core.Bool.{Bool, true, false, not, _&&_, cond}
-use native.Mathlib.Omega.{arith}
 use lib.Dec.{lit≤}
 use lib.IntN.{ℤ, pos, _-ℤ_, _*ℤ_}
 use lib.Signed.{ltZ, leZ}
@@ -76,42 +75,42 @@ pub minus-sized : (s r : Span) → MultipleSized s → MultipleSized r → Minus
 minus-sized s r h g = record { low = difference-sized (h .low) (g .high); high = difference-sized (h .high) (g .low) }
 
 -- ---- the tests
-pub zero-held : (s : Span) {X Y : ℤ} → X ≡ s .low → Y ≡ s .high → leZ X (pos 0) ≡ true → leZ (pos 0) Y ≡ holdsZero s
-zero-held s e d h =
+pub zero-inside : (s : Span) {X Y : ℤ} → X ≡ s .low → Y ≡ s .high → leZ X (pos 0) ≡ true → leZ (pos 0) Y ≡ holdsZero s
+zero-inside s e d h =
     ap (leZ (pos 0)) d ∙ sym (ap (λ (b : Bool). b && leZ (pos 0) (s .high)) (ap (λ (z : ℤ). leZ z (pos 0)) (sym e) ∙ h))
 
 pub zero-above : (s : Span) {X : ℤ} → X ≡ s .low → leZ X (pos 0) ≡ false → false ≡ holdsZero s
 zero-above s e h = sym (ap (λ (b : Bool). b && leZ (pos 0) (s .high)) (ap (λ (z : ℤ). leZ z (pos 0)) (sym e) ∙ h))
 
--- ---- what the calls told, with a factor as it is read back
+-- ---- what the calls known, with a factor as it is read back
 pub sized-read : {A : ℕ} {X x : ℤ} → X ≡ x → Sized A x → Sized A X
 sized-read {A} e h = subst (Sized A) (sym e) h
 
 module _ (s : Span) (d : ℤ) {r : Span} {D : ℤ} (e : r ≡ multiple D s) (p : D ≡ d) where
-  pub multiple-told : r ≡ multiple d s
-  multiple-told = e ∙ ap (λ (z : ℤ). multiple z s) p
+  pub multiple-is : r ≡ multiple d s
+  multiple-is = e ∙ ap (λ (z : ℤ). multiple z s) p
 
-  pub multiple-held : SideSized s → Sized 2147483648 d → MultipleSized r
-  multiple-held h g = subst MultipleSized (sym multiple-told) (multiple-sized d s h g)
+  pub multiple-small : SideSized s → Sized 2147483648 d → MultipleSized r
+  multiple-small h g = subst MultipleSized (sym multiple-is) (multiple-sized d s h g)
 
-pub minus-held : {q : Span} (s r : Span) → q ≡ minus s r → MultipleSized s → MultipleSized r → MinusSized q
-minus-held s r e h g = subst MinusSized (sym e) (minus-sized s r h g)
+pub minus-small : {q : Span} (s r : Span) → q ≡ minus s r → MultipleSized s → MultipleSized r → MinusSized q
+minus-small s r e h g = subst MinusSized (sym e) (minus-sized s r h g)
 
-pub side-told : {b : Bool} (q p r s t : Span) (d e : ℤ) → b ≡ holdsZero q → q ≡ minus p r → p ≡ multiple d s
+pub side-is : {b : Bool} (q p r s t : Span) (d e : ℤ) → b ≡ holdsZero q → q ≡ minus p r → p ≡ multiple d s
     → r ≡ multiple e t → b ≡ holdsZero (minus (multiple d s) (multiple e t))
-side-told q p r s t d e h g x y = h ∙ ap holdsZero (g ∙ (λ i. minus (x i) (y i)))
+side-is q p r s t d e h g x y = h ∙ ap holdsZero (g ∙ (λ i. minus (x i) (y i)))
 
 -- ---- a depth
-module _ (s : Span) (d near past : ℤ) {m : Span} {D N P : ℤ} (told : m ≡ multiple D s) (p : D ≡ d) (h : SideSized s)
+module _ (s : Span) (d near past : ℤ) {m : Span} {D N P : ℤ} (known : m ≡ multiple D s) (p : D ≡ d) (h : SideSized s)
     (g : Sized 2147483648 d) (n : N ≡ near) (q : P ≡ past) where
-  held : MultipleSized m
-  held = multiple-held s d told p h g
+  small : MultipleSized m
+  small = multiple-small s d known p h g
 
   high-is : bits (m .high) ≡ multiple d s .high
-  high-is = plain (widen (held .high) (lit≤ tt)) ∙ ap (λ (z : Span). z .high) (multiple-told s d told p)
+  high-is = plain (widen (small .high) (lit≤ tt)) ∙ ap (λ (z : Span). z .high) (multiple-is s d known p)
 
   low-is : bits (m .low) ≡ multiple d s .low
-  low-is = plain (widen (held .low) (lit≤ tt)) ∙ ap (λ (z : Span). z .low) (multiple-told s d told p)
+  low-is = plain (widen (small .low) (lit≤ tt)) ∙ ap (λ (z : Span). z .low) (multiple-is s d known p)
 
   pub near-reached : leZ N (bits (m .high)) ≡ true → ltZ (bits (m .low)) P ≡ reaches near past (multiple d s)
   near-reached t =

@@ -1,7 +1,7 @@
 -- The exact cast passes over no node below which a triangle's answer would change what was found. Assumes nothing.
 use Prim.Native.Nat.{ℕ, _+_, _*_, _≤_, _<_}
-use mathlib.Core.Path.{_≡_, refl, sym, ap, _∙_, subst}
-use mathlib.Core.Bool.{Bool, true, false, not, _&&_, cond, true≢false, false≢true}
+use mathlib.Core.Path.{_≡_, refl, sym, ap, _∙_}
+use mathlib.Core.Bool.{Bool, true, false, not, cond, true≢false, false≢true}
 use mathlib.Core.List.{List}
 use native.Mathlib.Omega.{arith}
 use lib.IntN.{ℤ, pos}
@@ -18,21 +18,21 @@ use Rattle.vectors.specs.declared.vec3.Vec3.{Vec3}
 use Rattle.geometry.specs.declared.aabb.Aabb.{Aabb}
 use Rattle.casts.specs.Answer.{Answer, hit, none, refused}
 use Rattle.casts.specs.Reach.{reachOf}
-use Rattle.nearest_hit.specs.Summary.{Kept, Found, Summary, noteOf}
+use Rattle.nearest_hit.specs.Summary.{Kept, Found, noteOf}
 use Rattle.tree.specs.Layout.{Tree, boxAt}
 use Rattle.tree.specs.Mesh.{Mesh, cornerAt, triangleBox, triangleCount}
 use Rattle.mesh.proofs.CheckedTree.{Checked}
 use Rattle.mesh.proofs.BuildBoxes.{encloses-through}
 use Rattle.any_direction.specs.Line.{Line, Moves}
 use Rattle.any_direction.specs.Grid.{within, allWithin, furthest, gridPoint}
-use Rattle.first_walk.specs.Demand.{Under, Absorbed, PassesSafely}
+use Rattle.first_walk.specs.Demand.{PassesSafely}
 use Rattle.first_walk.proofs.Unders.{under-below, under-enclosed}
 use Rattle.first_cast.specs.Room.{roomOf, roomMet}
 use Rattle.first_cast.specs.Opening.{limitOf, boxRead, boxMet, opensNode, gridBox, Deep, GridAnswers}
-use Rattle.first_cast.proofs.Rooms.{HeldIn, beyond}
+use Rattle.first_cast.proofs.Rooms.{beyond}
 use Rattle.any_direction.proofs.Touching.{furthest-is}
 use Rattle.first_cast.proofs.Limits.{nothing-changes}
-use Rattle.first_cast.proofs.Corners.{all-each, AmongBox, among-box, numbers-of, corner-held}
+use Rattle.first_cast.proofs.Corners.{all-each, among-box, numbers-of, corner-inside}
 
 -- ---- a box that is read lies in the grid's box
 pub parts-le : (s : Bool) (m : ℕ) (e : ℤ) (t : Bool) (n : ℕ) (d : ℤ)
@@ -73,7 +73,8 @@ pub negated : neg furthest ≡ bottom 13
 unfolding neg
 negated = ap neg furthest-is
 
-side-read : (low high : Float) → within furthest low ≡ true → within furthest high ≡ true → withinSide (neg furthest) furthest low high ≡ true
+side-read : (low high : Float) → within furthest low ≡ true → within furthest high ≡ true
+    → withinSide (neg furthest) furthest low high ≡ true
 unfolding withinSide
 side-read low high p q =
     and-both (le (neg furthest) low) (le high furthest)
@@ -93,7 +94,8 @@ not-met : (a b : Bool) → cond a b true ≡ false → (a ≡ true) × (b ≡ fa
 not-met true b h = (refl, h)
 not-met false b h = absurd (true≢false h)
 
-pub corners-enclosed : (box : Aabb) (vertices : List Float) (triangles : List ℕ) (x : ℕ) → encloses box (triangleBox vertices triangles x) ≡ true
+pub corners-enclosed : (box : Aabb) (vertices : List Float) (triangles : List ℕ) (x : ℕ)
+    → encloses box (triangleBox vertices triangles x) ≡ true
     → encloses box (boxOf (cornerAt vertices triangles x 0) (cornerAt vertices triangles x 1) (cornerAt vertices triangles x 2)) ≡ true
 unfolding triangleBox
 corners-enclosed box vertices triangles x h = h
@@ -106,11 +108,12 @@ module _ (l : Line) (moves : Moves (l .direction)) (box : Aabb) (limit : ℕ) (r
   hit-past a b c distance deep h =
       let e = among-box box a b c (numbers-of a (deep .first)) (numbers-of b (deep .second)) (numbers-of c (deep .third)) h in
       beyond l moves (gridPoint a) (gridPoint b) (gridPoint c) (deep .D) (deep .t) (deep .on) (roomOf l box)
-      (corner-held l box read a (deep .first) (e .x .first) (e .y .first) (e .z .first))
-      (corner-held l box read b (deep .second) (e .x .second) (e .y .second) (e .z .second))
-      (corner-held l box read c (deep .third) (e .x .third) (e .y .third) (e .z .third)) limit shut
+      (corner-inside l box read a (deep .first) (e .x .first) (e .y .first) (e .z .first))
+      (corner-inside l box read b (deep .second) (e .x .second) (e .y .second) (e .z .second))
+      (corner-inside l box read c (deep .third) (e .x .third) (e .y .third) (e .z .third)) limit shut
 
-module _ (l : Line) (moves : Moves (l .direction)) (m : Mesh) (t : Tree) (c : Checked m t) (answer : ℕ → Answer) (good : GridAnswers l m answer) where
+module _ (l : Line) (moves : Moves (l .direction)) (m : Mesh) (t : Tree) (c : Checked m t) (answer : ℕ → Answer)
+    (good : GridAnswers l m answer) where
   pub passes-safely : PassesSafely m t answer (opensNode l t)
   unfolding opensNode boxMet noteOf reachOf
   passes-safely node s below shut x under = go (answer x) refl

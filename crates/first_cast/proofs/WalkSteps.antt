@@ -5,13 +5,12 @@ use mathlib.Core.Bool.{Bool, true, false, cond}
 use mathlib.Core.List.{List, [], _∷_}
 use native.Mathlib.Nat.{le-trans}
 use native.Mathlib.Omega.{arith}
-use lib.IntN.{ℤ, pos}
+use lib.IntN.{pos}
 use lib.Ieee.{Float}
 use lib.ListN.{length, length-set, set}
 use Rattle.lists.specs.Lists.{range}
 use Rattle.geometry.specs.declared.aabb.Aabb.{Aabb}
 use Rattle.geometry.specs.declared.ray.Ray.{Ray}
-use Rattle.casts.specs.Answer.{Answer}
 use Rattle.casts.specs.Reach.{reachOf}
 use Rattle.casts.specs.declared.answer.Reach.{Reach}
 use Rattle.nearest_hit.specs.Summary.{Summary, nothing, noteOf, saysNotes}
@@ -24,16 +23,17 @@ use Rattle.any_direction.specs.Shear.{gain}
 use Rattle.any_direction.specs.Grid.{gridLine}
 use Rattle.grid_triangle.specs.declared.sight.Sight.{Sight}
 use Rattle.grid_triangle.specs.Sight.{Sees}
-use Rattle.first_walk.specs.Onward.{onward, Standing, Testing, Opens}
+use Rattle.first_walk.specs.Onward.{onward, Standing, Opens}
 use Rattle.first_walk.specs.declared.node.Node.{Node}
 use Rattle.first_walk.specs.declared.node.Node.the-variants.{Leaf, Branch, Bad as BadNode}
 use Rattle.first_walk.proofs.Standings.{on-stack-next, on-stack-none, on-stack-root, stands-first, stands-empty, place-taken, place-bad}
 use Rattle.first_walk.proofs.Standings.{places-done, node-tests, node-bad, node-passes, node-opens, stands-used-up, stands-ended}
 use Rattle.first_cast.specs.Opening.{limitOf, boxMet, opensNode}
 use Rattle.first_cast.specs.Order.{nearerFirst, leftFirst}
-use Rattle.first_cast.specs.Plain.{exactAnswer}
+use Rattle.mesh_grid.specs.GridCast.{exactAnswer}
+use Rattle.mesh_grid.specs.Noted.{Casts}
 use Rattle.first_cast.specs.ExactMesh.{exactThrough}
-use Rattle.first_cast.specs.Walking.{LineOf, Limited, Stands, Tests, NotesLeaf, Reads, OpensNode, TakesNode, Walks}
+use Rattle.first_cast.specs.Walking.{Limited, Stands, Tests, NotesLeaf, Reads, OpensNode, TakesNode, Walks}
 use Rattle.first_cast.specs.declared.walk.Best.{Best}
 use Rattle.first_cast.specs.declared.walk.Noted.{Noted}
 use Rattle.first_cast.specs.declared.walk.Noted.the-variants.{Notes as Found, Bad as BadPlace}
@@ -45,7 +45,7 @@ use Rattle.first_cast.specs.declared.walk.Walked.the-variants.{Ended, Br
 module _ (line : Sight) (pose : List Float) (triangles order : List ℕ) (start end : ℕ) (notes : Notes) where
   -- what is left of the places gives the whole leaf
   pub record LeafSoFar (found : Notes) (place : ℕ) : Type 0 where
-    pub holds : (r : Ray) → LineOf line r → (t : Tree) → t .order ≡ order → (k : ℕ) (stack : List ℕ)
+    pub holds : (r : Ray) → Casts r line → (t : Tree) → t .order ≡ order → (k : ℕ) (stack : List ℕ)
         → Stands r pose triangles t k (range start (end - start)) stack (saysNotes notes)
         → Stands r pose triangles t k (range place (end - place)) stack (saysNotes found)
 
@@ -66,7 +66,7 @@ module _ (line : Sight) (pose : List Float) (triangles order : List ℕ) (start 
       }
 
       pub leaf-goes : x < thirds (length triangles) → (reach : Reach)
-          → ((r : Ray) → LineOf line r → reach ≡ reachOf (exactAnswer r pose triangles x))
+          → ((r : Ray) → Casts r line → reach ≡ reachOf (exactAnswer r pose triangles x))
           → (after : Notes) → saysNotes after ≡ noteOf (saysNotes found) x reach → LeafSoFar after (place + 1)
       leaf-goes h reach reached after e = record {
         holds = λ r on t o k stack s.
@@ -103,7 +103,8 @@ module _ (line : Sight) (pose : List Float) (triangles : List ℕ) (nodes : ℕ)
       opens-leaf result noted notes f after g limited = record {
         holds = λ r on t reads k o tests.
             subst (λ (z : Notes). Stands r pose triangles t k [] (onStack area top) (saysNotes z)) (sym g)
-            (subst (NotesLeaf line pose triangles order start end (best .notes)) f noted .holds r on t (reads .ordered) k (onStack area top) (record {
+            (subst (NotesLeaf line pose triangles order start end (best .notes)) f noted .holds r on t (reads .ordered) k (onStack area top)
+            (record {
               whole = node-opens t n (exactAnswer r pose triangles) (opensNode (gridLine r) t) (leftFirst (gridLine r) t) k node
                   (onStack area top) (saysNotes (best .notes)) tests o words (reads .worded) (Leaf start end) opened;
               reached = tests .reached;
@@ -115,7 +116,8 @@ module _ (line : Sight) (pose : List Float) (triangles : List ℕ) (nodes : ℕ)
           → OpensNode line pose triangles nodes boxes words order area node top best Bad area
       opens-leaf-bad result noted f = record {
         holds = λ r on t reads k o tests.
-            subst (NotesLeaf line pose triangles order start end (best .notes)) f noted .holds r on t (reads .ordered) k (onStack area top) (record {
+            subst (NotesLeaf line pose triangles order start end (best .notes)) f noted .holds r on t (reads .ordered) k (onStack area top)
+            (record {
               whole = node-opens t n (exactAnswer r pose triangles) (opensNode (gridLine r) t) (leftFirst (gridLine r) t) k node
                   (onStack area top) (saysNotes (best .notes)) tests o words (reads .worded) (Leaf start end) opened;
               reached = tests .reached;
@@ -129,7 +131,7 @@ module _ (line : Sight) (pose : List Float) (triangles : List ℕ) (nodes : ℕ)
       branched = subst (Opens n words node) e is
 
       -- the order that the code found is the tree's
-      order-is : (r : Ray) → LineOf line r → (t : Tree) → Reads t nodes boxes words order → b ≡ leftFirst (gridLine r) t node
+      order-is : (r : Ray) → Casts r line → (t : Tree) → Reads t nodes boxes words order → b ≡ leftFirst (gridLine r) t node
       unfolding leftFirst
       order-is r on t reads =
           let l = gridLine r in
@@ -138,7 +140,8 @@ module _ (line : Sight) (pose : List Float) (triangles : List ℕ) (nodes : ℕ)
           first l (on .shown .sees) ∙ (λ i. nearerFirst l (sym (reads .counted) i) (sym (reads .boxed) i) (x i) (y i))
 
       stack-is : (area' : List ℕ) → onStack area' (top + 2)
-          ≡ cond b (firstAt words node ∷ (secondAt words node ∷ onStack area top)) (secondAt words node ∷ (firstAt words node ∷ onStack area top))
+          ≡ cond b (firstAt words node ∷ (secondAt words node ∷ onStack area top))
+          (secondAt words node ∷ (firstAt words node ∷ onStack area top))
           → (c : Bool) → b ≡ c
           → onStack area' (top + 2) ≡ cond c (left ∷ (right ∷ onStack area top)) (right ∷ (left ∷ onStack area top))
       stack-is area' p c d =
@@ -147,7 +150,8 @@ module _ (line : Sight) (pose : List Float) (triangles : List ℕ) (nodes : ℕ)
           p ∙ (λ i. cond (d i) (x i ∷ (y i ∷ onStack area top)) (y i ∷ (x i ∷ onStack area top)))
 
       pub opens-branch : (area' : List ℕ) → onStack area' (top + 2)
-          ≡ cond b (firstAt words node ∷ (secondAt words node ∷ onStack area top)) (secondAt words node ∷ (firstAt words node ∷ onStack area top))
+          ≡ cond b (firstAt words node ∷ (secondAt words node ∷ onStack area top))
+          (secondAt words node ∷ (firstAt words node ∷ onStack area top))
           → Limited line best → OpensNode line pose triangles nodes boxes words order area node top best (Next (top + 2) best) area'
       opens-branch area' p limited = record {
         holds = λ r on t reads k o tests.
@@ -193,23 +197,24 @@ module _ (line : Sight) (pose : List Float) (triangles : List ℕ) (nodes : ℕ)
     }
 
     module _ (below : node < nodes) (limited : Limited line best) (box : Aabb) (boxed : box ≡ boxAt boxes node) (met : Bool)
-        (told : (l : Line) (limit : ℕ) → Sees line l → best .past ≡ pos (limit * gain l) → met ≡ boxMet l limit box) where
-      tested : (r : Ray) → LineOf line r → (t : Tree) → Reads t nodes boxes words order
+        (known : (l : Line) (limit : ℕ) → Sees line l → best .past ≡ pos (limit * gain l) → met ≡ boxMet l limit box) where
+      tested : (r : Ray) → Casts r line → (t : Tree) → Reads t nodes boxes words order
           → met ≡ opensNode (gridLine r) t node (saysNotes (best .notes))
       unfolding opensNode
       tested r on t reads =
           let l = gridLine r in
           let sees = on .shown .sees in
           let limit = limitOf l (saysNotes (best .notes) .least) in
-          told l limit sees (limited .past l sees)
+          known l limit sees (limited .past l sees)
           ∙ ap (boxMet l limit) (boxed ∙ ap (λ (xs : List Float). boxAt xs node) (sym (reads .boxed)))
 
       testing : (r : Ray) (t : Tree) → Reads t nodes boxes words order → (k : ℕ)
           → Stands r pose triangles t (suc k) [] (onStack area top) (saysNotes (best .notes))
           → Tests r pose triangles t k node (onStack area (top - 1)) (saysNotes (best .notes))
       testing r t reads k stands =
-          node-tests t n (exactAnswer r pose triangles) (opensNode (gridLine r) t) (leftFirst (gridLine r) t) k node (onStack area (top - 1))
-          (saysNotes (best .notes)) (moved r t k (saysNotes (best .notes)) stands) (subst (λ (c : ℕ). node < c) (sym (reads .counted)) below)
+          node-tests t n (exactAnswer r pose triangles) (opensNode (gridLine r) t) (leftFirst (gridLine r) t) k node
+          (onStack area (top - 1)) (saysNotes (best .notes)) (moved r t k (saysNotes (best .notes)) stands)
+          (subst (λ (c : ℕ). node < c) (sym (reads .counted)) below)
 
       pub takes-past : met ≡ false → TakesNode line pose triangles nodes boxes words order area top best (Next (top - 1) best) area
       takes-past e = record {
@@ -232,7 +237,7 @@ module _ (line : Sight) (pose : List Float) (triangles : List ℕ) (nodes : ℕ)
     pub long : length area ≡ length area₀
     pub room : top + left ≤ length area
     pub limited : Limited line best
-    pub holds : (r : Ray) → LineOf line r → (t : Tree) → Reads t nodes boxes words order
+    pub holds : (r : Ray) → Casts r line → (t : Tree) → Reads t nodes boxes words order
         → Stands r pose triangles t left [] (onStack area top) (saysNotes (best .notes))
 
   pub walks-empty : nodes ≡ 0 → (notes : Notes) → saysNotes notes ≡ nothing
@@ -275,7 +280,8 @@ module _ (line : Sight) (pose : List Float) (triangles : List ℕ) (nodes : ℕ)
           let opens = opensNode (gridLine r) t in
           let answer = exactAnswer r pose triangles in
           let none : onStack area top ≡ [] = ap (onStack area) z ∙ on-stack-none area in
-          let now = subst (λ (l : List ℕ). Standing t n answer opens lf left [] l (saysNotes (best .notes))) none (far .holds r on t reads) in
+          let now =
+          subst (λ (l : List ℕ). Standing t n answer opens lf left [] l (saysNotes (best .notes))) none (far .holds r on t reads) in
           let now' = subst (λ (w : Notes). Standing t n answer opens lf left [] [] (saysNotes w)) (sym e) now in
           (stands-ended t n answer opens lf left (saysNotes notes) now', now' .reached);
     }
@@ -297,10 +303,11 @@ module _ (line : Sight) (pose : List Float) (triangles : List ℕ) (nodes : ℕ)
       again : suc (left - 1) ≡ left
       again = omega (arith, more)
 
-      next : (r : Ray) → LineOf line r → (t : Tree) → Reads t nodes boxes words order
+      next : (r : Ray) → Casts r line → (t : Tree) → Reads t nodes boxes words order
           → Stands r pose triangles t (suc (left - 1)) [] (onStack area top) (saysNotes (best .notes))
       next r on t reads =
-          subst (λ (k : ℕ). Stands r pose triangles t k [] (onStack area top) (saysNotes (best .notes))) (sym again) (far .holds r on t reads)
+          subst (λ (k : ℕ). Stands r pose triangles t k [] (onStack area top) (saysNotes (best .notes))) (sym again)
+          (far .holds r on t reads)
 
       pub walk-broken : (area' : List ℕ) (result : Step) → TakesNode line pose triangles nodes boxes words order area top best result area'
           → result ≡ Bad → Walks line pose triangles nodes boxes words order Broken
@@ -313,10 +320,10 @@ module _ (line : Sight) (pose : List Float) (triangles : List ℕ) (nodes : ℕ)
       pub walk-goes : (area' : List ℕ) (result : Step) → TakesNode line pose triangles nodes boxes words order area top best result area'
           → (top' : ℕ) (best' : Best) → result ≡ Next top' best' → length area' ≡ length area → WalkSoFar area₀ area' top' (left - 1) best'
       walk-goes area' result taken top' best' e same =
-          let told = subst (λ (w : Step). TakesNode line pose triangles nodes boxes words order area top best w area') e taken in
+          let known = subst (λ (w : Step). TakesNode line pose triangles nodes boxes words order area top best w area') e taken in
           record {
             long = same ∙ far .long;
-            room = omega (arith, told .stands .0, far .room, same, more, some);
-            limited = told .stands .1;
-            holds = λ r on t reads. told .holds r on t reads (left - 1) (next r on t reads);
+            room = omega (arith, known .stands .0, far .room, same, more, some);
+            limited = known .stands .1;
+            holds = λ r on t reads. known .holds r on t reads (left - 1) (next r on t reads);
           }

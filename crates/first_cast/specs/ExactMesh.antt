@@ -9,7 +9,7 @@ use lib.ListN.{length}
 use Rattle.lists.specs.Refusals.{Test, refusing, unlessRefused, allPass}
 use Rattle.geometry.specs.Segment.{rayAdmitted}
 use Rattle.geometry.specs.declared.ray.Ray.{Ray}
-use Rattle.casts.specs.Answer.{Answer, invalidInput, badShape, noRoom, wrongPose}
+use Rattle.casts.specs.Answer.{invalidInput, badShape, noRoom, wrongPose}
 use Rattle.nearest_hit.specs.Nearest.{Indexed, stopped}
 use Rattle.tree.specs.Layout.{Tree}
 use Rattle.tree.specs.Mesh.{Mesh, thirds}
@@ -21,7 +21,7 @@ use Rattle.grid_triangle.specs.Reach.{outOfRange}
 use Rattle.first_walk.specs.FirstWalk.{firstOf}
 use Rattle.first_cast.specs.Opening.{opensNode}
 use Rattle.first_cast.specs.Order.{leftFirst}
-use Rattle.first_cast.specs.Plain.{exactAnswer, rayMeshExactPlain}
+use Rattle.mesh_grid.specs.GridCast.{exactAnswer, rayMeshExactPlain}
 use Rattle.first_cast.specs.Numbers.{NoNaN}
 
 -- the walk of any tree: the nearest hit of the triangles that it looks at

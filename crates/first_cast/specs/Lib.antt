@@ -2,7 +2,6 @@
 pub mod Room
 pub mod Opening
 pub mod Order
-pub mod Plain
 pub mod Numbers
 pub mod ExactMesh
 pub mod Walking

@@ -2,7 +2,7 @@
 use Prim.Native.Nat.{ℕ, suc, _*_, _<_}
 use mathlib.Core.Path.{_≡_}
 use mathlib.Core.Bool.{Bool, true, false, _&&_, cond}
-use lib.IntN.{ℤ, pos, natAbs}
+use lib.IntN.{pos, natAbs}
 use lib.Ieee.{Float, binary64, neg, round}
 use Rattle.geometry.specs.Box.{encloses}
 use Rattle.vectors.specs.declared.vec3.Vec3.{Vec3}

@@ -1,5 +1,5 @@
 -- Inner contracts only: the steps of the exact cast's walk. Definitions only. Assumes nothing.
-use Prim.Native.Nat.{ℕ, suc, _+_, _-_, _*_, _≤_, _<_}
+use Prim.Native.Nat.{ℕ, suc, _+_, _-_, _*_, _≤_}
 use mathlib.Core.Path.{_≡_}
 use mathlib.Core.Bool.{true}
 use mathlib.Core.List.{List, []}
@@ -7,14 +7,12 @@ use lib.IntN.{pos}
 use lib.Ieee.{Float}
 use lib.ListN.{length}
 use Rattle.lists.specs.Lists.{range}
-use Rattle.geometry.specs.Segment.{rayAdmitted}
 use Rattle.geometry.specs.declared.ray.Ray.{Ray}
 use Rattle.casts.specs.Answer.{outOfBounds}
-use Rattle.casts.specs.Reach.{reachOf}
 use Rattle.nearest_hit.specs.Nearest.{stopped}
 use Rattle.nearest_hit.specs.Summary.{Summary, winner, answerAt, saysNotes}
 use Rattle.nearest_hit.specs.declared.summary.Notes.{Notes}
-use Rattle.tree.specs.Layout.{Tree, treeOf}
+use Rattle.tree.specs.Layout.{Tree}
 use Rattle.tree.specs.Mesh.{thirds}
 use Rattle.tree_walk.specs.Areas.{onStack}
 use Rattle.exact_depth.specs.Sizes.{Sized}
@@ -22,11 +20,12 @@ use Rattle.any_direction.specs.Line.{Line}
 use Rattle.any_direction.specs.Grid.{gridLine}
 use Rattle.any_direction.specs.Shear.{gain}
 use Rattle.grid_triangle.specs.declared.sight.Sight.{Sight}
-use Rattle.grid_triangle.specs.Sight.{Sees, Aimed, Shown}
+use Rattle.grid_triangle.specs.Sight.{Sees}
 use Rattle.first_walk.specs.Onward.{Reached, Standing, Testing}
 use Rattle.first_cast.specs.Opening.{limitOf, opensNode}
 use Rattle.first_cast.specs.Order.{leftFirst}
-use Rattle.first_cast.specs.Plain.{exactAnswer}
+use Rattle.mesh_grid.specs.GridCast.{exactAnswer}
+use Rattle.mesh_grid.specs.Noted.{Casts}
 use Rattle.first_cast.specs.ExactMesh.{exactThrough}
 use Rattle.first_cast.specs.declared.walk.Best.{Best}
 use Rattle.first_cast.specs.declared.walk.Noted.{Noted}
@@ -35,11 +34,6 @@ use Rattle.first_cast.specs.declared.walk.Step.{Step}
 use Rattle.first_cast.specs.declared.walk.Step.the-variants.{Next, Bad}
 use Rattle.first_cast.specs.declared.walk.Walked.{Walked}
 use Rattle.first_cast.specs.declared.walk.Walked.the-variants.{Ended, Broken}
-
--- the code's line is an admitted ray's
-pub record LineOf (line : Sight) (r : Ray) : Type 0 where
-  pub admitted : rayAdmitted r ≡ true
-  pub shown : Shown r line
 
 -- how far a box can be and still be met
 pub record Limited (line : Sight) (best : Best) : Type 0 where
@@ -79,7 +73,7 @@ module _ (r : Ray) (pose : List Float) (triangles : List ℕ) (t : Tree) where
 -- the places of a leaf, for every ray on the line and every tree of that order
 pub record NotesLeaf (line : Sight) (pose : List Float) (triangles order : List ℕ) (start end : ℕ) (notes : Notes) (result : Noted) : Type 0
   where
-    pub holds : (r : Ray) → LineOf line r → (t : Tree) → t .order ≡ order → (k : ℕ) (stack : List ℕ)
+    pub holds : (r : Ray) → Casts r line → (t : Tree) → t .order ≡ order → (k : ℕ) (stack : List ℕ)
         → Stands r pose triangles t k (range start (end - start)) stack (saysNotes notes) → NotedBy r pose triangles t k stack result
 
 -- the areas of a tree that the walk reads
@@ -103,7 +97,7 @@ StepIn line top Bad = Unit
 -- a node whose box is met
 pub record OpensNode (line : Sight) (pose : List Float) (triangles : List ℕ) (nodes : ℕ) (boxes : List Float) (words order area : List ℕ)
     (node top : ℕ) (best : Best) (result : Step) (area' : List ℕ) : Type 0 where
-  pub holds : (r : Ray) → LineOf line r → (t : Tree) → Reads t nodes boxes words order → (k : ℕ)
+  pub holds : (r : Ray) → Casts r line → (t : Tree) → Reads t nodes boxes words order → (k : ℕ)
       → opensNode (gridLine r) t node (saysNotes (best .notes)) ≡ true
       → Tests r pose triangles t k node (onStack area top) (saysNotes (best .notes)) → SteppedBy r pose triangles t k area' result
   pub stands : StepIn line top result
@@ -111,11 +105,11 @@ pub record OpensNode (line : Sight) (pose : List Float) (triangles : List ℕ) (
 -- the next node of the stack
 pub record TakesNode (line : Sight) (pose : List Float) (triangles : List ℕ) (nodes : ℕ) (boxes : List Float) (words order area : List ℕ)
     (top : ℕ) (best : Best) (result : Step) (area' : List ℕ) : Type 0 where
-  pub holds : (r : Ray) → LineOf line r → (t : Tree) → Reads t nodes boxes words order → (k : ℕ)
+  pub holds : (r : Ray) → Casts r line → (t : Tree) → Reads t nodes boxes words order → (k : ℕ)
       → Stands r pose triangles t (suc k) [] (onStack area top) (saysNotes (best .notes)) → SteppedBy r pose triangles t k area' result
   pub stands : StepIn line (top - 1) result
 
 -- the whole walk
 pub record Walks (line : Sight) (pose : List Float) (triangles : List ℕ) (nodes : ℕ) (boxes : List Float) (words order : List ℕ)
     (result : Walked) : Type 0 where
-  pub holds : (r : Ray) → LineOf line r → (t : Tree) → Reads t nodes boxes words order → WalkedBy r pose triangles t result
+  pub holds : (r : Ray) → Casts r line → (t : Tree) → Reads t nodes boxes words order → WalkedBy r pose triangles t result

@@ -22,8 +22,9 @@ ghost use Rattle.nearest_hit.specs.Nearest.{saysIndexed};
 ghost use Rattle.tree.specs.Mesh.{thirds, mesh};
 ghost use Rattle.tree.specs.Layout.{treeOf};
 ghost use Rattle.tree_query.specs.Query.{treeFits};
+ghost use Rattle.mesh_grid.specs.Noted.{Casts};
 ghost use Rattle.first_cast.specs.ExactMesh.{exactThrough, CastsExact};
-ghost use Rattle.first_cast.specs.Walking.{LineOf, WalkRoom};
+ghost use Rattle.first_cast.specs.Walking.{WalkRoom};
 
 // The cast once refusals 1, 12 of the ray and 2 to 4 have let it pass, as its caller, the public call, shows; the stack may hold anything
 // afterwards. Only the winner's normal is computed.
@@ -39,7 +40,7 @@ fn exact_through(
     order: &[u32],
     stack: &mut [u32],
 ) -> IndexedCast
-    requires { ⌜ LineOf line ray ⌝ ∗ ⌜ WalkRoom (thirds (length (now triangles))) nodes (now «node_boxes») (now «node_words») (now order)
+    requires { ⌜ Casts ray line ⌝ ∗ ⌜ WalkRoom (thirds (length (now triangles))) nodes (now «node_boxes») (now «node_words») (now order)
         × (nodes < length (now stack)) ⌝ }
     ensures { λ r. ⌜ saysIndexed r ≡ exactThrough ray (now (pose .entry)) (now (triangles .entry))
         (treeOf nodes (now («node_boxes» .entry)) (now («triangle_boxes» .entry)) (now («node_words» .entry)) (now (order .entry))) ⌝ }

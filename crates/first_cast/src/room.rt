@@ -2,8 +2,8 @@ use exact_depth::spots::Spot;
 ghost use mathlib.Core.Path.{_≡_};
 ghost use Rattle.exact_depth.specs.Sizes.{Sized};
 ghost use Rattle.grid_triangle.specs.Sizes.{Turned};
-ghost use Rattle.first_cast.specs.Room.{multiple, minus, shearedRoomBy, holdsZero, reaches, passes, SideSized, MultipleSized, RoomSized};
-ghost use Rattle.first_cast.specs.Room.{MinusSized};
+ghost use Rattle.first_cast.specs.Room.{multiple, minus, shearedRoomBy, holdsZero, reaches, passes};
+ghost use Rattle.first_cast.specs.Room.{SideSized, MultipleSized, MinusSized, RoomSized};
 
 // The whole numbers from low to high.
 pub struct Span {
@@ -59,8 +59,8 @@ fn holds_zero(s: Span) -> bool
     false
 }
 
-// Whether the line passes a room at the side, or as high, where its own is: side times the direction's depth less depth times the direction's
-// side holds 0. Callers show that the numbers are small, so that nothing wraps.
+// Whether the line passes a room across, or up, where its own is: side times the direction's depth less depth times the direction's side
+// holds 0. Callers show that the numbers are small, so that nothing wraps.
 fn side_met(side: Span, depth: Span, onward: i64, aside: i64) -> bool
     requires { ⌜ (SideSized side × SideSized depth) × (Sized 2147483648 onward × Sized 2147483648 aside) ⌝ }
     ensures { λ r. ⌜ r ≡ holdsZero (minus (multiple onward side) (multiple aside depth)) ⌝ }

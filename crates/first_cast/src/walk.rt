@@ -4,10 +4,10 @@ use casts::answer;
 use casts::answer::Reach;
 use first_walk::node as nodes_read;
 use first_walk::node::Node;
-use grid_triangle::cast as triangle;
 use grid_triangle::grid;
 use grid_triangle::sight;
 use grid_triangle::sight::Sight;
+use mesh_grid::noted;
 use nearest_hit::summary;
 use nearest_hit::summary::ChosenHit;
 use nearest_hit::summary::Notes;
@@ -26,8 +26,9 @@ ghost use Rattle.any_direction.specs.Line.{Line};
 ghost use Rattle.any_direction.specs.Shear.{gain};
 ghost use Rattle.grid_triangle.specs.Sight.{Sees, Aimed};
 ghost use Rattle.first_cast.specs.Opening.{limitOf};
-ghost use Rattle.first_cast.specs.Plain.{exactAnswer};
-ghost use Rattle.first_cast.specs.Walking.{LineOf, Limited, NotesLeaf, WalkRoom, OpensNode, TakesNode, Walks};
+ghost use Rattle.mesh_grid.specs.GridCast.{exactAnswer};
+ghost use Rattle.mesh_grid.specs.Noted.{Casts};
+ghost use Rattle.first_cast.specs.Walking.{Limited, NotesLeaf, WalkRoom, OpensNode, TakesNode, Walks};
 
 // What was found so far, and the depth from which on nothing can take its place.
 pub struct Best {
@@ -82,12 +83,13 @@ fn best_of(line: Sight, notes: Notes) -> Best
 // The answer of one triangle without its normal: an index past the vertices is 5. Callers show that the triangle is in the mesh.
 fn reach_at(line: Sight, pose: &[f64], triangles: &[u32], index: usize) -> Reach
     requires { ⌜ Aimed line × (3 * index + 3 ≤ length (now triangles)) ⌝ }
-    ensures { λ r. ⌜ ((ray : AnyRay) → LineOf line ray → r ≡ reachOf (exactAnswer ray (now (pose .entry)) (now (triangles .entry)) index)) ⌝ }
+    ensures { λ r. ⌜ ((ray : AnyRay) → Casts ray line
+        → r ≡ reachOf (exactAnswer ray (now (pose .entry)) (now (triangles .entry)) index)) ⌝ }
 {
     if !triangle_mesh::corners_inside(pose.len() / 3, triangles, index) {
         return Reach::Refused(answer::OUT_OF_BOUNDS);
     }
-    triangle::reach_on(line, triangle_mesh::corners_of(pose, triangles, index))
+    noted::reach_of(line, pose, triangles, index)
 }
 
 // The triangles of a leaf. Callers show that its places are the order's.
@@ -143,8 +145,8 @@ fn open_node(
     match opened {
         Node::Leaf { start, end } => {
             let before = best.notes;
-            let noted = note_leaf(line, pose, triangles, order, start, end, before);
-            let Noted::Notes(notes) = noted else {
+            let leaf = note_leaf(line, pose, triangles, order, start, end, before);
+            let Noted::Notes(notes) = leaf else {
                 return Step::Bad;
             };
             return Step::Next {

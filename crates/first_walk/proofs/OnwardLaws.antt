@@ -1,23 +1,21 @@
 -- What each step leaves of the walk. Assumes nothing.
-use Prim.Native.Nat.{ℕ, zero, suc, _+_, _-_, _*_, _≤_, _<_}
-use mathlib.Core.Path.{_≡_, refl, sym, ap, _∙_, subst}
-use mathlib.Core.Bool.{Bool, true, false, _&&_, cond}
+use Prim.Native.Nat.{ℕ, zero, suc, _+_, _-_, _≤_, _<_}
+use mathlib.Core.Path.{_≡_, refl, sym, ap, _∙_}
+use mathlib.Core.Bool.{Bool, true, false, cond}
 use mathlib.Core.List.{List, [], _∷_}
 use native.Mathlib.Omega.{arith}
-use native.Mathlib.Numerals.{add-one}
-use lib.Dec.{ltb, leb, eqb}
+use lib.Dec.{eqb}
 use lib.ListN.{length, length-set, set}
 use borrow.Author.Tests.{lt-ltb, le-ltb, le-leb, lt-leb, eq-eqb, ne-eqb}
 use Rattle.lists.specs.Lists.{range}
-use Rattle.lists.proofs.EveryLaws.{range-next, range-done}
 use Rattle.casts.specs.Answer.{Answer, outOfBounds}
 use Rattle.nearest_hit.specs.Nearest.{Indexed, stopped}
 use Rattle.nearest_hit.specs.Summary.{Summary, nothing, winner, answerAt}
 use Rattle.tree.specs.Layout.{Tree, wordAt, kindAt, firstAt, secondAt}
 use Rattle.tree_walk.specs.Areas.{onStack}
-use Rattle.tree_walk.proofs.Branches.{on-stack-set, on-stack-push}
-use Rattle.first_walk.specs.FirstWalk.{Seeking, seeking, broken, times, noted, takePlace, takePlaces, atLeaf, atBranch, atNode, takeNode, ended}
-use Rattle.first_walk.specs.FirstWalk.{start, firstOf}
+use Rattle.tree_walk.proofs.Branches.{on-stack-push}
+use Rattle.first_walk.specs.FirstWalk.{Seeking, seeking, broken, times, noted, takePlace, takePlaces, atLeaf, atBranch}
+use Rattle.first_walk.specs.FirstWalk.{atNode, takeNode, start, ended, firstOf}
 use Rattle.first_walk.specs.Onward.{onward, untested}
 
 module _ (t : Tree) (n : ℕ) (answer : ℕ → Answer) (opens : ℕ → Summary → Bool) (leftFirst : ℕ → Bool) where

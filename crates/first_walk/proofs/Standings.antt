@@ -4,7 +4,6 @@ use mathlib.Core.Path.{_≡_, refl, sym, ap, _∙_, subst}
 use mathlib.Core.Bool.{Bool, true, false, cond}
 use mathlib.Core.List.{List, [], _∷_}
 use native.Mathlib.Omega.{arith}
-use lib.Dec.{eqb}
 use lib.Ieee.{Float}
 use lib.ListN.{length, set}
 use borrow.Author.Tests.{ne-eqb, eq-eqb}
@@ -20,9 +19,10 @@ use Rattle.tree.specs.Layout.{Tree, wordAt}
 use Rattle.tree_walk.specs.Areas.{onStack}
 use Rattle.tree_walk.proofs.Branches.{on-stack-push}
 use Rattle.first_walk.specs.FirstWalk.{firstOf}
-use Rattle.first_walk.specs.Onward.{onward, untested, openedBy, Reached, Standing, Testing, Opens}
+use Rattle.first_walk.specs.Onward.{onward, openedBy, Reached, Standing, Testing, Opens}
 use Rattle.first_walk.specs.declared.node.Node.{Node}
-use Rattle.first_walk.proofs.OnwardLaws.{place-noted, place-broken, used-up, node-broken, node-taken, node-passed, walk-begins, stack-ended}
+use Rattle.first_walk.proofs.OnwardLaws.{place-noted, place-broken, used-up, node-broken, node-taken, node-passed}
+use Rattle.first_walk.proofs.OnwardLaws.{walk-begins, stack-ended}
 
 -- ---- the stack
 -- the next node
@@ -137,8 +137,8 @@ module _ (t : Tree) (n : ℕ) (answer : ℕ → Answer) (opens : ℕ → Summary
       reached = now .reached;
     }
 
-    pub node-opens : Tests k node stack s → opens node s ≡ true → (words : List ℕ) → t .nodeWords ≡ words → (r : Node) → Opens n words node r
-        → openedBy t n answer opens leftFirst r k node stack s ≡ answered
+    pub node-opens : Tests k node stack s → opens node s ≡ true → (words : List ℕ) → t .nodeWords ≡ words → (r : Node)
+        → Opens n words node r → openedBy t n answer opens leftFirst r k node stack s ≡ answered
     node-opens now h words e r o = o .holds t answer opens leftFirst k stack s e h ∙ now .whole
 
   -- ---- the end

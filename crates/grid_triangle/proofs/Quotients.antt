@@ -1,11 +1,10 @@
 -- The float of a depth, by the small fraction. Assumes nothing.
-use mathlib.Core.Path.{_≡_, refl, sym, ap, _∙_, subst}
-use mathlib.Core.Bool.{Bool, true, false, true≢false, false≢true}
-use Prim.Native.Nat.{ℕ, zero, suc, _+_, _*_, _≤_, _<_}
-use native.Mathlib.Nat.{zero-lt-suc, mul-pos}
+use mathlib.Core.Path.{_≡_, refl, sym, ap, _∙_}
+use mathlib.Core.Bool.{true, false, false≢true}
+use Prim.Native.Nat.{ℕ, zero, suc, _+_, _*_, _<_}
+use native.Mathlib.Nat.{zero-lt-suc}
 use native.Mathlib.Omega.{arith}
-use lib.Dec.{lit<}
-use lib.IntN.{ℤ, pos, negsuc, negℤ, natAbs, _+ℤ_, _-ℤ_, _*ℤ_, *ℤ-zero}
+use lib.IntN.{ℤ, pos, negsuc, negℤ, natAbs, _+ℤ_, _*ℤ_, *ℤ-zero}
 use lib.Signed.{ltZ}
 use borrow.Author.Tests.{lt-ltb, ltb-true}
 use Rattle.exact_depth.specs.declared.spots.Fraction.{Fraction}
@@ -13,7 +12,7 @@ use Rattle.exact_depth.specs.declared.spots.Depth.the-variants.{At}
 use Rattle.exact_depth.proofs.Polynomials.{ring}
 use Rattle.exact_triangle.specs.declared.whole.Point.{Point}
 use Rattle.wide.specs.Division.{fractionOf}
-use Rattle.any_direction.specs.Line.{parts, Line, Moves}
+use Rattle.any_direction.specs.Line.{Line, Moves}
 use Rattle.any_direction.specs.Surface.{FirstSurface}
 use Rattle.any_direction.specs.Shear.{from, depthOf}
 use Rattle.any_direction.proofs.Areas.{size-zero}

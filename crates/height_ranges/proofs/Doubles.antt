@@ -8,8 +8,6 @@ use lib.Dec.{T}
 use lib.Ieee.{Float, binary64, nan, fits}
 use lib.Ieee.Fits.{nan-fits, add-fits}
 use lib.ListN.{getD}
-use Rattle.arithmetic.specs.Basic.{clampTo}
-use Rattle.arithmetic.specs.Extremes.{minimumOf}
 use Rattle.arithmetic.proofs.ExtremesOrder.{minimum-one}
 use Rattle.vectors.specs.Vector.{addOf, minOf}
 use Rattle.geometry.specs.Segment.{segmentEnd, segmentBox}

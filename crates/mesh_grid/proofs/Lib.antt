@@ -5,7 +5,6 @@ pub mod Reaching
 pub mod Looking
 pub mod Noting
 pub mod Casting
-pub mod Directions
 pub mod OneTriangle
 pub mod Leasts
 pub mod Refusals

@@ -33,7 +33,7 @@ use Rattle.grid_triangle.proofs.Hits.{off-hit, never-refused}
 use Rattle.mesh_grid.specs.GridCast.{exactAnswer, overTriangles, rayMeshExactPlain}
 use Rattle.mesh_grid.specs.Certain.{OutOfRange, origin, near, maximum, corner as atCorner, Reason, ray, lengths, triangles}
 use Rattle.mesh_grid.specs.Certain.{range as byRange}
-use Rattle.mesh_grid.proofs.Directions.{grid-by-ends, end-above}
+use Rattle.any_direction.proofs.Directions.{grid-by-ends, end-above}
 use Rattle.mesh_grid.proofs.Reaching.{inside-answer}
 
 -- ---- the ray

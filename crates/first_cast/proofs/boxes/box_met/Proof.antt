@@ -1,10 +1,8 @@
 -- `first_cast::boxes::box_met` meets its contract. Assumes nothing.
-use mathlib.Core.Path.{_≡_}
 use lib.Dec.{lit≤}
 use mir.Syntax.{w64}
 use mir.ValLaws.{toZ-ofZ}
 use mathlib.Core.Path.{_∙_}
-use Rattle.exact_depth.specs.Sizes.{Sized}
 use Rattle.exact_depth.proofs.Reading.{plain, widen, sized-bits}
 use Rattle.lists.proofs.JoinedTests.{test-passed, test-failed}
 use Rattle.first_cast.proofs.BoxSteps.{unread-met, read-met}

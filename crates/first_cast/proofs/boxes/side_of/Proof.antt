@@ -1,5 +1,5 @@
 -- `first_cast::boxes::side_of` meets its contract. Assumes nothing.
-use mathlib.Core.Path.{_≡_, ap, _∙_}
+use mathlib.Core.Path.{ap, _∙_}
 use lib.Dec.{lit≤}
 use lib.IntN.{ℤ, _-ℤ_}
 use Rattle.exact_depth.proofs.Reading.{widen}

@@ -3,7 +3,7 @@ use mathlib.Core.Path.{refl, _∙_}
 use native.Mathlib.Omega.{arith}
 use Rattle.tree.specs.Layout.{Tree, treeOf}
 use Rattle.first_cast.specs.Walking.{Reads}
-use Rattle.first_cast.proofs.Answers.{hit-inside, hit-answer}
+use Rattle.mesh_grid.proofs.Reaching.{hit-inside, hit-answer}
 use Rattle.first_cast.proofs.Casting.{through-broken, through-nobody, through-refused, through-reached, through-hit}
 use borrow.Author.Needs.{needs}
 use Rattle.first_cast.proofs.cast.exact_through.Statement.{statement}
@@ -50,7 +50,7 @@ corners-of-requires c κs =
     let on = s .pre .0 in
     let reached = through-reached (s .args .line) _ _ _ _ _ _ _ (f .find-nearest .ensures) (s .args .ray) on (tree s) (own s)
     _ (k .walked .given .1) _ (w .winner .ensures) _ _ (z .winner3 .given .1) in
-    (omega (arith, reached .0), hit-inside (s .args .ray) _ _ (on .admitted) (on .shown .admitted) _ _ (reached .1))
+    (omega (arith, reached .0), hit-inside (s .args .ray) _ _ _ (on .valid) (on .shown .admitted) _ (reached .1))
 
 returns-4 : tie.Need-returns-4
 returns-4 c =
@@ -62,7 +62,7 @@ returns-4 c =
     through-hit (s .args .line) _ _ _ _ _ _ _ (f .find-nearest .ensures) (s .args .ray) on (tree s) (own s)
     _ (k .walked .given .1) _ (w .winner .ensures) _ _ (z .winner3 .given .1) _
     (h .hit-on .ensures
-    ∙ hit-answer (s .args .ray) _ _ (on .admitted) (on .shown .admitted) _ _ (reached .1) _ (v .corners-of .ensures))
+    ∙ hit-answer (s .args .ray) _ _ _ (on .valid) (on .shown .admitted) _ (reached .1) _ (v .corners-of .ensures))
     _ (n .next .ensures)
 
 pub exact-through-spec : {M : Type 1} → statement M

@@ -126,7 +126,7 @@ exact-through-requires : tie.Need-exact-through-requires
 unfolding start₁ startₗ start₂ start₃ first aimed second
 exact-through-requires c κs =
     let e : tie.Else3 = search in (
-      record { admitted = valid (first e); shown = shown (aimed e) },
+      record { valid = valid (first e); shown = shown (aimed e) },
       room-of _ (tree (start₃ e)) (start₃ e .args .stack .now) (nodes-few _ _ _ _ (shaped (second e))) (fits e),
     )
 

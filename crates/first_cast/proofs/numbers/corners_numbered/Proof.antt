@@ -1,5 +1,5 @@
 -- `first_cast::numbers::corners_numbered` meets its contract. Assumes nothing.
-use mathlib.Core.Path.{_≡_, sym, ap, _∙_}
+use mathlib.Core.Path.{sym, ap, _∙_}
 use mathlib.Core.List.{List}
 use Rattle.lists.proofs.JoinedTests.{test-passed, test-failed}
 use Rattle.vectors.specs.declared.vec3.Vec3.{Vec3}
@@ -41,7 +41,8 @@ returns-3 c =
     let (f, b) : tie.Else2 × tie.After-numbers-in2 = search in
     second-fails (own s) (s .args .index) (test-passed (k .corners-inside .ensures) (e .if1 .left))
     (sym (ap (λ (vs : List Vec3). numbersIn (corner vs 0)) (v .corners-of .ensures)) ∙ test-passed (a .numbers-in .ensures) (f .if2 .left))
-    (sym (ap (λ (vs : List Vec3). numbersIn (corner vs 1)) (v .corners-of .ensures)) ∙ test-failed (b .numbers-in2 .ensures) (c .if3 .taken))
+    (sym (ap (λ (vs : List Vec3). numbersIn (corner vs 1)) (v .corners-of .ensures))
+    ∙ test-failed (b .numbers-in2 .ensures) (c .if3 .taken))
 
 -- the third decides
 returns-4 : tie.Need-returns-4

@@ -42,7 +42,8 @@ depth-met-requires c κs =
 -- what each test says
 across : (s : tie.Start) (b : Bool) → b ≡ holdsZero (minus (multiple (bits (s .args .d .depth)) (s .args .room .across))
     (multiple (bits (s .args .d .across)) (s .args .room .depth))) → b ≡ holdsZero (seen s .across)
-across s b h = side-plain (s .args .room .across) (s .args .room .depth) h (read (s .pre .1 .heading .depth)) (read (s .pre .1 .heading .across))
+across s b h =
+    side-plain (s .args .room .across) (s .args .room .depth) h (read (s .pre .1 .heading .depth)) (read (s .pre .1 .heading .across))
 
 up : (s : tie.Start) (b : Bool) → b ≡ holdsZero (minus (multiple (bits (s .args .d .depth)) (s .args .room .up))
     (multiple (bits (s .args .d .up)) (s .args .room .depth))) → b ≡ holdsZero (seen s .up)

@@ -26,12 +26,12 @@ returns c =
 -- a leaf
 returns-2 : tie.Need-returns-2
 returns-2 c =
-    let (s, a, k, l, z, b) : tie.Start × tie.After-node-at × tie.After-opened × tie.After-note-leaf × tie.After-noted
+    let (s, a, k, l, z, b) : tie.Start × tie.After-node-at × tie.After-opened × tie.After-note-leaf × tie.After-leaf
     × tie.After-best-of = search in
     let v = s .args in
     opens-leaf (v .line) (v .pose .now) (v .triangles .now) (v .nodes) (v .node-boxes .now) (v .node-words .now) (v .order .now)
     (v .stack .now) (v .node) (v .top) (v .best) _ (a .node-at .ensures) _ _ (k .opened .given .1) _ (l .note-leaf .ensures)
-    _ (z .noted .given .1) _ (b .best-of .ensures .0) (b .best-of .ensures .1)
+    _ (z .leaf .given .1) _ (b .best-of .ensures .0) (b .best-of .ensures .1)
 
 best-of-requires : tie.Need-best-of-requires
 best-of-requires c κs = let s : tie.Start = search in s .pre .0 .0
@@ -75,7 +75,7 @@ open-node-spec =
     (search needs)  -- node-at-requires
     (search needs)  -- enum-known-opened
     note-leaf-requires
-    (search needs)  -- enum-known-noted
+    (search needs)  -- enum-known-leaf
     (search needs)  -- enum-told
     returns
     best-of-requires

@@ -1,5 +1,5 @@
 -- `first_cast::walk::take_node` meets its contract. Assumes nothing.
-use mathlib.Core.Path.{_≡_, _∙_}
+use mathlib.Core.Path.{_∙_}
 use native.Mathlib.Omega.{arith}
 use borrow.Author.Tests.{not-true, not-false}
 use Rattle.exact_depth.proofs.Reading.{plain}

@@ -1,6 +1,4 @@
 -- `first_walk::node::node_at` meets its contract. Assumes nothing.
-use Prim.Native.Nat.{ℕ, _+_, _*_, _<_, _≤_}
-use mathlib.Core.Path.{_≡_}
 use native.Mathlib.Omega.{arith}
 use Rattle.first_walk.proofs.Opening.{opens-bad-leaf, opens-leaf, opens-bad-kind, opens-bad-first, opens-bad-second, opens-branch}
 use borrow.Author.Needs.{needs}

@@ -1,9 +1,9 @@
 -- `first_walk::node::push` meets its contract. Assumes nothing.
-use mathlib.Core.Path.{_≡_, sym, ap, _∙_}
+use mathlib.Core.Path.{sym, ap, _∙_}
 use mathlib.Core.Bool.{Bool, cond}
 use native.Mathlib.Omega.{arith}
 use lib.ListN.{length-set}
-use mathlib.Core.List.{List, _∷_}
+use mathlib.Core.List.{_∷_}
 use Rattle.tree.specs.Layout.{firstAt, secondAt}
 use Rattle.tree_walk.specs.Areas.{onStack}
 use Rattle.first_walk.proofs.OnwardLaws.{two-pushed}

@@ -1,9 +1,7 @@
 -- `grid_triangle::cast::distance` meets its contract. Assumes nothing.
-use mathlib.Core.Path.{_≡_, refl, sym, ap, _∙_, subst}
+use mathlib.Core.Path.{sym, ap, _∙_}
 use lib.Dec.{lit≤}
 use lib.IntN.{ℤ, pos, _*ℤ_}
-use Rattle.exact_depth.specs.Sizes.{Sized}
-use Rattle.exact_depth.proofs.Reading.{bits, plain, widen}
 use Rattle.exact_depth.proofs.Polynomials.{times-assoc}
 use Rattle.wide.specs.Value.{value}
 use Rattle.wide.specs.Division.{fractionOf}

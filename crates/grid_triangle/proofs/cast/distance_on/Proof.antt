@@ -1,15 +1,15 @@
 -- `grid_triangle::cast::distance_on` meets its contract. Assumes nothing.
-use mathlib.Core.Path.{_≡_, refl, sym, ap, _∙_, subst}
+use mathlib.Core.Path.{_≡_, sym, ap, _∙_, subst}
 use mathlib.Core.Bool.{true}
 use lib.Dec.{lit≤, lit<}
 use Prim.Native.Nat.{ℕ, _+_, _*_}
-use lib.IntN.{ℤ, pos, negℤ, _+ℤ_, _*ℤ_}
+use lib.IntN.{ℤ, pos, negℤ, _*ℤ_}
 use lib.Signed.{ltZ}
 use Rattle.exact_depth.specs.Sizes.{Sized}
 use Rattle.exact_depth.specs.declared.spots.Fraction.{Fraction}
 use Rattle.exact_depth.proofs.Reading.{plain, widen, sized-bits, product-size, sum-size, negated-size}
 use Rattle.exact_triangle.specs.declared.whole.Point.{Point}
-use Rattle.wide.specs.Value.{value, Middling, Held}
+use Rattle.wide.specs.Value.{value, Middling}
 use Rattle.wide.specs.Division.{fractionOf}
 use Rattle.wide.proofs.OperationLaws.{held, middling}
 use Rattle.any_direction.specs.Line.{Line}

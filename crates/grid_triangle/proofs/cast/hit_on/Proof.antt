@@ -1,5 +1,5 @@
 -- `grid_triangle::cast::hit_on` meets its contract. Assumes nothing.
-use mathlib.Core.Path.{_≡_, refl, sym, ap, _∙_, subst}
+use mathlib.Core.Path.{refl, _∙_, subst}
 use Rattle.casts.specs.Answer.{refused}
 use Rattle.exact_depth.proofs.Reading.{taken, left}
 use Rattle.grid_triangle.specs.Normal.{crossOf}

@@ -1,9 +1,9 @@
--- The number of a range that is nearest to another: it lies in the range, and how it compares with both. Assumes nothing.
-use mathlib.Core.Path.{_≡_, refl}
+-- A number clamped to a range: it lies in the range, how it compares with the number and the ends, and what is not moved. Assumes nothing.
+use mathlib.Core.Path.{_≡_, refl, sym}
 use mathlib.Core.Bool.{Bool, true, false, cond}
 use lib.Ieee.{Float, lt, le, isNan}
 use Rattle.arithmetic.specs.Basic.{isFinite, clampTo}
 use Rattle.arithmetic.proofs.Order.{le-of-lt, le-of-not-lt, le-reflexive, le-transitive, le-left-number, le-right-number}
 
 -- what holds of either by the test holds of the one chosen
 chosen : (P : Float → Type 0) (b : Bool) (x y : Float) → (b ≡ true → P x) → (b ≡ false → P y) → P (cond b x y)
@@ -54,3 +54,8 @@ module _ (z low high : Float) where
       let k = le-right-number low high p in
       let h : isNan y ≡ false = chosen (λ (x : Float). isNan x ≡ false) (lt z low) low z (λ e. le-left-number low high p) (λ e. n) in
       chosen (λ (x : Float). le x high ≡ true) (lt high y) high y (λ e. le-reflexive high k) (le-of-not-lt y high h k)
+
+  -- what lies between is not moved
+  pub clamp-inside : lt z low ≡ false → lt high z ≡ false → z ≡ clampTo z low high
+  unfolding clampTo
+  clamp-inside p q = sym (simp (p, q))
