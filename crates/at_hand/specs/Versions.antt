@@ -23,8 +23,9 @@ use Rattle.record_bytes.specs.declared.stream.Found.the-variants.{Record}
 abbrev pub recordLine : ℕ → List ℕ → List ℕ
 recordLine number bytes = lineOf number (longBody bytes)
 
--- What `probe` asks of bytes that are exactly one record of a form: they are the stream's next record, whole, with the form's version byte,
--- and the body that is read is well formed.
+-- "exactly one record of the version it converts from, length bytes included, else malformed": what `probe` asks of one record. It is the
+-- stream's next record and all of it, has the form's version byte, and its body is well formed. The converter asks the same
+-- (`well-formed-is-record`, `record-is-well-formed`, proofs/Malformed.antt).
 pub record OneRecord (form : Form) (bytes : List ℕ) : Type 0 where
   pub whole : nextOf bytes ≡ Record (length bytes)
   pub versioned : byteAt bytes 4 ≡ versionOf form
@@ -69,7 +70,7 @@ saidFor r s = record {
   indices = shapeIndices s;
 }
 
--- what `probe` reads of a record is what the converter reads of it
+-- what `probe` reads of a record is what the converter reads of it (`same-fields`, proofs/ReadFields.antt)
 pub record SameFields (form : Form) (bytes : List ℕ) : Type 0 where
   pub ray : Ray
   pub shape : Shape

@@ -31,12 +31,12 @@ fn read_on(run: Run, input: &mut [u8]) -> Run
     let held = run.held;
     let got = libc::read(STDIN_FILENO, &mut input[held..]);
     let more = io::count(got, &input[held..]);
-    let ready = runs::after_read(run, got < 0, more);
-    if ready.failed {
+    let given = runs::after_read(run, got < 0, more);
+    if given.failed {
         io::write_all(STDERR_FILENO, b"probe: standard input cannot be read\n");
-        return ready;
+        return given;
     }
-    ready
+    given
 }
 
 // The lines for what is held, at the front of the output area, and what is left at the front of the input area. No run reaches the last
@@ -153,7 +153,7 @@ fn all_steps() -> Run
     let mut stack = [0u32; 1355];
     let mut output = io::large_buffer();
     let mut run = runs::start();
-    let mut steps = 0;
+    let mut steps: u64 = 0;
     while steps < u64::MAX && !run.over {
         run = step(
             run,
