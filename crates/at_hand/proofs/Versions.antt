@@ -42,7 +42,7 @@ module _ (l : List ℕ) where
   unfolding longBody
   by-version version e = ap (λ (v : ℕ). drop 4 (cond (eqb v 3) (widened l) l)) e
 
-  long-stays : T (records.wellFormed Long l) → longBody l ≡ drop 4 l
+  pub long-stays : T (records.wellFormed Long l) → longBody l ≡ drop 4 l
   long-stays w = by-version 2 (formed Long l w .versioned)
 
   pub short-widens : T (records.wellFormed Short l) → longBody l ≡ drop 4 (widened l)

@@ -1,10 +1,9 @@
--- `probe::moved` meets its contract. Assumes nothing.
+-- `probe::runs::move_front` meets its contract. Assumes nothing.
 use Rattle.probe.proofs.Moving.{Moved, moved-none, moved-length, moved-one, moved-all}
-use mathlib.Core.Path.{refl}
 use Prim.Native.Nat.{_-_, _≤_}
 use native.Mathlib.Omega.{arith}
-use Rattle.probe.proofs.moved.Statement.{statement}
-use Rattle.probe.proofs.moved.Tie as tie
+use Rattle.probe.proofs.runs.move_front.Statement.{statement}
+use Rattle.probe.proofs.runs.move_front.Tie as tie
 
 abbrev Inv-loop : tie.InvT-loop
 Inv-loop input₀ from to count i₀ input i = (i ≤ count) × Moved input₀ input from i
@@ -49,16 +48,15 @@ same-length c =
     let (s, l) : (tie.Start Inv-loop μ-loop) × (tie.At-loop Inv-loop μ-loop) = search in
     moved-length (s .args .input .now) (l .loop .input) (s .args .from) (l .loop .i) (l .loop .inv .1) (omega arith)
 
+-- the loop has moved every byte
 returns : tie.Need-returns Inv-loop μ-loop
 returns c =
-    let (s, l) : (tie.Start Inv-loop μ-loop) × (tie.At-loop Inv-loop μ-loop) = search in (
-      refl,
-      moved-all (s .args .input .now) (l .loop .input) (s .args .from) (l .loop .i) (l .loop .inv .1) (s .args .to - s .args .from)
-          (l .loop .inv .0) (c .loop-test .left),
-    )
+    let (s, l) : (tie.Start Inv-loop μ-loop) × (tie.At-loop Inv-loop μ-loop) = search in
+    moved-all (s .args .input .now) (l .loop .input) (s .args .from) (l .loop .i) (l .loop .inv .1) (s .args .to - s .args .from)
+    (l .loop .inv .0) (c .loop-test .left)
 
-pub moved-spec : {M : Type 1} → statement M
-moved-spec =
+pub move-front-spec : {M : Type 1} → statement M
+move-front-spec =
     tie.close
     (tie.spec
     Inv-loop
