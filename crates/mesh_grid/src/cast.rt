@@ -13,12 +13,13 @@ use nearest_hit::nearest::IndexedCast;
 use nearest_hit::summary::Outcome;
 use tree::mesh as triangle_mesh;
 ghost use mathlib.Core.Path.{_≡_};
+ghost use mathlib.Core.Bool.{true};
 ghost use Prim.Native.Nat.{_≤_};
 ghost use lib.ListN.{length};
 ghost use Rattle.nearest_hit.specs.Nearest.{saysIndexed};
-ghost use Rattle.tree.specs.Mesh.{mesh};
+ghost use Rattle.tree.specs.Mesh.{lengthsAdmitted, mesh};
 ghost use Rattle.mesh_grid.specs.GridCast.{overTriangles, rayMeshExactPlain};
-ghost use Rattle.mesh_grid.specs.Noted.{Bounded};
+ghost use Rattle.mesh_grid.specs.Noted.{Casts, Bounded};
 ghost use Rattle.mesh_grid.specs.Certain.{CertainMesh};
 
 // The answer over all triangles; only the winner's normal is computed. Of up to 32 vertices it is told first on which sides of the
@@ -55,6 +56,14 @@ fn over_triangles(
     }
 }
 
+// The cast once refusals 1, 12 of the ray and 2 have let it pass. Callers show that they have and that the line is the ray's.
+pub fn exact_cast(ray: Ray, line: Sight, vertices: &[f64], triangles: &[u32]) -> IndexedCast
+    requires { ⌜ Casts ray line ⌝ ∗ ⌜ lengthsAdmitted (length (now vertices)) (length (now triangles)) ≡ true ⌝ }
+    ensures { λ r. ⌜ saysIndexed r ≡ overTriangles ray (mesh (now (vertices .entry)) (now (triangles .entry))) ⌝ }
+{
+    over_triangles(ray, line, bounds::segment_box(ray), vertices, triangles)
+}
+
 // The first point of the segment that lies in a triangle of the mesh, sides and corners included, on the grid of 2^-15 mm.
 // The second clause: a none is certain, and a hit's distance is the float nearest to the least depth of such a point.
 pub fn ray_mesh_exact_plain(ray: Ray, vertices: &[f64], triangles: &[u32]) -> IndexedCast
@@ -71,5 +80,5 @@ pub fn ray_mesh_exact_plain(ray: Ray, vertices: &[f64], triangles: &[u32]) -> In
     if !triangle_mesh::lengths_admitted(vertices.len(), triangles.len()) {
         return IndexedCast::Refused(answer::BAD_SHAPE);
     }
-    over_triangles(ray, line, bounds::segment_box(ray), vertices, triangles)
+    exact_cast(ray, line, vertices, triangles)
 }

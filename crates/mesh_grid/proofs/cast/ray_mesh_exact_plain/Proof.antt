@@ -1,7 +1,6 @@
 -- `mesh_grid::cast::ray_mesh_exact_plain` meets its contract. Assumes nothing.
 use mathlib.Core.Path.{subst}
 use Rattle.grid_triangle.specs.Sight.{Sighted, Shown}
-use Rattle.mesh_plain.proofs.Casting.{triangles-few}
 use Rattle.mesh_grid.proofs.Certainty.{answer-certain}
 use Rattle.mesh_grid.proofs.Casting.{exact-invalid, exact-out, exact-bad, exact-passed}
 use Rattle.lists.proofs.JoinedTests.{test-passed, test-failed}
@@ -38,17 +37,11 @@ returns-3 c =
     (exact-bad _ _ (test-passed (v .validate .ensures) (e .if1 .left)) (shown k .admitted)
     (test-failed (t .lengths-admitted .ensures) (c .if2 .taken)))
 
-segment-box-requires : tie.Need-segment-box-requires
-segment-box-requires c κs = let k : tie.After-aim = search in shown k .admitted
-
-over-triangles-requires : tie.Need-over-triangles-requires
-over-triangles-requires c κs =
-    let (v, e, k, t, f) : tie.After-validate × tie.Else1 × tie.After-aim × tie.After-lengths-admitted × tie.Else2 = search in (
-      triangles-few _ _ (test-passed (t .lengths-admitted .ensures) (f .if2 .left)),
-      record {
-        casts = record { valid = test-passed (v .validate .ensures) (e .if1 .left); shown = shown k };
-        box = c .segment-box .ensures;
-      },
+exact-cast-requires : tie.Need-exact-cast-requires
+exact-cast-requires c κs =
+    let (v, e, k, t) : tie.After-validate × tie.Else1 × tie.After-aim × tie.After-lengths-admitted = search in (
+      record { valid = test-passed (v .validate .ensures) (e .if1 .left); shown = shown k },
+      test-passed (t .lengths-admitted .ensures) (c .if2 .left),
     )
 
 -- past all refusals of the ray and the lengths
@@ -57,7 +50,7 @@ returns-4 c =
     let (v, e, k, t, f) : tie.After-validate × tie.Else1 × tie.After-aim × tie.After-lengths-admitted × tie.Else2 = search in
     answer-certain _ _ _
     (exact-passed _ _ (test-passed (v .validate .ensures) (e .if1 .left)) (shown k .admitted)
-    (test-passed (t .lengths-admitted .ensures) (f .if2 .left)) _ (c .over-triangles .ensures))
+    (test-passed (t .lengths-admitted .ensures) (f .if2 .left)) _ (c .exact-cast .ensures))
 
 pub ray-mesh-exact-plain-spec : {M : Type 1} → statement M
 ray-mesh-exact-plain-spec =
@@ -71,6 +64,5 @@ ray-mesh-exact-plain-spec =
     returns-2
     (search needs)  -- lengths-admitted-requires
     returns-3
-    segment-box-requires
-    over-triangles-requires
+    exact-cast-requires
     returns-4)
