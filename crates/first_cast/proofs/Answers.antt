@@ -37,7 +37,7 @@ use Rattle.grid_triangle.proofs.Laws.{first-read, second-read, third-read}
 use Rattle.grid_triangle.proofs.Certainty.{reach-certain}
 use Rattle.grid_triangle.proofs.Hits.{off-hit, reached-as, never-refused}
 use Rattle.mesh_grid.proofs.Reaching.{inside-answer}
-use Rattle.first_cast.specs.Opening.{gridBox, Deep, GridAnswers}
+use Rattle.first_cast.specs.Demand.{gridBox, Deep, GridAnswers}
 use Rattle.mesh_grid.specs.GridCast.{exactAnswer}
 use Rattle.first_cast.specs.Numbers.{NoNaN}
 use Rattle.first_cast.proofs.Corners.{Among, among-box, Numbers}

@@ -28,7 +28,8 @@ use Rattle.any_direction.specs.Grid.{within, allWithin, furthest, gridPoint}
 use Rattle.first_walk.specs.Demand.{PassesSafely}
 use Rattle.first_walk.proofs.Unders.{under-below, under-enclosed}
 use Rattle.first_cast.specs.Room.{roomOf, roomMet}
-use Rattle.first_cast.specs.Opening.{limitOf, boxRead, boxMet, opensNode, gridBox, Deep, GridAnswers}
+use Rattle.first_cast.specs.Opening.{limitOf, boxRead, boxMet, opensNode}
+use Rattle.first_cast.specs.Demand.{gridBox, Deep, GridAnswers}
 use Rattle.first_cast.proofs.Rooms.{beyond}
 use Rattle.any_direction.proofs.Touching.{furthest-is}
 use Rattle.first_cast.proofs.Limits.{nothing-changes}

@@ -2,6 +2,7 @@
 pub mod Room
 pub mod Opening
 pub mod Order
+pub mod Demand
 pub mod Numbers
 pub mod ExactMesh
 pub mod Walking
