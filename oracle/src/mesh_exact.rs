@@ -3,7 +3,7 @@
 
 use crate::{
     answer::{Answer, Ray},
-    model::{Tree, corners, indices_admitted, vertices_admitted, vertices_box},
+    model::{Tree, candidates, corners, indices_admitted, vertices_admitted, vertices_box},
     plain::{self, parts, ray_admitted},
     slips::{Slip::*, or, slipped},
 };
@@ -256,12 +256,18 @@ pub fn triangle_at(ray: &Ray, vertices: &[f64], indices: &[u32], index: u32) -> 
 fn nearest(ray: &Ray, line: &Line, vertices: &[f64], indices: &[u32]) -> Answer {
     let mut best = Answer::None;
     let mut refused = None;
+    let touching = if slipped(ExactCandidates) {
+        candidates(ray, vertices, indices)
+    } else {
+        Vec::new()
+    };
     for index in 0..indices.len() as u32 / 3 {
         let Some(corners) = corners(vertices, indices, index as usize) else {
             continue;
         };
         match triangle(ray, line, corners) {
             Answer::None => {}
+            Answer::Refused(_) if slipped(ExactCandidates) && !touching.contains(&index) => {}
             Answer::Refused(number) => refused = refused.or(Some(number)),
             Answer::Hit {
                 normal, distance, ..

@@ -168,6 +168,7 @@ slips! {
     ExactCut: "the distance is cut and not rounded",
     ExactTies: "of equal distances the highest index wins",
     ExactNearest: "12 of a corner does not count where a triangle is hit",
+    ExactCandidates: "12 is looked for only where a triangle's box touches the segment's",
     ExactNormal: "the normal is of the floats' edges",
     ExactLate: "12 of a corner goes before 5",
     ExactShape: "2 goes before 12 of the ray",

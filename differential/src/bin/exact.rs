@@ -8,7 +8,7 @@ const USAGE: &str = "usage: exact SEED COUNT
        exact --case SEED NUMBER
 Runs COUNT cases, or one case with every answer printed: a board each, and for every 25th a closed board, ways into it and
 out of it.
-Exit status 1 on a difference, or where COUNT is 100000 or more and too little was met.";
+Exit status 1 on a difference, or where COUNT is 20000 or more and too little was met.";
 
 /// More are counted and not printed.
 const PRINTED: u64 = 3;
@@ -18,7 +18,7 @@ const BOARDS: u64 = 25;
 const WAYS: usize = 10;
 
 /// From so many boards on, each thing is to be met once in so many of them.
-const MANY: u64 = 100_000;
+const MANY: u64 = 20_000;
 const ONCE_IN: u64 = 200;
 
 fn number(word: &str) -> u64 {
@@ -70,6 +70,7 @@ fn seldom(log: &Log, count: u64) -> Vec<&'static str> {
         return Vec::new();
     }
     let asked = boards::MET.iter().chain(&solids::KINDS);
+    let asked = asked.chain(&[exact::MISSED, solids::ROUND]);
     asked
         .copied()
         .filter(|what| log.counted(what) < count / ONCE_IN)
