@@ -50,9 +50,9 @@
  * refusal has.
  * Numbers from 13 on may be added to the refusals; all stay below 256.
  *
- * Tested are 1, 2, 3 and 4 in this order, then the others as the cast meets them. 12 of the ray comes directly after 1, 12 of
- * a corner after 5, the late 3 last. The result slices hit, index, nodes (of probe_build and probe_merge), found, cell, part, spent and written are
- * lent slices like the others: one that is too short is 3, after 1 and 2.
+ * Tested are 1, 2, 3 and 4 in this order, then the others as the cast meets them. 12 of the ray comes directly after 1, 12 of a
+ * corner after 5, the late 3 last. The result slices hit, index, nodes (of probe_build and probe_merge), found, cell, part,
+ * spent and written are lent slices like the others: one that is too short is 3, after 1 and 2.
  *
  * After a refusal every result area and result slice is unchanged, but for these:
  *

@@ -93,7 +93,7 @@ inline std::string told(Refusal refusal)
     case Refusal::not_held: words = "not held: a record's float is NaN, or is no f32 exactly"; break;
 #endif
 #ifdef PROBE_REFUSED_OUT_OF_RANGE
-    case Refusal::out_of_range: words = "out of range: the origin or a corner is not within 8,192, or near or the maximum is above 32,768"; break;
+    case Refusal::out_of_range: words = "out of range: the origin or a corner is not within 8,192, near or the maximum above 32,768"; break;
 #endif
     }
     return "refused " + std::to_string(number(refusal)) + ", " + words;

@@ -174,7 +174,7 @@ impl fmt::Display for Refusal {
             }
             Refusal::NotHeld => "not held: a record's float is NaN, or is no f32 exactly",
             Refusal::OutOfRange => {
-                "out of range: the origin or a corner is not within 8,192, or near or the maximum is above 32,768"
+                "out of range: the origin or a corner is not within 8,192, near or the maximum above 32,768"
             }
             Refusal::Other(_) => "a refusal that this version does not know",
         };
