@@ -67,8 +67,8 @@ enum class Refusal : std::uint32_t {
 #ifdef PROBE_REFUSED_NOT_HELD
     not_held = PROBE_REFUSED_NOT_HELD,
 #endif
-#ifdef PROBE_REFUSED_NOT_WHOLE
-    not_whole = PROBE_REFUSED_NOT_WHOLE,
+#ifdef PROBE_REFUSED_OUT_OF_RANGE
+    out_of_range = PROBE_REFUSED_OUT_OF_RANGE,
 #endif
 };
 
@@ -92,8 +92,8 @@ inline std::string told(Refusal refusal)
 #ifdef PROBE_REFUSED_NOT_HELD
     case Refusal::not_held: words = "not held: a record's float is NaN, or is no f32 exactly"; break;
 #endif
-#ifdef PROBE_REFUSED_NOT_WHOLE
-    case Refusal::not_whole: words = "not whole: the ray or a candidate's corner is not on whole millimetres in its range"; break;
+#ifdef PROBE_REFUSED_OUT_OF_RANGE
+    case Refusal::out_of_range: words = "out of range: the origin or a corner is not within 8,192, near or the maximum above 32,768"; break;
 #endif
     }
     return "refused " + std::to_string(number(refusal)) + ", " + words;
@@ -615,6 +615,26 @@ struct Shape {
     std::size_t triangle_count() const noexcept { return triangles.size() / 3; }
 };
 
+/* Whether every corner of every triangle is three numbers; one whose index is past the vertices is not. */
+inline bool mesh_has_numbers(const Shape &shape)
+{
+    return probe_mesh_has_numbers(detail::from(shape.vertices), shape.vertices.size(), detail::from(shape.triangles),
+                                  shape.triangles.size()) == PROBE_YES;
+}
+
+namespace detail {
+/* The exact cast without a tree. */
+inline Cast<MeshHit> cast_exact(const Shape &shape, const Ray &ray)
+{
+    Places places;
+    const std::uint32_t answer = probe_ray_mesh_exact_plain(
+        ray.origin.x, ray.origin.y, ray.origin.z, ray.direction.x, ray.direction.y, ray.direction.z, ray.max_distance,
+        ray.near_distance, from(shape.vertices), shape.vertices.size(), from(shape.triangles), shape.triangles.size(),
+        places.hit.data(), places.hit.size(), places.index.data(), places.index.size());
+    return cast_of(answer, places.of_mesh());
+}
+} // namespace detail
+
 /* Whether a tree, from whatever builder, fits a mesh. Refuses with 2 or 3. */
 inline Result<bool> tree_check(const Shape &shape, const Tree &tree)
 {
@@ -728,15 +748,18 @@ public:
         return detail::cast_of(answer, places.of_mesh());
     }
 
-    /* Along an axis and on whole millimetres, decided in whole numbers: at the mesh's own vertices what PlainMesh::cast_exact
-     * answers, through the tree; that the two agree is proved, so that a none is certain. Refuses with 1, or with 12 for the
-     * ray or a corner of a triangle whose box touches the segment's. */
+    /* On a grid of 2^-15 mm, in any direction, decided in whole numbers: what PlainMesh::cast_exact answers, through the tree;
+     * that the two agree is proved for a mesh without a NaN, so a none at the mesh's own vertices is certain. A mesh is asked
+     * for a NaN when it is made, and one that has it is cast at without its tree. Refuses with 1 or 12. */
     Cast<MeshHit> cast_exact(const Ray &ray) { return cast_exact(ray, scratch_); }
 
-    Cast<MeshHit> cast_exact(const Ray &ray, Scratch &scratch) const { return cast_exact_at(ray, shape_.vertices, scratch); }
+    Cast<MeshHit> cast_exact(const Ray &ray, Scratch &scratch) const
+    {
+        return has_numbers_ ? cast_exact_at(ray, shape_.vertices, scratch) : detail::cast_exact(shape_, ray);
+    }
 
-    /* The same at other vertices, as `cast_at` has them. Here a none is not certain: the tree encloses the mesh's own
-     * vertices, and a triangle that it does not list is missed. */
+    /* The same at other vertices, as `cast_at` has them: a surface that has left the tree's boxes may be missed, so a none is
+     * not certain there. */
     Cast<MeshHit> cast_exact_at(const Ray &ray, const std::vector<Vec3> &pose, Scratch &scratch) const
     {
         return cast_exact_at(ray, Shape::flat(pose), scratch);
@@ -752,7 +775,7 @@ public:
             shape_.triangles.size(), detail::from(pose), pose.size(), tree_.nodes, detail::from(tree_.node_boxes),
             tree_.node_boxes.size(), detail::from(tree_.triangle_boxes), tree_.triangle_boxes.size(),
             detail::from(tree_.node_words), tree_.node_words.size(), detail::from(tree_.order), tree_.order.size(),
-            detail::into(scratch.list), scratch.list.size(), detail::into(scratch.stack), scratch.stack.size(),
+            detail::into(scratch.stack), scratch.stack.size(),
             places.hit.data(), places.hit.size(), places.index.data(), places.index.size());
         return detail::cast_of(answer, places.of_mesh());
     }
@@ -816,10 +839,14 @@ public:
     std::size_t vertex_count() const noexcept { return shape_.vertex_count(); }
 
 private:
-    Mesh(Shape shape, Tree tree) : shape_(std::move(shape)), tree_(std::move(tree)) {}
+    Mesh(Shape shape, Tree tree)
+        : shape_(std::move(shape)), tree_(std::move(tree)), has_numbers_(mesh_has_numbers(shape_))
+    {
+    }
 
     Shape shape_;
     Tree tree_;
+    bool has_numbers_; /* the exact cast through the tree asks it */
     Scratch scratch_;
 };
 
@@ -845,18 +872,11 @@ public:
         return detail::cast_of(answer, places.of_mesh());
     }
 
-    /* Along an axis and on whole millimetres, decided in whole numbers: the first point of the segment that lies in a closed
-     * triangle, sides, corners and triangles along the ray included, so that a none is certain. probe_rays.h says which rays
-     * and corners are admitted. Refuses with 1, 12 (the ray, or a corner of a triangle whose box touches the segment's), 2 or 5. */
-    Cast<MeshHit> cast_exact(const Ray &ray) const
-    {
-        detail::Places places;
-        const std::uint32_t answer = probe_ray_mesh_exact_plain(
-            ray.origin.x, ray.origin.y, ray.origin.z, ray.direction.x, ray.direction.y, ray.direction.z, ray.max_distance,
-            ray.near_distance, detail::from(shape_.vertices), shape_.vertices.size(), detail::from(shape_.triangles),
-            shape_.triangles.size(), places.hit.data(), places.hit.size(), places.index.data(), places.index.size());
-        return detail::cast_of(answer, places.of_mesh());
-    }
+    /* On a grid of 2^-15 mm, in any direction, decided in whole numbers: the first point of the segment that lies in a closed
+     * triangle, sides, corners and triangles along the ray included, so that a none is certain. probe_rays.h says how
+     * coordinates are read. Refuses with 1, 12 (the origin or a corner is not within 8,192, near or the maximum above 32,768),
+     * 2 or 5. */
+    Cast<MeshHit> cast_exact(const Ray &ray) const { return detail::cast_exact(shape_, ray); }
 
     /* The same mesh with a tree. */
     Result<Mesh> build() const { return Mesh::build(shape_); }

@@ -12,7 +12,7 @@ Python tell it, are the same in all three, and begin with its name in the header
   crates/exports/src/*.rt       the calls, the version, and the codes
   crates/casts/src/answer.rt    the refusals, and that of the ranges in crates/height_ranges/src/answer.rt,
                                 of a limit in crates/cabinet_cast/src/cast.rt, of a float that is not held in
-                                crates/float_forms/src/forms.rt, and of what is not whole in crates/exact_triangle/src/cast.rt
+                                crates/float_forms/src/forms.rt, and of what is out of range in crates/grid_triangle/src/cast.rt
   crates/cabinet/src/part.rt    the structs; crates/vectors/src/vec3.rt has the vector in them
   crates/tree/src/lib.rt        the table of areas
   include/probe_rays.h          for C and C++
@@ -31,7 +31,7 @@ REFUSALS = [
     "crates/casts/src/answer.rt",
     "crates/height_ranges/src/answer.rt",
     "crates/float_forms/src/forms.rt",
-    "crates/exact_triangle/src/cast.rt",
+    "crates/grid_triangle/src/cast.rt",
     "crates/cabinet_cast/src/cast.rt",
 ]
 STRUCTS = ["crates/cabinet/src/part.rt", "crates/vectors/src/vec3.rt"]
@@ -349,7 +349,7 @@ FAULTS = [
     (HEADER, "#define PROBE_DONE 260u", "#define PROBE_READY 260u"),
     (HEADER, "#define PROBE_REFUSED_NO_ROOM 3u", "#define PROBE_REFUSED_NO_ROOM 4u"),
     (HEADER, "#define PROBE_REFUSED_OVERFLOW 6u\n", ""),
-    (HEADER, "#define PROBE_VERSION 2u", "#define PROBE_VERSION 1u"),
+    (HEADER, "#define PROBE_VERSION 3u", "#define PROBE_VERSION 2u"),
     (HEADER, "PROBE_NODE_BOXES_LENGTH(n) ((size_t)12 * (n))", "PROBE_NODE_BOXES_LENGTH(n) ((size_t)6 * (n))"),
     (HEADER, "((size_t)(nodes) + 1)", "((size_t)(nodes))"),
     (RUST, "a_x: f64,\n        a_y: f64,", "a_y: f64,\n        a_x: f64,"),
@@ -363,12 +363,12 @@ FAULTS = [
     (RUST, "pub fn probe_version() -> u32;", "pub fn probe_version() -> usize;"),
     (RUST, "pub const NONE: u32 = 257;", "pub const NONE: u32 = 256;"),
     (RUST, "pub const REFUSED_NO_NORMAL: u32 = 7;", "pub const REFUSED_NO_NORMAL: u32 = 8;"),
-    (RUST, "pub const VERSION: u32 = 2;", "pub const VERSION: u32 = 0;"),
+    (RUST, "pub const VERSION: u32 = 3;", "pub const VERSION: u32 = 0;"),
     (LENGTHS, "3 * n\n", "2 * n\n"),
     (RATTLE + "/shapes.rt", "    rows: usize,\n    columns: usize,", "    columns: usize,\n    rows: usize,"),
     (RATTLE + "/shapes.rt", "heights: &[f64],", "heights: &mut [f64],"),
     (RATTLE + "/shapes.rt", "side_x: u32,", "side_x: usize,"),
-    (RATTLE + "/shapes.rt", "{\n    2\n}", "{\n    1\n}"),
+    (RATTLE + "/shapes.rt", "{\n    3\n}", "{\n    2\n}"),
     (RATTLE + "/meshes.rt", "fn probe_query(", "fn probe_list("),
     (RATTLE + "/meshes.rt", "#[no_mangle]\n", ""),
     (CODES, "pub const NO: u32 = 259;", "pub const NO: u32 = 258;"),
@@ -386,13 +386,13 @@ FAULTS = [
     (STRUCTS[0], "    pub node_boxes: Span,\n    pub triangle_boxes: Span,", "    pub triangle_boxes: Span,\n    pub node_boxes: Span,"),
     (STRUCTS[1], "#[repr(C)]\n", ""),
     (REFUSALS[-1], "pub const LIMIT_REACHED: u32 = 10;", "pub const LIMIT_REACHED: u32 = 11;"),
-    (REFUSALS[3], "pub const NOT_WHOLE: u32 = 12;", "pub const NOT_WHOLE: u32 = 13;"),
+    (REFUSALS[3], "pub const OUT_OF_RANGE: u32 = 12;", "pub const OUT_OF_RANGE: u32 = 13;"),
     (REFUSALS[2], "pub const NOT_HELD: u32 = 11;", "pub const NOT_HELD: u32 = 10;"),
     (HEADER, "    const uint8_t *bytes,", "    const uint32_t *bytes,"),
     (RUST, "        out: *mut u8,", "        out: *const u8,"),
-    (HEADER, " *   12   not whole  ", " *   12   not exact  "),
+    (HEADER, " *   12   out of range  ", " *   12   out of reach  "),
     ("include/probe_rays.hpp", "no room: a lent slice", "no room: a slice"),
-    ("bindings/rust/src/answer.rs", "not whole: the ray or", "not whole: a ray or"),
+    ("bindings/rust/src/answer.rs", "out of range: the origin or", "out of range: an origin or"),
     ("bindings/python/probe_rays/answers.py", '    "NOT_HELD"', '    "HELD"'),
 ]
 

@@ -32,7 +32,7 @@ pub struct PlainCast<'a> {
     pub index: &'a [u32],
 }
 
-fn plain_cast(call: &PlainCast) -> Result<Hit, Fault> {
+pub(crate) fn plain_cast(call: &PlainCast) -> Result<Hit, Fault> {
     let vertices = Lent::new(call.vertices);
     let indices = Lent::new(call.indices);
     let mut hit = Lent::new(call.hit);

@@ -133,7 +133,7 @@ fn over(v: Vec3, length: f64) -> Vec3 {
 }
 
 /// The digits and the exponent of a finite number's size: it is digits times 2 to the exponent.
-fn parts(x: f64) -> (u64, i32) {
+pub(crate) fn parts(x: f64) -> (u64, i32) {
     let digits = x.to_bits() & ((1 << 52) - 1);
     match (x.to_bits() >> 52) as i32 & 0x7ff {
         0 => (digits, -1074),
@@ -445,11 +445,17 @@ fn facing(direction: Vec3, across: Vec3) -> Step<Vec3> {
     })
 }
 
-/// The hit of a triangle at a distance that was found before.
-pub(crate) fn hit_at(ray: &Ray, corners: [[f64; 3]; 3], distance: f64) -> Answer {
+/// The hit of a triangle at a distance that was found before, by the cross of its edges.
+pub(crate) fn hit_with(ray: &Ray, across: [f64; 3], distance: f64) -> Answer {
+    let across = Vec3::from_array(across);
+    told(facing(Vec3::from_array(ray.direction), across).map(|normal| (normal, distance)))
+}
+
+/// The same of the corners' floats.
+pub(crate) fn hit_on(ray: &Ray, corners: [[f64; 3]; 3], distance: f64) -> Answer {
     let [first, second, third] = corners.map(Vec3::from_array);
     let across = (second - first).cross(third - first);
-    told(facing(Vec3::from_array(ray.direction), across).map(|normal| (normal, distance)))
+    hit_with(ray, across.to_array(), distance)
 }
 
 /// The first refusal, else the first strictly least distance, over triangles in their order.

@@ -417,8 +417,9 @@ bool as_in_fractions(const Whole &o, const Whole &d, std::int64_t most, const st
     return cast.hit().triangle == first && cast.hit().distance == double(least->over) / double(least->under);
 }
 
-/* On whole millimetres: where the rounded cast passes, along an outline, small boards of chance, and what is not whole. */
-void whole_millimetres()
+/* The exact cast: where the rounded one passes, along an outline, small boards of chance, off the grid, aslant, and what is out
+ * of range. */
+void exactly()
 {
     // docs/DIFFERENCES.md, 'Found in the Rust', 2
     const PlainMesh square({{0, 0, 0}, {31, 0, 0}, {0, 31, 0}, {31, 31, 0}}, {{0, 1, 2}, {3, 2, 1}});
@@ -456,16 +457,24 @@ void whole_millimetres()
         CHECK(as_in_fractions(origin, direction, below(2 * size), triangles, met));
     }
     CHECK(met[0] > 300 && met[1] > 300);
-    // not whole, and what is refused before and after it
-    CHECK(refuses(square.cast_exact(from(0.5, 30, 1, 2)), 12) && refuses(square.cast_exact(from(1, 30, 4097, 9)), 12));
-    CHECK(refuses(square.cast_exact(from(1, 30, 1, 2.5)), 12) && refuses(square.cast_exact(from(1, 30, 1, 16385)), 12));
-    CHECK(refuses(square.cast_exact(from(1, 30, 1, 2).with_near(0.5)), 12));
-    CHECK(refuses(square.cast_exact(Ray{{1, 30, 1}, {0, 0.6, -0.8}, 2}), 12));
-    CHECK(refuses(PlainMesh({{0, 0, 0}, {31, 0, 0.5}, {0, 31, 0}}, {{0, 1, 2}}).cast_exact(from(1, 1, 1, 2)), 12));
-    CHECK(refuses(PlainMesh({{0, 0, 0}, {4097, 0, 0}, {0, 31, 0}}, {{0, 1, 2}}).cast_exact(from(1, 1, 1, 2)), 12));
-    CHECK(hits_at(PlainMesh({{0, 0, 0}, {4096, 0, 0}, {0, 31, 0}}, {{0, 1, 2}}).cast_exact(from(1, 1, 1, 2)), 1));
-    CHECK(refuses(square.cast_exact(from(1, 30, 1, -1)), 1) && refuses(PlainMesh(T, {{0, 1, 3}}).cast_exact(from(0, 0, 1, 2)), 5));
-    CHECK(told(Refusal::not_whole).find("refused 12, not whole") == 0);
+    // off the grid: a quarter of a unit, 2^-15 mm, is read as none; aslant through a corner and beside it
+    const double unit = 1.0 / 32768, third = std::sqrt(1.0 / 3.0);
+    CHECK(hits_at(square.cast_exact(from(0.5, 30, 1 + unit / 4, 2)), 1) && hits_at(square.cast_exact(from(1, 30, 1, 2.5)), 1));
+    CHECK(PlainMesh({{0, 0, 0}, {31, 0, 0.5}, {0, 31, 0}}, {{0, 1, 2}}).cast_exact(from(0, 1, 1, 2)).hit().distance == 1);
+    CHECK(square.cast_exact(Ray{{31.5, 31.5, 0.5}, {-third, -third, -third}, 2}).hit().triangle == 1);
+    CHECK(square.cast_exact(Ray{{31.5 + 2 * unit, 31.5, 0.5}, {-third, -third, -third}, 2}).is_none());
+    // out of range, and what is refused before and after it
+    CHECK(refuses(square.cast_exact(from(1, 30, 8192.5, 9)), 12) && refuses(square.cast_exact(from(1, 30, 1, 32768.5)), 12));
+    CHECK(refuses(square.cast_exact(from(1, 30, 1, 32769).with_near(0.5)), 12));
+    CHECK(refuses(PlainMesh({{0, 0, 0}, {8192.5, 0, 0}, {0, 31, 0}}, {{0, 1, 2}}).cast_exact(from(1, 1, 1, 2)), 12));
+    CHECK(hits_at(PlainMesh({{0, 0, 0}, {8192, 0, 0}, {0, 31, 0}}, {{0, 1, 2}}).cast_exact(from(1, 1, 1, 2)), 1));
+    CHECK(refuses(square.cast_exact(from(1, 30, 9000, -1)), 1) && refuses(PlainMesh(T, {{0, 1, 3}}).cast_exact(from(0, 0, 1, 2)), 5));
+    CHECK(told(Refusal::out_of_range).find("refused 12, out of range") == 0);
+    // a NaN far from the ray: its mesh is cast at without the tree
+    const double nan = std::numeric_limits<double>::quiet_NaN();
+    const PlainMesh holed({{0, 0, 0}, {9, 0, 0}, {0, 9, 0}, {500, nan, 0}, {509, 0, 0}, {500, 9, 0}}, {{0, 1, 2}, {3, 4, 5}});
+    CHECK(!mesh_has_numbers(holed.shape()) && mesh_has_numbers(square.shape()));
+    CHECK(refuses(holed.cast_exact(from(1, 1, 1, 2)), 12) && refuses(holed.build().value().cast_exact(from(1, 1, 1, 2)), 12));
 }
 
 } // namespace
@@ -485,7 +494,7 @@ int main()
     ranges();
     cabinets();
     records();
-    whole_millimetres();
+    exactly();
     std::printf("%d checks\n", checks);
     return 0;
 }

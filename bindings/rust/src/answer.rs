@@ -103,8 +103,9 @@ pub enum Refusal {
     LimitReached,
     /// 11: a float of a record is NaN, or no f32 is exactly that number.
     NotHeld,
-    /// 12: the ray or a candidate's corner is not on whole millimetres in its range.
-    NotWhole,
+    /// 12: the origin or a corner of a triangle of the mesh is not a number from -8,192 to 8,192, or near or the maximum
+    /// is above 32,768.
+    OutOfRange,
     /// A number that this crate has no name for: a library newer than it.
     Other(u32),
 }
@@ -131,7 +132,7 @@ impl Refusal {
             sys::REFUSED_BAD_RANGE => Refusal::BadRange,
             sys::REFUSED_LIMIT_REACHED => Refusal::LimitReached,
             sys::REFUSED_NOT_HELD => Refusal::NotHeld,
-            sys::REFUSED_NOT_WHOLE => Refusal::NotWhole,
+            sys::REFUSED_OUT_OF_RANGE => Refusal::OutOfRange,
             other => Refusal::Other(other),
         }
     }
@@ -150,7 +151,7 @@ impl Refusal {
             Refusal::BadRange => sys::REFUSED_BAD_RANGE,
             Refusal::LimitReached => sys::REFUSED_LIMIT_REACHED,
             Refusal::NotHeld => sys::REFUSED_NOT_HELD,
-            Refusal::NotWhole => sys::REFUSED_NOT_WHOLE,
+            Refusal::OutOfRange => sys::REFUSED_OUT_OF_RANGE,
             Refusal::Other(number) => number,
         }
     }
@@ -172,8 +173,8 @@ impl fmt::Display for Refusal {
                 "limit reached: the cast would look at more nodes than admitted"
             }
             Refusal::NotHeld => "not held: a record's float is NaN, or is no f32 exactly",
-            Refusal::NotWhole => {
-                "not whole: the ray or a candidate's corner is not on whole millimetres in its range"
+            Refusal::OutOfRange => {
+                "out of range: the origin or a corner is not within 8,192, near or the maximum above 32,768"
             }
             Refusal::Other(_) => "a refusal that this version does not know",
         };
