@@ -8,6 +8,7 @@ pub mod bores;
 pub mod faces;
 pub mod fit;
 pub mod kinds;
+pub mod model;
 pub mod pictures;
 pub mod png;
 pub mod raster;
