@@ -92,6 +92,8 @@ pub enum Kind {
     Groove,
     /// A pocket that is open along a side of its face.
     Rabbet,
+    /// Right through, and open at a side of its face: a notch, a cut-out of the outline.
+    Notch,
     /// What is left standing within a pocket.
     Island,
     /// What stands out of an outer face: a pin, a dowel.
@@ -247,6 +249,8 @@ pub enum Doubt {
     LeftOver(usize),
     /// So many rows are not confirmed by the casts.
     NotConfirmed(usize),
+    /// The volume that the rows take away, and add, differs from that of the mesh by so many cubic millimetres.
+    Volume(f64),
     /// So many rows end at a surface that is not understood.
     UnknownEnds(usize),
     /// The file holds so many shells, and one was expected.
