@@ -36,8 +36,15 @@ pub fn find(shell: &Shell, regions: &Regions, rounds: &Rounds) -> Vec<Boss> {
             continue;
         };
         let area = |n: u32| regions.all[n as usize].area;
-        let (cap, base) = if area(one) < area(other) { (one, other) } else { (other, one) };
-        let faces_up = dot(regions.all[cap as usize].normal, regions.all[base as usize].normal) > 1.0 - 1e-6;
+        let (cap, base) = if area(one) < area(other) {
+            (one, other)
+        } else {
+            (other, one)
+        };
+        let faces_up = dot(
+            regions.all[cap as usize].normal,
+            regions.all[base as usize].normal,
+        ) > 1.0 - 1e-6;
         if faces_up && regions.all[cap as usize].loops.len() == 1 {
             found.push(Boss {
                 round: number as u32,
@@ -52,9 +59,12 @@ pub fn find(shell: &Shell, regions: &Regions, rounds: &Rounds) -> Vec<Boss> {
         let cap = &regions.all[boss.cap as usize];
         let in_plane = |n: &u32| {
             let region = &regions.all[*n as usize];
-            dot(region.normal, cap.normal) > 1.0 - 1e-6 && (region.offset - cap.offset).abs() <= 2.0 * off
+            dot(region.normal, cap.normal) > 1.0 - 1e-6
+                && (region.offset - cap.offset).abs() <= 2.0 * off
         };
-        (0..regions.all.len() as u32).filter(in_plane).all(|n| caps.contains(&n))
+        (0..regions.all.len() as u32)
+            .filter(in_plane)
+            .all(|n| caps.contains(&n))
     });
     found
 }
@@ -78,7 +88,10 @@ pub fn add_bosses(work: &mut Work<'_>, bosses: &[Boss]) {
         };
         let round = &work.rounds.all[boss.round as usize];
         let up = work.normal(boss.base);
-        let (cap, base) = (&work.regions.all[boss.cap as usize], &work.regions.all[boss.base as usize]);
+        let (cap, base) = (
+            &work.regions.all[boss.cap as usize],
+            &work.regions.all[boss.base as usize],
+        );
         let Some(foot) = round.axis.meets(up, base.offset) else {
             continue;
         };
@@ -104,7 +117,10 @@ pub fn add_bosses(work: &mut Work<'_>, bosses: &[Boss]) {
             end: DraftEnd::Floor,
             within: None,
             open: Vec::new(),
-            loops: vec![corners.iter().map(|&corner| along(corner, up, -height)).collect()],
+            loops: vec![corners
+                .iter()
+                .map(|&corner| along(corner, up, -height))
+                .collect()],
             volume: [-area * height; 2],
             probes: vec![Probe {
                 what: "down to its top",

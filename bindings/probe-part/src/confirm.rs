@@ -21,21 +21,38 @@ pub fn probe(shape: &Shape, ray: &Ray, scratch: &mut Scratch) -> Cast<MeshHit> {
 
 /// What the casts say of each row, over the machine's threads; a cast that is refused is an error. `wide` is how far it is
 /// through the whole part.
-pub fn confirm(shape: &Shape, frame: &Frame, drafts: &[Draft], wide: f64) -> Result<Vec<Check>, Refusal> {
-    let checked = Batch::new().progress("probing rows").run(drafts, |draft, scratch| {
-        for expected in &draft.probes {
-            if let Check::Differs(why) = checked(shape, frame, expected, wide, scratch)? {
-                return Ok(Check::Differs(why));
+pub fn confirm(
+    shape: &Shape,
+    frame: &Frame,
+    drafts: &[Draft],
+    wide: f64,
+) -> Result<Vec<Check>, Refusal> {
+    let checked = Batch::new()
+        .progress("probing rows")
+        .run(drafts, |draft, scratch| {
+            for expected in &draft.probes {
+                if let Check::Differs(why) = checked(shape, frame, expected, wide, scratch)? {
+                    return Ok(Check::Differs(why));
+                }
             }
-        }
-        Ok(Check::Confirmed)
-    });
+            Ok(Check::Confirmed)
+        });
     checked.into_iter().collect()
 }
 
-fn checked(shape: &Shape, frame: &Frame, probe_of: &Probe, wide: f64, scratch: &mut Scratch) -> Result<Check, Refusal> {
+fn checked(
+    shape: &Shape,
+    frame: &Frame,
+    probe_of: &Probe,
+    wide: f64,
+    scratch: &mut Scratch,
+) -> Result<Check, Refusal> {
     let [least, most] = probe_of.expected;
-    let reach = if most.is_finite() { most + wide + BEYOND } else { least };
+    let reach = if most.is_finite() {
+        most + wide + BEYOND
+    } else {
+        least
+    };
     let ray = Ray::toward(
         frame.place_in_file(probe_of.from),
         frame.direction_in_file(probe_of.way),
@@ -47,7 +64,10 @@ fn checked(shape: &Shape, frame: &Frame, probe_of: &Probe, wide: f64, scratch: &
         } else {
             format!("a surface at {}", fixed((least + most) / 2.0, 2))
         };
-        Check::Differs(format!("a probe {} meets {found}, not {wanted}", probe_of.what))
+        Check::Differs(format!(
+            "a probe {} meets {found}, not {wanted}",
+            probe_of.what
+        ))
     };
     Ok(match probe(shape, &ray, scratch) {
         Cast::Refused(refusal) => return Err(refusal),

@@ -49,7 +49,13 @@ pub fn fitted(points: &[Vector], direction: Vector) -> Option<(Axis, f64)> {
             let off = length(axis.radial(point)) - radius;
             // how the distance changes as the axis moves along u and v, leans to u and v, and the radius grows
             let [along_u, along_v] = [dot(outward, u), dot(outward, v)];
-            let row = [-along_u, -along_v, -height * along_u, -height * along_v, -1.0];
+            let row = [
+                -along_u,
+                -along_v,
+                -height * along_u,
+                -height * along_v,
+                -1.0,
+            ];
             for one in 0..5 {
                 for other in 0..5 {
                     matrix[one][other] += row[one] * row[other];

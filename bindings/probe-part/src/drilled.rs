@@ -16,6 +16,9 @@ const BEFORE_WITHIN: f64 = 0.2;
 /// How far a probe may be off a surface, in millimetres.
 pub const NEAR: f64 = 0.01;
 
+/// How far the triangles of a round wall may lie within it, as a share of its radius: sides of 45 degrees.
+const BULGE: f64 = 0.08;
+
 /// What lies beyond an end of a round surface.
 #[derive(Clone, Copy, Debug, PartialEq)]
 enum Beyond {
@@ -46,7 +49,10 @@ struct Rim {
 /// Adds the bores and countersinks of all concave round surfaces.
 pub fn add_bores(work: &mut Work<'_>) {
     let all: Vec<(u32, Vec<Rim>)> = (0..work.rounds.all.len() as u32)
-        .filter(|&n| work.rounds.all[n as usize].is_concave && !work.rounds.all[n as usize].regions.is_empty())
+        .filter(|&n| {
+            work.rounds.all[n as usize].is_concave
+                && !work.rounds.all[n as usize].regions.is_empty()
+        })
         .map(|n| (n, rims(work, n)))
         .collect();
     for (number, rims) in &all {
@@ -77,12 +83,18 @@ fn rims(work: &Work<'_>, number: u32) -> Vec<Rim> {
         .copied()
         .collect();
     let all = loops::border(work.shell, &triangles, inside, round.axis.direction);
-    all.iter().filter_map(|around| rim(work, round, around)).collect()
+    all.iter()
+        .filter_map(|around| rim(work, round, around))
+        .collect()
 }
 
 /// A loop as an end, if it goes around the axis.
 fn rim(work: &Work<'_>, round: &Round, around: &Loop) -> Option<Rim> {
-    let points: Vec<Vector> = around.vertices.iter().map(|&v| work.shell.vertices[v as usize]).collect();
+    let points: Vec<Vector> = around
+        .vertices
+        .iter()
+        .map(|&v| work.shell.vertices[v as usize])
+        .collect();
     let area = polygon_area(&points, round.axis.direction);
     let heights = || points.iter().map(|&point| round.axis.height(point));
     let mean = heights().sum::<f64>() / points.len() as f64;
@@ -97,8 +109,14 @@ fn rim(work: &Work<'_>, round: &Round, around: &Loop) -> Option<Rim> {
         let across = work.regions.of_triangle(around.across[place]);
         let (from, to) = (points[place], points[(place + 1) % count]);
         let own = own_region(work, around, place);
-        let is_convex = across != NONE && work.is_convex(own, across, crate::geometry::subtract(to, from));
-        edges.push(Edge { across, from, to, is_convex });
+        let is_convex =
+            across != NONE && work.is_convex(own, across, crate::geometry::subtract(to, from));
+        edges.push(Edge {
+            across,
+            from,
+            to,
+            is_convex,
+        });
     }
     Some(Rim {
         beyond: beyond(work, &edges),
@@ -171,7 +189,8 @@ fn entry_order(work: &Work<'_>, number: u32, rim: &Rim) -> Option<f64> {
     }
     match rim.beyond {
         Beyond::Face(face) => Some(f64::from(face)),
-        Beyond::Level(region) => Some(work.order_of(work.normal(region)) + 0.25),
+        // what opens in the floor of another row is entered from there
+        Beyond::Level(region) => Some(work.order_of(work.normal(region)) - 20.0),
         Beyond::Floor(_) => None,
         Beyond::Round(other) => {
             let other = &work.rounds.all[other as usize];
@@ -180,7 +199,7 @@ fn entry_order(work: &Work<'_>, number: u32, rim: &Rim) -> Option<f64> {
             let way = further * dot(other.axis.direction, round.axis.direction).signum();
             let wider = other.slope * way > 0.0 || (!round.is_cylinder() && other.is_cylinder());
             if coaxial && wider {
-                Some(work.order_of(outwards) + 0.5)
+                Some(work.order_of(outwards) - 10.0)
             } else if coaxial {
                 None
             } else {
@@ -241,7 +260,11 @@ fn add_bore(work: &mut Work<'_>, number: u32, rims: &[Rim], all: &[(u32, Vec<Rim
         Beyond::Level(_) | Beyond::Round(_) => entry.edges.first().map(|edge| edge.across),
         _ => None,
     };
-    let before = if matches!(entry.beyond, Beyond::Face(_)) { BEFORE } else { BEFORE_WITHIN };
+    let before = if matches!(entry.beyond, Beyond::Face(_)) {
+        BEFORE
+    } else {
+        BEFORE_WITHIN
+    };
     // where the floor has a hole, or what stands on it, the axis does not meet it
     let down = match last.map(|rim| rim.beyond) {
         Some(Beyond::Floor(floor)) if work.regions.all[floor as usize].loops.len() > 1 => {
@@ -254,18 +277,37 @@ fn add_bore(work: &mut Work<'_>, number: u32, rims: &[Rim], all: &[(u32, Vec<Rim
         what: "down its axis",
         from: down,
         way: axis,
-        expected: [floor_depth[0] - NEAR + before, floor_depth[1] + NEAR + before],
+        expected: [
+            floor_depth[0] - NEAR + before,
+            floor_depth[1] + NEAR + before,
+        ],
     }];
     if plane(work, entry).is_some() {
         // where an end lies aslant, depths differ from side to side
-        let aslant = [Some(entry), last].map(|rim| rim.map_or(0.0, |rim| (rim.high - rim.low) / 2.0));
+        let aslant =
+            [Some(entry), last].map(|rim| rim.map_or(0.0, |rim| (rim.high - rim.low) / 2.0));
         let aslant = NEAR + aslant[0] + aslant[1];
         let inside = if round.is_cylinder() {
             [depth.min(floor_depth[0]) - aslant, floor_depth[1] + aslant]
         } else {
             [0.0, floor_depth[1] + NEAR]
         };
-        probes.extend(probes_beside(&turned(&entry.edges, axis), axis, entry_plane, inside, before));
+        // sides that are not straight strips bulge inwards between their corners
+        let is_plain = round.regions.len() == round.sides;
+        let bulge = if is_plain {
+            0.0
+        } else {
+            BULGE * round.radius_at(from)
+        };
+        let edges = turned(&entry.edges, axis);
+        probes.extend(probes_beside(
+            &edges,
+            axis,
+            entry_plane,
+            inside,
+            before,
+            bulge,
+        ));
     }
     let is_countersink = !round.is_cylinder();
     let spread = [entry, last.unwrap_or(entry)].map(|rim| match plane(work, rim) {
@@ -273,7 +315,11 @@ fn add_bore(work: &mut Work<'_>, number: u32, rims: &[Rim], all: &[(u32, Vec<Rim
         None => rim.high - rim.low,
     });
     let draft = Draft {
-        kind: if is_countersink { Kind::Countersink } else { Kind::Bore },
+        kind: if is_countersink {
+            Kind::Countersink
+        } else {
+            Kind::Bore
+        },
         face,
         outline: Outline::Circle {
             diameter: 2.0 * round.radius_at(from),
@@ -315,7 +361,9 @@ fn ending(
             (DraftEnd::Floor, [depth; 2])
         }
         Beyond::Round(other) => {
-            let tip = all.iter().find(|(number, rims)| *number == other && is_tip(work, other, rims));
+            let tip = all
+                .iter()
+                .find(|(number, rims)| *number == other && is_tip(work, other, rims));
             let cone = &work.rounds.all[other as usize];
             match tip {
                 Some(_) => {
@@ -332,7 +380,14 @@ fn ending(
 }
 
 /// The volume between two ends, which may lie slanted.
-fn volume(round: &Round, entry: &Rim, last: Option<&Rim>, depth: f64, end: DraftEnd, spread: f64) -> [f64; 2] {
+fn volume(
+    round: &Round,
+    entry: &Rim,
+    last: Option<&Rim>,
+    depth: f64,
+    end: DraftEnd,
+    spread: f64,
+) -> [f64; 2] {
     let tip = match end {
         DraftEnd::Tip(_, to) if round.is_cylinder() => to - depth,
         _ => 0.0,
@@ -342,8 +397,15 @@ fn volume(round: &Round, entry: &Rim, last: Option<&Rim>, depth: f64, end: Draft
         let areas = [entry.area, last.map_or(entry.area, |rim| rim.area)];
         let [least, most] = [areas[0].min(areas[1]), areas[0].max(areas[1])];
         // straight sides are as wide at both ends; others lie somewhere between the polygon and the circle
-        let slack = if round.regions.len() == round.sides { 0.0 } else { circle(round.radius) - least };
-        [(least - slack) * (depth + tip / 3.0 - spread), (most + slack) * (depth + tip / 3.0 + spread)]
+        let slack = if round.regions.len() == round.sides {
+            0.0
+        } else {
+            circle(round.radius) - least
+        };
+        [
+            (least - slack) * (depth + tip / 3.0 - spread),
+            (most + slack) * (depth + tip / 3.0 + spread),
+        ]
     } else {
         let narrow = last.map_or(0.0, |rim| rim.area);
         let both = (entry.area + narrow + (entry.area * narrow).sqrt()) * depth / 3.0;

@@ -100,7 +100,11 @@ impl Features {
                 let sum = &mut sums[self.of[number] as usize];
                 sum.1 += region.area;
                 // the void lies on the other side
-                let volume: f64 = region.triangles.iter().map(|&t| six(work.shell.corners(t))).sum();
+                let volume: f64 = region
+                    .triangles
+                    .iter()
+                    .map(|&t| six(work.shell.corners(t)))
+                    .sum();
                 sum.0 -= volume / 6.0;
                 continue;
             }
@@ -108,7 +112,13 @@ impl Features {
                 let features: Vec<u32> = work
                     .regions
                     .across(around)
-                    .map(|across| if across == NONE { NONE } else { self.of[across as usize] })
+                    .map(|across| {
+                        if across == NONE {
+                            NONE
+                        } else {
+                            self.of[across as usize]
+                        }
+                    })
                     .collect();
                 let Some(&first) = features.iter().find(|&&feature| feature != NONE) else {
                     continue;
@@ -118,8 +128,15 @@ impl Features {
                     touched.for_each(|&feature| sums[feature as usize].2 = false);
                     continue;
                 }
-                let points: Vec<Vector> = around.vertices.iter().map(|&v| work.shell.vertices[v as usize]).collect();
-                let lid: f64 = points.windows(2).map(|pair| six([points[0], pair[1], pair[0]])).sum();
+                let points: Vec<Vector> = around
+                    .vertices
+                    .iter()
+                    .map(|&v| work.shell.vertices[v as usize])
+                    .collect();
+                let lid: f64 = points
+                    .windows(2)
+                    .map(|pair| six([points[0], pair[1], pair[0]]))
+                    .sum();
                 sums[first as usize].0 += lid / 6.0;
             }
         }

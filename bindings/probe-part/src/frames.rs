@@ -24,15 +24,20 @@ pub fn own_frame(shell: &Shell, regions: &Regions) -> Frame {
     let across = unit(cross(up, side));
     let wide = |way: Vector| {
         let heights = shell.vertices.iter().map(|&point| dot(point, way));
-        let (low, high) = heights.fold((f64::INFINITY, f64::NEG_INFINITY), |(low, high), height| {
-            (low.min(height), high.max(height))
-        });
+        let (low, high) = heights
+            .fold((f64::INFINITY, f64::NEG_INFINITY), |(low, high), height| {
+                (low.min(height), high.max(height))
+            });
         high - low
     };
     let (one, other) = (wide(side), wide(across));
     let first = if (one - other).abs() <= 1e-6 * one.max(other) {
         // a square: the side that lies nearer to the file's x
-        if side[0].abs() >= across[0].abs() { side } else { across }
+        if side[0].abs() >= across[0].abs() {
+            side
+        } else {
+            across
+        }
     } else if one > other {
         side
     } else {
@@ -76,7 +81,9 @@ fn largest_plane(regions: &Regions) -> Option<Vector> {
         .into_iter()
         .filter(|plane| plane.2 >= most * (1.0 - 1e-6))
         .max_by(|a, b| {
-            let lean = |normal: Vector| (normal[2].abs() * 1e6).round() + (normal[1].abs() * 1e3).round() / 1e6;
+            let lean = |normal: Vector| {
+                (normal[2].abs() * 1e6).round() + (normal[1].abs() * 1e3).round() / 1e6
+            };
             lean(a.0).total_cmp(&lean(b.0))
         })
         .map(|plane| plane.0)
@@ -92,7 +99,11 @@ fn longest_direction(shell: &Shell, regions: &Regions, up: Vector) -> Vector {
         let Some(around) = region.loops.first() else {
             continue;
         };
-        let corners: Vec<Vector> = around.corners.iter().map(|&v| shell.vertices[v as usize]).collect();
+        let corners: Vec<Vector> = around
+            .corners
+            .iter()
+            .map(|&v| shell.vertices[v as usize])
+            .collect();
         for place in 0..corners.len() {
             let edge = subtract(corners[(place + 1) % corners.len()], corners[place]);
             let long = length(edge);
@@ -109,7 +120,11 @@ fn longest_direction(shell: &Shell, regions: &Regions, up: Vector) -> Vector {
             }
         }
     }
-    let fallback = if up[0].abs() < 0.9 { [1.0, 0.0, 0.0] } else { [0.0, 1.0, 0.0] };
+    let fallback = if up[0].abs() < 0.9 {
+        [1.0, 0.0, 0.0]
+    } else {
+        [0.0, 1.0, 0.0]
+    };
     let best = ways.into_iter().max_by(|a, b| a.1.total_cmp(&b.1));
     let side = best.map_or(fallback, |way| way.0);
     unit(subtract(side, scale(up, dot(side, up))))

@@ -149,7 +149,12 @@ pub fn polygon_area(points: &[Vector], normal: Vector) -> f64 {
     };
     let twice: f64 = points
         .windows(2)
-        .map(|pair| dot(cross(subtract(pair[0], first), subtract(pair[1], first)), normal))
+        .map(|pair| {
+            dot(
+                cross(subtract(pair[0], first), subtract(pair[1], first)),
+                normal,
+            )
+        })
         .sum();
     twice / 2.0
 }

@@ -6,6 +6,7 @@ use crate::outline::named;
 use crate::pockets::{area_of, face_along, BEFORE};
 use crate::rounds::off_round;
 use crate::topology::NONE;
+use crate::walls::{connected, upright, Upright};
 use crate::work::{Draft, DraftEnd, Edge, Probe, Work};
 
 /// A level surface that walls end at.
@@ -31,15 +32,26 @@ pub fn loop_at(work: &Work<'_>, region: u32, number: usize) -> Vec<Vector> {
 pub fn add_islands(work: &mut Work<'_>, floor: u32, owner: u32, up: Vector) {
     for number in 1..work.regions.all[floor as usize].loops.len() {
         let edges = work.edges(floor, number);
-        let rises = |edge: &Edge| edge.across != NONE && !edge.is_convex && work.is_wall(edge.across, up);
+        let rises = |edge: &Edge| {
+            edge.across != NONE && !edge.is_convex && work.is_near_wall(edge.across, up)
+        };
         if !edges.iter().all(rises) {
             continue;
         }
-        let mut walls: Vec<u32> = edges.iter().map(|edge| edge.across).collect();
-        walls.sort_unstable();
-        walls.dedup();
-        if let Some(top) = top_of(work, &walls, up) {
-            add_island(work, floor, number, owner, up, walls, top);
+        let standing: Vec<u32> = edges.iter().map(|edge| edge.across).collect();
+        let walls = connected(work, &standing, up, Some(floor));
+        let straight = upright(work, &walls, up);
+        if let (Some(top), Some(straight)) = (top_of(work, &walls, up), straight) {
+            let island = Standing {
+                floor,
+                number,
+                owner,
+                up,
+                walls,
+                top,
+                straight,
+            };
+            add_island(work, island);
         }
     }
 }
@@ -65,15 +77,27 @@ fn top_of(work: &Work<'_>, walls: &[u32], up: Vector) -> Option<Level> {
     top
 }
 
-fn add_island(
-    work: &mut Work<'_>,
+/// What stands in a hole of a floor that belongs to a row.
+struct Standing {
     floor: u32,
     number: usize,
     owner: u32,
     up: Vector,
-    mut walls: Vec<u32>,
+    walls: Vec<u32>,
     top: Level,
-) {
+    straight: Upright,
+}
+
+fn add_island(work: &mut Work<'_>, island: Standing) {
+    let Standing {
+        floor,
+        number,
+        owner,
+        up,
+        mut walls,
+        top,
+        straight,
+    } = island;
     let sheet = Sheet::of(up);
     let corners = loop_at(work, floor, number);
     let flat: Vec<[f64; 2]> = corners.iter().map(|&corner| sheet.flat(corner)).collect();
@@ -81,7 +105,10 @@ fn add_island(
     let base = work.regions.all[floor as usize].offset;
     let height = top.offset - base;
     let area = area_of(&corners, up);
-    let polygon: Vec<Vector> = corners.iter().map(|&corner| along(corner, up, height)).collect();
+    let polygon: Vec<Vector> = corners
+        .iter()
+        .map(|&corner| along(corner, up, height))
+        .collect();
     let middle = middle_of(work, top.region);
     let probe = Probe {
         what: "down to its top",
@@ -89,9 +116,18 @@ fn add_island(
         way: scale(up, -1.0),
         expected: [BEFORE - NEAR, BEFORE + NEAR],
     };
-    if ring(work, floor, owner, up, &outline.outline, &outline.centre, top) {
+    if ring(
+        work,
+        floor,
+        owner,
+        up,
+        &outline.outline,
+        &outline.centre,
+        top,
+    ) {
         let draft = &mut work.drafts[owner as usize];
-        draft.volume = draft.volume.map(|volume| volume - area * height);
+        draft.volume[0] -= (area + straight.slack) * height;
+        draft.volume[1] -= (area - straight.slack) * height;
         draft.loops.push(polygon);
         draft.probes.push(probe);
         for wall in walls {
@@ -115,7 +151,10 @@ fn add_island(
         within: Some(floor),
         open: Vec::new(),
         loops: vec![polygon],
-        volume: [-area * height; 2],
+        volume: [
+            -(area + straight.slack) * height,
+            -(area - straight.slack) * height,
+        ],
         probes: vec![probe],
     };
     walls.push(top.region);
@@ -139,9 +178,14 @@ fn ring(
     let apart = (own[0] - centre[0]).hypot(own[1] - centre[1]);
     let level = (top.offset - dot(draft.centre, up)).abs() <= NEAR;
     match (&draft.outline, island) {
-        (Outline::Circle { diameter: outer, .. }, Outline::Circle { diameter: inner, .. })
-            if holes == 1 && apart <= 0.01 && level =>
-        {
+        (
+            Outline::Circle {
+                diameter: outer, ..
+            },
+            Outline::Circle {
+                diameter: inner, ..
+            },
+        ) if holes == 1 && apart <= 0.01 && level => {
             draft.outline = Outline::Ring {
                 outer: *outer,
                 inner: *inner,

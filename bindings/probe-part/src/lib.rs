@@ -33,5 +33,6 @@ pub mod shape;
 pub mod svg;
 pub mod tables;
 mod topology;
+mod walls;
 pub mod words;
 mod work;

@@ -39,7 +39,8 @@ pub fn border(
             }
         }
     }
-    let places: HashMap<(u32, u8), usize> = border.iter().enumerate().map(|(n, &e)| (e, n)).collect();
+    let places: HashMap<(u32, u8), usize> =
+        border.iter().enumerate().map(|(n, &e)| (e, n)).collect();
     let mut used = vec![false; border.len()];
     let mut loops = Vec::new();
     for start in 0..border.len() {
@@ -58,7 +59,10 @@ pub fn border(
                 None => break,
             }
         }
-        let points: Vec<Vector> = vertices.iter().map(|&v| shell.vertices[v as usize]).collect();
+        let points: Vec<Vector> = vertices
+            .iter()
+            .map(|&v| shell.vertices[v as usize])
+            .collect();
         loops.push(Loop {
             corners: corners(shell, &vertices),
             area: polygon_area(&points, normal),
@@ -99,7 +103,9 @@ fn corners(shell: &Shell, vertices: &[u32]) -> Vec<u32> {
         let aside = length(subtract(way_there, way.map(|part| part * along)));
         aside <= off && along >= 0.0 && along <= length(subtract(to, from))
     };
-    let first = (0..count).find(|&n| !straight(n + count - 1, n, n + 1)).unwrap_or(0);
+    let first = (0..count)
+        .find(|&n| !straight(n + count - 1, n, n + 1))
+        .unwrap_or(0);
     let mut kept = vec![first];
     let mut last = first;
     for n in first + 1..first + count {

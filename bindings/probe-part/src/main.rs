@@ -325,7 +325,11 @@ fn bores(call: &Call, out: &mut Output) -> Result<u8, String> {
         several: call.has("--shells"),
     };
     let listing = Listing {
-        faces: call.faces()?.iter().map(|face| face.name().into()).collect(),
+        faces: call
+            .faces()?
+            .iter()
+            .map(|face| face.name().into())
+            .collect(),
         from_corner: call.has("--from-corner"),
     };
     let shape = Shape::load_in(&call.file, options.unit)?;
@@ -345,7 +349,11 @@ fn bores(call: &Call, out: &mut Output) -> Result<u8, String> {
     } else {
         out.print(&tables::table(&report, &listing))?;
     }
-    Ok(if report.is_certain() { ANSWERED } else { DOUBTFUL })
+    Ok(if report.is_certain() {
+        ANSWERED
+    } else {
+        DOUBTFUL
+    })
 }
 
 /// `probe-part depth`.
@@ -383,10 +391,15 @@ fn depth(call: &Call, out: &mut Output) -> Result<u8, String> {
             ..Options::default()
         };
         let report = recognise(&shape, &options).map_err(|why| format!("a cast was {why}"))?;
-        let of_face = |part: &'_ Part, row: &Row| row.face.is_some_and(|n| part.faces[n].name == face.name());
+        let of_face =
+            |part: &'_ Part, row: &Row| row.face.is_some_and(|n| part.faces[n].name == face.name());
         let mut numbered: Vec<(usize, &Row)> = Vec::new();
         for part in &report.parts {
-            let rows = part.rows.iter().enumerate().filter(|(_, row)| of_face(part, row));
+            let rows = part
+                .rows
+                .iter()
+                .enumerate()
+                .filter(|(_, row)| of_face(part, row));
             numbered.extend(rows.map(|(place, row)| (place + 1, row)));
         }
         let title = format!("{}, {} face", call.file, face.name());

@@ -7,6 +7,7 @@ use crate::outline::named;
 use crate::pockets::{area_of, face_along, BEFORE};
 use crate::rounds::off_round;
 use crate::topology::NONE;
+use crate::walls::{connected, upright};
 use crate::work::{probes_beside, Draft, DraftEnd, Edge, Work};
 
 /// Adds what goes through, from the level surfaces beside a group that face along its axis.
@@ -15,8 +16,14 @@ pub fn add_through(work: &mut Work<'_>, group: &[u32], axis: Vector) {
         for region in mouths(work, group, up) {
             for number in 0..work.regions.all[region as usize].loops.len() {
                 let edges = work.edges(region, number);
-                let ours = |edge: &Edge| edge.across != NONE && edge.is_convex && goes_down(work, edge.across, up);
-                if edges.iter().all(|edge| ours(edge)) && number > 0 {
+                let ours = |edge: &Edge| {
+                    let across = edge.across;
+                    across != NONE
+                        && edge.is_convex
+                        && work.is_free(across)
+                        && work.is_near_wall(across, up)
+                };
+                if number > 0 && edges.iter().all(ours) {
                     add_closed(work, region, number, up, &edges);
                 } else if number == 0 && work.face(region).is_some() {
                     add_open(work, region, up, &edges, group);
@@ -45,8 +52,11 @@ fn goes_down(work: &Work<'_>, wall: u32, up: Vector) -> bool {
         return false;
     }
     let edges = work.all_edges(wall);
-    let ends = |edge: &Edge| edge.across != NONE && edge.is_convex && work.is_level(edge.across, scale(up, -1.0));
-    let floor = |edge: &Edge| edge.across != NONE && !edge.is_convex && work.is_level(edge.across, up);
+    let ends = |edge: &Edge| {
+        edge.across != NONE && edge.is_convex && work.is_level(edge.across, scale(up, -1.0))
+    };
+    let floor =
+        |edge: &Edge| edge.across != NONE && !edge.is_convex && work.is_level(edge.across, up);
     edges.iter().any(ends) && !edges.iter().any(floor)
 }
 
@@ -64,9 +74,8 @@ fn bottom_of(work: &Work<'_>, wall: u32, up: Vector) -> Option<(f64, u32)> {
 fn add_closed(work: &mut Work<'_>, region: u32, number: usize, up: Vector, edges: &[Edge]) {
     let corners = loop_at(work, region, number);
     let polygon = corners.clone();
-    let mut walls: Vec<u32> = edges.iter().map(|edge| edge.across).collect();
-    walls.sort_unstable();
-    walls.dedup();
+    let hanging: Vec<u32> = edges.iter().map(|edge| edge.across).collect();
+    let walls = connected(work, &hanging, up, None);
     // the void lies to the right of a hole's edges
     let back: Vec<Edge> = edges.iter().map(reversed).collect();
     add(work, region, up, polygon, &back, walls, Vec::new());
@@ -84,7 +93,10 @@ fn reversed(edge: &Edge) -> Edge {
 fn add_open(work: &mut Work<'_>, region: u32, up: Vector, edges: &[Edge], group: &[u32]) {
     let count = edges.len();
     let ours = |edge: &Edge| {
-        edge.across != NONE && group.contains(&edge.across) && edge.is_convex && goes_down(work, edge.across, up)
+        edge.across != NONE
+            && group.contains(&edge.across)
+            && edge.is_convex
+            && goes_down(work, edge.across, up)
     };
     let flags: Vec<bool> = edges.iter().map(ours).collect();
     let Some(gap) = flags.iter().position(|flag| !flag) else {
@@ -175,7 +187,23 @@ fn add(
     walls: Vec<u32>,
     open: Vec<u32>,
 ) {
-    let Some(&(bottom, below)) = walls.iter().filter_map(|&wall| bottom_of(work, wall, up)).collect::<Vec<_>>().first() else {
+    let Some(&(bottom, below)) = walls
+        .iter()
+        .filter_map(|&wall| bottom_of(work, wall, up))
+        .collect::<Vec<_>>()
+        .first()
+    else {
+        return;
+    };
+    let on_floor =
+        |edge: &Edge| edge.across != NONE && !edge.is_convex && work.is_level(edge.across, up);
+    if walls
+        .iter()
+        .any(|&wall| work.all_edges(wall).iter().any(on_floor))
+    {
+        return;
+    }
+    let Some(straight) = upright(work, &walls, up) else {
         return;
     };
     let entry = work.regions.all[region as usize].offset;
@@ -187,23 +215,38 @@ fn add(
     let face = face_along(work, up);
     let entry_depth = face.map_or(0.0, |face| work.outer.offsets[face as usize] - entry);
     let ends_outside = work.face(below).is_some();
-    let taken = area_of(&polygon, up) * depth;
+    let area = area_of(&polygon, up);
     let down = scale(up, -1.0);
     let free = [depth - NEAR, f64::INFINITY];
     let draft = Draft {
-        kind: if open.is_empty() { Kind::Pocket } else { Kind::Notch },
+        kind: if open.is_empty() {
+            Kind::Pocket
+        } else {
+            Kind::Notch
+        },
         face,
         outline: outline.outline,
         centre: sheet.solid(outline.centre, entry),
         axis: down,
         entry_depth,
         depth,
-        end: if ends_outside { DraftEnd::Through } else { DraftEnd::Into(below) },
+        end: if ends_outside {
+            DraftEnd::Through
+        } else {
+            DraftEnd::Into(below)
+        },
         within: work.face(region).is_none().then_some(region),
         open,
         loops: vec![corners],
-        volume: [taken; 2],
-        probes: probes_beside(edges, down, (up, entry), free, BEFORE),
+        volume: [-1.0, 1.0].map(|sign| (area + sign * straight.slack) * depth),
+        probes: probes_beside(
+            edges,
+            down,
+            (up, entry),
+            free,
+            BEFORE,
+            2.0 * straight.sagitta,
+        ),
     };
     work.add(draft, walls);
 }
@@ -213,7 +256,10 @@ fn straightened(polygon: &[Vector]) -> Vec<Vector> {
     let mut kept: Vec<Vector> = Vec::new();
     let count = polygon.len();
     for place in 0..count {
-        let before = kept.last().copied().unwrap_or(polygon[(place + count - 1) % count]);
+        let before = kept
+            .last()
+            .copied()
+            .unwrap_or(polygon[(place + count - 1) % count]);
         let (here, after) = (polygon[place], polygon[(place + 1) % count]);
         let way = crate::geometry::unit(subtract(after, before));
         let from = subtract(here, before);

@@ -40,7 +40,10 @@ pub fn outer(shell: &Shell, regions: &Regions, standing_out: &[bool]) -> Outer {
     let mut used = vec![false; shell.vertices.len()];
     for (number, region) in regions.all.iter().enumerate() {
         if !standing_out[number] {
-            let indices = region.triangles.iter().flat_map(|&t| shell.triangles[t as usize]);
+            let indices = region
+                .triangles
+                .iter()
+                .flat_map(|&t| shell.triangles[t as usize]);
             indices.for_each(|index| used[index as usize] = true);
         }
     }
@@ -62,9 +65,18 @@ pub fn outer(shell: &Shell, regions: &Regions, standing_out: &[bool]) -> Outer {
     };
     let flags: Vec<bool> = (0..regions.all.len()).map(is_outer).collect();
     let mut body = Polytope::of_box(bounds);
-    for (number, region) in regions.all.iter().enumerate() {
-        if flags[number] {
+    let mut planes: Vec<usize> = Vec::new();
+    let mut outer: Vec<usize> = (0..flags.len()).filter(|&n| flags[n]).collect();
+    outer.sort_by(|&a, &b| regions.all[b].area.total_cmp(&regions.all[a].area));
+    for number in outer {
+        // of one plane the largest region knows it best
+        if !planes
+            .iter()
+            .any(|&known| is_one_plane(shell, regions, known, number))
+        {
+            let region = &regions.all[number];
             body.cut(region.normal, region.offset, off_plane(shell));
+            planes.push(number);
         }
     }
     let (faces, offsets, of) = named(shell, regions, &flags);
@@ -76,12 +88,22 @@ pub fn outer(shell: &Shell, regions: &Regions, standing_out: &[bool]) -> Outer {
     }
 }
 
+/// Whether a region lies in the plane of a larger one.
+fn is_one_plane(shell: &Shell, regions: &Regions, large: usize, small: usize) -> bool {
+    let (large, small) = (&regions.all[large], &regions.all[small]);
+    let lean = 1e-4 + small.lean(shell);
+    let off = dot(large.normal, small.centre) - large.offset;
+    dot(large.normal, small.normal) > 1.0 - lean * lean / 2.0 && off.abs() <= 2.0 * off_plane(shell)
+}
+
 /// The points that lie furthest in some directions: what is not outer is mostly told by them.
 fn extremes(points: &[Vector]) -> Vec<Vector> {
     let mut found = Vec::new();
     for step in 0..125 {
         let way = [step % 5, step / 5 % 5, step / 25].map(|part| f64::from(part) - 2.0);
-        let most = points.iter().max_by(|a, b| dot(**a, way).total_cmp(&dot(**b, way)));
+        let most = points
+            .iter()
+            .max_by(|a, b| dot(**a, way).total_cmp(&dot(**b, way)));
         found.extend(most);
     }
     found.dedup();
@@ -103,7 +125,10 @@ fn named(shell: &Shell, regions: &Regions, flags: &[bool]) -> Named {
             point: first.centre,
             radius,
             area: members.iter().map(|&n| regions.all[n].area).sum(),
-            triangles: members.iter().map(|&n| regions.all[n].triangles.len()).sum(),
+            triangles: members
+                .iter()
+                .map(|&n| regions.all[n].triangles.len())
+                .sum(),
         });
         offsets.push(first.offset);
     };
@@ -128,8 +153,15 @@ fn named(shell: &Shell, regions: &Regions, flags: &[bool]) -> Named {
             add(format!("round {round}"), &members, radius, &mut of);
         } else {
             for &one in &members {
+                if of[one] != NONE {
+                    continue;
+                }
                 slanted += 1;
-                add(format!("slanted {slanted}"), &[one], None, &mut of);
+                let is_it = |n: &usize| {
+                    of[*n] == NONE && (*n == one || is_one_plane(shell, regions, one, *n))
+                };
+                let plane: Vec<usize> = outer.iter().copied().filter(is_it).collect();
+                add(format!("slanted {slanted}"), &plane, None, &mut of);
             }
         }
     }
@@ -157,7 +189,9 @@ fn smooth(regions: &Regions, start: usize, free: impl Fn(usize) -> bool) -> Vec<
 
 /// The radius of a round edge, if it is a cylinder.
 fn radius_of(shell: &Shell, regions: &Regions, members: &[usize]) -> Option<f64> {
-    let normals = members.iter().map(|&n| (regions.all[n].normal, regions.all[n].area));
+    let normals = members
+        .iter()
+        .map(|&n| (regions.all[n].normal, regions.all[n].area));
     let direction = cylinder::across(normals)?;
     let corners: Vec<Vector> = members
         .iter()

@@ -26,7 +26,9 @@ pub fn named(corners: &[Place], tolerance: f64) -> Named {
         };
     }
     let turned = [0.0, longest_angle(corners)];
-    let found = turned.iter().find_map(|&angle| rectangular(corners, angle, tolerance));
+    let found = turned
+        .iter()
+        .find_map(|&angle| rectangular(corners, angle, tolerance));
     if let Some(named) = found {
         return named;
     }
@@ -54,9 +56,14 @@ pub fn box_around(points: &[Place]) -> [Place; 2] {
 /// The direction of the longest side, from 0 to below half a turn.
 fn longest_angle(corners: &[Place]) -> f64 {
     let next = corners.iter().cycle().skip(1);
-    let edges = corners.iter().zip(next).map(|(a, b)| [b[0] - a[0], b[1] - a[1]]);
+    let edges = corners
+        .iter()
+        .zip(next)
+        .map(|(a, b)| [b[0] - a[0], b[1] - a[1]]);
     let longest = edges.max_by(|a, b| a[0].hypot(a[1]).total_cmp(&b[0].hypot(b[1])));
-    longest.map_or(0.0, |edge| edge[1].atan2(edge[0]).rem_euclid(std::f64::consts::PI))
+    longest.map_or(0.0, |edge| {
+        edge[1].atan2(edge[0]).rem_euclid(std::f64::consts::PI)
+    })
 }
 
 fn rotated([x, y]: Place, angle: f64) -> Place {
@@ -66,7 +73,10 @@ fn rotated([x, y]: Place, angle: f64) -> Place {
 
 /// A rectangle, with round corners or without, or a slot, whose sides run along a direction.
 fn rectangular(corners: &[Place], way: f64, tolerance: f64) -> Option<Named> {
-    let straight: Vec<Place> = corners.iter().map(|&corner| rotated(corner, -way)).collect();
+    let straight: Vec<Place> = corners
+        .iter()
+        .map(|&corner| rotated(corner, -way))
+        .collect();
     let [low, high] = box_around(&straight);
     let size = [high[0] - low[0], high[1] - low[1]];
     let radius = corner_radius(&straight, [low, high], tolerance)?;
@@ -77,7 +87,10 @@ fn rectangular(corners: &[Place], way: f64, tolerance: f64) -> Option<Named> {
     } else if size[0] >= size[1] {
         (size, way.to_degrees())
     } else {
-        ([size[1], size[0]], (way.to_degrees() + 90.0).rem_euclid(180.0))
+        (
+            [size[1], size[0]],
+            (way.to_degrees() + 90.0).rem_euclid(180.0),
+        )
     };
     let short = size[0].min(size[1]);
     let outline = if radius == 0.0 {
@@ -85,7 +98,11 @@ fn rectangular(corners: &[Place], way: f64, tolerance: f64) -> Option<Named> {
     } else if radius >= short / 2.0 - tolerance {
         Outline::Slot { size, angle }
     } else {
-        Outline::Rounded { size, radius, angle }
+        Outline::Rounded {
+            size,
+            radius,
+            angle,
+        }
     };
     Some(Named {
         outline,
@@ -106,8 +123,13 @@ fn corner_radius(points: &[Place], [low, high]: [Place; 2], tolerance: f64) -> O
         return Some(0.0);
     }
     // the straight sides end where the arcs begin
-    let ends = points.iter().map(inward).filter(|off| near(off[0].min(off[1]), 0.0));
-    let radius = ends.map(|off| off[0].max(off[1])).fold(f64::INFINITY, f64::min);
+    let ends = points
+        .iter()
+        .map(inward)
+        .filter(|off| near(off[0].min(off[1]), 0.0));
+    let radius = ends
+        .map(|off| off[0].max(off[1]))
+        .fold(f64::INFINITY, f64::min);
     if !(radius > 4.0 * tolerance && radius <= half + tolerance) {
         return None;
     }
@@ -129,23 +151,26 @@ fn corner_radius(points: &[Place], [low, high]: [Place; 2], tolerance: f64) -> O
     let fine = |angles: &mut Vec<f64>| {
         angles.extend([0.0, std::f64::consts::FRAC_PI_2]);
         angles.sort_by(f64::total_cmp);
-        angles.windows(2).all(|pair| pair[1] - pair[0] <= WIDEST_SIDE)
+        angles
+            .windows(2)
+            .all(|pair| pair[1] - pair[0] <= WIDEST_SIDE)
     };
     arcs.iter_mut().all(fine).then_some(radius)
 }
 
-/// The longest run of corners on one circle.
-fn longest_run(corners: &[Place], tolerance: f64) -> Option<(Circle, usize)> {
+/// The circle that the longest arc of a polygon lies on.
+fn longest_arc(corners: &[Place], tolerance: f64) -> Option<Circle> {
     let count = corners.len();
     let at = |place: usize| corners[place % count];
-    let mut best: Option<(Circle, usize)> = None;
+    let mut best: Option<(Circle, f64)> = None;
     for start in 0..count {
         let Some(mut circle) = Circle::through(&[at(start), at(start + 1), at(start + 2)]) else {
             continue;
         };
         let mut run = 3;
         while run < count && circle.has(at(start + run), tolerance) {
-            let step = wrapped(circle.angle_of(at(start + run)) - circle.angle_of(at(start + run - 1)));
+            let step =
+                wrapped(circle.angle_of(at(start + run)) - circle.angle_of(at(start + run - 1)));
             if step.abs() > WIDEST_SIDE {
                 break;
             }
@@ -153,11 +178,16 @@ fn longest_run(corners: &[Place], tolerance: f64) -> Option<(Circle, usize)> {
             let ends = [at(start), at(start + run / 2), at(start + run - 1)];
             circle = Circle::through(&ends).unwrap_or(circle);
         }
-        if run >= 5 && best.is_none_or(|(_, most)| run > most) {
-            best = Some((circle, run));
+        let side = |n: usize| {
+            let (a, b) = (at(start + n), at(start + n + 1));
+            (b[0] - a[0]).hypot(b[1] - a[1])
+        };
+        let long: f64 = (0..run - 1).map(side).sum();
+        if run >= 5 && best.is_none_or(|(_, most)| long > most) {
+            best = Some((circle, long));
         }
     }
-    best
+    best.map(|(circle, _)| circle)
 }
 
 /// A slot bent along an arc: two arcs of one centre, and ends that are half circles or straight.
@@ -165,7 +195,7 @@ fn bent(corners: &[Place], tolerance: f64) -> Option<Outline> {
     if corners.len() > 4000 {
         return None;
     }
-    let (circle, _) = longest_run(corners, tolerance)?;
+    let circle = longest_arc(corners, tolerance)?;
     let off = |corner: &Place| circle.radius_of(*corner);
     let inner = corners.iter().map(off).fold(f64::INFINITY, f64::min);
     let outer = corners.iter().map(off).fold(0.0, f64::max);
@@ -182,14 +212,22 @@ fn bent(corners: &[Place], tolerance: f64) -> Option<Outline> {
     let high = sides.iter().map(turn).fold(f64::NEG_INFINITY, f64::max);
     // both arcs end at the same two angles
     let ends_at = |angle: f64, side: f64| {
-        sides.iter().any(|corner| near(off(corner), side) && (turn(corner) - angle).abs() * outer <= 4.0 * tolerance)
+        sides.iter().any(|corner| {
+            near(off(corner), side) && (turn(corner) - angle).abs() * outer <= 4.0 * tolerance
+        })
     };
-    if ![low, high].iter().all(|&angle| ends_at(angle, inner) && ends_at(angle, outer)) {
+    if ![low, high]
+        .iter()
+        .all(|&angle| ends_at(angle, inner) && ends_at(angle, outer))
+    {
         return None;
     }
     let end = |angle: f64| {
         let (sine, cosine) = (reference + angle).sin_cos();
-        [circle.centre[0] + radius * cosine, circle.centre[1] + radius * sine]
+        [
+            circle.centre[0] + radius * cosine,
+            circle.centre[1] + radius * sine,
+        ]
     };
     let caps = [end(low), end(high)].map(|centre| Circle {
         centre,

@@ -88,7 +88,10 @@ impl Regions {
 
     /// The regions across a loop, edge by edge; [`NONE`] at an open edge.
     pub fn across<'a>(&'a self, around: &'a Loop) -> impl Iterator<Item = u32> + 'a {
-        around.across.iter().map(|&triangle| self.of_triangle(triangle))
+        around
+            .across
+            .iter()
+            .map(|&triangle| self.of_triangle(triangle))
     }
 
     /// The region of a triangle, if it is one.
@@ -112,7 +115,10 @@ struct Plane {
 
 impl Plane {
     fn add(&mut self, shell: &Shell, triangle: u32) {
-        let weighed = scale(shell.normals[triangle as usize], shell.areas[triangle as usize]);
+        let weighed = scale(
+            shell.normals[triangle as usize],
+            shell.areas[triangle as usize],
+        );
         self.sum = add(self.sum, weighed);
         for corner in shell.corners(triangle) {
             self.corners = add(self.corners, corner);

@@ -1,11 +1,12 @@
 //! Pockets, grooves, rabbets, notches and islands: what has flat floors across an axis and walls along it.
 use crate::geometry::{along, dot, polygon_area, scale, Sheet, Vector};
-use crate::islands::{add_islands, loop_at, Level};
+use crate::islands::{add_islands, Level};
 use crate::model::{Kind, Outline};
 use crate::notches::add_through;
 use crate::outline::named;
 use crate::rounds::off_round;
 use crate::topology::NONE;
+use crate::walls::{connected, edge_length, upright};
 use crate::work::{probes_beside, Draft, DraftEnd, Edge, Probe, Work};
 
 /// Probes start so far before the entry.
@@ -17,8 +18,9 @@ pub fn add_pockets(work: &mut Work<'_>) {
     for place in 0..work.drafts.len() as u32 {
         let draft = &work.drafts[place as usize];
         if draft.end == DraftEnd::Floor {
-            let floor = (0..work.owner.len() as u32)
-                .find(|&n| work.owner[n as usize] == place && work.is_level(n, scale(draft.axis, -1.0)));
+            let floor = (0..work.owner.len() as u32).find(|&n| {
+                work.owner[n as usize] == place && work.is_level(n, scale(draft.axis, -1.0))
+            });
             if let Some(floor) = floor {
                 let up = work.normal(floor);
                 add_islands(work, floor, place, up);
@@ -73,7 +75,9 @@ fn prismatic_axis(work: &Work<'_>, group: &[u32]) -> Option<Vector> {
     axes.into_iter().find(|&axis| {
         let back = scale(axis, -1.0);
         let fits = |&region: &u32| {
-            work.is_wall(region, axis) || work.is_level(region, axis) || work.is_level(region, back)
+            work.is_near_wall(region, axis)
+                || work.is_level(region, axis)
+                || work.is_level(region, back)
         };
         group.iter().all(fits) && is_entered(work, group, axis)
     })
@@ -88,7 +92,7 @@ fn is_entered(work: &Work<'_>, group: &[u32], axis: Vector) -> bool {
             let opens = |edge: &Edge| {
                 edge.across != NONE
                     && edge.is_convex
-                    && work.is_wall(region, axis)
+                    && work.is_near_wall(region, axis)
                     && work.is_level(edge.across, way)
                     && !group.contains(&edge.across)
             };
@@ -129,7 +133,8 @@ fn add_group(work: &mut Work<'_>, group: &[u32], axis: Vector) {
 
 /// Whether a level region is the top of what stands there: walls go down from it all around.
 fn is_island_top(work: &Work<'_>, region: u32) -> bool {
-    let down = |edge: &Edge| edge.across != NONE && edge.is_convex && work.face(edge.across).is_none();
+    let down =
+        |edge: &Edge| edge.across != NONE && edge.is_convex && work.face(edge.across).is_none();
     work.edges(region, 0).iter().all(down)
 }
 
@@ -154,7 +159,10 @@ fn entry_of(work: &Work<'_>, walls: &[u32], up: Vector, height: f64) -> Option<L
             // an outer face stands over all else; of floors the deepest
             let better = match best {
                 None => true,
-                Some(known) => (is_face && !known.is_face) || (is_face == known.is_face && offset < known.offset),
+                Some(known) => {
+                    (is_face && !known.is_face)
+                        || (is_face == known.is_face && offset < known.offset)
+                }
             };
             if better {
                 best = Some(level);
@@ -167,14 +175,26 @@ fn entry_of(work: &Work<'_>, walls: &[u32], up: Vector, height: f64) -> Option<L
 fn add_floor(work: &mut Work<'_>, floor: u32, up: Vector) {
     let edges = work.edges(floor, 0);
     let height = work.regions.all[floor as usize].offset;
-    let rising = |edge: &&Edge| edge.across != NONE && !edge.is_convex && work.is_wall(edge.across, up);
-    let mut walls: Vec<u32> = edges.iter().filter(rising).map(|edge| edge.across).collect();
-    walls.sort_unstable();
-    walls.dedup();
+    let rising =
+        |edge: &&Edge| edge.across != NONE && !edge.is_convex && work.is_near_wall(edge.across, up);
+    let standing: Vec<u32> = edges
+        .iter()
+        .filter(rising)
+        .map(|edge| edge.across)
+        .collect();
+    let mut walls = connected(work, &standing, up, Some(floor));
+    let Some(straight) = upright(work, &walls, up) else {
+        return;
+    };
     // walls around islands lead up as well, where the outline has none
     let mut inner = Vec::new();
     for number in 1..work.regions.all[floor as usize].loops.len() {
-        inner.extend(work.edges(floor, number).iter().filter(rising).map(|edge| edge.across));
+        inner.extend(
+            work.edges(floor, number)
+                .iter()
+                .filter(rising)
+                .map(|edge| edge.across),
+        );
     }
     let seen: &[u32] = if walls.is_empty() { &inner } else { &walls };
     let Some(entry) = entry_of(work, seen, up, height) else {
@@ -199,11 +219,18 @@ fn add_floor(work: &mut Work<'_>, floor: u32, up: Vector) {
     let area = work.regions.all[floor as usize].loops[0].area;
     // a floor beside another one, not within it, takes away all that is above it
     let is_within = !entry.is_face && lies_within(work, entry.region, &walls);
-    let taken = area * if is_within { depth } else { depth + entry_depth };
+    let height_taken = if is_within {
+        depth
+    } else {
+        depth + entry_depth
+    };
+    let taken = [-1.0, 1.0].map(|sign| (area + sign * straight.slack) * height_taken);
     let rising_edges: Vec<Edge> = edges.iter().filter(rising).copied().collect();
     let before = BEFORE;
     let near = [depth - crate::drilled::NEAR, depth + crate::drilled::NEAR];
-    let mut probes = probes_beside(&top_edges(work, &rising_edges, up, entry), down, (up, entry.offset), near, before);
+    let tops = top_edges(work, &rising_edges, up, entry);
+    let bulge = 2.0 * straight.sagitta;
+    let mut probes = probes_beside(&tops, down, (up, entry.offset), near, before, bulge);
     probes.extend(floor_probe(work, floor, up, entry.offset, depth));
     let kind = kind_of(&edges, &outline.outline, &open, work);
     let draft = Draft {
@@ -217,8 +244,11 @@ fn add_floor(work: &mut Work<'_>, floor: u32, up: Vector) {
         end: DraftEnd::Floor,
         within: (!entry.is_face).then_some(entry.region),
         open,
-        loops: vec![corners.iter().map(|&corner| along(corner, up, depth)).collect()],
-        volume: [taken, taken],
+        loops: vec![corners
+            .iter()
+            .map(|&corner| along(corner, up, depth))
+            .collect()],
+        volume: taken,
         probes,
     };
     walls.push(floor);
@@ -265,7 +295,11 @@ fn floor_probe(work: &Work<'_>, floor: u32, up: Vector, entry: f64, depth: f64) 
 fn lies_within(work: &Work<'_>, region: u32, walls: &[u32]) -> bool {
     let loops = &work.regions.all[region as usize].loops;
     let mut holes = loops.iter().skip(1);
-    holes.any(|hole| work.regions.across(hole).any(|across| walls.contains(&across)))
+    holes.any(|hole| {
+        work.regions
+            .across(hole)
+            .any(|across| walls.contains(&across))
+    })
 }
 
 /// The outer face that looks along a direction.
@@ -283,14 +317,15 @@ fn kind_of(edges: &[Edge], outline: &Outline, open: &[u32], work: &Work<'_>) -> 
             _ => Kind::Pocket,
         };
     }
-    let long = |edge: &Edge| crate::geometry::length(crate::geometry::subtract(edge.to, edge.from));
     let of_face = |face: u32| -> f64 {
         let at = |edge: &&Edge| edge.across != NONE && work.face(edge.across) == Some(face);
-        edges.iter().filter(at).map(long).sum()
+        edges.iter().filter(at).map(edge_length).sum()
     };
     let longest = open.iter().map(|&face| of_face(face)).fold(0.0, f64::max);
     let size = match outline {
-        Outline::Rectangle { size, .. } | Outline::Rounded { size, .. } | Outline::Slot { size, .. } => *size,
+        Outline::Rectangle { size, .. }
+        | Outline::Rounded { size, .. }
+        | Outline::Slot { size, .. } => *size,
         Outline::Other { size } => *size,
         _ => return Kind::Groove,
     };
@@ -327,9 +362,4 @@ fn flood(work: &mut Work<'_>, group: &[u32]) {
 /// The area of a polygon, without its sign.
 pub fn area_of(points: &[Vector], normal: Vector) -> f64 {
     polygon_area(points, normal).abs()
-}
-
-/// The corners of a loop of a region, seen as a hole: to the left around.
-pub fn hole(work: &Work<'_>, region: u32, number: usize) -> Vec<Vector> {
-    loop_at(work, region, number)
 }

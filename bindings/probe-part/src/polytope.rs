@@ -100,14 +100,6 @@ impl Polytope {
             .map(|(_, polygon)| polygon.as_slice())
             .next()
     }
-
-    /// How far it reaches along a direction.
-    pub fn reach(&self, direction: Vector) -> f64 {
-        let points = self.sides.iter().flat_map(|side| &side.1);
-        points
-            .map(|point| dot(*point, direction))
-            .fold(f64::NEG_INFINITY, f64::max)
-    }
 }
 
 /// Points of a plane as a polygon, to the left around.

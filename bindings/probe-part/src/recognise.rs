@@ -61,11 +61,18 @@ const THICKNESSES: [f64; 2] = [2.5, 300.0];
 /// ```
 pub fn recognise(shape: &Shape, options: &Options) -> Result<Report, Refusal> {
     let shells = shells(shape.vertices(), shape.triangles());
-    let boxes: Vec<[Vector; 2]> = shells.iter().map(|shell| box_of(shell.vertices.iter().copied())).collect();
+    let boxes: Vec<[Vector; 2]> = shells
+        .iter()
+        .map(|shell| box_of(shell.vertices.iter().copied()))
+        .collect();
     let mut parts = Vec::new();
     for (number, shell) in shells.iter().enumerate() {
         let within = |other: usize| {
-            other != number && (0..3).all(|axis| boxes[other][0][axis] < boxes[number][0][axis] && boxes[number][1][axis] < boxes[other][1][axis])
+            other != number
+                && (0..3).all(|axis| {
+                    boxes[other][0][axis] < boxes[number][0][axis]
+                        && boxes[number][1][axis] < boxes[other][1][axis]
+                })
         };
         let is_hollow = shell.was_inside_out && (0..shells.len()).any(within);
         parts.push(part(shape, shell, options, is_hollow)?);
@@ -92,7 +99,11 @@ fn part(shape: &Shape, drawn: &Shell, options: &Options, is_hollow: bool) -> Res
     let shell = if frame.is_as_drawn() {
         drawn
     } else {
-        turned = moved(drawn, |point| frame.place(point), |way| frame.direction(way));
+        turned = moved(
+            drawn,
+            |point| frame.place(point),
+            |way| frame.direction(way),
+        );
         regions.turn(&turned, &frame);
         &turned
     };
@@ -143,9 +154,21 @@ fn doubts(part: &Part, work: &Work<'_>, features: &Features, is_hollow: bool) ->
     tell(faults.open, Doubt::OpenEdges);
     tell(faults.turned, Doubt::TurnedEdges);
     tell(faults.crowded, Doubt::CrowdedEdges);
-    tell(part.left_over.iter().map(|rest| rest.triangles).sum(), Doubt::LeftOver);
-    tell(part.rows.iter().filter(|row| !row.is_confirmed()).count(), Doubt::NotConfirmed);
-    tell(part.rows.iter().filter(|row| row.end == End::Unknown).count(), Doubt::UnknownEnds);
+    tell(
+        part.left_over.iter().map(|rest| rest.triangles).sum(),
+        Doubt::LeftOver,
+    );
+    tell(
+        part.rows.iter().filter(|row| !row.is_confirmed()).count(),
+        Doubt::NotConfirmed,
+    );
+    tell(
+        part.rows
+            .iter()
+            .filter(|row| row.end == End::Unknown)
+            .count(),
+        Doubt::UnknownEnds,
+    );
     let difference = features.difference(work);
     if difference > 0.0 && part.left_over.is_empty() {
         doubts.push(Doubt::Volume(difference));
@@ -178,7 +201,12 @@ fn rows(work: &Work<'_>, features: &Features, checks: Vec<crate::model::Check>) 
     let key = |&n: &usize| {
         let draft = &work.drafts[n];
         let [a, b] = place_on_face(draft.axis, draft.centre);
-        (draft.face.unwrap_or(NONE), (10.0 * a).round() as i64, (10.0 * b).round() as i64, n)
+        (
+            draft.face.unwrap_or(NONE),
+            (10.0 * a).round() as i64,
+            (10.0 * b).round() as i64,
+            n,
+        )
     };
     let mut order: Vec<usize> = Vec::new();
     let mut tops: Vec<usize> = (0..count).filter(|&n| parents[n].is_none()).collect();
@@ -197,15 +225,21 @@ fn rows(work: &Work<'_>, features: &Features, checks: Vec<crate::model::Check>) 
     // rows that lie within each other in a circle stand at the end
     order.extend((0..count).filter(|&n| !placed[n]));
     let mut numbers = vec![0; count];
-    order.iter().enumerate().for_each(|(place, &n)| numbers[n] = place);
+    order
+        .iter()
+        .enumerate()
+        .for_each(|(place, &n)| numbers[n] = place);
     let of_drafts = features.of_drafts(work);
     let mut joined: Vec<u32> = order.iter().map(|&n| of_drafts[n]).collect();
     let mut known: Vec<u32> = Vec::new();
     for feature in &mut joined {
-        let place = known.iter().position(|known| known == feature).unwrap_or_else(|| {
-            known.push(*feature);
-            known.len() - 1
-        });
+        let place = known
+            .iter()
+            .position(|known| known == feature)
+            .unwrap_or_else(|| {
+                known.push(*feature);
+                known.len() - 1
+            });
         *feature = place as u32;
     }
     let mut sizes = vec![(0, 0.0); count];
@@ -230,7 +264,9 @@ fn rows(work: &Work<'_>, features: &Features, checks: Vec<crate::model::Check>) 
                 DraftEnd::Floor => End::Floor,
                 DraftEnd::Tip(angle, depth) => End::Tip { angle, depth },
                 DraftEnd::Through => End::Through,
-                DraftEnd::Into(region) => owner(Some(region)).map_or(End::Unknown, |other| End::OpensInto(numbers[other])),
+                DraftEnd::Into(region) => {
+                    owner(Some(region)).map_or(End::Unknown, |other| End::OpensInto(numbers[other]))
+                }
                 DraftEnd::Unknown => End::Unknown,
             },
             within: parents[n].map(|parent| numbers[parent]),
@@ -263,14 +299,25 @@ fn left_over(work: &Work<'_>, features: &Features) -> Vec<LeftOver> {
         }
     }
     let told = |members: Vec<u32>| {
-        let triangles = || members.iter().flat_map(|&n| &work.regions.all[n as usize].triangles);
+        let triangles = || {
+            members
+                .iter()
+                .flat_map(|&n| &work.regions.all[n as usize].triangles)
+        };
         let [low, high] = box_of(triangles().flat_map(|&t| work.shell.corners(t)));
         LeftOver {
             triangles: triangles().count(),
-            area: members.iter().map(|&n| work.regions.all[n as usize].area).sum(),
+            area: members
+                .iter()
+                .map(|&n| work.regions.all[n as usize].area)
+                .sum(),
             low,
             high,
         }
     };
-    members.into_iter().filter(|some| !some.is_empty()).map(told).collect()
+    members
+        .into_iter()
+        .filter(|some| !some.is_empty())
+        .map(told)
+        .collect()
 }

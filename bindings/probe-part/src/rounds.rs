@@ -92,7 +92,8 @@ impl Rounds {
         });
         for region in order {
             for around in &regions.all[region as usize].loops {
-                if around.corners.len() >= LEAST_SIDES && search.rounds.of[region as usize] == NONE {
+                if around.corners.len() >= LEAST_SIDES && search.rounds.of[region as usize] == NONE
+                {
                     search.from_loop(region, around);
                 }
             }
@@ -106,10 +107,16 @@ impl Rounds {
         let beside = |number: u32| {
             let own = &self.all[number as usize].regions;
             let loops = own.iter().flat_map(|&n| &regions.all[n as usize].loops);
-            loops.flat_map(|around| regions.across(around)).any(|other| {
-                let round = if other == NONE { NONE } else { self.of[other as usize] };
-                round != number && is_cone(round)
-            })
+            loops
+                .flat_map(|around| regions.across(around))
+                .any(|other| {
+                    let round = if other == NONE {
+                        NONE
+                    } else {
+                        self.of[other as usize]
+                    };
+                    round != number && is_cone(round)
+                })
         };
         let curved: Vec<u32> = (0..self.all.len() as u32)
             .filter(|&number| is_cone(number) && beside(number))
@@ -134,7 +141,11 @@ impl Search<'_> {
             return;
         }
         let sheet = Sheet::of(normal);
-        let points: Vec<Vector> = around.corners.iter().map(|&v| self.shell.vertices[v as usize]).collect();
+        let points: Vec<Vector> = around
+            .corners
+            .iter()
+            .map(|&v| self.shell.vertices[v as usize])
+            .collect();
         let flat: Vec<[f64; 2]> = points.iter().map(|&point| sheet.flat(point)).collect();
         let tolerance = off_round(self.shell);
         if let Some(circle) = Circle::of_polygon(&flat, tolerance) {
@@ -178,7 +189,10 @@ impl Search<'_> {
         let Some((axis, radius)) = cylinder::fitted(&corners, direction) else {
             return;
         };
-        if !points.iter().all(|&p| (length(axis.radial(p)) - radius).abs() <= 10.0 * tolerance) {
+        if !points
+            .iter()
+            .all(|&p| (length(axis.radial(p)) - radius).abs() <= 10.0 * tolerance)
+        {
             return;
         }
         let start = starts[0];
@@ -196,7 +210,15 @@ impl Search<'_> {
         let Some((axis, radius)) = cylinder::fitted(&all, axis.direction) else {
             return;
         };
-        self.accept(&Profile { axis, radius, tolerance, ..profile }, start);
+        self.accept(
+            &Profile {
+                axis,
+                radius,
+                tolerance,
+                ..profile
+            },
+            start,
+        );
     }
 
     /// Grows the surface about an axis that goes through a circle and a region beside it.
@@ -237,7 +259,11 @@ impl Search<'_> {
         let Some(sides) = self.all_around(profile, &regions) else {
             return false;
         };
-        let heights = |n: &u32| self.corners(*n).map(|corner| profile.axis.height(corner)).collect::<Vec<_>>();
+        let heights = |n: &u32| {
+            self.corners(*n)
+                .map(|corner| profile.axis.height(corner))
+                .collect::<Vec<_>>()
+        };
         let heights: Vec<f64> = regions.iter().flat_map(heights).collect();
         let label = self.rounds.all.len() as u32;
         for &region in &regions {
@@ -362,7 +388,9 @@ impl Search<'_> {
         spans.sort_by(|a, b| a[0].total_cmp(&b[0]));
         let gap = 1e-4 + profile.tolerance / profile.radius.abs().max(1e-3);
         let mut reach = spans.last()?[1] - TAU;
-        reach = spans.iter().fold(reach, |most, span| most.max(span[1] - TAU));
+        reach = spans
+            .iter()
+            .fold(reach, |most, span| most.max(span[1] - TAU));
         for span in &spans {
             if span[0] > reach + gap {
                 return None;

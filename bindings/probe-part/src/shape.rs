@@ -61,7 +61,9 @@ impl Shape {
         })?;
         if unit != Unit::Millimetre {
             let numbers = facets.as_flattened_mut().as_flattened_mut();
-            numbers.iter_mut().for_each(|number| *number *= unit.millimetres());
+            numbers
+                .iter_mut()
+                .for_each(|number| *number *= unit.millimetres());
         }
         Shape::of(&facets)
     }

@@ -171,8 +171,7 @@ fn list(line: &mut impl FnMut(String), sheet: &Sheet, rows: &[(usize, &Row)]) {
 
 /// Whether another row lies within the one of a number.
 fn holds_another(rows: &[(usize, &Row)], number: usize) -> bool {
-    rows
-        .iter()
+    rows.iter()
         .any(|(_, other)| other.within == Some(number - 1))
 }
 
@@ -183,7 +182,11 @@ fn words(row: &Row) -> String {
         (_, Kind::Island | Kind::Boss) => format!("stands out {}", depth_words(row)),
         _ => format!("depth {}", depth_words(row)),
     };
-    format!("{} {}, {depth}", outline_word(&row.outline), size_words(&row.outline))
+    format!(
+        "{} {}, {depth}",
+        outline_word(&row.outline),
+        size_words(&row.outline)
+    )
 }
 
 /// A place of the face, from the left and from the top.
@@ -208,8 +211,14 @@ fn extent(map: &DepthMap<'_>, row: &Row) -> [f64; 2] {
     let points = row.loops.iter().flatten().map(|&point| seen(map, point));
     let points: Vec<[f64; 2]> = points.collect();
     let wide = |side: usize| {
-        let low = points.iter().map(|point| point[side]).fold(f64::INFINITY, f64::min);
-        let high = points.iter().map(|point| point[side]).fold(f64::NEG_INFINITY, f64::max);
+        let low = points
+            .iter()
+            .map(|point| point[side])
+            .fold(f64::INFINITY, f64::min);
+        let high = points
+            .iter()
+            .map(|point| point[side])
+            .fold(f64::NEG_INFINITY, f64::max);
         (high - low).max(0.0)
     };
     [wide(0), wide(1)]
@@ -218,11 +227,21 @@ fn extent(map: &DepthMap<'_>, row: &Row) -> [f64; 2] {
 /// The outline of a row: circles, or the polygons around it.
 fn drawn(map: &DepthMap<'_>, row: &Row) -> String {
     let [x, y] = seen(map, row.centre).map(|part| fixed(part, 3));
-    let circle = |diameter: f64| format!("<circle cx=\"{x}\" cy=\"{y}\" r=\"{}\"/>", fixed(diameter / 2.0, 3));
+    let circle = |diameter: f64| {
+        format!(
+            "<circle cx=\"{x}\" cy=\"{y}\" r=\"{}\"/>",
+            fixed(diameter / 2.0, 3)
+        )
+    };
     match &row.outline {
         Outline::Circle { diameter, .. } => circle(*diameter),
         Outline::Ring { outer, inner } => circle(*outer) + &circle(*inner),
-        _ => row.loops.iter().take(1).map(|around| polygon(map, around)).collect(),
+        _ => row
+            .loops
+            .iter()
+            .take(1)
+            .map(|around| polygon(map, around))
+            .collect(),
     }
 }
 

@@ -66,9 +66,13 @@ pub fn size_words(outline: &Outline) -> String {
     match outline {
         Outline::Circle { diameter, .. } => fixed(*diameter, 2),
         Outline::Ring { outer, inner } => format!("{} / {}", fixed(*outer, 2), fixed(*inner, 2)),
-        Outline::Rectangle { size, .. } | Outline::Slot { size, .. } | Outline::Other { size } => sides(size),
+        Outline::Rectangle { size, .. } | Outline::Slot { size, .. } | Outline::Other { size } => {
+            sides(size)
+        }
         Outline::Rounded { size, radius, .. } => format!("{} R {}", sides(size), fixed(*radius, 2)),
-        Outline::Arc { width, radius, .. } => format!("{} R {}", fixed(*width, 2), fixed(*radius, 2)),
+        Outline::Arc { width, radius, .. } => {
+            format!("{} R {}", fixed(*width, 2), fixed(*radius, 2))
+        }
     }
 }
 
@@ -76,7 +80,9 @@ pub fn size_words(outline: &Outline) -> String {
 pub fn depth_words(row: &Row) -> String {
     match row.end {
         End::Through => "through".into(),
-        End::Tip { depth, .. } if depth > row.depth + 0.005 => format!("{} to {}", fixed(row.depth, 2), fixed(depth, 2)),
+        End::Tip { depth, .. } if depth > row.depth + 0.005 => {
+            format!("{} to {}", fixed(row.depth, 2), fixed(depth, 2))
+        }
         _ => fixed(row.depth, 2),
     }
 }
@@ -97,12 +103,22 @@ pub fn notes(part: &Part, row: &Row) -> String {
         End::Floor | End::Through => {}
     }
     if !row.open.is_empty() {
-        let names: Vec<&str> = row.open.iter().map(|&face| part.faces[face].name.as_str()).collect();
+        let names: Vec<&str> = row
+            .open
+            .iter()
+            .map(|&face| part.faces[face].name.as_str())
+            .collect();
         notes.push(format!("runs out at {}", names.join(", ")));
     }
     match &row.outline {
-        Outline::Circle { sides, .. } if *sides < FEW_SIDES => notes.push(format!("of {sides} sides")),
-        Outline::Rectangle { angle, .. } | Outline::Rounded { angle, .. } | Outline::Slot { angle, .. } if *angle != 0.0 => {
+        Outline::Circle { sides, .. } if *sides < FEW_SIDES => {
+            notes.push(format!("of {sides} sides"))
+        }
+        Outline::Rectangle { angle, .. }
+        | Outline::Rounded { angle, .. }
+        | Outline::Slot { angle, .. }
+            if *angle != 0.0 =>
+        {
             notes.push(format!("turned by {} degrees", fixed(*angle, 2)));
         }
         Outline::Arc { sweep, .. } => notes.push(format!("over {} degrees", fixed(*sweep, 2))),
@@ -140,8 +156,12 @@ pub fn doubt_words(doubt: &Doubt) -> String {
             "the rows take away another volume than the part lacks: {} mm3 differ",
             fixed(*volume, 1)
         ),
-        Doubt::SeveralShells(count) => format!("{count} separate parts, and one was expected (--shells: several)"),
-        Doubt::OddSize => "no board has this size: is the unit right (--unit mm, cm, m, in)?".into(),
+        Doubt::SeveralShells(count) => {
+            format!("{count} separate parts, and one was expected (--shells: several)")
+        }
+        Doubt::OddSize => {
+            "no board has this size: is the unit right (--unit mm, cm, m, in)?".into()
+        }
         Doubt::NoFlatFace => "no flat outer face".into(),
     }
 }
@@ -199,7 +219,9 @@ fn frame_words(frame: &Frame) -> String {
     if frame.is_as_drawn() {
         return String::new();
     }
-    let vector = |parts: Vector, places: usize| format!("({})", parts.map(|part| fixed(part, places)).join(", "));
+    let vector = |parts: Vector, places: usize| {
+        format!("({})", parts.map(|part| fixed(part, places)).join(", "))
+    };
     let [x, y, z] = frame.axes.map(|axis| vector(axis, 6));
     format!(
         "own frame: zero at {} of the file, x along {x}, y along {y}, z along {z}\n",
@@ -208,7 +230,9 @@ fn frame_words(frame: &Frame) -> String {
 }
 
 fn rows_table(part: &Part, listing: &Listing) -> String {
-    let heads = ["no", "face", "kind", "outline", "size", "entry", "depth", "x", "y", "z", ""];
+    let heads = [
+        "no", "face", "kind", "outline", "size", "entry", "depth", "x", "y", "z", "",
+    ];
     let mut rows: Vec<[String; 11]> = vec![heads.map(String::from)];
     let origin = listing.origin(part);
     for (place, row) in part.rows.iter().enumerate() {
@@ -218,7 +242,8 @@ fn rows_table(part: &Part, listing: &Listing) -> String {
         let [x, y, z] = std::array::from_fn(|axis| fixed(row.centre[axis] - origin[axis], 2));
         rows.push([
             (place + 1).to_string(),
-            row.face.map_or("-".into(), |face| part.faces[face].name.clone()),
+            row.face
+                .map_or("-".into(), |face| part.faces[face].name.clone()),
             kind_word(row.kind).into(),
             outline_word(&row.outline).into(),
             size_words(&row.outline),
@@ -280,7 +305,11 @@ pub fn csv(report: &Report, listing: &Listing) -> String {
             }
         }
         for rest in &part.left_over {
-            line(remark(name.clone(), "left over", left_over_words(rest, origin)));
+            line(remark(
+                name.clone(),
+                "left over",
+                left_over_words(rest, origin),
+            ));
         }
         for doubt in &part.doubts {
             line(remark(name.clone(), "doubt", doubt_words(doubt)));
@@ -298,17 +327,32 @@ fn row_cells(name: &str, place: usize, part: &Part, row: &Row, origin: Vector) -
     let (size, radius, angle, sides) = match &row.outline {
         Outline::Circle { diameter, sides } => ([*diameter; 2], None, None, Some(*sides)),
         Outline::Ring { outer, inner } => ([*outer, *inner], None, None, None),
-        Outline::Rectangle { size, angle } | Outline::Slot { size, angle } => (*size, None, Some(*angle), None),
-        Outline::Rounded { size, radius, angle } => (*size, Some(*radius), Some(*angle), None),
-        Outline::Arc { width, radius, sweep } => ([*width; 2], Some(*radius), Some(*sweep), None),
+        Outline::Rectangle { size, angle } | Outline::Slot { size, angle } => {
+            (*size, None, Some(*angle), None)
+        }
+        Outline::Rounded {
+            size,
+            radius,
+            angle,
+        } => (*size, Some(*radius), Some(*angle), None),
+        Outline::Arc {
+            width,
+            radius,
+            sweep,
+        } => ([*width; 2], Some(*radius), Some(*sweep), None),
         Outline::Other { size } => (*size, None, None, None),
     };
-    let open: Vec<&str> = row.open.iter().map(|&face| part.faces[face].name.as_str()).collect();
+    let open: Vec<&str> = row
+        .open
+        .iter()
+        .map(|&face| part.faces[face].name.as_str())
+        .collect();
     let mut cells = vec![
         name.to_string(),
         (place + 1).to_string(),
         (row.feature + 1).to_string(),
-        row.face.map_or_else(none, |face| part.faces[face].name.clone()),
+        row.face
+            .map_or_else(none, |face| part.faces[face].name.clone()),
         kind_word(row.kind).into(),
         outline_word(&row.outline).into(),
         number(size[0]),
@@ -332,7 +376,10 @@ fn row_cells(name: &str, place: usize, part: &Part, row: &Row, origin: Vector) -
     ];
     cells.extend((0..3).map(|axis| number(row.centre[axis] - origin[axis])));
     cells.extend(row.axis.map(|part| fixed(part, 6)));
-    cells.push(row.within.map_or_else(none, |within| (within + 1).to_string()));
+    cells.push(
+        row.within
+            .map_or_else(none, |within| (within + 1).to_string()),
+    );
     cells.push(open.join(" "));
     cells.push(if row.is_confirmed() { "yes" } else { "no" }.into());
     cells.push(quoted(&notes(part, row)));

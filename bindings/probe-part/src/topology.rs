@@ -16,8 +16,6 @@ pub struct Shell {
     pub vertices: Vec<Vector>,
     /// The triangles, to the left around where they are seen from outside.
     pub triangles: Vec<[u32; 3]>,
-    /// The number of each triangle in the file.
-    pub numbers: Vec<u32>,
     /// The triangle across each side, from its first corner on; [`NONE`] where there is none, or no single one that is
     /// the right way round.
     pub neighbours: Vec<[u32; 3]>,
@@ -219,7 +217,10 @@ impl Shell {
             .flatten()
             .fold(0.0_f64, |most, part| most.max(part.abs()));
         Shell {
-            normals: sides.iter().map(|triangle| unit(doubled(triangle))).collect(),
+            normals: sides
+                .iter()
+                .map(|triangle| unit(doubled(triangle)))
+                .collect(),
             areas: sides
                 .iter()
                 .map(|triangle| length(doubled(triangle)) / 2.0)
@@ -227,7 +228,6 @@ impl Shell {
             faults: edges.faults(),
             vertices: own,
             triangles: sides,
-            numbers,
             neighbours,
             was_inside_out,
             rounding: largest * 1.2e-7,
@@ -276,9 +276,19 @@ fn volume(vertices: &[Vector], triangles: &[[u32; 3]]) -> f64 {
 }
 
 /// A shell moved: each vertex by a function that keeps lengths and angles, and the normals with it.
-pub fn moved(shell: &Shell, place: impl Fn(Vector) -> Vector, way: impl Fn(Vector) -> Vector) -> Shell {
+pub fn moved(
+    shell: &Shell,
+    place: impl Fn(Vector) -> Vector,
+    way: impl Fn(Vector) -> Vector,
+) -> Shell {
     let mut moved = shell.clone();
-    moved.vertices.iter_mut().for_each(|point| *point = place(*point));
-    moved.normals.iter_mut().for_each(|normal| *normal = way(*normal));
+    moved
+        .vertices
+        .iter_mut()
+        .for_each(|point| *point = place(*point));
+    moved
+        .normals
+        .iter_mut()
+        .for_each(|normal| *normal = way(*normal));
     moved
 }

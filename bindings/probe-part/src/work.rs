@@ -133,6 +133,11 @@ impl Work<'_> {
         dot(self.normal(region), way).abs() < lean.min(0.5)
     }
 
+    /// Whether a region runs nearly along a direction: within 11 degrees.
+    pub fn is_near_wall(&self, region: u32, way: Vector) -> bool {
+        self.is_wall(region, way) || dot(self.normal(region), way).abs() < 0.2
+    }
+
     /// The edges of a loop of a region.
     pub fn edges(&self, region: u32, number: usize) -> Vec<Edge> {
         let around = &self.regions.all[region as usize].loops[number];
@@ -159,7 +164,9 @@ impl Work<'_> {
     /// All the edges around a region.
     pub fn all_edges(&self, region: u32) -> Vec<Edge> {
         let count = self.regions.all[region as usize].loops.len();
-        (0..count).flat_map(|number| self.edges(region, number)).collect()
+        (0..count)
+            .flat_map(|number| self.edges(region, number))
+            .collect()
     }
 
     /// The outer face that looks most against a direction, and how far a point lies below it.
@@ -169,7 +176,12 @@ impl Work<'_> {
         let best = flat.max_by(|a, b| dot(b.1.normal, axis).total_cmp(&dot(a.1.normal, axis)))?;
         let (place, face) = best;
         let against = dot(face.normal, axis) < -0.5;
-        against.then(|| (place as u32, self.outer.offsets[place] - dot(face.normal, point)))
+        against.then(|| {
+            (
+                place as u32,
+                self.outer.offsets[place] - dot(face.normal, point),
+            )
+        })
     }
 
     /// Which of the named faces a direction looks at most, as its place among them.
@@ -207,14 +219,15 @@ const BESIDE: f64 = 0.02;
 /// At most so many edges of an outline are probed.
 const MOST_EDGES: usize = 12;
 
-/// Probes beside edges, along an axis, from so far before a plane: within they are to meet some depths below it, outside
-/// the plane itself.
+/// Probes beside edges, along an axis, from so far before a plane: within, so far further in than the edges as the walls
+/// bulge, they are to meet some depths below it, outside the plane itself.
 pub fn probes_beside(
     edges: &[Edge],
     axis: Vector,
     plane: (Vector, f64),
     inside: [f64; 2],
     before: f64,
+    bulge: f64,
 ) -> Vec<Probe> {
     let step = edges.len().div_ceil(MOST_EDGES).max(1);
     let mut probes = Vec::new();
@@ -225,12 +238,12 @@ pub fn probes_beside(
         }
         let middle = scale(crate::geometry::add(edge.from, edge.to), 0.5);
         // the surface that the loop is around lies to its left
-        let aside = scale(unit(cross(axis, way)), BESIDE);
-        for (what, sign, expected) in [
-            ("inside its outline", -1.0, inside),
-            ("outside its outline", 1.0, [0.0, 0.0]),
+        let aside = unit(cross(axis, way));
+        for (what, off, expected) in [
+            ("inside its outline", -BESIDE - bulge, inside),
+            ("outside its outline", BESIDE, [0.0, 0.0]),
         ] {
-            let beside = crate::geometry::add(middle, scale(aside, sign));
+            let beside = crate::geometry::along(middle, aside, off);
             // up or down along the axis to the plane of the entry
             let off = (plane.1 - dot(beside, plane.0)) / dot(axis, plane.0);
             let entry = crate::geometry::along(beside, axis, off);
