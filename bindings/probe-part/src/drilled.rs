@@ -19,6 +19,9 @@ pub const NEAR: f64 = 0.01;
 /// How far the triangles of a round wall may lie within it, as a share of its radius: sides of 45 degrees.
 const BULGE: f64 = 0.08;
 
+/// A floor across an axis leans by less: 0.1 degrees.
+const LEAN: f64 = 2e-6;
+
 /// What lies beyond an end of a round surface.
 #[derive(Clone, Copy, Debug, PartialEq)]
 enum Beyond {
@@ -30,7 +33,9 @@ enum Beyond {
     Floor(u32),
     /// Another round surface.
     Round(u32),
-    /// Several of these.
+    /// Several of these, and an outer face among them that it opens in.
+    Partly(u32),
+    /// Several of these, and no outer face.
     Mixed,
 }
 
@@ -172,9 +177,19 @@ fn beyond(work: &Work<'_>, edges: &[Edge]) -> Beyond {
         return Beyond::Mixed;
     };
     if edges.iter().all(|edge| kind(edge) == first) {
-        first
-    } else {
-        Beyond::Mixed
+        return first;
+    }
+    // a floor among them is an end of its own
+    let closed = edges
+        .iter()
+        .any(|edge| matches!(kind(edge), Beyond::Floor(_) | Beyond::Mixed));
+    let face = edges.iter().find_map(|edge| match kind(edge) {
+        Beyond::Face(face) => Some(face),
+        _ => None,
+    });
+    match face {
+        Some(face) if !closed => Beyond::Partly(face),
+        _ => Beyond::Mixed,
     }
 }
 
@@ -189,6 +204,7 @@ fn entry_order(work: &Work<'_>, number: u32, rim: &Rim) -> Option<f64> {
     }
     match rim.beyond {
         Beyond::Face(face) => Some(f64::from(face)),
+        Beyond::Partly(face) => Some(f64::from(face) + 50.0),
         // what opens in the floor of another row is entered from there
         Beyond::Level(region) => Some(work.order_of(work.normal(region)) - 20.0),
         Beyond::Floor(_) => None,
@@ -206,16 +222,20 @@ fn entry_order(work: &Work<'_>, number: u32, rim: &Rim) -> Option<f64> {
                 Some(100.0)
             }
         }
-        Beyond::Mixed => Some(work.order_of(outwards) + 50.0),
+        Beyond::Mixed => None,
     }
 }
 
-/// The plane of an end, if it is flat.
+/// The plane of an end: that of the outer face where it opens in one, or of the region beyond it.
 fn plane(work: &Work<'_>, rim: &Rim) -> Option<(Vector, f64)> {
     match rim.beyond {
         Beyond::Face(_) | Beyond::Level(_) | Beyond::Floor(_) => {
             let region = &work.regions.all[rim.edges.first()?.across as usize];
             Some((region.normal, region.offset))
+        }
+        Beyond::Partly(face) => {
+            let face = face as usize;
+            Some((work.outer.faces[face].normal, work.outer.offsets[face]))
         }
         Beyond::Round(_) | Beyond::Mixed => None,
     }
@@ -250,7 +270,7 @@ fn add_bore(work: &mut Work<'_>, number: u32, rims: &[Rim], all: &[(u32, Vec<Rim
     let (end, floor_depth) = ending(work, &round, last, depth, all, &mut regions);
     let entry_plane = plane(work, entry).unwrap_or((scale(axis, -1.0), -dot(axis, centre)));
     let (face, entry_depth) = match entry.beyond {
-        Beyond::Face(face) => (Some(face), 0.0),
+        Beyond::Face(face) | Beyond::Partly(face) => (Some(face), 0.0),
         _ => match work.face_against(axis, centre) {
             Some((face, below)) => (Some(face), below),
             None => (None, 0.0),
@@ -260,11 +280,8 @@ fn add_bore(work: &mut Work<'_>, number: u32, rims: &[Rim], all: &[(u32, Vec<Rim
         Beyond::Level(_) | Beyond::Round(_) => entry.edges.first().map(|edge| edge.across),
         _ => None,
     };
-    let before = if matches!(entry.beyond, Beyond::Face(_)) {
-        BEFORE
-    } else {
-        BEFORE_WITHIN
-    };
+    let is_outside = matches!(entry.beyond, Beyond::Face(_) | Beyond::Partly(_));
+    let before = if is_outside { BEFORE } else { BEFORE_WITHIN };
     // where the floor has a hole, or what stands on it, the axis does not meet it
     let down = match last.map(|rim| rim.beyond) {
         Some(Beyond::Floor(floor)) if work.regions.all[floor as usize].loops.len() > 1 => {
@@ -299,7 +316,13 @@ fn add_bore(work: &mut Work<'_>, number: u32, rims: &[Rim], all: &[(u32, Vec<Rim
         } else {
             BULGE * round.radius_at(from)
         };
-        let edges = turned(&entry.edges, axis);
+        // beside another row's surface the plane of the entry is not met
+        let on_plane = |point: Vector| (dot(point, entry_plane.0) - entry_plane.1).abs() <= NEAR;
+        let edges: Vec<Edge> = turned(&entry.edges, axis)
+            .into_iter()
+            .filter(|edge| on_plane(edge.from) && on_plane(edge.to))
+            .filter(|edge| work.regions.all[edge.across as usize].offset - entry_plane.1 <= NEAR)
+            .collect();
         probes.extend(probes_beside(
             &edges,
             axis,
@@ -330,6 +353,7 @@ fn add_bore(work: &mut Work<'_>, number: u32, rims: &[Rim], all: &[(u32, Vec<Rim
         entry_depth,
         depth,
         end,
+        cone: is_countersink.then(|| 2.0 * round.slope.abs().atan().to_degrees()),
         within,
         open: Vec::new(),
         loops: vec![entry.edges.iter().map(|edge| edge.from).collect()],
@@ -354,11 +378,17 @@ fn ending(
     };
     let open = [depth - (rim.high - rim.low), f64::INFINITY];
     match rim.beyond {
-        Beyond::Face(_) => (DraftEnd::Through, [depth, f64::INFINITY]),
+        Beyond::Face(_) | Beyond::Partly(_) => (DraftEnd::Through, open),
         Beyond::Level(region) => (DraftEnd::Into(region), open),
         Beyond::Floor(region) => {
             regions.push(region);
-            (DraftEnd::Floor, [depth; 2])
+            // a floor that lies aslant is no floor that a drill leaves
+            let across = dot(work.normal(region), round.axis.direction).abs();
+            if across > 1.0 - LEAN {
+                (DraftEnd::Floor, [depth; 2])
+            } else {
+                (DraftEnd::Unknown, [depth; 2])
+            }
         }
         Beyond::Round(other) => {
             let tip = all

@@ -207,6 +207,8 @@ pub struct Row {
     pub depth: f64,
     /// How it ends.
     pub end: End,
+    /// The full angle of a countersink's cone, in degrees.
+    pub cone: Option<f64>,
     /// The row that its entry lies in.
     pub within: Option<usize>,
     /// The outer faces that it runs out at, beside the one that it is entered from.

@@ -235,6 +235,7 @@ fn add(
         } else {
             DraftEnd::Into(below)
         },
+        cone: None,
         within: work.face(region).is_none().then_some(region),
         open,
         loops: vec![corners],

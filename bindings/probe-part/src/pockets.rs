@@ -138,38 +138,35 @@ fn is_island_top(work: &Work<'_>, region: u32) -> bool {
     work.edges(region, 0).iter().all(down)
 }
 
-/// The level surface that a floor's walls end at above, and whether the floor lies within it all around.
+/// The level that a floor is entered from: the outer face where its walls reach it, else the deepest floor that it is a hole
+/// of, else the outer face all the same: beside other floors it takes away all that is above it.
 fn entry_of(work: &Work<'_>, walls: &[u32], up: Vector, height: f64) -> Option<Level> {
-    let mut best: Option<Level> = None;
-    for &wall in walls {
-        for edge in work.all_edges(wall) {
-            if edge.across == NONE || !edge.is_convex || !work.is_level(edge.across, up) {
-                continue;
-            }
-            let offset = work.regions.all[edge.across as usize].offset;
-            if offset <= height {
-                continue;
-            }
-            let is_face = work.face(edge.across).is_some();
-            let level = Level {
-                region: edge.across,
-                offset,
-                is_face,
-            };
-            // an outer face stands over all else; of floors the deepest
-            let better = match best {
-                None => true,
-                Some(known) => {
-                    (is_face && !known.is_face)
-                        || (is_face == known.is_face && offset < known.offset)
-                }
-            };
-            if better {
-                best = Some(level);
-            }
+    let mut deepest: Option<Level> = None;
+    for edge in walls.iter().flat_map(|&wall| work.all_edges(wall)) {
+        if edge.across == NONE || !edge.is_convex || !work.is_level(edge.across, up) {
+            continue;
+        }
+        let level = Level {
+            region: edge.across,
+            offset: work.regions.all[edge.across as usize].offset,
+            is_face: work.face(edge.across).is_some(),
+        };
+        if level.is_face {
+            return Some(level);
+        }
+        let is_deeper = deepest.map_or(true, |known| level.offset < known.offset);
+        if level.offset > height && is_deeper && lies_within(work, level.region, walls) {
+            deepest = Some(level);
         }
     }
-    best
+    deepest.or_else(|| {
+        let face = face_along(work, up)?;
+        Some(Level {
+            region: NONE,
+            offset: work.outer.offsets[face as usize],
+            is_face: true,
+        })
+    })
 }
 
 fn add_floor(work: &mut Work<'_>, floor: u32, up: Vector) {
@@ -217,14 +214,7 @@ fn add_floor(work: &mut Work<'_>, floor: u32, up: Vector) {
     let face = face_along(work, up);
     let entry_depth = face.map_or(0.0, |face| work.outer.offsets[face as usize] - entry.offset);
     let area = work.regions.all[floor as usize].loops[0].area;
-    // a floor beside another one, not within it, takes away all that is above it
-    let is_within = !entry.is_face && lies_within(work, entry.region, &walls);
-    let height_taken = if is_within {
-        depth
-    } else {
-        depth + entry_depth
-    };
-    let taken = [-1.0, 1.0].map(|sign| (area + sign * straight.slack) * height_taken);
+    let taken = [-1.0, 1.0].map(|sign| (area + sign * straight.slack) * depth);
     let rising_edges: Vec<Edge> = edges.iter().filter(rising).copied().collect();
     let before = BEFORE;
     let near = [depth - crate::drilled::NEAR, depth + crate::drilled::NEAR];
@@ -242,6 +232,7 @@ fn add_floor(work: &mut Work<'_>, floor: u32, up: Vector) {
         entry_depth,
         depth,
         end: DraftEnd::Floor,
+        cone: None,
         within: (!entry.is_face).then_some(entry.region),
         open,
         loops: vec![corners

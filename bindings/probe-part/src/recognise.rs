@@ -269,6 +269,7 @@ fn rows(work: &Work<'_>, features: &Features, checks: Vec<crate::model::Check>) 
                 }
                 DraftEnd::Unknown => End::Unknown,
             },
+            cone: draft.cone,
             within: parents[n].map(|parent| numbers[parent]),
             open: draft.open.iter().map(|&face| face as usize).collect(),
             loops: draft.loops.clone(),

@@ -94,7 +94,7 @@ impl Rounds {
             for around in &regions.all[region as usize].loops {
                 if around.corners.len() >= LEAST_SIDES && search.rounds.of[region as usize] == NONE
                 {
-                    search.from_loop(region, around);
+                    search.stand_on_loop(region, around);
                 }
             }
         }
@@ -132,7 +132,7 @@ impl Rounds {
 
 impl Search<'_> {
     /// Grows what stands on a loop, where the loop is round as seen along some axis.
-    fn from_loop(&mut self, region: u32, around: &Loop) {
+    fn stand_on_loop(&mut self, region: u32, around: &Loop) {
         let normal = self.regions.all[region as usize].normal;
         let mut starts: Vec<u32> = self.regions.across(around).collect();
         starts.dedup();
@@ -154,15 +154,15 @@ impl Search<'_> {
                 point: sheet.solid(circle.centre, height),
                 direction: normal,
             };
-            if self.from_circle(axis, circle.radius, &starts) {
+            if self.stand_on_circle(axis, circle.radius, &starts) {
                 return;
             }
         }
-        self.from_normals(&points, &starts);
+        self.lean_by_normals(&points, &starts);
     }
 
     /// Grows a cylinder or a cone about an axis from the regions that stand on a circle at height 0; whether it is one.
-    fn from_circle(&mut self, axis: Axis, radius: f64, starts: &[u32]) -> bool {
+    fn stand_on_circle(&mut self, axis: Axis, radius: f64, starts: &[u32]) -> bool {
         let mut any = false;
         for &start in starts {
             if self.rounds.of[start as usize] == NONE {
@@ -173,7 +173,7 @@ impl Search<'_> {
     }
 
     /// The same about the axis that the normals of the regions lie across: a bore that is not straight.
-    fn from_normals(&mut self, points: &[Vector], starts: &[u32]) {
+    fn lean_by_normals(&mut self, points: &[Vector], starts: &[u32]) {
         let normals = starts.iter().map(|&n| {
             let region = &self.regions.all[n as usize];
             (region.normal, region.area)

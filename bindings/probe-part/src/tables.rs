@@ -98,9 +98,11 @@ pub fn notes(part: &Part, row: &Row) -> String {
     }
     match row.end {
         End::OpensInto(other) => notes.push(format!("opens into {}", other + 1)),
-        End::Tip { angle, .. } => notes.push(format!("tip of {} degrees", fixed(angle, 0))),
+        End::Tip { angle, .. } if row.cone.is_none() => {
+            notes.push(format!("tip of {} degrees", fixed(angle, 0)));
+        }
         End::Unknown => notes.push("ITS END IS NOT UNDERSTOOD".into()),
-        End::Floor | End::Through => {}
+        End::Floor | End::Through | End::Tip { .. } => {}
     }
     if !row.open.is_empty() {
         let names: Vec<&str> = row
@@ -124,6 +126,9 @@ pub fn notes(part: &Part, row: &Row) -> String {
         Outline::Arc { sweep, .. } => notes.push(format!("over {} degrees", fixed(*sweep, 2))),
         Outline::Other { .. } => notes.push("the box around it".into()),
         _ => {}
+    }
+    if let Some(angle) = row.cone {
+        notes.push(format!("cone of {} degrees", fixed(angle, 0)));
     }
     if let Some(lean) = lean(part, row) {
         notes.push(format!("leans by {} degrees", fixed(lean, 2)));
