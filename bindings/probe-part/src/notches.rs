@@ -60,14 +60,25 @@ fn goes_down(work: &Work<'_>, wall: u32, up: Vector) -> bool {
     edges.iter().any(ends) && !edges.iter().any(floor)
 }
 
-/// The level below that a wall ends at, and its region.
-fn bottom_of(work: &Work<'_>, wall: u32, up: Vector) -> Option<(f64, u32)> {
+/// The level that walls end at below, and a region of it: the far face where they reach it, beside floors of other rows
+/// too; else the one floor that they all end at.
+fn bottom_of(work: &Work<'_>, walls: &[u32], up: Vector) -> Option<(f64, u32)> {
     let down = scale(up, -1.0);
-    work.all_edges(wall)
+    let mut ends: Vec<u32> = walls
         .iter()
+        .flat_map(|&wall| work.all_edges(wall))
         .filter(|edge| edge.across != NONE && edge.is_convex && work.is_level(edge.across, down))
-        .map(|edge| (-work.regions.all[edge.across as usize].offset, edge.across))
-        .next()
+        .map(|edge| edge.across)
+        .collect();
+    ends.sort_unstable();
+    ends.dedup();
+    let far = ends.iter().copied().find(|&end| work.face(end).is_some());
+    let below = match (far, ends.as_slice()) {
+        (Some(face), _) => face,
+        (None, &[floor]) => floor,
+        _ => return None,
+    };
+    Some((-work.regions.all[below as usize].offset, below))
 }
 
 /// Adds a cut-out with walls all around.
@@ -187,12 +198,7 @@ fn add(
     walls: Vec<u32>,
     open: Vec<u32>,
 ) {
-    let Some(&(bottom, below)) = walls
-        .iter()
-        .filter_map(|&wall| bottom_of(work, wall, up))
-        .collect::<Vec<_>>()
-        .first()
-    else {
+    let Some((bottom, below)) = bottom_of(work, &walls, up) else {
         return;
     };
     let on_floor =
