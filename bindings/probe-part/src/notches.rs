@@ -9,9 +9,10 @@ use crate::rounds::off_round;
 use crate::topology::NONE;
 use crate::walls::{connected, upright};
 use crate::work::{probes_beside, Draft, DraftEnd, Edge, Work};
+use std::collections::HashSet;
 
 /// Adds what goes through, from the level surfaces beside a group that face along its axis.
-pub fn add_through(work: &mut Work<'_>, group: &[u32], axis: Vector) {
+pub fn add_through(work: &mut Work<'_>, group: &[u32], members: &HashSet<u32>, axis: Vector) {
     for up in [axis, scale(axis, -1.0)] {
         for region in mouths(work, group, up) {
             for number in 0..work.regions.all[region as usize].loops.len() {
@@ -26,7 +27,7 @@ pub fn add_through(work: &mut Work<'_>, group: &[u32], axis: Vector) {
                 if number > 0 && edges.iter().all(ours) {
                     add_closed(work, region, number, up, &edges);
                 } else if number == 0 && work.face(region).is_some() {
-                    add_open(work, region, up, &edges, group);
+                    add_open(work, region, up, &edges, members);
                 }
             }
         }
@@ -101,11 +102,11 @@ fn reversed(edge: &Edge) -> Edge {
 }
 
 /// Adds the notches of the outline of an outer face: runs of edges whose walls go through, closed along the body's side.
-fn add_open(work: &mut Work<'_>, region: u32, up: Vector, edges: &[Edge], group: &[u32]) {
+fn add_open(work: &mut Work<'_>, region: u32, up: Vector, edges: &[Edge], members: &HashSet<u32>) {
     let count = edges.len();
     let ours = |edge: &Edge| {
         edge.across != NONE
-            && group.contains(&edge.across)
+            && members.contains(&edge.across)
             && edge.is_convex
             && goes_down(work, edge.across, up)
     };

@@ -8,6 +8,7 @@ use crate::rounds::off_round;
 use crate::topology::NONE;
 use crate::walls::{connected, edge_length, upright};
 use crate::work::{probes_beside, Draft, DraftEnd, Edge, Probe, Work};
+use std::collections::HashSet;
 
 /// Probes start so far before the entry.
 pub const BEFORE: f64 = 0.2;
@@ -28,8 +29,9 @@ pub fn add_pockets(work: &mut Work<'_>) {
         }
     }
     for group in groups(work) {
-        if let Some(axis) = prismatic_axis(work, &group) {
-            add_group(work, &group, axis);
+        let members: HashSet<u32> = group.iter().copied().collect();
+        if let Some(axis) = prismatic_axis(work, &group, &members) {
+            add_group(work, &group, &members, axis);
         }
     }
 }
@@ -63,7 +65,7 @@ fn groups(work: &Work<'_>) -> Vec<Vec<u32>> {
 
 /// The axis that all regions of a group lie across or along, and that it is entered along: z, y, x, or across another
 /// outer face.
-fn prismatic_axis(work: &Work<'_>, group: &[u32]) -> Option<Vector> {
+fn prismatic_axis(work: &Work<'_>, group: &[u32], members: &HashSet<u32>) -> Option<Vector> {
     let mut axes: Vec<Vector> = vec![[0.0, 0.0, 1.0], [0.0, 1.0, 0.0], [1.0, 0.0, 0.0]];
     axes.extend(
         work.outer
@@ -79,13 +81,13 @@ fn prismatic_axis(work: &Work<'_>, group: &[u32]) -> Option<Vector> {
                 || work.is_level(region, axis)
                 || work.is_level(region, back)
         };
-        group.iter().all(fits) && is_entered(work, group, axis)
+        group.iter().all(fits) && is_entered(work, group, members, axis)
     })
 }
 
 /// Whether floors that face along an axis, either way, are seen from a level surface beside the group, or walls alone join
 /// two.
-fn is_entered(work: &Work<'_>, group: &[u32], axis: Vector) -> bool {
+fn is_entered(work: &Work<'_>, group: &[u32], members: &HashSet<u32>, axis: Vector) -> bool {
     let mouths = |way: Vector| {
         group.iter().any(|&region| {
             let edges = work.all_edges(region);
@@ -94,7 +96,7 @@ fn is_entered(work: &Work<'_>, group: &[u32], axis: Vector) -> bool {
                     && edge.is_convex
                     && work.is_near_wall(region, axis)
                     && work.is_level(edge.across, way)
-                    && !group.contains(&edge.across)
+                    && !members.contains(&edge.across)
             };
             edges.iter().any(opens)
         })
@@ -108,7 +110,7 @@ fn is_entered(work: &Work<'_>, group: &[u32], axis: Vector) -> bool {
 }
 
 /// Adds the rows of a group along its axis.
-fn add_group(work: &mut Work<'_>, group: &[u32], axis: Vector) {
+fn add_group(work: &mut Work<'_>, group: &[u32], members: &HashSet<u32>, axis: Vector) {
     let ways = [axis, scale(axis, -1.0)];
     let mut floors: Vec<(u32, Vector)> = Vec::new();
     for &region in group {
@@ -127,8 +129,8 @@ fn add_group(work: &mut Work<'_>, group: &[u32], axis: Vector) {
             add_islands(work, floor, owner, up);
         }
     }
-    add_through(work, group, axis);
-    flood(work, group);
+    add_through(work, group, members, axis);
+    flood(work, group, members);
 }
 
 /// Whether a level region is the top of what stands there: walls go down from it all around.
@@ -328,7 +330,7 @@ fn kind_of(edges: &[Edge], outline: &Outline, open: &[u32], work: &Work<'_>) -> 
 }
 
 /// Gives free walls to the row of a neighbour.
-fn flood(work: &mut Work<'_>, group: &[u32]) {
+fn flood(work: &mut Work<'_>, group: &[u32], members: &HashSet<u32>) {
     let mut open: Vec<u32> = group
         .iter()
         .copied()
@@ -342,7 +344,7 @@ fn flood(work: &mut Work<'_>, group: &[u32]) {
             .flat_map(|around| work.regions.across(around))
             .collect();
         for other in across {
-            if other != NONE && work.is_free(other) && group.contains(&other) {
+            if other != NONE && work.is_free(other) && members.contains(&other) {
                 work.owner[other as usize] = owner;
                 open.push(other);
             }

@@ -6,7 +6,7 @@ use board::{
     arc, board as made, circle, ellipse, extruded, finer, mapped, rectangle, rounded, turned,
     Chance, Cut, Place, Point, Side, THROUGH,
 };
-use known::{bore, hold, hold_anywhere, hold_posed, known, report, Known, Pose};
+use known::{bore, explains, hold, hold_anywhere, hold_posed, known, report, Known, Pose};
 use probe_part::model::{Check, End, Kind, Outline};
 use probe_part::recognise::{recognise, Options};
 use probe_part::shape::Shape;
@@ -417,6 +417,118 @@ fn bores_that_lean() {
         });
     }
     hold_anywhere(&made(BOARD, &cuts), &all, 31);
+}
+
+/// A cam joint: a bore of 5 from the left side, which opens into a cup of 15 from below.
+fn cam() -> Vec<Corners> {
+    let (size, [x, y], z, cup, dowel) = (BOARD, [34.0, 100.0], 9.0, 7.5, 2.5);
+    let sides = 40;
+    let mut solid = board::Solid::default();
+    let turn = |n: usize| std::f64::consts::TAU * (n as f64) / sides as f64;
+    let around = |height: f64| -> Vec<Point> {
+        (0..sides)
+            .map(|n| [x + cup * turn(n).cos(), y + cup * turn(n).sin(), height])
+            .collect()
+    };
+    let side = |at: f64| -> Vec<Point> {
+        (0..sides)
+            .map(|n| [at, y + dowel * turn(n).cos(), z + dowel * turn(n).sin()])
+            .collect()
+    };
+    // the dowel's rim on the cup's wall
+    let rim: Vec<Point> = side(0.0)
+        .into_iter()
+        .map(|[_, py, pz]| [x - (cup * cup - (py - y).powi(2)).sqrt(), py, pz])
+        .collect();
+    let plain = made(size, &[Cut::bore(Side::Top, [500.0, 300.0], 5.0, 12.0)]);
+    let is = |facet: &&Corners, axis: usize, at: f64| facet.iter().all(|corner| corner[axis] == at);
+    let kept = plain
+        .iter()
+        .filter(|facet| !is(facet, 2, 0.0) && !is(facet, 0, 0.0));
+    solid.facets = kept.copied().collect();
+    let bottom = vec![
+        [0.0, 0.0, 0.0],
+        [600.0, 0.0, 0.0],
+        [600.0, 400.0, 0.0],
+        [0.0, 400.0, 0.0],
+    ];
+    let left = vec![
+        [0.0, 0.0, 0.0],
+        [0.0, 0.0, 18.0],
+        [0.0, 400.0, 18.0],
+        [0.0, 400.0, 0.0],
+    ];
+    solid.flat(&[bottom, around(0.0)], [0.0, 0.0, -1.0]);
+    solid.flat(&[left, side(0.0)], [-1.0, 0.0, 0.0]);
+    solid.flat(&[around(12.7)], [0.0, 0.0, -1.0]);
+    let back = |mut ring: Vec<Point>| {
+        ring.reverse();
+        ring
+    };
+    solid.walls(&back(side(0.0)), &back(rim.clone()));
+    // the cup's wall: strips but for those that the rim lies in, which are unrolled
+    let (from, to) = (sides / 2 - 4, sides / 2 + 4);
+    let (low, high) = (around(0.0), around(12.7));
+    for n in (0..sides).filter(|n| !(from..to).contains(n)) {
+        let m = (n + 1) % sides;
+        solid.facets.push([high[n], high[m], low[n]]);
+        solid.facets.push([high[m], low[m], low[n]]);
+    }
+    let patch: Vec<Point> = (from..=to)
+        .map(|n| low[n])
+        .chain((from..=to).rev().map(|n| high[n]))
+        .collect();
+    let unrolled = |p: &Point| [(p[1] - y).atan2(-(p[0] - x)), p[2], 0.0];
+    let flat = |ring: &[Point]| -> Vec<Point> { ring.iter().map(unrolled).collect() };
+    let mut sheet = board::Solid::default();
+    sheet.flat(&[flat(&patch), flat(&rim)], [0.0, 0.0, 1.0]);
+    let all: Vec<Point> = patch.iter().chain(&rim).copied().collect();
+    let rolled = |p: Point| *all.iter().find(|q| unrolled(q) == p).unwrap();
+    solid
+        .facets
+        .extend(sheet.facets.iter().map(|facet| facet.map(rolled)));
+    solid.facets
+}
+
+#[test]
+fn a_cam_joint() {
+    let all = [
+        bore(BOARD, Side::Top, [500.0, 300.0], 5.0, 12.0),
+        bore(BOARD, Side::Bottom, [34.0, 100.0], 15.0, 12.7),
+    ];
+    let facets = cam();
+    let found = report(&facets);
+    assert!(found.is_certain(), "{found:#?}");
+    let part = &found.parts[0];
+    assert_eq!(part.rows.len(), all.len() + 1);
+    let dowel = part
+        .rows
+        .iter()
+        .find(|row| matches!(row.end, End::OpensInto(_)))
+        .unwrap();
+    let End::OpensInto(cup) = dowel.end else {
+        panic!()
+    };
+    assert!(
+        matches!(part.rows[cup].outline, Outline::Circle { diameter, .. } if (diameter - 15.0).abs() < 0.01)
+    );
+    assert!(
+        matches!(dowel.outline, Outline::Circle { diameter, .. } if (diameter - 5.0).abs() < 0.01)
+    );
+    assert_eq!(part.faces[dowel.face.unwrap()].name, "left");
+    assert_eq!(part.rows[cup].feature, dowel.feature);
+    // the cup's wall lies from 26.5 on, where it is nearest, to 26.93 at the dowel's sides
+    assert!(dowel.depth > 26.5 && dowel.depth < 26.93, "{dowel:?}");
+    explains(&board::single(&facets), part, 3);
+    let mut chance = Chance(9);
+    for mirrors in [false, true] {
+        let pose = Pose::of_chance(&mut chance, mirrors);
+        let found = report(&mapped(&facets, |point| pose.place(point), mirrors));
+        assert!(
+            found.is_certain() && found.parts[0].rows.len() == 3,
+            "{found:#?}"
+        );
+    }
 }
 
 /// A countersink from 10 to 5 at 90 degrees, then a bore of 5 right through; a bore with a drill's tip; a cone alone.
