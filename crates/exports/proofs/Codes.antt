@@ -3,9 +3,9 @@ use Prim.Native.Nat.{ℕ}
 use mathlib.Core.Path.{refl}
 use mathlib.Core.List.{List}
 use Rattle.casts.specs.Answer.{refused}
-use Rattle.float_forms.specs.declared.forms.Converted.the-variants as Conversion
+use Rattle.conversion.specs.Convert as Conversion
 use Rattle.nearest_hit.specs.Nearest.{stopped}
-use Rattle.height_ranges.specs.declared.answer.Clearance.the-variants as Clearance
+use Rattle.height_ranges.specs.Answer as Clearance
 use Rattle.tree_build.specs.Build as Build
 use Rattle.tree_query.specs.Query as Query
 use Rattle.tree_check.specs.Verdict as Verdict
@@ -30,7 +30,7 @@ refusals-below-codes = record {
   triangle = λ r vs. small-below answerNumber refused (λ n. refl) _ (ray-triangle-small r vs);
   triangle-slices = λ ray shape. small-below answerNumber refused (λ n. refl) _ (slices-small 9 ray shape _ (ray-triangle-small _ _));
   height-field = λ r f heights. small-below answerNumber refused (λ n. refl) _ (height-field-small r f heights);
-  ranges = λ r f lows highs. small-below clearanceNumber Clearance.Refused (λ n. refl) _ (ranges-small r f lows highs);
+  ranges = λ r f lows highs. small-below clearanceNumber Clearance.refused (λ n. refl) _ (ranges-small r f lows highs);
   level-set = λ r g values. small-below answerNumber refused (λ n. refl) _ (level-set-small r g values);
   mesh = λ r m pose t list stack. small-below indexedNumber stopped (λ n. refl) _ (mesh-small r m pose t list stack);
   plain = λ r m. small-below indexedNumber stopped (λ n. refl) _ (plain-small r m);
@@ -46,5 +46,5 @@ refusals-below-codes = record {
   cabinet-after = λ r a list stack limit parts spent.
       small-below cabinetNumber (λ (n : ℕ). Cabinet.refusedAfter n spent) (λ n. refl) _ (cabinet-small r a list stack limit parts);
   conversion = λ p q bytes area.
-      small-below convertedNumber Conversion.Refused (λ n. refl) _ (is-small (converted-small p q bytes area .below));
+      small-below convertedNumber Conversion.refused (λ n. refl) _ (is-small (converted-small p q bytes area .below));
 }

@@ -27,8 +27,8 @@ use Rattle.height_field.specs.Cells.{visitedCells}
 use Rattle.height_field.specs.Grid.{fieldAdmitted, cellRow, cellColumn, featureCorners}
 use Rattle.height_field.specs.Listing.{Listing, listed, unlisted, both, listAll, cellFinite, featureBox, listCell, gridListing}
 use Rattle.height_field.specs.Cast.{answerOf, castListed, spanFinite, heightCast, rayHeightField}
-use Rattle.height_ranges.specs.declared.answer.Clearance.{Clearance}
-use Rattle.height_ranges.specs.declared.answer.Clearance.the-variants.{Clear, Possible, Refused as NotClear}
+use Rattle.height_ranges.specs.Answer.{clear, possible, refused as notClear}
+use Rattle.height_ranges.specs.Answer.{Answer as Clearance}
 use Rattle.height_ranges.specs.Ranges.{rangesAdmitted, nodesOf, nodeInOrder, nearestHeights}
 use Rattle.height_ranges.specs.RangesCast.{badRange, answerListed, visitedAnswer, rangesCast, rayHeightRanges}
 use Rattle.distance_grid.specs.declared.grid.Grid.{Grid}
@@ -114,25 +114,25 @@ height-field-small r f heights =
     all (unlisted k) p = record { below = p .below }
 
 unfoldable pub clearanceNumber : Clearance → ℕ
-clearanceNumber Clear = 0
-clearanceNumber (Possible cell) = 0
-clearanceNumber (NotClear number) = number
+clearanceNumber clear = 0
+clearanceNumber (possible cell) = 0
+clearanceNumber (notClear number) = number
 
 found-small : (l : Listing) → Small listingNumber l → Small clearanceNumber (answerListed l)
 unfolding answerListed listingNumber clearanceNumber
-found-small (listed []) p = leaf clearanceNumber Clear refl
-found-small (listed (feature ∷ rest)) p = leaf clearanceNumber (Possible (feature / 2)) refl
+found-small (listed []) p = leaf clearanceNumber clear refl
+found-small (listed (feature ∷ rest)) p = leaf clearanceNumber (possible (feature / 2)) refl
 found-small (unlisted k) p = record { below = p .below }
 
-refuses-clear : (k : ℕ) → ltb k 256 ≡ true → Small clearanceNumber (NotClear k)
+refuses-clear : (k : ℕ) → ltb k 256 ≡ true → Small clearanceNumber (notClear k)
 unfolding clearanceNumber
-refuses-clear k h = leaf clearanceNumber (NotClear k) h
+refuses-clear k h = leaf clearanceNumber (notClear k) h
 
 pub ranges-small : (r : Ray) (f : Field) (lows highs : List Float) → Small clearanceNumber (rayHeightRanges r f lows highs)
 unfolding rayHeightRanges rangesCast visitedAnswer
 ranges-small r f lows highs =
-    chosen (rayAdmitted r) (chosen (rangesAdmitted f lows highs) (boxed clearanceNumber NotClear refuses-clear r
-    (λ (box : Aabb). cond (spanFinite f) (visitedAnswer f lows highs box) (NotClear overflow))
+    chosen (rayAdmitted r) (chosen (rangesAdmitted f lows highs) (boxed clearanceNumber notClear refuses-clear r
+    (λ (box : Aabb). cond (spanFinite f) (visitedAnswer f lows highs box) (notClear overflow))
     (λ box. chosen (spanFinite f) (visited box) (refuses-clear overflow refl)))
     (refuses-clear badShape refl)) (refuses-clear invalidInput refl)
   where

@@ -26,11 +26,9 @@ use Rattle.tree_check.specs.Check.{treePasses}
 use Rattle.tree_check.specs.Verdict as Verdict
 use Rattle.board_tests.specs.Merge as Merge
 use Rattle.float_forms.specs.declared.forms.Form.{Form}
-use Rattle.float_forms.specs.declared.forms.Converted.{Converted}
-use Rattle.float_forms.specs.declared.forms.Converted.the-variants.{Written, Refused as NotConverted}
 use Rattle.record_forms.specs.Records.{saidOf, wellFormed}
 use Rattle.record_forms.specs.Writing.{turned}
-use Rattle.conversion.specs.Convert.{saidHeld, Outcome, converted}
+use Rattle.conversion.specs.Convert.{saidHeld, Answer as Converted, written, refused as notConverted, Outcome, converted}
 use Rattle.tree_walk.specs.Looking.{Looked, looked, usedUp, walkWithin}
 use Rattle.cabinet.specs.declared.part.Part.{Part}
 use Rattle.cabinet.specs.declared.part.Found.{Found}
@@ -109,8 +107,8 @@ merge-small a b old marks =
 
 -- ---- the converter
 unfoldable pub convertedNumber : Converted → ℕ
-convertedNumber (Written count) = 0
-convertedNumber (NotConverted number) = number
+convertedNumber (written count) = 0
+convertedNumber (notConverted number) = number
 
 converts : (answer : Converted) (area : List ℕ) → ltb (convertedNumber answer) 256 ≡ true
     → Small (λ (o : Outcome). convertedNumber (o .answer)) (record { answer = answer; area = area })
@@ -119,9 +117,9 @@ converts answer area h = leaf (λ (o : Outcome). convertedNumber (o .answer)) (r
 pub converted-small : (p q : Form) (bytes area : List ℕ) → Small (λ (o : Outcome). convertedNumber (o .answer)) (converted p q bytes area)
 unfolding converted convertedNumber
 converted-small p q bytes area =
-    chosen (wellFormed p bytes) (chosen (ltb (length area) (length (turned p q bytes))) (converts (NotConverted 3) _ refl)
-    (chosen (saidHeld q (saidOf p bytes)) (converts (Written _) _ refl) (converts (NotConverted 11) _ refl)))
-    (converts (NotConverted 2) _ refl)
+    chosen (wellFormed p bytes) (chosen (ltb (length area) (length (turned p q bytes))) (converts (notConverted 3) _ refl)
+    (chosen (saidHeld q (saidOf p bytes)) (converts (written _) _ refl) (converts (notConverted 11) _ refl)))
+    (converts (notConverted 2) _ refl)
 
 -- ---- the cabinet
 unfoldable foundNumber : Found → ℕ

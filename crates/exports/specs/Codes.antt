@@ -8,8 +8,7 @@ use Rattle.vectors.specs.declared.vec3.Vec3.{Vec3}
 use Rattle.geometry.specs.declared.aabb.Aabb.{Aabb}
 use Rattle.geometry.specs.declared.ray.Ray.{Ray}
 use Rattle.float_forms.specs.declared.forms.Form.{Form}
-use Rattle.float_forms.specs.declared.forms.Converted.the-variants as Conversion
-use Rattle.conversion.specs.Convert.{converted}
+use Rattle.conversion.specs.Convert as Conversion
 use Rattle.casts.specs.Answer.{Answer, refused}
 use Rattle.casts.specs.Plane.{rayPlane}
 use Rattle.casts.specs.declared.plane.Plane.{Plane}
@@ -17,7 +16,7 @@ use Rattle.triangle_cast.specs.Triangle.{rayTriangle}
 use Rattle.nearest_hit.specs.Nearest.{stopped}
 use Rattle.height_field.specs.declared.field.Field.{Field}
 use Rattle.height_field.specs.Cast.{rayHeightField}
-use Rattle.height_ranges.specs.declared.answer.Clearance.the-variants as Clearance
+use Rattle.height_ranges.specs.Answer as Clearance
 use Rattle.height_ranges.specs.RangesCast.{rayHeightRanges}
 use Rattle.distance_grid.specs.declared.grid.Grid.{Grid}
 use Rattle.level_set.specs.Walk.{rayLevelSet}
@@ -49,7 +48,7 @@ pub record RefusalsBelowCodes : Type 0 where
   pub triangle : (r : Ray) (vs : List Vec3) → Below refused (rayTriangle r vs)
   pub triangle-slices : (ray shape : List Float) → Below refused (triangleOfSlices ray shape)
   pub height-field : (r : Ray) (f : Field) (heights : List Float) → Below refused (rayHeightField r f heights)
-  pub ranges : (r : Ray) (f : Field) (lows highs : List Float) → Below Clearance.Refused (rayHeightRanges r f lows highs)
+  pub ranges : (r : Ray) (f : Field) (lows highs : List Float) → Below Clearance.refused (rayHeightRanges r f lows highs)
   pub level-set : (r : Ray) (g : Grid) (values : List Float) → Below refused (rayLevelSet r g values)
   pub mesh : (r : Ray) (m : Mesh) (pose : List Float) (t : Tree) (list stack : ℕ) → Below stopped (rayMesh r m pose t list stack)
   pub plain : (r : Ray) (m : Mesh) → Below stopped (rayMeshPlain r m)
@@ -65,4 +64,4 @@ pub record RefusalsBelowCodes : Type 0 where
       → Below Cabinet.refused (Cabinet.castCabinet r a list stack limit parts)
   pub cabinet-after : (r : Ray) (a : CabinetAreas) (list stack limit : ℕ) (parts : List Part) (spent : ℕ)
       → Below (λ (number : ℕ). Cabinet.refusedAfter number spent) (Cabinet.castCabinet r a list stack limit parts)
-  pub conversion : (p q : Form) (bytes area : List ℕ) → Below Conversion.Refused (converted p q bytes area .answer)
+  pub conversion : (p q : Form) (bytes area : List ℕ) → Below Conversion.refused (Conversion.converted p q bytes area .answer)
