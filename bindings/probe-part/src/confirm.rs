@@ -11,14 +11,6 @@ const NEAR: f64 = 0.01;
 /// A probe reaches so far beyond the part.
 const BEYOND: f64 = 10.0;
 
-/// What a ray hits: by the exact cast where it does not refuse the ray or the part, else by the careful one.
-pub fn probe(shape: &Shape, ray: &Ray, scratch: &mut Scratch) -> Cast<MeshHit> {
-    match shape.cast_exact(ray, scratch) {
-        Some(answer) => answer,
-        None => shape.cast_careful(ray, scratch),
-    }
-}
-
 /// What the casts say of each row, over the machine's threads; a cast that is refused is an error. `wide` is how far it is
 /// through the whole part.
 pub fn confirm(
@@ -69,7 +61,7 @@ fn checked(
             probe_of.what
         ))
     };
-    Ok(match probe(shape, &ray, scratch) {
+    Ok(match shape.cast(&ray, scratch) {
         Cast::Refused(refusal) => return Err(refusal),
         Cast::None if most.is_infinite() => Check::Confirmed,
         Cast::None => differs("nothing".into()),

@@ -124,13 +124,8 @@ impl<'a> View<'a> {
         )
     }
 
-    /// How deep below the box's face the first surface lies, by a careful cast; infinite where there is none.
+    /// How deep below the box's face the first surface lies; infinite where there is none.
     pub fn depth(&self, place: [f64; 2], scratch: &mut Scratch) -> Result<f64, Refusal> {
-        below(self.shape.cast_careful(&self.ray(place), scratch))
-    }
-
-    /// The same by one cast.
-    pub fn glance(&self, place: [f64; 2], scratch: &mut Scratch) -> Result<f64, Refusal> {
         below(self.shape.cast(&self.ray(place), scratch))
     }
 }

@@ -20,11 +20,10 @@ use std::process::ExitCode;
 const HELP: &str = "\
 probe-part probes a part in an STL file, binary or ASCII, in millimetres.
 
-  probe-part cast FILE [--all | --careful] [--rays FILE] [X Y Z  DX DY DZ  MAX]...
+  probe-part cast FILE [--all | --rounded] [--rays FILE] [X Y Z  DX DY DZ  MAX]...
       what rays hit: origin, direction of any length, how far; --rays reads them from a file, one a line (- is standard
-      input; # begins a comment); --all tells every depth along a ray; --careful casts three more a hair beside each
-      ray and tells the nearest hit; a part on whole millimetres, of up to 65,536 triangles, is cast at in whole numbers
-      by rays along an axis from a whole origin to a whole maximum, but for --all: 'exact' stands behind such an answer
+      input; # begins a comment); casts are exact, on a grid of 2^-15 mm within 8,192 mm; --all tells every depth along a
+      ray and --rounded the first hit, both by the rounded casts
   probe-part bores FILE [--face NAME]... [--unit UNIT] [--as-drawn] [--from-corner] [--shells] [--csv]
       the bores, pockets, grooves and so on of the part, recognised from its triangles and probed by casts: outline, size,
       depth of the entry below the outer face, own depth, middle; what is not understood is marked by !, and the exit
@@ -78,7 +77,7 @@ fn run(words: &[String]) -> Result<u8, String> {
     }
     let answered = match command.as_str() {
         "cast" => cast(
-            &Call::new(rest, &["--all", "--careful"], &["--rays"])?,
+            &Call::new(rest, &["--all", "--rounded"], &["--rays"])?,
             &mut out,
         )?,
         "bores" => bores(
@@ -243,9 +242,9 @@ fn counts(shape: &Shape) -> String {
 
 /// `probe-part cast`.
 fn cast(call: &Call, out: &mut Output) -> Result<u8, String> {
-    if call.has("--all") && call.has("--careful") {
+    if call.has("--all") && call.has("--rounded") {
         return Err(
-            "--careful is about the first hit, --all about every one: take one of them".into(),
+            "--rounded is about the first hit, --all about every one: take one of them".into(),
         );
     }
     let given = from_words(&call.rest)?;
@@ -254,7 +253,7 @@ fn cast(call: &Call, out: &mut Output) -> Result<u8, String> {
     let mut casting = Casting {
         shape: &shape,
         all: call.has("--all"),
-        careful: call.has("--careful"),
+        rounded: call.has("--rounded"),
         number: 0,
         answered: true,
         // where the answers go to a terminal, they are the progress
@@ -284,7 +283,7 @@ fn cast(call: &Call, out: &mut Output) -> Result<u8, String> {
 struct Casting<'a> {
     shape: &'a Shape,
     all: bool,
-    careful: bool,
+    rounded: bool,
     number: usize,
     answered: bool,
     line: Option<Progress>,
@@ -299,8 +298,8 @@ impl Casting<'_> {
                 self.line(&all_told(ray, &hits), out)?;
             }
         } else {
-            for (ray, answer) in rays.iter().zip(self.shape.cast_many(rays, self.careful)) {
-                self.answered &= !matches!(answer.cast, Cast::Refused(_));
+            for (ray, answer) in rays.iter().zip(self.shape.cast_many(rays, self.rounded)) {
+                self.answered &= !matches!(answer, Cast::Refused(_));
                 self.line(&told(ray, &answer), out)?;
             }
         }

@@ -75,8 +75,7 @@ pub struct Raster {
 }
 
 impl Raster {
-    /// Probes the whole face of a view, over the machine's threads. Where a place is as deep as its neighbours, one cast
-    /// has told it; elsewhere, as at a rim, and where a ray has passed between two triangles, the careful cast does.
+    /// Probes the whole face of a view, over the machine's threads.
     pub fn of_face(view: &View<'_>, step: f64) -> Result<Raster, Refusal> {
         let grid = Grid::new(view.low(), view.high(), step);
         let [columns, rows] = grid.counts();
@@ -84,27 +83,12 @@ impl Raster {
         let label = format!("probing the {} face, rows", view.face.name());
         let rows = Batch::new().progress(label).run(&numbers, |row, scratch| {
             let cells = row * columns..(row + 1) * columns;
-            let glance = |cell: usize| view.glance(grid.place(cell), scratch);
-            cells.map(glance).collect::<Result<Vec<f64>, Refusal>>()
+            let depth = |cell: usize| view.depth(grid.place(cell), scratch);
+            cells.map(depth).collect::<Result<Vec<f64>, Refusal>>()
         });
         let mut depths = Vec::with_capacity(grid.len());
         for row in rows {
             depths.append(&mut row?);
-        }
-        let differs = |cell: usize, other: usize| {
-            let (one, two): (f64, f64) = (depths[cell], depths[other]);
-            one != two && (one - two).abs() > SAME
-        };
-        let neighbours = |cell: usize| grid.neighbours(cell).into_iter().flatten();
-        let unsure: Vec<usize> = (0..grid.len())
-            .filter(|&cell| neighbours(cell).any(|other| differs(cell, other)))
-            .collect();
-        let label = format!("probing the {} face with care", view.face.name());
-        let sure = Batch::new().progress(label).run(&unsure, |&cell, scratch| {
-            view.depth(grid.place(cell), scratch)
-        });
-        for (cell, depth) in unsure.into_iter().zip(sure) {
-            depths[cell] = depth?;
         }
         Ok(Raster { grid, depths })
     }

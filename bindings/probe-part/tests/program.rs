@@ -98,7 +98,7 @@ fn calls_that_are_not_right() {
             "no number: x",
         ),
         (&["cast", PANEL, "--every"], "--every is not known here"),
-        (&["cast", PANEL, "--all", "--careful"], "take one of them"),
+        (&["cast", PANEL, "--all", "--rounded"], "take one of them"),
         (&["cast", PANEL, "--rays"], "--rays takes a value"),
         (
             &["cast", "/no/such/file.stl"],
@@ -273,36 +273,31 @@ fn rays_from_words_a_file_and_standard_input() {
         b"",
     );
     assert_eq!((status, out.as_str()), (1, depths.as_str()));
-    // no ray meets a surface aslant but the seventh, from a hair aside of which it is 0.0000008 nearer
-    let (status, out, _) = said(&["cast", "--careful", PANEL, "--rays", "-"], &commas);
+    let (status, out, _) = said(&["cast", "--rounded", PANEL, "--rays", "-"], &commas);
     assert_eq!((status, out.as_str()), (1, hits.as_str()));
 }
 
 /// docs/DIFFERENCES.md, 'Found in the Rust', 2: the diagonal of a square of 31 is the side opposite the first corner of both
 /// its triangles, and from (1, 30) the rounded cast passes there. (1, 2, 4) + 5 · (0.6, 0, -0.8) is (4, 2, 0).
 #[test]
-fn whole_millimetres_are_exact() {
-    let folder = Folder::new("whole");
+fn casts_are_exact() {
+    let folder = Folder::new("exact");
     let square = |side: f64| {
         let (near, far) = ([side, 0.0, 0.0], [0.0, side, 0.0]);
         [[[0.0; 3], near, far], [[side, side, 0.0], far, near]]
     };
-    let rays = b"1 30 1  0 0 -1  10\n1 30 1  0 0 -4  1\n-5 0 0  1 0 0  10\n40 30 1  0 0 -1  10\n1 30 2  0 0 -1  1\n\
-        0.5 30 1  0 0 -1  10\n1 2 4  3 0 -4  10\n1 2 4  0 0 -1  4.5\n1 30 1  0 0 -1  -1\n";
+    let rays = b"1 30 1  0 0 -1  10\n-5 0 0  1 0 0  10\n40 30 1  0 0 -1  10\n1 30 2  0 0 -1  1\n\
+        1 2 4  3 0 -4  10\n1 30 1  0 0 -1  -1\n";
     let at = |place: &str, triangle: u32| {
         format!("hit at {place}, normal (0.000, 0.000, 1.000), triangle {triangle}")
     };
     let told = [
-        at("1.000 mm, point (1.000, 30.000, 0.000)", 0) + ", exact",
-        at("1.000 mm, point (1.000, 30.000, 0.000)", 0) + ", exact",
+        at("1.000 mm, point (1.000, 30.000, 0.000)", 0),
         // along the outline, from 5 before it
-        at("5.000 mm, point (0.000, 0.000, 0.000)", 0) + ", exact",
-        "none, exact".into(),
-        "none, exact".into(),
-        // the origin, the direction and the maximum that are not whole, and a maximum below 0
-        at("1.000 mm, point (0.500, 30.000, 0.000)", 0),
+        at("5.000 mm, point (0.000, 0.000, 0.000)", 0),
+        "none".into(),
+        "none".into(),
         at("5.000 mm, point (4.000, 2.000, 0.000)", 0),
-        at("4.000 mm, point (1.000, 2.000, 0.000)", 0),
         "refused 1, invalid input: a ray or a query's box that is not admitted".into(),
     ];
     let lines = |facets: &[_], switches: &[&str], rays: &[u8]| -> Vec<String> {
@@ -313,33 +308,22 @@ fn whole_millimetres_are_exact() {
         out.lines().skip(1).map(after).collect()
     };
     assert_eq!(lines(&square(31.0), &[], rays), told);
-    assert_eq!(lines(&square(31.0), &["--careful"], rays), told);
-    // every depth is not told exactly, nor is a part that has a corner elsewhere
+    // the rounded cast passes on the diagonal, and misses a triangle that the ray lies in
+    let rounded = lines(&square(31.0), &["--rounded"], rays);
+    assert_eq!(rounded[..2], ["none", "none"]);
+    assert_eq!(rounded[2..], told[2..]);
+    // every depth is told by the rounded casts; a part out of range is refused
     let first = b"1 2 4  0 0 -1  10\n".as_slice();
-    assert_eq!(
-        lines(&square(31.0), &[], first),
-        [at("4.000 mm, point (1.000, 2.000, 0.000)", 0) + ", exact"]
-    );
     assert_eq!(lines(&square(31.0), &["--all"], first)[0], "1 hit");
-    for other in [31.5, 4097.0] {
-        assert_eq!(
-            lines(&square(other), &[], first),
-            [at("4.000 mm, point (1.000, 2.000, 0.000)", 0)]
-        );
-    }
-    // of 128 triangles, of 512 and of 2,048, all on whole millimetres; of 8,192, whose corners are not
-    for (times, exact) in [(3, true), (4, true), (5, true), (6, false)] {
-        let of = lines(&finer(&square(32.0), times), &[], first);
-        assert!(
-            of[0].starts_with("hit at 4.000 mm") && of[0].ends_with(", exact") == exact,
-            "{of:?}"
-        );
-    }
+    assert!(lines(&square(8193.0), &[], first)[0].starts_with("refused 12"));
+    // of 8,192 triangles, whose corners are not on whole millimetres
+    let of = lines(&finer(&square(32.0), 6), &[], first);
+    assert!(of[0].starts_with("hit at 4.000 mm"), "{of:?}");
 }
 
 /// A ray from outside into a closed board hits it, also over its outline and over the edges between its triangles.
 #[test]
-fn every_exact_ray_into_a_board_hits() {
+fn every_ray_into_a_board_hits() {
     let folder = Folder::new("closed");
     let file = folder.file("board.stl", &binary(&made([60.0, 40.0, 18.0], &[])));
     let rays: String = (0..61 * 41)
@@ -349,7 +333,7 @@ fn every_exact_ray_into_a_board_hits() {
     assert_eq!((status, out.lines().count()), (0, 2502));
     for line in out.lines().skip(1) {
         assert!(
-            line.contains(": hit at 12.000 mm") && line.ends_with(", exact"),
+            line.contains(": hit at 12.000 mm"),
             "{line}"
         );
     }
@@ -367,7 +351,7 @@ fn a_quarter_of_a_million_rays() {
     };
     let text: String = (0..count).map(ray).collect();
     let (status, out, _) = said(
-        &["cast", PANEL, "--careful", "--rays", "-"],
+        &["cast", PANEL, "--rays", "-"],
         text.as_bytes(),
     );
     assert_eq!(status, 0);
@@ -480,7 +464,7 @@ fn a_part_of_many_triangles() {
         let before = |line: &str| line.split(", triangle").next().unwrap().to_string();
         out.lines().skip(1).map(before).collect()
     };
-    let (one, other) = (of(&few, "--careful"), of(&many, "--careful"));
+    let (one, other) = (of(&few, "--rounded"), of(&many, "--rounded"));
     assert!(!one.lines().next().unwrap().contains("pieces"));
     assert!(other.lines().next().unwrap().ends_with(" pieces"));
     assert_eq!(first(&one), first(&other));
