@@ -3,7 +3,7 @@ use crate::model::{Check, Frame};
 use crate::shape::Shape;
 use crate::words::fixed;
 use crate::work::{Draft, Probe};
-use probe_rays::{Batch, Cast, MeshHit, Ray, Refusal, Scratch};
+use probe_rays::{Batch, Cast, Ray, Refusal, Scratch};
 
 /// How far before and behind what is expected a surface may be hit, in millimetres.
 const NEAR: f64 = 0.01;
