@@ -421,31 +421,72 @@ fn bores_that_lean() {
 
 /// A cam joint: a bore of 5 from the left side, which opens into a cup of 15 from below.
 fn cam() -> Vec<Corners> {
-    let (size, [x, y], z, cup, dowel) = (BOARD, [34.0, 100.0], 9.0, 7.5, 2.5);
-    let sides = 40;
+    let ([x, y], z, cup, dowel) = ([34.0, 100.0], 9.0, 7.5_f64, 2.5_f64);
     let mut solid = board::Solid::default();
-    let turn = |n: usize| std::f64::consts::TAU * (n as f64) / sides as f64;
-    let around = |height: f64| -> Vec<Point> {
-        (0..sides)
-            .map(|n| [x + cup * turn(n).cos(), y + cup * turn(n).sin(), height])
-            .collect()
+    // the cup's wall has corners under these angles from the side that the dowel comes from; at the first and last of the
+    // inner ones the dowel is widest
+    let widest = (dowel / cup).asin().to_degrees();
+    let inner = [-widest, -15.0, -10.0, -5.0, 0.0, 5.0, 10.0, 15.0, widest];
+    let outer = (3..=37).map(|n| 9.0 * f64::from(n));
+    let angles: Vec<f64> = inner.into_iter().chain(outer).collect();
+    let on_cup = |degrees: f64, height: f64| {
+        let (sine, cosine) = degrees.to_radians().sin_cos();
+        [x - cup * cosine, y + cup * sine, height]
     };
-    let side = |at: f64| -> Vec<Point> {
-        (0..sides)
-            .map(|n| [at, y + dowel * turn(n).cos(), z + dowel * turn(n).sin()])
-            .collect()
+    // how far from its middle the dowel's rim lies there
+    let rise = |degrees: f64| {
+        let off = cup * degrees.to_radians().sin();
+        if degrees.abs() == widest {
+            0.0
+        } else {
+            (dowel * dowel - off * off).sqrt()
+        }
     };
-    // the dowel's rim on the cup's wall
-    let rim: Vec<Point> = side(0.0)
-        .into_iter()
-        .map(|[_, py, pz]| [x - (cup * cup - (py - y).powi(2)).sqrt(), py, pz])
-        .collect();
-    let plain = made(size, &[Cut::bore(Side::Top, [500.0, 300.0], 5.0, 12.0)]);
-    let is = |facet: &&Corners, axis: usize, at: f64| facet.iter().all(|corner| corner[axis] == at);
-    let kept = plain
+    for (n, &one) in angles.iter().enumerate() {
+        let other = angles[(n + 1) % angles.len()];
+        let mut wall = |low: [f64; 2], high: [f64; 2]| {
+            let [a, b] = [on_cup(one, low[0]), on_cup(other, low[1])];
+            let [c, d] = [on_cup(one, high[0]), on_cup(other, high[1])];
+            if a != c {
+                solid.facets.push([a, b, c]);
+            }
+            if b != d {
+                solid.facets.push([b, d, c]);
+            }
+        };
+        if n + 1 < inner.len() {
+            wall([0.0; 2], [z - rise(one), z - rise(other)]);
+            wall([z + rise(one), z + rise(other)], [12.7; 2]);
+        } else if one == widest || other == -widest {
+            // beside the dowel's widest corners the wall has a corner at their height
+            wall([0.0; 2], if one == widest { [z, 0.0] } else { [0.0, z] });
+            wall(if one == widest { [z, 0.0] } else { [0.0, z] }, [12.7; 2]);
+        } else {
+            wall([0.0; 2], [12.7; 2]);
+        }
+    }
+    // the rim from its nearest corner over the upper side to the furthest, and back over the lower one
+    let upper = inner
         .iter()
-        .filter(|facet| !is(facet, 2, 0.0) && !is(facet, 0, 0.0));
-    solid.facets = kept.copied().collect();
+        .map(|&degrees| on_cup(degrees, z + rise(degrees)));
+    let lower = inner[1..8]
+        .iter()
+        .rev()
+        .map(|&degrees| on_cup(degrees, z - rise(degrees)));
+    let rim: Vec<Point> = upper.chain(lower).collect();
+    let entry: Vec<Point> = rim.iter().map(|point| [0.0, point[1], point[2]]).collect();
+    solid.walls(&entry, &rim);
+    let around = |height: f64| -> Vec<Point> {
+        angles
+            .iter()
+            .map(|&degrees| on_cup(degrees, height))
+            .collect()
+    };
+    let plain = made(BOARD, &[Cut::bore(Side::Top, [500.0, 300.0], 5.0, 12.0)]);
+    let is = |facet: &&Corners, axis: usize| facet.iter().all(|corner| corner[axis] == 0.0);
+    solid
+        .facets
+        .extend(plain.iter().filter(|facet| !is(facet, 0) && !is(facet, 2)));
     let bottom = vec![
         [0.0, 0.0, 0.0],
         [600.0, 0.0, 0.0],
@@ -459,34 +500,8 @@ fn cam() -> Vec<Corners> {
         [0.0, 400.0, 0.0],
     ];
     solid.flat(&[bottom, around(0.0)], [0.0, 0.0, -1.0]);
-    solid.flat(&[left, side(0.0)], [-1.0, 0.0, 0.0]);
+    solid.flat(&[left, entry], [-1.0, 0.0, 0.0]);
     solid.flat(&[around(12.7)], [0.0, 0.0, -1.0]);
-    let back = |mut ring: Vec<Point>| {
-        ring.reverse();
-        ring
-    };
-    solid.walls(&back(side(0.0)), &back(rim.clone()));
-    // the cup's wall: strips but for those that the rim lies in, which are unrolled
-    let (from, to) = (sides / 2 - 4, sides / 2 + 4);
-    let (low, high) = (around(0.0), around(12.7));
-    for n in (0..sides).filter(|n| !(from..to).contains(n)) {
-        let m = (n + 1) % sides;
-        solid.facets.push([high[n], high[m], low[n]]);
-        solid.facets.push([high[m], low[m], low[n]]);
-    }
-    let patch: Vec<Point> = (from..=to)
-        .map(|n| low[n])
-        .chain((from..=to).rev().map(|n| high[n]))
-        .collect();
-    let unrolled = |p: &Point| [(p[1] - y).atan2(-(p[0] - x)), p[2], 0.0];
-    let flat = |ring: &[Point]| -> Vec<Point> { ring.iter().map(unrolled).collect() };
-    let mut sheet = board::Solid::default();
-    sheet.flat(&[flat(&patch), flat(&rim)], [0.0, 0.0, 1.0]);
-    let all: Vec<Point> = patch.iter().chain(&rim).copied().collect();
-    let rolled = |p: Point| *all.iter().find(|q| unrolled(q) == p).unwrap();
-    solid
-        .facets
-        .extend(sheet.facets.iter().map(|facet| facet.map(rolled)));
     solid.facets
 }
 
