@@ -55,7 +55,7 @@ fn on_rasters(shape: &Shape) -> [usize; 2] {
         let cells: Vec<usize> = (0..grid.len()).collect();
         let found = Batch::new().run(&cells, |&cell, scratch| {
             let place = grid.place(cell);
-            let one = view.glance(place, scratch)?.depth;
+            let one = view.glance(place, scratch)?;
             let careful = view.depth(place, scratch)?;
             Ok::<bool, Refusal>(one > careful + 0.01)
         });

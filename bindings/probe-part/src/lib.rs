@@ -4,16 +4,35 @@
 //! bores, which looks at a raster of points and sees nothing between them, and the pictures.
 #![deny(missing_docs)]
 
-pub mod bores;
+mod bosses;
+mod circles;
+pub mod confirm;
+mod cylinder;
+mod drilled;
 pub mod faces;
-pub mod fit;
+mod features;
+mod frames;
+pub mod geometry;
+mod islands;
 pub mod kinds;
+mod loops;
+pub mod model;
+mod notches;
+mod outer;
+mod outline;
 pub mod pictures;
+mod planes;
 pub mod png;
+mod pockets;
+mod polytope;
 pub mod raster;
 pub mod rays;
-pub mod regions;
+pub mod recognise;
+mod rounds;
 pub mod shape;
 pub mod svg;
 pub mod tables;
+mod topology;
+mod walls;
 pub mod words;
+mod work;

@@ -1,12 +1,15 @@
 //! `probe-part`: probes a part in an STL file. `probe-part --help` says how.
 //!
-//! Exit status: 0 if all was answered, 1 if a cast was refused, 2 if the call or a file is not right.
-use probe_part::bores::{search, Recess};
-use probe_part::faces::{Face, View, FACES};
+//! Exit status: 0 if all was answered, 1 if a cast was refused, 2 if the call or a file is not right, 3 if a list may be
+//! incomplete or wrong.
+use probe_part::faces::{Face, View};
+use probe_part::model::{Part, Row, Unit};
 use probe_part::pictures::DepthMap;
 use probe_part::raster::{Grid, Raster};
 use probe_part::rays::{from_words, Lines};
+use probe_part::recognise::{recognise, Options};
 use probe_part::shape::Shape;
+use probe_part::tables::{doubt_words, Listing};
 use probe_part::words::{all_told, fixed, told};
 use probe_part::{svg, tables};
 use probe_rays::{Cast, Progress, Ray};
@@ -22,18 +25,22 @@ probe-part probes a part in an STL file, binary or ASCII, in millimetres.
       input; # begins a comment); --all tells every depth along a ray; --careful casts three more a hair beside each
       ray and tells the nearest hit; a part on whole millimetres, of up to 65,536 triangles, is cast at in whole numbers
       by rays along an axis from a whole origin to a whole maximum, but for --all: 'exact' stands behind such an answer
-  probe-part bores FILE [--face NAME]... [--step MM] [--from-corner] [--csv]
-      the bores and pockets of the part's faces: outline, size, depth, through or not, middle; --face asks for some faces
-      alone; the faces are probed every MM (1); --from-corner counts x, y, z from the least corner of the part; --csv
-      prints commas
+  probe-part bores FILE [--face NAME]... [--unit UNIT] [--as-drawn] [--from-corner] [--shells] [--csv]
+      the bores, pockets, grooves and so on of the part, recognised from its triangles and probed by casts: outline, size,
+      depth of the entry below the outer face, own depth, middle; what is not understood is marked by !, and the exit
+      status is 3 then; --face asks for the rows of some faces alone; --unit mm, cm, m or in is the file's unit (mm);
+      the part's own frame has z across its largest flat face and x along its longest side, --as-drawn keeps the file's;
+      --from-corner counts x, y, z from the least corner of the part; --shells says that the file holds several parts;
+      --csv prints commas
   probe-part depth FILE --face NAME [--step MM] [--png FILE] [--svg FILE]
-      a picture of how deep a face is; the SVG has its bores numbered as `bores --face NAME` numbers them
+      a picture of how deep a face is; the SVG has its bores numbered as `bores --as-drawn` numbers them
   probe-part --help
 
 Faces: top (+z), bottom (-z), front (-y), back (+y), left (-x), right (+x).
 A part of more than 65,536 triangles is cast at in pieces.
-Proved are the casts. What `bores` finds between its probes, and the pictures, are tested and not proved.
-Exit status: 0 if all was answered, 1 if a cast was refused, 2 if the call or a file is not right.
+Proved are the casts. What `bores` recognises, and the pictures, are tested and not proved.
+Exit status: 0 if all was answered, and a list is complete and confirmed; 1 if a cast was refused; 2 if the call or a file
+is not right; 3 if a list may be incomplete or wrong.
 ";
 
 /// So many rays of a file are cast at a time.
@@ -45,8 +52,7 @@ const MOST_PLACES: f64 = 100_000_000.0;
 fn main() -> ExitCode {
     let words: Vec<String> = std::env::args().skip(1).collect();
     match run(&words) {
-        Ok(true) => ExitCode::SUCCESS,
-        Ok(false) => ExitCode::from(1),
+        Ok(status) => ExitCode::from(status),
         Err(why) => {
             eprintln!("probe-part: {why}");
             ExitCode::from(2)
@@ -54,8 +60,13 @@ fn main() -> ExitCode {
     }
 }
 
-/// Does what the words ask; whether no cast was refused.
-fn run(words: &[String]) -> Result<bool, String> {
+/// The exit statuses beside 2.
+const ANSWERED: u8 = 0;
+const REFUSED: u8 = 1;
+const DOUBTFUL: u8 = 3;
+
+/// Does what the words ask, and tells the exit status.
+fn run(words: &[String]) -> Result<u8, String> {
     let asks_help = |word: &String| word == "--help" || word == "-h" || word == "help";
     let mut out = Output::new();
     let Some((command, rest)) = words.split_first() else {
@@ -63,7 +74,7 @@ fn run(words: &[String]) -> Result<bool, String> {
     };
     if words.iter().any(asks_help) {
         out.print(HELP)?;
-        return out.done().map(|()| true);
+        return out.done().map(|()| ANSWERED);
     }
     let answered = match command.as_str() {
         "cast" => cast(
@@ -71,7 +82,11 @@ fn run(words: &[String]) -> Result<bool, String> {
             &mut out,
         )?,
         "bores" => bores(
-            &Call::new(rest, &["--from-corner", "--csv"], &["--face", "--step"])?,
+            &Call::new(
+                rest,
+                &["--from-corner", "--csv", "--as-drawn", "--shells"],
+                &["--face", "--unit"],
+            )?,
             &mut out,
         )?,
         "depth" => depth(
@@ -181,6 +196,12 @@ impl Call {
             .collect()
     }
 
+    /// The unit; millimetres if none is given.
+    fn unit(&self) -> Result<Unit, String> {
+        let name = self.value("--unit").unwrap_or("mm");
+        Unit::named(name).ok_or_else(|| format!("--unit takes mm, cm, m or in, not {name:?}"))
+    }
+
     /// The step, if it is given.
     fn step(&self) -> Result<Option<f64>, String> {
         let Some(word) = self.value("--step") else {
@@ -221,7 +242,7 @@ fn counts(shape: &Shape) -> String {
 }
 
 /// `probe-part cast`.
-fn cast(call: &Call, out: &mut Output) -> Result<bool, String> {
+fn cast(call: &Call, out: &mut Output) -> Result<u8, String> {
     if call.has("--all") && call.has("--careful") {
         return Err(
             "--careful is about the first hit, --all about every one: take one of them".into(),
@@ -257,7 +278,7 @@ fn cast(call: &Call, out: &mut Output) -> Result<bool, String> {
             casting.block(&rays, out)?;
         }
     }
-    Ok(casting.answered)
+    Ok(if casting.answered { ANSWERED } else { REFUSED })
 }
 
 struct Casting<'a> {
@@ -296,54 +317,47 @@ impl Casting<'_> {
 }
 
 /// `probe-part bores`.
-fn bores(call: &Call, out: &mut Output) -> Result<bool, String> {
+fn bores(call: &Call, out: &mut Output) -> Result<u8, String> {
     call.no_rest()?;
-    let (asked, step) = (call.faces()?, call.step()?.unwrap_or(1.0));
-    let faces = if asked.is_empty() {
-        FACES.to_vec()
-    } else {
-        asked
+    let options = Options {
+        unit: call.unit()?,
+        as_drawn: call.has("--as-drawn"),
+        several: call.has("--shells"),
     };
-    let shape = Shape::load(&call.file)?;
-    for &face in &faces {
-        check_step(&View::new(&shape, face), step)?;
-    }
-    let found = match search(&shape, &faces, step) {
-        Ok(found) => found,
+    let listing = Listing {
+        faces: call
+            .faces()?
+            .iter()
+            .map(|face| face.name().into())
+            .collect(),
+        from_corner: call.has("--from-corner"),
+    };
+    let shape = Shape::load_in(&call.file, options.unit)?;
+    let report = match recognise(&shape, &options) {
+        Ok(report) => report,
         Err(refusal) => {
             eprintln!("probe-part: a cast was {refusal}");
-            return Ok(false);
+            return Ok(REFUSED);
         }
     };
-    let bounds = shape.bounds();
-    let origin = if call.has("--from-corner") {
-        bounds.low
-    } else {
-        [0.0; 3]
-    };
     if call.has("--csv") {
-        out.print(&tables::csv(&found, origin))?;
+        out.print(&tables::csv(&report, &listing))?;
+        let parts = report.parts.iter().flat_map(|part| &part.doubts);
+        for doubt in parts.chain(&report.doubts) {
+            eprintln!("probe-part: {}", doubt_words(doubt));
+        }
     } else {
-        let sides: [String; 3] =
-            std::array::from_fn(|axis| fixed(bounds.high[axis] - bounds.low[axis], 2));
-        out.print(&format!(
-            "{} mm, {} triangles, probed every {step} mm\n",
-            sides.join(" x "),
-            shape.triangles().len()
-        ))?;
-        out.print(&tables::table(&found, origin))?;
+        out.print(&tables::table(&report, &listing))?;
     }
-    for face in &found.not_flat {
-        eprintln!(
-            "probe-part: the {} face has no flat surface, and was left out",
-            face.name()
-        );
-    }
-    Ok(true)
+    Ok(if report.is_certain() {
+        ANSWERED
+    } else {
+        DOUBTFUL
+    })
 }
 
 /// `probe-part depth`.
-fn depth(call: &Call, out: &mut Output) -> Result<bool, String> {
+fn depth(call: &Call, out: &mut Output) -> Result<u8, String> {
     call.no_rest()?;
     let faces = call.faces()?;
     let &[face] = faces.as_slice() else {
@@ -363,7 +377,7 @@ fn depth(call: &Call, out: &mut Output) -> Result<bool, String> {
         Ok(raster) => raster,
         Err(refusal) => {
             eprintln!("probe-part: a cast was {refusal}");
-            return Ok(false);
+            return Ok(REFUSED);
         }
     };
     let map = DepthMap::new(face, &raster);
@@ -372,19 +386,27 @@ fn depth(call: &Call, out: &mut Output) -> Result<bool, String> {
         out.print(&format!("{file}: {}\n", size(&raster.grid)))?;
     }
     if let Some(file) = call.value("--svg") {
-        let found =
-            search(&shape, &[face], step.max(1.0)).map_err(|why| format!("a cast was {why}"))?;
-        let numbered: Vec<(usize, Recess)> = found
-            .recesses
-            .into_iter()
-            .enumerate()
-            .map(|(place, recess)| (place + 1, recess))
-            .collect();
+        let options = Options {
+            as_drawn: true,
+            ..Options::default()
+        };
+        let report = recognise(&shape, &options).map_err(|why| format!("a cast was {why}"))?;
+        let of_face =
+            |part: &'_ Part, row: &Row| row.face.is_some_and(|n| part.faces[n].name == face.name());
+        let mut numbered: Vec<(usize, &Row)> = Vec::new();
+        for part in &report.parts {
+            let rows = part
+                .rows
+                .iter()
+                .enumerate()
+                .filter(|(_, row)| of_face(part, row));
+            numbered.extend(rows.map(|(place, row)| (place + 1, row)));
+        }
         let title = format!("{}, {} face", call.file, face.name());
         written(file, svg::svg(&map, &title, &numbered).as_bytes())?;
         out.print(&format!("{file}: {}\n", size(&raster.grid)))?;
     }
-    Ok(true)
+    Ok(ANSWERED)
 }
 
 fn size(grid: &Grid) -> String {

@@ -1,8 +1,7 @@
 //! Pictures of a face's depths.
-use crate::bores::face_level;
 use crate::faces::Face;
 use crate::png::Picture;
-use crate::raster::Raster;
+use crate::raster::{face_level, Raster};
 use crate::words::fixed;
 
 /// Where a ray goes through.

@@ -1,5 +1,6 @@
 //! A part of any number of triangles.
 use crate::kinds::kind_of;
+use crate::model::Unit;
 use probe_rays::stl::{self, Corners};
 use probe_rays::{
     careful, Batch, Cabinet, Cast, Mesh, MeshHit, PartHit, Ray, Refusal, Scratch, HAIR, MAX_COUNT,
@@ -41,18 +42,29 @@ pub struct Bounds {
 }
 
 impl Shape {
-    /// The part of an STL file. What cannot be read is said in words, with the file's name.
+    /// The part of an STL file in millimetres. What cannot be read is said in words, with the file's name.
     pub fn load(file: &str) -> Result<Shape, String> {
-        let bytes = fs::read(file).map_err(|why| format!("{file}: {why}"))?;
-        Shape::read(&bytes).map_err(|why| format!("{file}: {why}"))
+        Shape::load_in(file, Unit::Millimetre)
     }
 
-    /// The part of an STL file's bytes.
-    pub fn read(bytes: &[u8]) -> Result<Shape, String> {
-        let facets = stl::facets(bytes).map_err(|why| match kind_of(bytes) {
+    /// The part of an STL file in some unit, in millimetres.
+    pub fn load_in(file: &str, unit: Unit) -> Result<Shape, String> {
+        let bytes = fs::read(file).map_err(|why| format!("{file}: {why}"))?;
+        Shape::read(&bytes, unit).map_err(|why| format!("{file}: {why}"))
+    }
+
+    /// The part of an STL file's bytes, in some unit.
+    pub fn read(bytes: &[u8], unit: Unit) -> Result<Shape, String> {
+        let mut facets = stl::facets(bytes).map_err(|why| match kind_of(bytes) {
             Some(kind) => format!("this is {}: {}", kind.name, kind.advice),
             None => why.to_string(),
         })?;
+        if unit != Unit::Millimetre {
+            let numbers = facets.as_flattened_mut().as_flattened_mut();
+            numbers
+                .iter_mut()
+                .for_each(|number| *number *= unit.millimetres());
+        }
         Shape::of(&facets)
     }
 

@@ -1,14 +1,14 @@
-//! A face's depths as an SVG picture, with its recesses numbered.
-use crate::bores::Recess;
-use crate::fit::Outline;
+//! A face's depths as an SVG picture, with its rows numbered.
+use crate::geometry::Vector;
+use crate::model::{End, Kind, Outline, Row};
 use crate::pictures::{DepthMap, OPEN};
-use crate::tables::{depth_words, size_words};
+use crate::tables::{depth_words, outline_word, size_words};
 use crate::words::fixed;
 use std::fmt::Write;
 
-/// The picture. Its unit is a millimetre of the part; the recesses carry their numbers in the list, from 1.
-pub fn svg(map: &DepthMap<'_>, title: &str, recesses: &[(usize, Recess)]) -> String {
-    let sheet = Sheet::new(map, recesses.len());
+/// The picture. Its unit is a millimetre of the part; the rows carry their numbers in the list, from 1.
+pub fn svg(map: &DepthMap<'_>, title: &str, rows: &[(usize, &Row)]) -> String {
+    let sheet = Sheet::new(map, rows.len());
     let mut out = String::new();
     let mut line = |text: String| {
         out += &text;
@@ -19,12 +19,12 @@ pub fn svg(map: &DepthMap<'_>, title: &str, recesses: &[(usize, Recess)]) -> Str
     let letter = sheet.letter;
     head(&mut line, &sheet, title);
     cells(&mut line, map, &sheet);
-    outlines(&mut line, map, &sheet, recesses);
-    numbers(&mut line, map, &sheet, recesses);
+    outlines(&mut line, map, &sheet, rows);
+    numbers(&mut line, map, &sheet, rows);
     let scale_at = [left + width + 2.0 * letter, top];
     scale(&mut line, map, scale_at, height.max(12.0 * letter), letter);
     ticks(&mut line, map, [left, top], [width, height], letter);
-    list(&mut line, &sheet, recesses);
+    list(&mut line, &sheet, rows);
     line("</svg>".into());
     out
 }
@@ -41,7 +41,7 @@ struct Sheet {
 }
 
 impl Sheet {
-    fn new(map: &DepthMap<'_>, recesses: usize) -> Sheet {
+    fn new(map: &DepthMap<'_>, rows: usize) -> Sheet {
         let (counts, step) = (map.counts(), map.raster.grid.step());
         let size: [f64; 2] = std::array::from_fn(|side| counts[side] as f64 * step[side]);
         let letter = (size[0].max(size[1]) / 60.0).max(2.0);
@@ -52,7 +52,7 @@ impl Sheet {
             top: 4.0 * letter,
             size,
             columns,
-            lines: recesses.div_ceil(columns),
+            lines: rows.div_ceil(columns),
         }
     }
 
@@ -114,7 +114,7 @@ fn outlines(
     line: &mut impl FnMut(String),
     map: &DepthMap<'_>,
     sheet: &Sheet,
-    recesses: &[(usize, Recess)],
+    rows: &[(usize, &Row)],
 ) {
     let [width, height] = sheet.size.map(|side| fixed(side, 3));
     let stroke = format!(
@@ -123,18 +123,18 @@ fn outlines(
     );
     line(sheet.group(&format!("fill=\"none\" {stroke}")));
     line(format!("<rect width=\"{width}\" height=\"{height}\"/>"));
-    for (_, recess) in recesses {
-        line(drawn(map, recess));
+    for (_, row) in rows {
+        line(drawn(map, row));
     }
     line("</g>".into());
 }
 
-/// The numbers of the recesses.
+/// The numbers of the rows.
 fn numbers(
     line: &mut impl FnMut(String),
     map: &DepthMap<'_>,
     sheet: &Sheet,
-    recesses: &[(usize, Recess)],
+    rows: &[(usize, &Row)],
 ) {
     let letter = sheet.letter;
     let halo = format!(
@@ -142,13 +142,13 @@ fn numbers(
         letter / 5.0
     );
     line(sheet.group(&format!("text-anchor=\"middle\" fill=\"#a01020\" {halo}")));
-    for (number, recess) in recesses {
-        let [x, y] = seen(map, recess);
-        let [width, height] = recess.size;
+    for (number, row) in rows {
+        let [x, y] = seen(map, row.centre);
+        let [width, height] = extent(map, row);
         // beside what is too small to be written into, and what lies within another to its right
-        let place = if recess.within.is_some() {
+        let place = if row.within.is_some() {
             [x + width / 2.0 + letter, y + letter / 3.0]
-        } else if height < 2.0 * letter || holds_another(recesses, *number) {
+        } else if height < 2.0 * letter || holds_another(rows, *number) {
             [x, y + height / 2.0 + letter]
         } else {
             [x, y + letter / 3.0]
@@ -159,9 +159,9 @@ fn numbers(
 }
 
 /// What the numbers stand for, in columns below.
-fn list(line: &mut impl FnMut(String), sheet: &Sheet, recesses: &[(usize, Recess)]) {
-    for (place, (number, recess)) in recesses.iter().enumerate() {
-        let words = format!("{number}: {}, {}", size_words(recess), depth_words(recess));
+fn list(line: &mut impl FnMut(String), sheet: &Sheet, rows: &[(usize, &Row)]) {
+    for (place, (number, listed)) in rows.iter().enumerate() {
+        let words = format!("{number}: {}", words(listed));
         let [column, row] = [place / sheet.lines, place % sheet.lines].map(|count| count as f64);
         let x = sheet.left + column * sheet.size[0] / sheet.columns as f64;
         let y = sheet.top + sheet.size[1] + (5.0 + 1.4 * row) * sheet.letter;
@@ -169,22 +169,35 @@ fn list(line: &mut impl FnMut(String), sheet: &Sheet, recesses: &[(usize, Recess
     }
 }
 
-/// Whether another recess lies within the one of a number.
-fn holds_another(recesses: &[(usize, Recess)], number: usize) -> bool {
-    recesses
-        .iter()
+/// Whether another row lies within the one of a number.
+fn holds_another(rows: &[(usize, &Row)], number: usize) -> bool {
+    rows.iter()
         .any(|(_, other)| other.within == Some(number - 1))
 }
 
-/// The middle of a recess, from the left and from the top.
-fn seen(map: &DepthMap<'_>, recess: &Recess) -> [f64; 2] {
+/// A row in words, such as 'circle 8.00, depth 12.00'.
+fn words(row: &Row) -> String {
+    let depth = match (row.end, row.kind) {
+        (End::Through, _) => depth_words(row),
+        (_, Kind::Island | Kind::Boss) => format!("stands out {}", depth_words(row)),
+        _ => format!("depth {}", depth_words(row)),
+    };
+    format!(
+        "{} {}, {depth}",
+        outline_word(&row.outline),
+        size_words(&row.outline)
+    )
+}
+
+/// A place of the face, from the left and from the top.
+fn seen(map: &DepthMap<'_>, place: Vector) -> [f64; 2] {
     let grid = &map.raster.grid;
     let [first, second] = map.face.along();
     let [columns, rows] = grid.counts();
     let [step_x, step_y] = grid.step();
     let corner = grid.place(0);
-    let x = recess.centre[first] - (corner[0] - step_x / 2.0);
-    let y = recess.centre[second] - (corner[1] - step_y / 2.0);
+    let x = place[first] - (corner[0] - step_x / 2.0);
+    let y = place[second] - (corner[1] - step_y / 2.0);
     let x = if map.face.is_mirrored() {
         columns as f64 * step_x - x
     } else {
@@ -193,31 +206,49 @@ fn seen(map: &DepthMap<'_>, recess: &Recess) -> [f64; 2] {
     [x, rows as f64 * step_y - y]
 }
 
-/// The outline of a recess; of one that is no circle or rectangle, the box around it, dashed.
-fn drawn(map: &DepthMap<'_>, recess: &Recess) -> String {
-    let [x, y] = seen(map, recess);
-    let [width, height] = recess.size;
-    let rectangle = |more: String| {
+/// How wide and high a row's outline is.
+fn extent(map: &DepthMap<'_>, row: &Row) -> [f64; 2] {
+    let points = row.loops.iter().flatten().map(|&point| seen(map, point));
+    let points: Vec<[f64; 2]> = points.collect();
+    let wide = |side: usize| {
+        let low = points
+            .iter()
+            .map(|point| point[side])
+            .fold(f64::INFINITY, f64::min);
+        let high = points
+            .iter()
+            .map(|point| point[side])
+            .fold(f64::NEG_INFINITY, f64::max);
+        (high - low).max(0.0)
+    };
+    [wide(0), wide(1)]
+}
+
+/// The outline of a row: circles, or the polygons around it.
+fn drawn(map: &DepthMap<'_>, row: &Row) -> String {
+    let [x, y] = seen(map, row.centre).map(|part| fixed(part, 3));
+    let circle = |diameter: f64| {
         format!(
-            "<rect x=\"{}\" y=\"{}\" width=\"{}\" height=\"{}\"{more}/>",
-            fixed(x - width / 2.0, 3),
-            fixed(y - height / 2.0, 3),
-            fixed(width, 3),
-            fixed(height, 3)
+            "<circle cx=\"{x}\" cy=\"{y}\" r=\"{}\"/>",
+            fixed(diameter / 2.0, 3)
         )
     };
-    match recess.outline {
-        Outline::Circle { .. } => format!(
-            "<circle cx=\"{}\" cy=\"{}\" r=\"{}\"/>",
-            fixed(x, 3),
-            fixed(y, 3),
-            fixed(width / 2.0, 3)
-        ),
-        Outline::Rectangle => rectangle(String::new()),
-        Outline::Rounded { radius } => rectangle(format!(" rx=\"{}\"", fixed(radius, 3))),
-        Outline::Slot => rectangle(format!(" rx=\"{}\"", fixed(width.min(height) / 2.0, 3))),
-        Outline::Other => rectangle(" stroke-dasharray=\"2 1\"".into()),
+    match &row.outline {
+        Outline::Circle { diameter, .. } => circle(*diameter),
+        Outline::Ring { outer, inner } => circle(*outer) + &circle(*inner),
+        _ => row
+            .loops
+            .iter()
+            .take(1)
+            .map(|around| polygon(map, around))
+            .collect(),
     }
+}
+
+fn polygon(map: &DepthMap<'_>, around: &[Vector]) -> String {
+    let point = |&point: &Vector| seen(map, point).map(|part| fixed(part, 3)).join(",");
+    let points: Vec<String> = around.iter().map(point).collect();
+    format!("<polygon points=\"{}\"/>", points.join(" "))
 }
 
 /// The colours and their depths.

@@ -86,7 +86,7 @@ fn help_names_every_command() {
 
 #[test]
 fn calls_that_are_not_right() {
-    let wrong: [(&[&str], &str); 14] = [
+    let wrong: [(&[&str], &str); 15] = [
         (&["drill", PANEL], "\"drill\" is none of cast, bores, depth"),
         (&["cast"], "which file?"),
         (
@@ -106,12 +106,18 @@ fn calls_that_are_not_right() {
         ),
         (&["bores", PANEL, "7"], "\"7\" is one word too many"),
         (
-            &["bores", PANEL, "--step", "0"],
+            &["depth", PANEL, "--face", "top", "--svg", "x", "--step", "0"],
             "--step takes millimetres above 0, not \"0\"",
         ),
         (
-            &["bores", PANEL, "--step", "0.0001"],
+            &[
+                "depth", PANEL, "--face", "top", "--svg", "x", "--step", "0.0001",
+            ],
             "asks for 2000000000000 probes of the top face",
+        ),
+        (
+            &["bores", PANEL, "--unit", "ft"],
+            "--unit takes mm, cm, m or in, not \"ft\"",
         ),
         (&["bores", PANEL, "--face", "upper"], "\"upper\" is no face"),
         (
@@ -394,19 +400,26 @@ fn the_panels_bores() {
     let (status, out, err) = said(&["bores", PANEL], b"");
     assert_eq!((status, err.as_str()), (0, ""));
     let table = "\
-200.00 x 100.00 x 18.00 mm, 120 triangles, probed every 1 mm
-no  face  outline   size    depth       x      y      z
- 1  top   circle   37.88    13.00   50.00  50.00  18.00  of 8 sides
- 2  top   circle    8.63  through  150.00  50.00  18.00  of 8 sides
+200.00 x 100.00 x 18.00 mm, 120 triangles
+no  face  kind  outline   size  entry    depth       x      y      z
+ 1  top   bore  circle   37.88   0.00    13.00   50.00  50.00  18.00  of 8 sides
+ 2  top   bore  circle    8.63   0.00  through  150.00  50.00  18.00  of 8 sides
+complete: all of the surface is accounted for, and every row is confirmed
 ";
     assert_eq!(out, table);
-    let (_, out, _) = said(&["bores", PANEL, "--csv", "--face", "bottom"], b"");
+    let (status, out, err) = said(&["bores", PANEL, "--csv", "--face", "top"], b"");
+    assert_eq!((status, err.as_str()), (0, ""));
     let lines: Vec<&str> = out.lines().collect();
     assert_eq!(
         lines[1..],
-        ["1,bottom,circle,8.635,8.635,,8,yes,,,,150.000,50.000,0.000,,no"]
+        [
+            "1,1,1,top,bore,circle,37.885,37.885,,,8,0.000,13.000,,floor,50.000,50.000,18.000,0.000000,0.000000,-1.000000,,,yes,of 8 sides",
+            "1,2,2,top,bore,circle,8.635,8.635,,,8,0.000,18.000,,through,150.000,50.000,18.000,0.000000,0.000000,-1.000000,,,yes,of 8 sides"
+        ]
     );
     assert_eq!(lines[0].split(',').count(), lines[1].split(',').count());
+    let (status, out, _) = said(&["bores", PANEL, "--csv", "--face", "bottom"], b"");
+    assert_eq!((status, out.lines().count()), (0, 1));
 }
 
 /// A board elsewhere: from its own corner its bores are where they were drawn.
@@ -419,17 +432,20 @@ fn from_the_corner() {
     );
     let facets = board::moved(&facets, [-500.0, 250.0, 40.0]);
     let file = folder.file("board.stl", &binary(&facets));
-    let lines = |words: &[&str]| said(words, b"").1.lines().last().unwrap().to_string();
-    let csv = lines(&["bores", &file, "--csv"]);
-    assert_eq!(
-        csv,
-        "1,top,circle,10.000,10.000,,32,no,6.000,6.000,,-470.000,270.000,58.000,,no"
-    );
-    let csv = lines(&["bores", &file, "--csv", "--from-corner"]);
-    assert_eq!(
-        csv,
-        "1,top,circle,10.000,10.000,,32,no,6.000,6.000,,30.000,20.000,18.000,,no"
-    );
+    let place = |words: &[&str]| -> Vec<String> {
+        let (status, out, _) = said(words, b"");
+        assert_eq!(status, 0);
+        let line = out.lines().last().unwrap().to_string();
+        assert!(
+            line.starts_with("1,1,1,top,bore,circle,10.000,10.000,,,32,0.000,6.000,,floor,"),
+            "{line}"
+        );
+        line.split(',').skip(15).take(3).map(String::from).collect()
+    };
+    let drawn = place(&["bores", &file, "--csv"]);
+    assert_eq!(drawn, ["-470.000", "270.000", "58.000"]);
+    let from_corner = place(&["bores", &file, "--csv", "--from-corner"]);
+    assert_eq!(from_corner, ["30.000", "20.000", "18.000"]);
 }
 
 /// More than 65,536 triangles: the same answers as of the same surfaces of few, in pieces.
@@ -498,8 +514,14 @@ fn a_part_of_many_triangles() {
     };
     let bores = table(&many);
     assert_eq!(bores.len(), 3);
-    assert!(bores[1].starts_with("1,top,circle,35.0"), "{bores:?}");
-    assert!(bores[2].starts_with("2,left,circle,8.0"), "{bores:?}");
+    assert!(
+        bores[1].starts_with("1,1,1,top,bore,circle,35.000,"),
+        "{bores:?}"
+    );
+    assert!(
+        bores[2].starts_with("1,2,2,left,bore,circle,8.000,"),
+        "{bores:?}"
+    );
 }
 
 /// The pictures are files of their kinds; tests/bindings.sh reads them with another program's eyes.
