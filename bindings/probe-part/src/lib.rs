@@ -4,24 +4,34 @@
 //! bores, which looks at a raster of points and sees nothing between them, and the pictures.
 #![deny(missing_docs)]
 
+mod base64;
+pub mod batch;
 mod bosses;
 mod circles;
 pub mod confirm;
+pub mod corner;
 mod cylinder;
+pub mod deflate;
 mod drilled;
+pub mod dxf;
 pub mod faces;
 mod features;
+pub mod files;
 mod frames;
 pub mod geometry;
+mod gmsh;
 mod islands;
+pub mod json;
 pub mod kinds;
 mod loops;
 pub mod model;
 mod notches;
 mod outer;
 mod outline;
+pub mod page;
 pub mod pictures;
 mod planes;
+pub mod plans;
 pub mod png;
 mod pockets;
 mod polytope;
@@ -30,6 +40,7 @@ pub mod rays;
 pub mod recognise;
 mod rounds;
 pub mod shape;
+pub mod summary;
 pub mod svg;
 pub mod tables;
 mod topology;

@@ -2,19 +2,25 @@
 //!
 //! Exit status: 0 if all was answered, 1 if a cast was refused, 2 if the call or a file is not right, 3 if a list may be
 //! incomplete or wrong.
+use probe_part::batch::{run as run_batch, Job};
+use probe_part::corner::from_corner;
 use probe_part::faces::{Face, View};
-use probe_part::model::{Part, Row, Unit};
+use probe_part::files::{pictures, write_all};
+use probe_part::json::json;
+use probe_part::model::{Part, Report, Row, Unit};
 use probe_part::pictures::DepthMap;
 use probe_part::raster::{Grid, Raster};
 use probe_part::rays::{from_words, Lines};
 use probe_part::recognise::{recognise, Options};
 use probe_part::shape::Shape;
+use probe_part::summary::{counted, exit_status, Line};
 use probe_part::tables::{doubt_words, Listing};
 use probe_part::words::{all_told, fixed, told};
 use probe_part::{svg, tables};
 use probe_rays::{Cast, Progress, Ray};
 use std::fs::{self, File};
 use std::io::{self, BufRead, BufReader, BufWriter, IsTerminal, Write};
+use std::path::Path;
 use std::process::ExitCode;
 
 const HELP: &str = "\
@@ -24,16 +30,21 @@ probe-part probes a part in an STL file, binary or ASCII, in millimetres.
       what rays hit: origin, direction of any length, how far; --rays reads them from a file, one a line (- is standard
       input; # begins a comment); casts are exact, on a grid of 2^-15 mm within 8,192 mm; --all tells every depth along a
       ray and --rounded the first hit, both by the rounded casts
-  probe-part bores FILE [--face NAME]... [--unit UNIT] [--as-drawn] [--from-corner] [--shells] [--csv]
+  probe-part bores FILE [--face NAME]... [--unit UNIT] [--as-drawn] [--from-corner] [--shells] [--csv | --json]
+                   [--out DIR]
       the bores, pockets, grooves and so on of the part, recognised from its triangles and probed by casts: outline, size,
       depth of the entry below the outer face, own depth, middle; what is not understood is marked by !, and the exit
       status is 3 then; --face asks for the rows of some faces alone; --unit mm, cm, m or in is the file's unit (mm);
       the part's own frame has z across its largest flat face and x along its longest side, --as-drawn keeps the file's;
       --from-corner counts x, y, z from the least corner of the part; --shells says that the file holds several parts;
-      --csv prints commas
+      --csv prints commas, --json prints JSON; --out DIR writes the list as txt, csv and json there, and each face as
+      a drawing (DXF R12) and a picture (SVG)
+  probe-part batch FOLDER --out DIR [--unit UNIT] [--as-drawn] [--from-corner] [--shells] [--threads N]
+      the same for every .stl, .step and .stp file of a folder (STEP through gmsh, in millimetres), with summary.csv and
+      index.html, a page that shows each part's faces beside its list, and in red what needs a look
   probe-part depth FILE --face NAME [--step MM] [--png FILE] [--svg FILE]
       a picture of how deep a face is; the SVG has its bores numbered as `bores --as-drawn` numbers them
-  probe-part --help
+  probe-part --help, probe-part --version
 
 Faces: top (+z), bottom (-z), front (-y), back (+y), left (-x), right (+x).
 A part of more than 65,536 triangles is cast at in pieces.
@@ -75,6 +86,10 @@ fn run(words: &[String]) -> Result<u8, String> {
         out.print(HELP)?;
         return out.done().map(|()| ANSWERED);
     }
+    if command == "--version" {
+        out.print(concat!("probe-part ", env!("CARGO_PKG_VERSION"), "\n"))?;
+        return out.done().map(|()| ANSWERED);
+    }
     let answered = match command.as_str() {
         "cast" => cast(
             &Call::new(rest, &["--all", "--rounded"], &["--rays"])?,
@@ -83,8 +98,16 @@ fn run(words: &[String]) -> Result<u8, String> {
         "bores" => bores(
             &Call::new(
                 rest,
-                &["--from-corner", "--csv", "--as-drawn", "--shells"],
-                &["--face", "--unit"],
+                &["--from-corner", "--csv", "--json", "--as-drawn", "--shells"],
+                &["--face", "--unit", "--out"],
+            )?,
+            &mut out,
+        )?,
+        "batch" => batch(
+            &Call::new(
+                rest,
+                &["--from-corner", "--as-drawn", "--shells"],
+                &["--out", "--unit", "--threads"],
             )?,
             &mut out,
         )?,
@@ -94,7 +117,7 @@ fn run(words: &[String]) -> Result<u8, String> {
         )?,
         other => {
             return Err(format!(
-                "{other:?} is none of cast, bores, depth; probe-part --help says more"
+                "{other:?} is none of cast, bores, batch, depth; probe-part --help says more"
             ));
         }
     };
@@ -131,6 +154,15 @@ struct Call {
 }
 
 impl Call {
+    /// What is asked of the recognition.
+    fn options(&self) -> Result<Options, String> {
+        Ok(Options {
+            unit: self.unit()?,
+            as_drawn: self.has("--as-drawn"),
+            several: self.has("--shells"),
+        })
+    }
+
     fn new(words: &[String], switches: &[&str], options: &[&str]) -> Result<Call, String> {
         let mut call = Call {
             file: String::new(),
@@ -318,11 +350,10 @@ impl Casting<'_> {
 /// `probe-part bores`.
 fn bores(call: &Call, out: &mut Output) -> Result<u8, String> {
     call.no_rest()?;
-    let options = Options {
-        unit: call.unit()?,
-        as_drawn: call.has("--as-drawn"),
-        several: call.has("--shells"),
-    };
+    if call.has("--csv") && call.has("--json") {
+        return Err("--csv or --json: take one of them".into());
+    }
+    let options = call.options()?;
     let listing = Listing {
         faces: call
             .faces()?
@@ -330,6 +361,7 @@ fn bores(call: &Call, out: &mut Output) -> Result<u8, String> {
             .map(|face| face.name().into())
             .collect(),
         from_corner: call.has("--from-corner"),
+        ..Listing::default()
     };
     let shape = Shape::load_in(&call.file, options.unit)?;
     let report = match recognise(&shape, &options) {
@@ -339,8 +371,17 @@ fn bores(call: &Call, out: &mut Output) -> Result<u8, String> {
             return Ok(REFUSED);
         }
     };
-    if call.has("--csv") {
-        out.print(&tables::csv(&report, &listing))?;
+    if let Some(folder) = call.value("--out") {
+        write_files(&shape, &report, &listing, &call.file, folder)?;
+    }
+    if call.has("--csv") || call.has("--json") {
+        out.print(&if call.has("--csv") {
+            tables::csv(&report, &listing)
+        } else if listing.from_corner {
+            json(&from_corner(&report), &listing, &call.file)
+        } else {
+            json(&report, &listing, &call.file)
+        })?;
         let parts = report.parts.iter().flat_map(|part| &part.doubts);
         for doubt in parts.chain(&report.doubts) {
             eprintln!("probe-part: {}", doubt_words(doubt));
@@ -353,6 +394,61 @@ fn bores(call: &Call, out: &mut Output) -> Result<u8, String> {
     } else {
         DOUBTFUL
     })
+}
+
+/// Writes a report's files into a folder, named after the STL file.
+fn write_files(
+    shape: &Shape,
+    report: &Report,
+    listing: &Listing,
+    file: &str,
+    folder: &str,
+) -> Result<(), String> {
+    fs::create_dir_all(folder).map_err(|why| format!("{folder}: {why}"))?;
+    let stem = Path::new(file).file_stem().unwrap_or_default();
+    let name = stem.to_string_lossy();
+    let (report, listing) = if listing.from_corner {
+        let whole = Listing {
+            from_corner: false,
+            ..listing.clone()
+        };
+        (from_corner(report), whole)
+    } else {
+        (report.clone(), listing.clone())
+    };
+    let listing = Listing {
+        name: name.clone().into_owned(),
+        ..listing
+    };
+    let pictures = pictures(shape, &report, &name).map_err(|why| format!("a cast was {why}"))?;
+    write_all(Path::new(folder), &name, &report, &listing, &pictures).map(|_| ())
+}
+
+/// `probe-part batch`.
+fn batch(call: &Call, out: &mut Output) -> Result<u8, String> {
+    call.no_rest()?;
+    let folder = call.value("--out").ok_or("where to? --out DIR")?;
+    let threads = match call.value("--threads") {
+        None => 0,
+        Some(word) => match word.parse() {
+            Ok(count) if count > 0 => count,
+            _ => return Err(format!("--threads takes a number above 0, not {word:?}")),
+        },
+    };
+    let entries = run_batch(&Job {
+        folder: call.file.clone().into(),
+        out: folder.into(),
+        options: call.options()?,
+        from_corner: call.has("--from-corner"),
+        threads,
+    })?;
+    let lines: Vec<Line> = entries.iter().flat_map(Line::of).collect();
+    for line in &lines {
+        out.print(&line.words())?;
+    }
+    let page = Path::new(folder).join("index.html");
+    out.print(&format!("{}: {}\n", page.display(), counted(&lines)))?;
+    Ok(exit_status(&lines))
 }
 
 /// `probe-part depth`.
@@ -401,8 +497,17 @@ fn depth(call: &Call, out: &mut Output) -> Result<u8, String> {
                 .filter(|(_, row)| of_face(part, row));
             numbered.extend(rows.map(|(place, row)| (place + 1, row)));
         }
-        let title = format!("{}, {} face", call.file, face.name());
-        written(file, svg::svg(&map, &title, &numbered).as_bytes())?;
+        let overlay = svg::Overlay {
+            title: format!("{}, {} face", call.file, face.name()),
+            rows: numbered,
+            left_over: report
+                .parts
+                .iter()
+                .flat_map(|part| &part.left_over)
+                .collect(),
+            listed: true,
+        };
+        written(file, svg::svg(&map, &overlay).as_bytes())?;
         out.print(&format!("{file}: {}\n", size(&raster.grid)))?;
     }
     Ok(ANSWERED)

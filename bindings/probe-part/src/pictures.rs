@@ -93,6 +93,18 @@ impl<'a> DepthMap<'a> {
         (0..=count).map(|mark| mark as f64 * step).collect()
     }
 
+    /// A pixel for each probe.
+    pub fn pixels(&self) -> Picture {
+        let [columns, rows] = self.counts();
+        let mut picture = Picture::new(columns, rows, PAPER);
+        for row in 0..rows {
+            for column in 0..columns {
+                picture.set(column, row, self.colour(self.depth(column, row)));
+            }
+        }
+        picture
+    }
+
     /// The picture, with the scale of its colours at the right: millimetres below the face.
     pub fn picture(&self) -> Picture {
         let [columns, rows] = self.counts();

@@ -1,14 +1,32 @@
 //! A face's depths as an SVG picture, with its rows numbered.
+use crate::base64::base64;
 use crate::geometry::Vector;
-use crate::model::{End, Kind, Outline, Row};
+use crate::model::{Check, End, Kind, LeftOver, Outline, Row};
 use crate::pictures::{DepthMap, OPEN};
 use crate::tables::{depth_words, outline_word, size_words};
 use crate::words::fixed;
 use std::fmt::Write;
 
-/// The picture. Its unit is a millimetre of the part; the rows carry their numbers in the list, from 1.
-pub fn svg(map: &DepthMap<'_>, title: &str, rows: &[(usize, &Row)]) -> String {
-    let sheet = Sheet::new(map, rows.len());
+/// What is drawn over a face's depths.
+#[derive(Clone, Debug, Default)]
+pub struct Overlay<'a> {
+    /// The words above; none where they are empty.
+    pub title: String,
+    /// The rows with their numbers in the list, from 1.
+    pub rows: Vec<(usize, &'a Row)>,
+    /// What is not understood, marked in red.
+    pub left_over: Vec<&'a LeftOver>,
+    /// Whether the rows stand below in words.
+    pub listed: bool,
+}
+
+/// What is marked.
+const RED: &str = "#d00000";
+
+/// The picture. Its unit is a millimetre of the part.
+pub fn svg(map: &DepthMap<'_>, overlay: &Overlay<'_>) -> String {
+    let rows = overlay.rows.as_slice();
+    let sheet = Sheet::new(map, if overlay.listed { rows.len() } else { 0 });
     let mut out = String::new();
     let mut line = |text: String| {
         out += &text;
@@ -17,14 +35,17 @@ pub fn svg(map: &DepthMap<'_>, title: &str, rows: &[(usize, &Row)]) -> String {
     let [left, top] = [sheet.left, sheet.top];
     let [width, height] = sheet.size;
     let letter = sheet.letter;
-    head(&mut line, &sheet, title);
-    cells(&mut line, map, &sheet);
+    head(&mut line, &sheet, &overlay.title);
+    line(depths(map, &sheet));
     outlines(&mut line, map, &sheet, rows);
+    not_understood(&mut line, map, &sheet, &overlay.left_over);
     numbers(&mut line, map, &sheet, rows);
     let scale_at = [left + width + 2.0 * letter, top];
     scale(&mut line, map, scale_at, height.max(12.0 * letter), letter);
     ticks(&mut line, map, [left, top], [width, height], letter);
-    list(&mut line, &sheet, rows);
+    if overlay.listed {
+        list(&mut line, map, &sheet, rows);
+    }
     line("</svg>".into());
     out
 }
@@ -45,7 +66,7 @@ impl Sheet {
         let (counts, step) = (map.counts(), map.raster.grid.step());
         let size: [f64; 2] = std::array::from_fn(|side| counts[side] as f64 * step[side]);
         let letter = (size[0].max(size[1]) / 60.0).max(2.0);
-        let columns = ((size[0] / (26.0 * letter)) as usize).max(1);
+        let columns = ((size[0] / (36.0 * letter)) as usize).max(1);
         Sheet {
             letter,
             left: 4.0 * letter,
@@ -76,7 +97,9 @@ fn head(line: &mut impl FnMut(String), sheet: &Sheet, title: &str) {
     line(format!(
         "<svg xmlns=\"http://www.w3.org/2000/svg\" {size} {font}>"
     ));
-    line(format!("<title>{}</title>", escaped(title)));
+    if !title.is_empty() {
+        line(format!("<title>{}</title>", escaped(title)));
+    }
     line("<rect width=\"100%\" height=\"100%\" fill=\"#fafafa\"/>".into());
     line(text([sheet.left, 2.2 * letter], &escaped(title)));
 }
@@ -85,27 +108,45 @@ fn text([x, y]: [f64; 2], words: &str) -> String {
     format!("<text x=\"{x:.2}\" y=\"{y:.2}\">{words}</text>")
 }
 
-/// The depths: a rectangle for each run of one colour in a row.
-fn cells(line: &mut impl FnMut(String), map: &DepthMap<'_>, sheet: &Sheet) {
-    let [columns, rows] = map.counts();
-    let [step_x, step_y] = map.raster.grid.step();
-    line(sheet.group("shape-rendering=\"crispEdges\""));
-    for row in 0..rows {
-        let colours: Vec<[u8; 3]> = (0..columns)
-            .map(|column| map.colour(map.depth(column, row)))
-            .collect();
-        let mut start = 0;
-        for run in colours.chunk_by(|a, b| a == b) {
-            line(format!(
-                "<rect x=\"{}\" y=\"{}\" width=\"{}\" height=\"{}\" fill=\"{}\"/>",
-                fixed(start as f64 * step_x, 3),
-                fixed(row as f64 * step_y, 3),
-                fixed(run.len() as f64 * step_x, 3),
-                fixed(step_y, 3),
-                hex(run[0])
-            ));
-            start += run.len();
-        }
+/// The depths: a picture of a pixel for each probe.
+fn depths(map: &DepthMap<'_>, sheet: &Sheet) -> String {
+    let [width, height] = sheet.size.map(|side| fixed(side, 3));
+    format!(
+        "<image x=\"{:.2}\" y=\"{:.2}\" width=\"{width}\" height=\"{height}\" preserveAspectRatio=\"none\" \
+         style=\"image-rendering:pixelated\" href=\"data:image/png;base64,{}\"/>",
+        sheet.left,
+        sheet.top,
+        base64(&map.pixels().to_png())
+    )
+}
+
+/// Whether a row is to be looked at: it is not confirmed, or its end is not understood.
+fn is_marked(row: &Row) -> bool {
+    row.check != Check::Confirmed || row.end == End::Unknown
+}
+
+/// The boxes around what is left over, in red.
+fn not_understood(
+    line: &mut impl FnMut(String),
+    map: &DepthMap<'_>,
+    sheet: &Sheet,
+    left_over: &[&LeftOver],
+) {
+    let stroke = format!(
+        "stroke=\"{RED}\" stroke-width=\"{:.3}\"",
+        sheet.letter / 4.0
+    );
+    line(sheet.group(&format!("fill=\"{RED}\" fill-opacity=\"0.25\" {stroke}")));
+    for rest in left_over {
+        let ends = [seen(map, rest.low), seen(map, rest.high)];
+        let low: [f64; 2] = std::array::from_fn(|side| ends[0][side].min(ends[1][side]));
+        let wide: [f64; 2] = std::array::from_fn(|side| (ends[0][side] - ends[1][side]).abs());
+        let margin = sheet.letter / 3.0;
+        let [x, y] = low.map(|part| fixed(part - margin, 3));
+        let [width, height] = wide.map(|part| fixed(part + 2.0 * margin, 3));
+        line(format!(
+            "<rect x=\"{x}\" y=\"{y}\" width=\"{width}\" height=\"{height}\"/>"
+        ));
     }
     line("</g>".into());
 }
@@ -124,7 +165,15 @@ fn outlines(
     line(sheet.group(&format!("fill=\"none\" {stroke}")));
     line(format!("<rect width=\"{width}\" height=\"{height}\"/>"));
     for (_, row) in rows {
-        line(drawn(map, row));
+        let outline = drawn(map, row);
+        line(if is_marked(row) {
+            format!(
+                "<g stroke=\"{RED}\" stroke-width=\"{:.3}\">{outline}</g>",
+                sheet.letter / 4.0
+            )
+        } else {
+            outline
+        });
     }
     line("</g>".into());
 }
@@ -159,9 +208,13 @@ fn numbers(
 }
 
 /// What the numbers stand for, in columns below.
-fn list(line: &mut impl FnMut(String), sheet: &Sheet, rows: &[(usize, &Row)]) {
+fn list(line: &mut impl FnMut(String), map: &DepthMap<'_>, sheet: &Sheet, rows: &[(usize, &Row)]) {
     for (place, (number, listed)) in rows.iter().enumerate() {
-        let words = format!("{number}: {}", words(listed));
+        let at = map.face.along().map(|axis| {
+            let name = ["x", "y", "z"][axis];
+            format!("{name} {}", fixed(listed.centre[axis], 2))
+        });
+        let words = format!("{number}: {}, {}", words(listed), at.join(", "));
         let [column, row] = [place / sheet.lines, place % sheet.lines].map(|count| count as f64);
         let x = sheet.left + column * sheet.size[0] / sheet.columns as f64;
         let y = sheet.top + sheet.size[1] + (5.0 + 1.4 * row) * sheet.letter;
@@ -355,8 +408,10 @@ fn hex([red, green, blue]: [u8; 3]) -> String {
     text
 }
 
-fn escaped(text: &str) -> String {
+/// Words as a page takes them.
+pub fn escaped(text: &str) -> String {
     text.replace('&', "&amp;")
         .replace('<', "&lt;")
         .replace('>', "&gt;")
+        .replace('"', "&quot;")
 }

@@ -12,6 +12,8 @@ const LEANS: f64 = 0.05;
 /// What is listed, and how.
 #[derive(Clone, Debug, Default)]
 pub struct Listing {
+    /// The part's name in a list for programs; its number where it is empty.
+    pub name: String,
     /// The names of the faces whose rows are listed; all where there are none.
     pub faces: Vec<String>,
     /// Whether coordinates count from the part's least corner.
@@ -19,7 +21,8 @@ pub struct Listing {
 }
 
 impl Listing {
-    fn has(&self, part: &Part, row: &Row) -> bool {
+    /// Whether a row is listed.
+    pub fn has(&self, part: &Part, row: &Row) -> bool {
         let name = row.face.map(|face| &part.faces[face].name);
         self.faces.is_empty() || name.is_some_and(|name| self.faces.contains(name))
     }
@@ -145,6 +148,15 @@ pub fn lean(part: &Part, row: &Row) -> Option<f64> {
     let cosine = dot(face.normal, scale(row.axis, -1.0)).clamp(-1.0, 1.0);
     let lean = cosine.acos().to_degrees();
     (lean > LEANS).then_some(lean)
+}
+
+/// The name of a part: the file's, with a number where the file holds several.
+pub fn part_name(report: &Report, name: &str, number: usize) -> String {
+    if report.parts.len() > 1 {
+        format!("{name}-{}", number + 1)
+    } else {
+        name.into()
+    }
 }
 
 /// Why a list may be incomplete, in words.
@@ -283,7 +295,7 @@ fn rows_table(part: &Part, listing: &Listing) -> String {
 
 /// The columns of the list for programs.
 pub const COLUMNS: &str = "part,number,feature,face,kind,outline,width,height,radius,angle,sides,entry_depth,depth,tip_depth,\
-    end,x,y,z,axis_x,axis_y,axis_z,within,open,confirmed,note";
+    end,x,y,z,axis_x,axis_y,axis_z,within,open,confirmed,note,size_x,size_y,size_z,thickness";
 
 /// The report for programs: commas, a head line, numbers with three places; a line `left over` for surface that is not
 /// understood, and a line `doubt` for each doubt.
@@ -293,16 +305,25 @@ pub fn csv(report: &Report, listing: &Listing) -> String {
         text += &cells.join(",");
         text.push('\n');
     };
-    let width = COLUMNS.split(',').count();
+    let column = |name: &str| COLUMNS.split(',').position(|known| known == name);
     let remark = |part: String, kind: &str, words: String| {
-        let mut cells = vec![String::new(); width];
-        cells[0] = part;
-        cells[4] = kind.into();
-        cells[width - 1] = quoted(&words);
+        let mut cells = vec![String::new(); COLUMNS.split(',').count()];
+        for (name, cell) in [
+            ("part", part),
+            ("kind", kind.into()),
+            ("note", quoted(&words)),
+        ] {
+            if let Some(place) = column(name) {
+                cells[place] = cell;
+            }
+        }
         cells
     };
     for (number, part) in report.parts.iter().enumerate() {
-        let name = (number + 1).to_string();
+        let name = match listing.name.as_str() {
+            "" => (number + 1).to_string(),
+            name => quoted(&part_name(report, name, number)),
+        };
         let origin = listing.origin(part);
         for (place, row) in part.rows.iter().enumerate() {
             if listing.has(part, row) {
@@ -388,11 +409,14 @@ fn row_cells(name: &str, place: usize, part: &Part, row: &Row, origin: Vector) -
     cells.push(open.join(" "));
     cells.push(if row.is_confirmed() { "yes" } else { "no" }.into());
     cells.push(quoted(&notes(part, row)));
+    let size = part.size();
+    cells.extend(size.map(number));
+    cells.push(number(size.into_iter().fold(f64::INFINITY, f64::min)));
     cells
 }
 
 /// Words as a field of a list of commas.
-fn quoted(words: &str) -> String {
+pub fn quoted(words: &str) -> String {
     if words.contains([',', '"', '\n']) {
         format!("\"{}\"", words.replace('"', "\"\""))
     } else {
