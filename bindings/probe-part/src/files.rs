@@ -85,7 +85,7 @@ fn of_part(shape: &Shape, part: &Part, name: &str) -> Result<Vec<FacePicture>, R
     Ok(pictures)
 }
 
-/// The depths of a face, by careful casts.
+/// The depths of a face.
 fn probed(view: &View<'_>) -> Result<Raster, Refusal> {
     let (low, high) = (view.low(), view.high());
     let longest = (high[0] - low[0]).max(high[1] - low[1]);
