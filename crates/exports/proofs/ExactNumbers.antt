@@ -63,7 +63,8 @@ grid-small : (r : Ray) (vs : List Vec3) → Small answerNumber (gridTriangle r v
 unfolding gridTriangle gridNormal
 grid-small r vs = go (gridReach r vs) (grid-reach-small r vs)
   where
-    faced : (x : Float) (n : Normalized) → Small answerNumber (withNormal n noNormal (λ (v : Vec3). hit (facing v (dotOf (r .direction) v)) x))
+    faced : (x : Float) (n : Normalized)
+        → Small answerNumber (withNormal n noNormal (λ (v : Vec3). hit (facing v (dotOf (r .direction) v)) x))
     faced x (UnitOf v) = hits _ x
     faced x Degenerate = refuses noNormal refl
 

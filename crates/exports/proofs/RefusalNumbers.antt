@@ -146,7 +146,8 @@ pub stops : (k : ℕ) → ltb k 256 ≡ true → Small indexedNumber (stopped k)
 unfolding indexedNumber
 stops k h = leaf indexedNumber (stopped k) h
 
-pub next-small : (best : Indexed) (i : ℕ) (a : Answer) → Small indexedNumber best → Small answerNumber a → Small indexedNumber (nextOf best i a)
+pub next-small : (best : Indexed) (i : ℕ) (a : Answer) → Small indexedNumber best → Small answerNumber a
+    → Small indexedNumber (nextOf best i a)
 unfolding nextOf indexedNumber answerNumber
 next-small (stopped k) i a p q = p
 next-small noHit i (hit n d) p q = leaf indexedNumber (hitAt n d i) refl

@@ -15,7 +15,8 @@ returns c =
     let (s, e) : tie.Start × tie.Then1 = search in
     let a = s .args in
     exact-certain (a .hit .now) (a .index .now) _ (own s) _
-    (plain-short (a .hit .now) (a .index .now) _ (own s) _ (hit-short (a .hit .now) (a .index .now) (e .if1 .taken)) (c .short-exact .ensures))
+    (plain-short (a .hit .now) (a .index .now) _ (own s) _
+    (hit-short (a .hit .now) (a .index .now) (e .if1 .taken)) (c .short-exact .ensures))
 
 -- the index slice is
 returns-2 : tie.Need-returns-2
