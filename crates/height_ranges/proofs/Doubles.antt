@@ -13,7 +13,7 @@ use Rattle.vectors.specs.Vector.{addOf, minOf}
 use Rattle.geometry.specs.Segment.{segmentEnd, segmentBox}
 use Rattle.geometry.specs.declared.ray.Ray.{Ray}
 use Rattle.height_ranges.specs.Ranges.{nearestHeights}
-use Rattle.height_ranges.proofs.Clamps.{clamp-one}
+use Rattle.arithmetic.proofs.Clamps.{clamp-one}
 
 abbrev pub Double : Float → Type 0
 Double x = fits binary64 x ≡ true
