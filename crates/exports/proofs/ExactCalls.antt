@@ -119,7 +119,7 @@ module _ (hit : List Float) (index : List ℕ) where
   unfolding treeTold exactTold
   tree-as-plain r m t stack p numbers room =
       let lengths = yes-lengths m t (p .marks) (p .says-yes) in
-      let shape = shape-admitted m t (yes-passes m t (p .marks) (p .says-yes)) lengths in
+      let shape = shape-admitted r m t (yes-passes m t (p .marks) (p .says-yes)) lengths in
       simp (shape, lengths, agrees r m t stack p numbers room)
 
   -- the three clauses of the call's contract: what is told, what is kept, and the agreement

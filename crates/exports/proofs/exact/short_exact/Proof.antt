@@ -1,5 +1,6 @@
 -- `exports::exact::short_exact` meets its contract. Assumes nothing.
-use Rattle.lists.proofs.JoinedTests.{test-passed, test-failed, not-true, not-false}
+use borrow.Author.Tests.{not-true, not-false}
+use Rattle.lists.proofs.JoinedTests.{test-passed, test-failed}
 use Rattle.exports.proofs.ExactCalls.{short-invalid, short-off, short-bad, short-room}
 use borrow.Author.Needs.{needs}
 use Rattle.exports.proofs.exact.short_exact.Statement.{statement}
