@@ -66,13 +66,13 @@ module _ (hit : List Float) (index : List ℕ) where
 
   -- ---- without a tree
   module _ (r : Ray) (m : Mesh) where
-    pub plain-short : (number : ℕ) → resultsFit hit index ≡ false
-        → number ≡ shortExact r (lengthsAdmitted (length (m .vertices)) (length (m .triangles)))
+    pub plain-short : (number : ℕ) (shape : Bool) → resultsFit hit index ≡ false
+        → shape ≡ lengthsAdmitted (length (m .vertices)) (length (m .triangles)) → number ≡ shortExact r shape
         → toldNumber number hit index ≡ exactTold r m hit index
     unfolding exactTold rayMeshExactPlain
-    plain-short number short e =
+    plain-short number shape short s e =
         untold-short (rayAdmitted r) (gridAdmitted r) (lengthsAdmitted (length (m .vertices)) (length (m .triangles)))
-        (resultsFit hit index) (overTriangles r m) number short e
+        (resultsFit hit index) (overTriangles r m) number short (e ∙ ap (λ (b : Bool). shortExact r b) s)
 
     fitting : resultsFit hit index ≡ true → exactTold r m hit index ≡ toldIndexed (rayMeshExactPlain r m) hit index
     unfolding exactTold
@@ -101,10 +101,12 @@ module _ (hit : List Float) (index : List ℕ) where
         lengthsAdmitted (length (m .vertices)) (length (m .triangles))
         && (lengthsAdmitted (length pose) (length (m .triangles)) && leb (t .nodeCount) (2 * thirds (length (m .triangles))))
 
-    pub tree-short : (number : ℕ) → resultsFit hit index ≡ false → number ≡ shortExact r admitted
+    pub tree-short : (number : ℕ) (shape : Bool) → resultsFit hit index ≡ false → shape ≡ admitted → number ≡ shortExact r shape
         → toldNumber number hit index ≡ treeTold r m pose t stack hit index
     unfolding treeTold rayMeshExact shapeAdmitted
-    tree-short number short e = untold-short (rayAdmitted r) (gridAdmitted r) admitted (resultsFit hit index) _ number short e
+    tree-short number shape short s e =
+        untold-short (rayAdmitted r) (gridAdmitted r) admitted (resultsFit hit index) _ number short
+        (e ∙ ap (λ (b : Bool). shortExact r b) s)
 
     pub tree-told : (told : ToldIndexed) (answer : Indexed) → resultsFit hit index ≡ true → answer ≡ rayMeshExact r m pose t stack
         → told ≡ toldIndexed answer hit index → told ≡ treeTold r m pose t stack hit index

@@ -22,8 +22,8 @@ returns c =
     let (s, e) : tie.Start × tie.Then1 = search in
     let a = s .args in
     with-agreement (a .hit .now) (a .index .now) _ (own s) (a .pose .now) (tree s) _ _ _
-    (tree-short (a .hit .now) (a .index .now) _ (own s) (a .pose .now) (tree s) _ _
-    (hit-short (a .hit .now) (a .index .now) (e .if1 .taken)) (c .short-exact .ensures))
+    (tree-short (a .hit .now) (a .index .now) _ (own s) (a .pose .now) (tree s) _ _ _
+    (hit-short (a .hit .now) (a .index .now) (e .if1 .taken)) (c .before .shape-admitted .ensures) (c .short-exact .ensures))
     (λ _. refl)
 
 -- the index slice is
@@ -32,8 +32,9 @@ returns-2 c =
     let (s, e1, e2) : tie.Start × tie.Else1 × tie.Then2 = search in
     let a = s .args in
     with-agreement (a .hit .now) (a .index .now) _ (own s) (a .pose .now) (tree s) _ _ _
-    (tree-short (a .hit .now) (a .index .now) _ (own s) (a .pose .now) (tree s) _ _
-    (index-short (a .hit .now) (a .index .now) (e1 .if1 .left) (e2 .if2 .taken)) (c .short-exact2 .ensures))
+    (tree-short (a .hit .now) (a .index .now) _ (own s) (a .pose .now) (tree s) _ _ _
+    (index-short (a .hit .now) (a .index .now) (e1 .if1 .left) (e2 .if2 .taken)) (c .before .shape-admitted2 .ensures)
+    (c .short-exact2 .ensures))
     (λ _. refl)
 
 -- the cast's answer, told
@@ -51,8 +52,10 @@ pub probe-ray-mesh-exact-spec : {M : Type 1} → statement M
 probe-ray-mesh-exact-spec =
     tie.close
     (tie.spec
+    (search needs)  -- shape-admitted-requires
     (search needs)  -- short-exact-requires
     returns
+    (search needs)  -- shape-admitted-requires-2
     (search needs)  -- short-exact-requires-2
     returns-2
     (search needs)  -- ray-mesh-exact-requires

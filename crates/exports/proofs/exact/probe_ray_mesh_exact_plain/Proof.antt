@@ -15,8 +15,8 @@ returns c =
     let (s, e) : tie.Start × tie.Then1 = search in
     let a = s .args in
     exact-certain (a .hit .now) (a .index .now) _ (own s) _
-    (plain-short (a .hit .now) (a .index .now) _ (own s) _
-    (hit-short (a .hit .now) (a .index .now) (e .if1 .taken)) (c .short-exact .ensures))
+    (plain-short (a .hit .now) (a .index .now) _ (own s) _ _
+    (hit-short (a .hit .now) (a .index .now) (e .if1 .taken)) (c .before .lengths-admitted .ensures) (c .short-exact .ensures))
 
 -- the index slice is
 returns-2 : tie.Need-returns-2
@@ -24,8 +24,9 @@ returns-2 c =
     let (s, e1, e2) : tie.Start × tie.Else1 × tie.Then2 = search in
     let a = s .args in
     exact-certain (a .hit .now) (a .index .now) _ (own s) _
-    (plain-short (a .hit .now) (a .index .now) _ (own s) _
-    (index-short (a .hit .now) (a .index .now) (e1 .if1 .left) (e2 .if2 .taken)) (c .short-exact2 .ensures))
+    (plain-short (a .hit .now) (a .index .now) _ (own s) _ _
+    (index-short (a .hit .now) (a .index .now) (e1 .if1 .left) (e2 .if2 .taken)) (c .before .lengths-admitted2 .ensures)
+    (c .short-exact2 .ensures))
 
 -- the cast's answer, told
 returns-3 : tie.Need-returns-3

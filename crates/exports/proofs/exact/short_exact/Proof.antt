@@ -8,27 +8,29 @@ use Rattle.exports.proofs.exact.short_exact.Tie as tie
 
 -- 1
 returns : tie.Need-returns
-returns c = short-invalid _ _ (test-failed (c .before .validate .ensures) (c .if1 .taken))
+returns c =
+    let s : tie.Start = search in
+    short-invalid _ (s .args .shape) (test-failed (c .before .validate .ensures) (c .if1 .taken))
 
 -- 12
 returns-2 : tie.Need-returns-2
 returns-2 c =
-    let (v, e) : tie.After-validate × tie.Else1 = search in
-    short-off _ _ (test-passed (v .validate .ensures) (e .if1 .left)) (test-failed (c .before .admitted .ensures) (c .if2 .taken))
+    let (s, v, e) : tie.Start × tie.After-validate × tie.Else1 = search in
+    short-off _ (s .args .shape) (test-passed (v .validate .ensures) (e .if1 .left)) (test-failed (c .before .admitted .ensures) (c .if2 .taken))
 
 -- 2
 returns-3 : tie.Need-returns-3
 returns-3 c =
-    let (v, e, g, f) : tie.After-validate × tie.Else1 × tie.After-admitted × tie.Else2 = search in
-    short-bad _ _ (test-passed (v .validate .ensures) (e .if1 .left)) (test-passed (g .admitted .ensures) (f .if2 .left))
-    (not-true _ (c .if3 .taken))
+    let (s, v, e, g, f) : tie.Start × tie.After-validate × tie.Else1 × tie.After-admitted × tie.Else2 = search in
+    short-bad _ (s .args .shape) (test-passed (v .validate .ensures) (e .if1 .left)) (test-passed (g .admitted .ensures) (f .if2 .left))
+    (not-true (s .args .shape) (c .if3 .taken))
 
 -- 3
 returns-4 : tie.Need-returns-4
 returns-4 c =
-    let (v, e, g, f) : tie.After-validate × tie.Else1 × tie.After-admitted × tie.Else2 = search in
-    short-room _ _ (test-passed (v .validate .ensures) (e .if1 .left)) (test-passed (g .admitted .ensures) (f .if2 .left))
-    (not-false _ (c .if3 .left))
+    let (s, v, e, g, f) : tie.Start × tie.After-validate × tie.Else1 × tie.After-admitted × tie.Else2 = search in
+    short-room _ (s .args .shape) (test-passed (v .validate .ensures) (e .if1 .left)) (test-passed (g .admitted .ensures) (f .if2 .left))
+    (not-false (s .args .shape) (c .if3 .left))
 
 pub short-exact-spec : {M : Type 1} → statement M
 short-exact-spec =
