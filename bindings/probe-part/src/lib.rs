@@ -23,6 +23,7 @@ mod gmsh;
 mod islands;
 pub mod json;
 pub mod kinds;
+mod letters;
 mod loops;
 pub mod model;
 mod notches;

@@ -477,8 +477,10 @@ fn depth(call: &Call, out: &mut Output) -> Result<u8, String> {
         }
     };
     let map = DepthMap::new(face, &raster);
+    let name = Path::new(&call.file).file_name().unwrap_or_default();
+    let title = format!("{}, {} face", name.to_string_lossy(), face.name());
     if let Some(file) = call.value("--png") {
-        written(file, &map.picture().to_png())?;
+        written(file, &map.picture(&title).to_png())?;
         out.print(&format!("{file}: {}\n", size(&raster.grid)))?;
     }
     if let Some(file) = call.value("--svg") {
@@ -499,7 +501,7 @@ fn depth(call: &Call, out: &mut Output) -> Result<u8, String> {
             numbered.extend(rows.map(|(place, row)| (place + 1, row)));
         }
         let overlay = svg::Overlay {
-            title: format!("{}, {} face", call.file, face.name()),
+            title,
             rows: numbered,
             left_over: report
                 .parts

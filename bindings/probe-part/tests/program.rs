@@ -303,7 +303,7 @@ fn whole_millimetres_are_exact() {
         at("1.000 mm, point (0.500, 30.000, 0.000)", 0),
         at("5.000 mm, point (4.000, 2.000, 0.000)", 0),
         at("4.000 mm, point (1.000, 2.000, 0.000)", 0),
-        "refused 1, invalid input: a ray or a query's box that is not admitted".into(),
+        "refused 1, invalid input: the maximum is below 0".into(),
     ];
     let lines = |facets: &[_], switches: &[&str], rays: &[u8]| -> Vec<String> {
         let file = folder.file("square.stl", &binary(facets));
