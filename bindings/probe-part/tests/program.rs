@@ -73,6 +73,7 @@ fn help_names_every_command() {
         for word in [
             "probe-part cast",
             "probe-part bores",
+            "probe-part batch",
             "probe-part depth",
             "--rays",
         ] {
@@ -87,7 +88,7 @@ fn help_names_every_command() {
 #[test]
 fn calls_that_are_not_right() {
     let wrong: [(&[&str], &str); 15] = [
-        (&["drill", PANEL], "\"drill\" is none of cast, bores, depth"),
+        (&["drill", PANEL], "\"drill\" is none of cast, bores, batch, depth"),
         (&["cast"], "which file?"),
         (
             &["cast", PANEL, "1", "2"],
@@ -413,8 +414,8 @@ complete: all of the surface is accounted for, and every row is confirmed
     assert_eq!(
         lines[1..],
         [
-            "1,1,1,top,bore,circle,37.885,37.885,,,8,0.000,13.000,,floor,50.000,50.000,18.000,0.000000,0.000000,-1.000000,,,yes,of 8 sides",
-            "1,2,2,top,bore,circle,8.635,8.635,,,8,0.000,18.000,,through,150.000,50.000,18.000,0.000000,0.000000,-1.000000,,,yes,of 8 sides"
+            "1,1,1,top,bore,circle,37.885,37.885,,,8,0.000,13.000,,floor,50.000,50.000,18.000,0.000000,0.000000,-1.000000,,,yes,of 8 sides,200.000,100.000,18.000,18.000",
+            "1,2,2,top,bore,circle,8.635,8.635,,,8,0.000,18.000,,through,150.000,50.000,18.000,0.000000,0.000000,-1.000000,,,yes,of 8 sides,200.000,100.000,18.000,18.000"
         ]
     );
     assert_eq!(lines[0].split(',').count(), lines[1].split(',').count());
