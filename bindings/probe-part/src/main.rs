@@ -11,7 +11,7 @@ use probe_part::recognise::{recognise, Options};
 use probe_part::shape::Shape;
 use probe_part::tables::{doubt_words, Listing};
 use probe_part::words::{all_told, fixed, told};
-use probe_part::{svg, tables};
+use probe_part::{csv, svg, tables};
 use probe_rays::{Cast, Progress, Ray};
 use std::fs::{self, File};
 use std::io::{self, BufRead, BufReader, BufWriter, IsTerminal, Write};
@@ -341,7 +341,7 @@ fn bores(call: &Call, out: &mut Output) -> Result<u8, String> {
         }
     };
     if call.has("--csv") {
-        out.print(&tables::csv(&report, &listing))?;
+        out.print(&csv::csv(&report, &listing))?;
         let parts = report.parts.iter().flat_map(|part| &part.doubts);
         for doubt in parts.chain(&report.doubts) {
             eprintln!("probe-part: {}", doubt_words(doubt));

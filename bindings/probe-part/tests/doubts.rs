@@ -67,7 +67,7 @@ fn dimple() -> Vec<Corners> {
             .map(|[x, y]| [*x, *y, 18.0 - depth])
             .collect()
     };
-    let is_tip = |facet: &&Corners| !facet.iter().any(|corner| *corner == [300.0, 200.0, 15.0]);
+    let is_tip = |facet: &&Corners| !facet.contains(&[300.0, 200.0, 15.0]);
     solid.facets = facets.iter().filter(is_tip).copied().collect();
     for pair in depths[1..].windows(2) {
         solid.walls(&at(ball(pair[0]), pair[0]), &at(ball(pair[1]), pair[1]));
