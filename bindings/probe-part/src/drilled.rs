@@ -89,7 +89,8 @@ fn add_bore(work: &mut Work<'_>, number: u32, rims: &[Rim], all: &[(u32, Vec<Rim
     let last = rims.iter().find(|rim| !std::ptr::eq(*rim, entry));
     let height = |rim: &Rim| {
         let met = plane(work, rim).and_then(|(normal, offset)| round.axis.meets(normal, offset));
-        met.unwrap_or(rim.mean)
+        met.or_else(|| meets_round(work, &round, rim))
+            .unwrap_or(rim.mean)
     };
     let from = height(entry);
     let to = match last {
@@ -196,6 +197,35 @@ fn add_bore(work: &mut Work<'_>, number: u32, rims: &[Rim], all: &[(u32, Vec<Rim
         probes,
     };
     work.add(draft, regions);
+}
+
+/// The height at which the axis meets the cylinder that an end opens into.
+fn meets_round(work: &Work<'_>, round: &Round, rim: &Rim) -> Option<f64> {
+    let Beyond::Round(other) = rim.beyond else {
+        return None;
+    };
+    let other = &work.rounds.all[other as usize];
+    // the distance from the other axis is a square of the height: a·h² + 2·b·h + c
+    let across = |way: Vector| {
+        let along_axis = dot(way, other.axis.direction);
+        crate::geometry::subtract(way, scale(other.axis.direction, along_axis))
+    };
+    let (way, from) = (
+        across(round.axis.direction),
+        other.axis.radial(round.axis.point),
+    );
+    let (a, b) = (dot(way, way), dot(way, from));
+    let root = b * b - a * (dot(from, from) - other.radius * other.radius);
+    if !other.is_cylinder() || a < 1e-9 || root < 0.0 {
+        return None;
+    }
+    let heights = [-1.0, 1.0].map(|sign| (-b + sign * root.sqrt()) / a);
+    let off = |height: f64| (height - rim.mean).abs();
+    Some(if off(heights[0]) < off(heights[1]) {
+        heights[0]
+    } else {
+        heights[1]
+    })
 }
 
 /// How a bore ends, and between which depths its axis meets a surface.
