@@ -115,6 +115,7 @@ pub fn add_bosses(work: &mut Work<'_>, bosses: &[Boss]) {
             entry_depth: 0.0,
             depth: height,
             end: DraftEnd::Floor,
+            cone: None,
             within: None,
             open: Vec::new(),
             loops: vec![corners

@@ -148,6 +148,7 @@ fn add_island(work: &mut Work<'_>, island: Standing) {
         entry_depth: face.map_or(0.0, |face| work.outer.offsets[face as usize] - top.offset),
         depth: height,
         end: DraftEnd::Floor,
+        cone: None,
         within: Some(floor),
         open: Vec::new(),
         loops: vec![polygon],

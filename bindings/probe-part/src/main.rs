@@ -16,7 +16,7 @@ use probe_part::shape::Shape;
 use probe_part::summary::{counted, exit_status, Line};
 use probe_part::tables::{doubt_words, Listing};
 use probe_part::words::{all_told, fixed, told};
-use probe_part::{svg, tables};
+use probe_part::{csv, svg, tables};
 use probe_rays::{Cast, Progress, Ray};
 use std::fs::{self, File};
 use std::io::{self, BufRead, BufReader, BufWriter, IsTerminal, Write};
@@ -377,7 +377,7 @@ fn bores(call: &Call, out: &mut Output) -> Result<u8, String> {
     }
     if call.has("--csv") || call.has("--json") {
         out.print(&if call.has("--csv") {
-            tables::csv(&report, &listing)
+            csv::csv(&report, &listing)
         } else if listing.from_corner {
             json(&from_corner(&report), &listing, &call.file)
         } else {

@@ -9,9 +9,10 @@ use crate::rounds::off_round;
 use crate::topology::NONE;
 use crate::walls::{connected, upright};
 use crate::work::{probes_beside, Draft, DraftEnd, Edge, Work};
+use std::collections::HashSet;
 
 /// Adds what goes through, from the level surfaces beside a group that face along its axis.
-pub fn add_through(work: &mut Work<'_>, group: &[u32], axis: Vector) {
+pub fn add_through(work: &mut Work<'_>, group: &[u32], members: &HashSet<u32>, axis: Vector) {
     for up in [axis, scale(axis, -1.0)] {
         for region in mouths(work, group, up) {
             for number in 0..work.regions.all[region as usize].loops.len() {
@@ -26,7 +27,7 @@ pub fn add_through(work: &mut Work<'_>, group: &[u32], axis: Vector) {
                 if number > 0 && edges.iter().all(ours) {
                     add_closed(work, region, number, up, &edges);
                 } else if number == 0 && work.face(region).is_some() {
-                    add_open(work, region, up, &edges, group);
+                    add_open(work, region, up, &edges, members);
                 }
             }
         }
@@ -60,14 +61,25 @@ fn goes_down(work: &Work<'_>, wall: u32, up: Vector) -> bool {
     edges.iter().any(ends) && !edges.iter().any(floor)
 }
 
-/// The level below that a wall ends at, and its region.
-fn bottom_of(work: &Work<'_>, wall: u32, up: Vector) -> Option<(f64, u32)> {
+/// The level that walls end at below, and a region of it: the far face where they reach it, beside floors of other rows
+/// too; else the one floor that they all end at.
+fn bottom_of(work: &Work<'_>, walls: &[u32], up: Vector) -> Option<(f64, u32)> {
     let down = scale(up, -1.0);
-    work.all_edges(wall)
+    let mut ends: Vec<u32> = walls
         .iter()
+        .flat_map(|&wall| work.all_edges(wall))
         .filter(|edge| edge.across != NONE && edge.is_convex && work.is_level(edge.across, down))
-        .map(|edge| (-work.regions.all[edge.across as usize].offset, edge.across))
-        .next()
+        .map(|edge| edge.across)
+        .collect();
+    ends.sort_unstable();
+    ends.dedup();
+    let far = ends.iter().copied().find(|&end| work.face(end).is_some());
+    let below = match (far, ends.as_slice()) {
+        (Some(face), _) => face,
+        (None, &[floor]) => floor,
+        _ => return None,
+    };
+    Some((-work.regions.all[below as usize].offset, below))
 }
 
 /// Adds a cut-out with walls all around.
@@ -90,11 +102,11 @@ fn reversed(edge: &Edge) -> Edge {
 }
 
 /// Adds the notches of the outline of an outer face: runs of edges whose walls go through, closed along the body's side.
-fn add_open(work: &mut Work<'_>, region: u32, up: Vector, edges: &[Edge], group: &[u32]) {
+fn add_open(work: &mut Work<'_>, region: u32, up: Vector, edges: &[Edge], members: &HashSet<u32>) {
     let count = edges.len();
     let ours = |edge: &Edge| {
         edge.across != NONE
-            && group.contains(&edge.across)
+            && members.contains(&edge.across)
             && edge.is_convex
             && goes_down(work, edge.across, up)
     };
@@ -187,12 +199,7 @@ fn add(
     walls: Vec<u32>,
     open: Vec<u32>,
 ) {
-    let Some(&(bottom, below)) = walls
-        .iter()
-        .filter_map(|&wall| bottom_of(work, wall, up))
-        .collect::<Vec<_>>()
-        .first()
-    else {
+    let Some((bottom, below)) = bottom_of(work, &walls, up) else {
         return;
     };
     let on_floor =
@@ -235,6 +242,7 @@ fn add(
         } else {
             DraftEnd::Into(below)
         },
+        cone: None,
         within: work.face(region).is_none().then_some(region),
         open,
         loops: vec![corners],

@@ -5,6 +5,7 @@ use crate::model::Face;
 use crate::planes::{off_plane, Regions};
 use crate::polytope::Polytope;
 use crate::topology::{Shell, NONE};
+use std::collections::HashSet;
 
 /// The names of the faces across an axis, with their normals, in the order of the list.
 pub const NAMED: [(&str, Vector); 6] = [
@@ -171,6 +172,7 @@ fn named(shell: &Shell, regions: &Regions, flags: &[bool]) -> Named {
 /// The regions that are connected with one by edges that are hardly bent.
 fn smooth(regions: &Regions, start: usize, free: impl Fn(usize) -> bool) -> Vec<usize> {
     let mut members = vec![start];
+    let mut seen = HashSet::from([start]);
     let mut next = 0;
     while let Some(&region) = members.get(next) {
         next += 1;
@@ -178,7 +180,7 @@ fn smooth(regions: &Regions, start: usize, free: impl Fn(usize) -> bool) -> Vec<
             for other in regions.across(around).filter(|&other| other != NONE) {
                 let other = other as usize;
                 let bent = dot(regions.all[region].normal, regions.all[other].normal);
-                if bent > ROUND && free(other) && !members.contains(&other) {
+                if bent > ROUND && free(other) && seen.insert(other) {
                     members.push(other);
                 }
             }

@@ -183,7 +183,7 @@ fn longest_arc(corners: &[Place], tolerance: f64) -> Option<Circle> {
             (b[0] - a[0]).hypot(b[1] - a[1])
         };
         let long: f64 = (0..run - 1).map(side).sum();
-        if run >= 5 && best.is_none_or(|(_, most)| long > most) {
+        if run >= 5 && best.map_or(true, |(_, most)| long > most) {
             best = Some((circle, long));
         }
     }

@@ -1,6 +1,7 @@
 //! The summary of a batch: a line for each part.
 use crate::batch::{Entry, Outcome};
-use crate::tables::{doubt_words, part_name, quoted};
+use crate::csv::quoted;
+use crate::tables::{doubt_words, part_name};
 use crate::words::fixed;
 
 /// What is known of a part's list.

@@ -7,6 +7,7 @@ use crate::loops;
 use crate::rounds::off_round;
 use crate::topology::NONE;
 use crate::work::{Edge, Work};
+use std::collections::HashSet;
 use std::f64::consts::PI;
 
 /// A side of a curve turns by at most so much from the one before: seven sides make a circle.
@@ -26,13 +27,14 @@ pub fn connected(work: &Work<'_>, starts: &[u32], up: Vector, floor: Option<u32>
     let mut walls: Vec<u32> = starts.to_vec();
     walls.sort_unstable();
     walls.dedup();
+    let mut seen: HashSet<u32> = walls.iter().copied().collect();
     let mut next = 0;
     while let Some(&wall) = walls.get(next) {
         next += 1;
         for edge in work.all_edges(wall) {
             let across = edge.across;
             if across == NONE
-                || walls.contains(&across)
+                || seen.contains(&across)
                 || !work.is_free(across)
                 || !work.is_near_wall(across, up)
             {
@@ -40,6 +42,7 @@ pub fn connected(work: &Work<'_>, starts: &[u32], up: Vector, floor: Option<u32>
             }
             let rises = dot(unit(subtract(edge.to, edge.from)), up).abs() > 0.05;
             if rises && is_hanging(work, across, up, floor) {
+                seen.insert(across);
                 walls.push(across);
             }
         }
@@ -68,7 +71,8 @@ pub fn upright(work: &Work<'_>, walls: &[u32], up: Vector) -> Option<Upright> {
             slack: 0.0,
         });
     }
-    let inside = |triangle: u32| walls.contains(&work.regions.of_triangle(triangle));
+    let members: HashSet<u32> = walls.iter().copied().collect();
+    let inside = |triangle: u32| members.contains(&work.regions.of_triangle(triangle));
     let triangles: Vec<u32> = walls
         .iter()
         .flat_map(|&wall| &work.regions.all[wall as usize].triangles)

@@ -29,6 +29,8 @@ pub struct Draft {
     pub depth: f64,
     /// How it ends.
     pub end: DraftEnd,
+    /// The full angle of a cone, in degrees.
+    pub cone: Option<f64>,
     /// A region that its entry lies in.
     pub within: Option<u32>,
     /// The outer faces that it runs out at.

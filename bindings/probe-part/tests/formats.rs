@@ -3,13 +3,14 @@ mod board;
 
 use board::{board as made, circle, rounded, Cut, Side};
 use probe_part::corner::from_corner;
+use probe_part::csv::csv;
 use probe_part::deflate::zlib;
 use probe_part::dxf::{dxf, layer};
 use probe_part::json::json;
 use probe_part::model::{End, Outline, Report, Row};
 use probe_part::recognise::{recognise, Options};
 use probe_part::shape::Shape;
-use probe_part::tables::{csv, Listing};
+use probe_part::tables::Listing;
 use std::io::Write;
 use std::process::{Command, Stdio};
 

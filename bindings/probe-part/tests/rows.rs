@@ -6,7 +6,7 @@ use board::{
     arc, board as made, circle, ellipse, extruded, finer, mapped, rectangle, rounded, turned,
     Chance, Cut, Place, Point, Side, THROUGH,
 };
-use known::{bore, hold, hold_anywhere, hold_posed, known, report, Known, Pose};
+use known::{bore, explains, hold, hold_anywhere, hold_posed, known, report, Known, Pose};
 use probe_part::model::{Check, End, Kind, Outline};
 use probe_part::recognise::{recognise, Options};
 use probe_part::shape::Shape;
@@ -417,6 +417,133 @@ fn bores_that_lean() {
         });
     }
     hold_anywhere(&made(BOARD, &cuts), &all, 31);
+}
+
+/// A cam joint: a bore of 5 from the left side, which opens into a cup of 15 from below.
+fn cam() -> Vec<Corners> {
+    let ([x, y], z, cup, dowel) = ([34.0, 100.0], 9.0, 7.5_f64, 2.5_f64);
+    let mut solid = board::Solid::default();
+    // the cup's wall has corners under these angles from the side that the dowel comes from; at the first and last of the
+    // inner ones the dowel is widest
+    let widest = (dowel / cup).asin().to_degrees();
+    let inner = [-widest, -15.0, -10.0, -5.0, 0.0, 5.0, 10.0, 15.0, widest];
+    let outer = (3..=37).map(|n| 9.0 * f64::from(n));
+    let angles: Vec<f64> = inner.into_iter().chain(outer).collect();
+    let on_cup = |degrees: f64, height: f64| {
+        let (sine, cosine) = degrees.to_radians().sin_cos();
+        [x - cup * cosine, y + cup * sine, height]
+    };
+    // how far from its middle the dowel's rim lies there
+    let rise = |degrees: f64| {
+        let off = cup * degrees.to_radians().sin();
+        if degrees.abs() == widest {
+            0.0
+        } else {
+            (dowel * dowel - off * off).sqrt()
+        }
+    };
+    for (n, &one) in angles.iter().enumerate() {
+        let other = angles[(n + 1) % angles.len()];
+        let mut wall = |low: [f64; 2], high: [f64; 2]| {
+            let [a, b] = [on_cup(one, low[0]), on_cup(other, low[1])];
+            let [c, d] = [on_cup(one, high[0]), on_cup(other, high[1])];
+            if a != c {
+                solid.facets.push([a, b, c]);
+            }
+            if b != d {
+                solid.facets.push([b, d, c]);
+            }
+        };
+        if n + 1 < inner.len() {
+            wall([0.0; 2], [z - rise(one), z - rise(other)]);
+            wall([z + rise(one), z + rise(other)], [12.7; 2]);
+        } else if one == widest || other == -widest {
+            // beside the dowel's widest corners the wall has a corner at their height
+            wall([0.0; 2], if one == widest { [z, 0.0] } else { [0.0, z] });
+            wall(if one == widest { [z, 0.0] } else { [0.0, z] }, [12.7; 2]);
+        } else {
+            wall([0.0; 2], [12.7; 2]);
+        }
+    }
+    // the rim from its nearest corner over the upper side to the furthest, and back over the lower one
+    let upper = inner
+        .iter()
+        .map(|&degrees| on_cup(degrees, z + rise(degrees)));
+    let lower = inner[1..8]
+        .iter()
+        .rev()
+        .map(|&degrees| on_cup(degrees, z - rise(degrees)));
+    let rim: Vec<Point> = upper.chain(lower).collect();
+    let entry: Vec<Point> = rim.iter().map(|point| [0.0, point[1], point[2]]).collect();
+    solid.walls(&entry, &rim);
+    let around = |height: f64| -> Vec<Point> {
+        angles
+            .iter()
+            .map(|&degrees| on_cup(degrees, height))
+            .collect()
+    };
+    let plain = made(BOARD, &[Cut::bore(Side::Top, [500.0, 300.0], 5.0, 12.0)]);
+    let is = |facet: &&Corners, axis: usize| facet.iter().all(|corner| corner[axis] == 0.0);
+    solid
+        .facets
+        .extend(plain.iter().filter(|facet| !is(facet, 0) && !is(facet, 2)));
+    let bottom = vec![
+        [0.0, 0.0, 0.0],
+        [600.0, 0.0, 0.0],
+        [600.0, 400.0, 0.0],
+        [0.0, 400.0, 0.0],
+    ];
+    let left = vec![
+        [0.0, 0.0, 0.0],
+        [0.0, 0.0, 18.0],
+        [0.0, 400.0, 18.0],
+        [0.0, 400.0, 0.0],
+    ];
+    solid.flat(&[bottom, around(0.0)], [0.0, 0.0, -1.0]);
+    solid.flat(&[left, entry], [-1.0, 0.0, 0.0]);
+    solid.flat(&[around(12.7)], [0.0, 0.0, -1.0]);
+    solid.facets
+}
+
+#[test]
+fn a_cam_joint() {
+    let all = [
+        bore(BOARD, Side::Top, [500.0, 300.0], 5.0, 12.0),
+        bore(BOARD, Side::Bottom, [34.0, 100.0], 15.0, 12.7),
+    ];
+    let facets = cam();
+    let found = report(&facets);
+    assert!(found.is_certain(), "{found:#?}");
+    let part = &found.parts[0];
+    assert_eq!(part.rows.len(), all.len() + 1);
+    let dowel = part
+        .rows
+        .iter()
+        .find(|row| matches!(row.end, End::OpensInto(_)))
+        .unwrap();
+    let End::OpensInto(cup) = dowel.end else {
+        panic!()
+    };
+    assert!(
+        matches!(part.rows[cup].outline, Outline::Circle { diameter, .. } if (diameter - 15.0).abs() < 0.01)
+    );
+    assert!(
+        matches!(dowel.outline, Outline::Circle { diameter, .. } if (diameter - 5.0).abs() < 0.01)
+    );
+    assert_eq!(part.faces[dowel.face.unwrap()].name, "left");
+    assert_eq!(part.rows[cup].feature, dowel.feature);
+    // its axis meets the cup's wall at 34 - 7.5
+    assert!((dowel.depth - 26.5).abs() < 0.01, "{dowel:?}");
+    explains(&board::single(&facets), part, 3);
+    let mut chance = Chance(9);
+    for mirrors in [false, true] {
+        let pose = Pose::of_chance(&mut chance, mirrors);
+        let found = report(&mapped(&facets, |point| pose.place(point), mirrors));
+        assert!(
+            found.is_certain() && found.parts[0].rows.len() == 3,
+            "{found:#?}"
+        );
+    }
 }
 
 /// A countersink from 10 to 5 at 90 degrees, then a bore of 5 right through; a bore with a drill's tip; a cone alone.

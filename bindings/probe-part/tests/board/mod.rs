@@ -379,7 +379,7 @@ fn cut_walls(solid: &mut Solid, size: Point, cut: &Cut) {
                 .facets
                 .push([middle, around[n], around[(n + 1) % around.len()]]);
         }
-    } else if cut.depth < thickness && !(cut.floor.is_some() && !cut.inner.is_empty()) {
+    } else if cut.depth < thickness && (cut.floor.is_none() || cut.inner.is_empty()) {
         let mut rings = vec![at(&floor, cut.depth)];
         rings.extend(cut.islands.iter().map(|island| at(&island.0, cut.depth)));
         rings.extend(

@@ -52,7 +52,7 @@ fn bridge(points: &[Place], ring: &mut Vec<usize>, hole: &[usize]) {
             continue;
         }
         let x = a[0] + (m[1] - a[1]) / (b[1] - a[1]) * (b[0] - a[0]);
-        if x >= m[0] && best.is_none_or(|(known, _)| x < known) {
+        if x >= m[0] && best.map_or(true, |(known, _)| x < known) {
             let far = if a[0] > b[0] {
                 place
             } else {

@@ -6,6 +6,7 @@ use probe_part::model::{End, Kind, Outline, Part, Report, Row};
 use probe_part::recognise::{recognise, Options};
 use probe_part::shape::Shape;
 use probe_rays::stl::Corners;
+use probe_rays::{Ray, Scratch};
 
 pub const NEAR: f64 = 0.01;
 
@@ -170,6 +171,150 @@ fn agrees(part: &Part, row: &Row, known: &Known, pose: &Pose) -> bool {
         && row.is_confirmed()
 }
 
+/// Points nearer than this to a surface of a row say nothing: sides of circles lie within them by less.
+const BAND: f64 = 0.6;
+
+/// Whether a row takes away the material at a place of the part's frame; none near its border.
+fn takes(part: &Part, row: &Row, point: Point) -> Option<bool> {
+    let from: Point = std::array::from_fn(|k| point[k] - row.centre[k]);
+    let height: f64 = (0..3).map(|k| from[k] * row.axis[k]).sum();
+    let outward: Point = std::array::from_fn(|k| from[k] - height * row.axis[k]);
+    let radius = outward.iter().map(|part| part * part).sum::<f64>().sqrt();
+    let within = |low: f64, value: f64, high: f64| {
+        if (value - low).abs() < BAND || (value - high).abs() < BAND {
+            None
+        } else {
+            Some(low < value && value < high)
+        }
+    };
+    // from a face all that is above the entry is outside the part
+    let low = if row.within.is_none() {
+        f64::NEG_INFINITY
+    } else {
+        0.0
+    };
+    let high = match row.end {
+        End::Through => f64::INFINITY,
+        End::OpensInto(_) if height > row.depth - BAND && height < row.depth + BAND => return None,
+        _ => row.depth,
+    };
+    let deep = within(low, height, high);
+    let across = match &row.outline {
+        Outline::Circle { diameter, sides } => {
+            // between the circle and its sides
+            let apothem = diameter / 2.0 * (std::f64::consts::PI / *sides as f64).cos();
+            if radius > apothem - BAND && radius < diameter / 2.0 + BAND {
+                return None;
+            }
+            let wide = match row.cone {
+                Some(angle) => diameter / 2.0 - height * (angle / 2.0).to_radians().tan(),
+                None => diameter / 2.0,
+            };
+            if let (End::Tip { angle, depth }, None) = (row.end, row.cone) {
+                let cone = (depth - height) * (angle / 2.0).to_radians().tan();
+                return within(f64::NEG_INFINITY, radius, wide.min(cone.max(0.0)));
+            }
+            within(f64::NEG_INFINITY, radius, wide)
+        }
+        Outline::Ring { outer, inner } => within(inner / 2.0, radius, outer / 2.0),
+        _ => in_polygon(part, row, point),
+    };
+    match (deep, across) {
+        (Some(false), _) | (_, Some(false)) => Some(false),
+        (Some(true), Some(true)) => Some(true),
+        _ => None,
+    }
+}
+
+/// Whether a place lies in the polygon around a row, seen along its axis.
+fn in_polygon(_: &Part, row: &Row, point: Point) -> Option<bool> {
+    let across = (0..3)
+        .max_by(|&a, &b| row.axis[a].abs().total_cmp(&row.axis[b].abs()))
+        .unwrap();
+    let flat = |p: Point| -> Place { [p[(across + 1) % 3], p[(across + 2) % 3]] };
+    let place = flat(point);
+    let polygon: Vec<Place> = row.loops[0].iter().map(|&p| flat(p)).collect();
+    let mut inside = false;
+    for n in 0..polygon.len() {
+        let (a, b) = (polygon[n], polygon[(n + 1) % polygon.len()]);
+        let way = [b[0] - a[0], b[1] - a[1]];
+        let long = way[0].hypot(way[1]).max(1e-12);
+        let from = [place[0] - a[0], place[1] - a[1]];
+        let share = ((from[0] * way[0] + from[1] * way[1]) / long).clamp(0.0, long);
+        let off = [
+            from[0] - way[0] / long * share,
+            from[1] - way[1] / long * share,
+        ];
+        if off[0].hypot(off[1]) < BAND {
+            return None;
+        }
+        let crosses = (a[1] > place[1]) != (b[1] > place[1]);
+        if crosses && place[0] < a[0] + (place[1] - a[1]) / way[1] * way[0] {
+            inside = !inside;
+        }
+    }
+    Some(inside)
+}
+
+/// Whether the rows explain where there is material: the place lies within the outer faces and no row takes it away.
+fn has_material(part: &Part, point: Point) -> Option<bool> {
+    for face in &part.faces {
+        let off: f64 = (0..3)
+            .map(|k| (point[k] - face.point[k]) * face.normal[k])
+            .sum();
+        if face.radius.is_none() && off > -BAND {
+            return None;
+        }
+    }
+    let mut material = true;
+    for (number, row) in part.rows.iter().enumerate() {
+        if matches!(row.kind, Kind::Island | Kind::Boss) {
+            continue;
+        }
+        if takes(part, row, point)? {
+            let islands = part
+                .rows
+                .iter()
+                .filter(|other| other.kind == Kind::Island && other.within == Some(number));
+            let mut stands = false;
+            for island in islands {
+                stands |= takes(
+                    part,
+                    &Row {
+                        within: Some(0),
+                        ..island.clone()
+                    },
+                    point,
+                )?;
+            }
+            material &= stands;
+        }
+    }
+    Some(material)
+}
+
+/// Places of chance within the part's box: the mesh has material there, by counting its surfaces above, exactly where the
+/// rows leave some.
+pub fn explains(facets: &[Corners], part: &Part, seed: u64) {
+    let shape = Shape::of(facets).unwrap();
+    let mut chance = Chance(seed);
+    let mut scratch = Scratch::new();
+    let (mut asked, mut empty) = (0, 0);
+    for _ in 0..1000 {
+        let point: Point = std::array::from_fn(|k| chance.between(part.low[k], part.high[k]));
+        let Some(expected) = has_material(part, point) else {
+            continue;
+        };
+        let way = part.frame.direction_in_file([0.0613, 0.0289, 0.9977]);
+        let ray = Ray::toward(part.frame.place_in_file(point), way, 10_000.0);
+        let above = shape.cast_all(&ray, &mut scratch).unwrap().len();
+        assert_eq!(above % 2 == 1, expected, "at {point:?} of {:#?}", part.rows);
+        asked += 1;
+        empty += usize::from(!expected);
+    }
+    assert!(asked > 200, "{asked} places, {empty} of them empty");
+}
+
 /// The report of facets as a file would have them.
 pub fn report(facets: &[Corners]) -> Report {
     recognise(&Shape::of(&single(facets)).unwrap(), &Options::default()).unwrap()
@@ -200,6 +345,7 @@ pub fn hold_posed(facets: &[Corners], all: &[Known], pose: &Pose) -> Part {
         );
     }
     assert_eq!(part.rows.len(), all.len(), "{:#?}", part.rows);
+    explains(&single(&facets), &part, all.len() as u64);
     part
 }
 
