@@ -69,7 +69,7 @@ fn of_part(shape: &Shape, part: &Part, name: &str) -> Result<Vec<FacePicture>, R
         let mut overlay = Overlay {
             title: format!("{name}, {} face", face.name),
             rows: rows_of(part, place),
-            left_over: left_over_of(part, face),
+            left_over: left_over_of(part, place),
             listed: true,
         };
         let alone = svg(&map, &overlay);

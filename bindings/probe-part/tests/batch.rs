@@ -105,7 +105,7 @@ fn a_good_one_one_that_is_not_understood_and_a_broken_one() {
     );
     assert_eq!(
         lines[2],
-        "good: complete, 300.00 x 200.00 x 18.00 mm, 1 rows"
+        "good: complete, 300.00 x 200.00 x 18.00 mm, 1 row"
     );
     assert!(
         lines[3]
