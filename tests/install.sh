@@ -226,6 +226,14 @@ echo "Rust: a crate against the folder"
 if [ -d bindings/probe-part ]; then
   quiet "$prefix/bin/probe-part" --help
   ran=$((ran + 1))
+  # docs/STEP.md's example, from the installed folder
+  if command -v gmsh > /dev/null; then
+    (cd "$work" && env -u PROBE_PART "$prefix/share/probe_rays/examples/board.sh" "$work/board" > "$work/board.said")
+    tail -n +2 "$work/board/board.bores" | diff - examples/board.bores
+    ran=$((ran + 1))
+  else
+    echo "SKIPPED: docs/STEP.md's example in an installation, since gmsh is not installed (apt-get install gmsh)"
+  fi
 fi
 
 # the program: document 01's example, and a word on what it reads to whoever gives it arguments or a terminal

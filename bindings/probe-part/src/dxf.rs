@@ -29,7 +29,7 @@ pub fn dxf(part: &Part, face: usize) -> String {
         drawing.row(&plan, part, row, colour);
         drawing.number(plan.place(row.centre), number);
     }
-    for rest in left_over_of(part, &part.faces[face]) {
+    for rest in left_over_of(part, face) {
         let [low, high] = plan.box_of(rest);
         drawing.polygon(NOT_UNDERSTOOD, RED, &rectangle(low, high));
     }

@@ -1,4 +1,5 @@
 //! The files of a part: its list as a table, as commas and as JSON, and for each face a drawing (DXF) and a picture (SVG).
+use crate::csv::csv;
 use crate::dxf::dxf;
 use crate::faces::{Face, View};
 use crate::json::json;
@@ -8,7 +9,7 @@ use crate::plans::{faces_to_show, left_over_of, rows_of};
 use crate::raster::{Grid, Raster};
 use crate::shape::Shape;
 use crate::svg::{svg, Overlay};
-use crate::tables::{csv, part_name, table, Listing};
+use crate::tables::{part_name, table, Listing};
 use crate::topology::shells;
 use probe_rays::{Refusal, Scratch};
 use std::fs;
@@ -68,7 +69,7 @@ fn of_part(shape: &Shape, part: &Part, name: &str) -> Result<Vec<FacePicture>, R
         let mut overlay = Overlay {
             title: format!("{name}, {} face", face.name),
             rows: rows_of(part, place),
-            left_over: left_over_of(part, face),
+            left_over: left_over_of(part, place),
             listed: true,
         };
         let alone = svg(&map, &overlay);

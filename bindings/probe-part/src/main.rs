@@ -16,7 +16,7 @@ use probe_part::shape::Shape;
 use probe_part::summary::{counted, exit_status, Line};
 use probe_part::tables::{doubt_words, Listing};
 use probe_part::words::{all_told, fixed, told};
-use probe_part::{svg, tables};
+use probe_part::{csv, svg, tables};
 use probe_rays::{Cast, Progress, Ray};
 use std::fs::{self, File};
 use std::io::{self, BufRead, BufReader, BufWriter, IsTerminal, Write};
@@ -376,7 +376,7 @@ fn bores(call: &Call, out: &mut Output) -> Result<u8, String> {
     }
     if call.has("--csv") || call.has("--json") {
         out.print(&if call.has("--csv") {
-            tables::csv(&report, &listing)
+            csv::csv(&report, &listing)
         } else if listing.from_corner {
             json(&from_corner(&report), &listing, &call.file)
         } else {
@@ -476,8 +476,10 @@ fn depth(call: &Call, out: &mut Output) -> Result<u8, String> {
         }
     };
     let map = DepthMap::new(face, &raster);
+    let name = Path::new(&call.file).file_name().unwrap_or_default();
+    let title = format!("{}, {} face", name.to_string_lossy(), face.name());
     if let Some(file) = call.value("--png") {
-        written(file, &map.picture().to_png())?;
+        written(file, &map.picture(&title).to_png())?;
         out.print(&format!("{file}: {}\n", size(&raster.grid)))?;
     }
     if let Some(file) = call.value("--svg") {
@@ -498,7 +500,7 @@ fn depth(call: &Call, out: &mut Output) -> Result<u8, String> {
             numbered.extend(rows.map(|(place, row)| (place + 1, row)));
         }
         let overlay = svg::Overlay {
-            title: format!("{}, {} face", call.file, face.name()),
+            title,
             rows: numbered,
             left_over: report
                 .parts

@@ -203,7 +203,8 @@ pub struct Row {
     /// How far its entry lies below the outer face, along the face's normal: 0 where it is entered from the face itself.
     pub entry_depth: f64,
     /// How deep it is below its own entry, along its axis: to the floor, to the end of a bore's cylinder, to the other
-    /// end of what goes through; of an island or a boss, how far it stands out.
+    /// end of what goes through, to where its axis meets the wall of the bore that it opens into; of an island or a boss,
+    /// how far it stands out.
     pub depth: f64,
     /// How it ends.
     pub end: End,

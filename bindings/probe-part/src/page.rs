@@ -26,9 +26,14 @@ pub fn page(entries: &[Entry]) -> String {
     );
     out += &counts(&all, look);
     out += &summary(&all);
-    for (entry, lines) in entries.iter().zip(&lines) {
-        for (number, line) in lines.iter().enumerate() {
-            out += &card(entry, number, line);
+    // first what needs a look, as in the summary
+    for complete in [false, true] {
+        for (entry, lines) in entries.iter().zip(&lines) {
+            for (number, line) in lines.iter().enumerate() {
+                if (line.status == Status::Complete) == complete {
+                    out += &card(entry, number, line);
+                }
+            }
         }
     }
     out += "<footer>Lengths in millimetres, in each part's own frame. Proved are the casts; what is recognised, and the \

@@ -88,18 +88,40 @@ pub fn rows_of(part: &Part, face: usize) -> Vec<(usize, &Row)> {
         .collect()
 }
 
-/// What is left over and reaches up to a face; what reaches none is shown on all.
-pub fn left_over_of<'a>(part: &'a Part, face: &Face) -> Vec<&'a LeftOver> {
-    let near = |rest: &LeftOver, face: &Face| {
-        (0..3).any(|axis| {
-            let reach = 0.001 * (part.high[axis] - part.low[axis]).max(1.0);
-            let upper = face.normal[axis] > 0.999 && part.high[axis] - rest.high[axis] < reach;
-            upper || (face.normal[axis] < -0.999 && rest.low[axis] - part.low[axis] < reach)
-        })
+/// What is left over and shown on a face: what reaches up to it; of what reaches no face, what lies below one of its rows;
+/// of all else, on the first face.
+pub fn left_over_of(part: &Part, face: usize) -> Vec<&LeftOver> {
+    let shown = |rest: &&LeftOver| {
+        let faces = || 0..part.faces.len();
+        if faces().any(|other| reaches(part, rest, other)) {
+            reaches(part, rest, face)
+        } else if faces().any(|other| lies_below_a_row(part, rest, other)) {
+            lies_below_a_row(part, rest, face)
+        } else {
+            face == 0
+        }
     };
-    let shown =
-        |rest: &&LeftOver| near(rest, face) || !part.faces.iter().any(|other| near(rest, other));
     part.left_over.iter().filter(shown).collect()
+}
+
+/// Whether the box around what is left over ends at a face.
+fn reaches(part: &Part, rest: &LeftOver, face: usize) -> bool {
+    let normal = part.faces[face].normal;
+    (0..3).any(|axis| {
+        let reach = 0.001 * (part.high[axis] - part.low[axis]).max(1.0);
+        let upper = normal[axis] > 0.999 && part.high[axis] - rest.high[axis] < reach;
+        upper || (normal[axis] < -0.999 && rest.low[axis] - part.low[axis] < reach)
+    })
+}
+
+/// Whether a row of a face has its middle in the box, seen from the face.
+fn lies_below_a_row(part: &Part, rest: &LeftOver, face: usize) -> bool {
+    let plan = Plan::of(part, &part.faces[face]);
+    let [low, high] = plan.box_of(rest);
+    rows_of(part, face).iter().any(|(_, row)| {
+        let middle = plan.place(row.centre);
+        (0..2).all(|side| low[side] <= middle[side] && middle[side] <= high[side])
+    })
 }
 
 /// The faces to show: those that rows are entered from, or that what is left over reaches; the first one where there are
@@ -108,7 +130,7 @@ pub fn faces_to_show(part: &Part) -> Vec<usize> {
     let shown = |&face: &usize| {
         let entered = part.rows.iter().any(|row| row.face == Some(face));
         let flat = part.faces[face].radius.is_none();
-        entered || (flat && !left_over_of(part, &part.faces[face]).is_empty())
+        entered || (flat && !left_over_of(part, face).is_empty())
     };
     let faces: Vec<usize> = (0..part.faces.len()).filter(shown).collect();
     if faces.is_empty() && !part.faces.is_empty() {

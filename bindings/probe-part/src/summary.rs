@@ -1,6 +1,7 @@
 //! The summary of a batch: a line for each part.
 use crate::batch::{Entry, Outcome};
-use crate::tables::{doubt_words, part_name, quoted};
+use crate::csv::quoted;
+use crate::tables::{doubt_words, part_name};
 use crate::words::fixed;
 
 /// What is known of a part's list.
@@ -106,7 +107,8 @@ impl Line {
         let mut words = vec![format!("{mark}{}: {}", self.part, self.status.words())];
         if self.size.is_some() {
             words.push(format!("{} mm", self.size_words()));
-            words.push(format!("{} rows", self.rows));
+            let noun = if self.rows == 1 { "row" } else { "rows" };
+            words.push(format!("{} {noun}", self.rows));
         }
         words.extend(self.why.iter().cloned());
         words.join(", ") + "\n"

@@ -26,7 +26,7 @@ const RED: &str = "#d00000";
 /// The picture. Its unit is a millimetre of the part.
 pub fn svg(map: &DepthMap<'_>, overlay: &Overlay<'_>) -> String {
     let rows = overlay.rows.as_slice();
-    let sheet = Sheet::new(map, if overlay.listed { rows.len() } else { 0 });
+    let sheet = Sheet::new(map, overlay);
     let mut out = String::new();
     let mut line = |text: String| {
         out += &text;
@@ -62,10 +62,17 @@ struct Sheet {
 }
 
 impl Sheet {
-    fn new(map: &DepthMap<'_>, rows: usize) -> Sheet {
+    fn new(map: &DepthMap<'_>, overlay: &Overlay<'_>) -> Sheet {
         let (counts, step) = (map.counts(), map.raster.grid.step());
         let size: [f64; 2] = std::array::from_fn(|side| counts[side] as f64 * step[side]);
-        let letter = (size[0].max(size[1]) / 60.0).max(2.0);
+        // a page shows it smaller
+        let share = if overlay.listed { 60.0 } else { 44.0 };
+        let letter = (size[0].max(size[1]) / share).max(2.0);
+        let rows = if overlay.listed {
+            overlay.rows.len()
+        } else {
+            0
+        };
         let columns = ((size[0] / (36.0 * letter)) as usize).max(1);
         Sheet {
             letter,
@@ -90,7 +97,9 @@ fn head(line: &mut impl FnMut(String), sheet: &Sheet, title: &str) {
     let letter = sheet.letter;
     let width = fixed(sheet.left + sheet.size[0] + 9.0 * letter, 2);
     let listed = sheet.lines as f64 * 1.4 * letter;
-    let height = fixed(sheet.top + sheet.size[1] + 6.0 * letter + listed, 2);
+    let scale = sheet.size[1].max(12.0 * letter) + 3.0 * letter;
+    let below = (sheet.size[1] + 4.0 * letter + listed).max(scale);
+    let height = fixed(sheet.top + below, 2);
     let size =
         format!("width=\"{width}mm\" height=\"{height}mm\" viewBox=\"0 0 {width} {height}\"");
     let font = format!("font-family=\"sans-serif\" font-size=\"{letter:.2}\"");
@@ -190,12 +199,15 @@ fn numbers(
         "stroke=\"#ffffff\" stroke-width=\"{:.3}\" paint-order=\"stroke\"",
         letter / 5.0
     );
-    line(sheet.group(&format!("text-anchor=\"middle\" fill=\"#a01020\" {halo}")));
+    line(sheet.group(&format!(
+        "text-anchor=\"middle\" font-weight=\"bold\" fill=\"#182848\" {halo}"
+    )));
     for (number, row) in rows {
         let [x, y] = seen(map, row.centre);
         let [width, height] = extent(map, row);
-        // beside what is too small to be written into, and what lies within another to its right
-        let place = if row.within.is_some() {
+        // below what is too small to be written into; what lies within another, or on a narrow face, to its right
+        let is_strip = sheet.size[1] < 5.0 * letter;
+        let place = if row.within.is_some() || is_strip {
             [x + width / 2.0 + letter, y + letter / 3.0]
         } else if height < 2.0 * letter || holds_another(rows, *number) {
             [x, y + height / 2.0 + letter]

@@ -6,7 +6,7 @@ pub fn told(ray: &Ray, answer: &Cast<MeshHit>) -> String {
     match answer {
         Cast::Hit(hit) => format!("hit {}", place(ray, hit)),
         Cast::None => "none".into(),
-        Cast::Refused(refusal) => refusal.to_string(),
+        Cast::Refused(refusal) => refusal.explained(ray),
     }
 }
 
@@ -22,7 +22,7 @@ pub fn all_told(ray: &Ray, hits: &Result<Vec<MeshHit>, Refusal>) -> String {
             let noun = if hits.len() == 1 { "hit" } else { "hits" };
             format!("{} {noun}{lines}", hits.len())
         }
-        Err(refusal) => refusal.to_string(),
+        Err(refusal) => refusal.explained(ray),
     }
 }
 

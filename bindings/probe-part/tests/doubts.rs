@@ -67,7 +67,7 @@ fn dimple() -> Vec<Corners> {
             .map(|[x, y]| [*x, *y, 18.0 - depth])
             .collect()
     };
-    let is_tip = |facet: &&Corners| !facet.iter().any(|corner| *corner == [300.0, 200.0, 15.0]);
+    let is_tip = |facet: &&Corners| !facet.contains(&[300.0, 200.0, 15.0]);
     solid.facets = facets.iter().filter(is_tip).copied().collect();
     for pair in depths[1..].windows(2) {
         solid.walls(&at(ball(pair[0]), pair[0]), &at(ball(pair[1]), pair[1]));
@@ -321,4 +321,33 @@ fn parts_that_are_no_boards() {
     assert!(found.parts[0].faces.iter().any(|face| face
         .radius
         .is_some_and(|radius| (radius - 50.0).abs() < 0.01)));
+}
+
+/// A pin of another shell in a bore: the casts meet it, and the bore is marked.
+#[test]
+fn a_plugged_bore_is_not_confirmed() {
+    let board = made(
+        BOARD,
+        &[
+            Cut::bore(Side::Top, [100.0, 100.0], 8.0, 10.0),
+            Cut::bore(Side::Top, [200.0, 100.0], 8.0, 10.0),
+        ],
+    );
+    let pin = moved(&made([4.0, 4.0, 30.0], &[]), [98.0, 98.0, 8.5]);
+    let facets = [board, pin].concat();
+    let (status, out, _) = run("plugged", &facets, &["--shells"]);
+    assert_eq!(status, 3);
+    let told = "NOT CONFIRMED: a probe down its axis meets a surface at ";
+    assert_eq!(out.matches("NOT CONFIRMED").count(), 1, "{out}");
+    assert!(
+        out.contains(told) && out.contains("! 1 rows are not confirmed"),
+        "{out}"
+    );
+    let (_, out, _) = run("plugged-csv", &facets, &["--shells", "--csv"]);
+    let of = |word: &str| out.lines().filter(|line| line.contains(word)).count();
+    assert_eq!(
+        (of(",bore,circle,8.000,"), of(",no,\"NOT CONFIRMED")),
+        (2, 1),
+        "{out}"
+    );
 }

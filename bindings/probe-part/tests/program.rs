@@ -73,6 +73,7 @@ fn help_names_every_command() {
         for word in [
             "probe-part cast",
             "probe-part bores",
+            "probe-part batch",
             "probe-part depth",
             "--rays",
         ] {
@@ -87,7 +88,10 @@ fn help_names_every_command() {
 #[test]
 fn calls_that_are_not_right() {
     let wrong: [(&[&str], &str); 15] = [
-        (&["drill", PANEL], "\"drill\" is none of cast, bores, depth"),
+        (
+            &["drill", PANEL],
+            "\"drill\" is none of cast, bores, batch, depth",
+        ),
         (&["cast"], "which file?"),
         (
             &["cast", PANEL, "1", "2"],
@@ -247,7 +251,14 @@ fn rays_from_words_a_file_and_standard_input() {
     let folder = concat!(env!("CARGO_MANIFEST_DIR"), "/../../examples");
     let read = |name: &str| fs::read_to_string(format!("{folder}/{name}")).unwrap();
     let rays = read("panel.rays");
-    let hits = read("panel.hits");
+    // the files have the crate's words on refusal 1; the tool says which test the ray fails
+    let told = |name: &str| {
+        read(name).replace(
+            "a ray or a query's box that is not admitted",
+            "the maximum is below 0",
+        )
+    };
+    let hits = told("panel.hits");
     let words: Vec<&str> = rays
         .lines()
         .map(|line| line.split('#').next().unwrap())
@@ -261,7 +272,7 @@ fn rays_from_words_a_file_and_standard_input() {
     let commas = rays.replace("  ", ", ").into_bytes();
     let (status, out, _) = said(&["cast", "--rays", "-", PANEL], &commas);
     assert_eq!((status, out.as_str()), (1, hits.as_str()));
-    let depths = read("panel.depths");
+    let depths = told("panel.depths");
     let (status, out, _) = said(
         &[
             "cast",
@@ -298,7 +309,7 @@ fn casts_are_exact() {
         "none".into(),
         "none".into(),
         at("5.000 mm, point (4.000, 2.000, 0.000)", 0),
-        "refused 1, invalid input: a ray or a query's box that is not admitted".into(),
+        "refused 1, invalid input: the maximum is below 0".into(),
     ];
     let lines = |facets: &[_], switches: &[&str], rays: &[u8]| -> Vec<String> {
         let file = folder.file("square.stl", &binary(facets));
@@ -397,8 +408,8 @@ complete: all of the surface is accounted for, and every row is confirmed
     assert_eq!(
         lines[1..],
         [
-            "1,1,1,top,bore,circle,37.885,37.885,,,8,0.000,13.000,,floor,50.000,50.000,18.000,0.000000,0.000000,-1.000000,,,yes,of 8 sides",
-            "1,2,2,top,bore,circle,8.635,8.635,,,8,0.000,18.000,,through,150.000,50.000,18.000,0.000000,0.000000,-1.000000,,,yes,of 8 sides"
+            "1,1,1,top,bore,circle,37.885,37.885,,,8,0.000,13.000,,floor,50.000,50.000,18.000,0.000000,0.000000,-1.000000,,,yes,of 8 sides,200.000,100.000,18.000,18.000",
+            "1,2,2,top,bore,circle,8.635,8.635,,,8,0.000,18.000,,through,150.000,50.000,18.000,0.000000,0.000000,-1.000000,,,yes,of 8 sides,200.000,100.000,18.000,18.000"
         ]
     );
     assert_eq!(lines[0].split(',').count(), lines[1].split(',').count());

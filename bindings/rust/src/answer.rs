@@ -1,5 +1,5 @@
 //! What the calls answer.
-use crate::sys;
+use crate::{sys, Ray};
 use std::error::Error;
 use std::fmt;
 
@@ -153,6 +153,21 @@ impl Refusal {
             Refusal::NotHeld => sys::REFUSED_NOT_HELD,
             Refusal::OutOfRange => sys::REFUSED_OUT_OF_RANGE,
             Refusal::Other(number) => number,
+        }
+    }
+
+    /// The refusal of a cast of this ray in words: for refusal 1 with the test that the ray fails.
+    ///
+    /// ```
+    /// use probe_rays::{Ray, Refusal};
+    ///
+    /// let ray = Ray::new([0.0; 3], [0.0, 0.0, 1.0], -1.0);
+    /// assert_eq!(Refusal::InvalidInput.explained(&ray), "refused 1, invalid input: the maximum is below 0");
+    /// ```
+    pub fn explained(self, ray: &Ray) -> String {
+        match (self, ray.fault()) {
+            (Refusal::InvalidInput, Some(fault)) => format!("refused 1, invalid input: {fault}"),
+            _ => self.to_string(),
         }
     }
 }
