@@ -32,9 +32,17 @@
 #include <cstddef>
 #include <cstdint>
 #include <cstdlib>
+#include <cstring>
+#include <fstream>
+#include <iterator>
+#include <limits>
+#include <locale>
 #include <optional>
+#include <sstream>
 #include <stdexcept>
 #include <string>
+#include <string_view>
+#include <unordered_map>
 #include <utility>
 #include <variant>
 #include <vector>
@@ -120,6 +128,12 @@ public:
     TreeDoesNotFit() : std::runtime_error("the tree does not fit the mesh") {}
 };
 
+/* Thrown where the mesh of a file is asked for that is no STL file. */
+class StlError : public std::runtime_error {
+public:
+    using std::runtime_error::runtime_error;
+};
+
 /* Thrown where a hit is asked for and there is none, or a refusal and there is none. */
 class NotThere : public std::logic_error {
 public:
@@ -147,6 +161,8 @@ template <class Error>
         fail(*fault.refusal);
     raise(TreeDoesNotFit());
 }
+
+[[noreturn]] inline void fail(const StlError &error) { raise(StlError(error)); }
 
 /* An area's pointer, which is not null for an empty one either: nothing is read or written through it then. */
 template <class T>
@@ -980,6 +996,233 @@ private:
     std::size_t most_nodes_ = 0;
     Scratch scratch_;
 };
+
+/* ---- STL files ---- */
+
+namespace detail {
+
+/* A binary file: 80 bytes of a header, four of the count, and 50 a facet, of which the first 12 are its normal. */
+inline constexpr std::size_t stl_start = 84, stl_facet = 50, stl_normal = 12;
+
+/* Four bytes, lowest first. */
+inline std::uint32_t four_bytes(std::string_view bytes, std::size_t at) noexcept
+{
+    std::uint32_t sum = 0;
+    for (std::size_t k = 0; k < 4; k++)
+        sum |= std::uint32_t{static_cast<unsigned char>(bytes[at + k])} << (8 * k);
+    return sum;
+}
+
+/* Reads the facets of a binary file, nine numbers each. It returns what is wrong with the file, or nothing. */
+inline std::string read_binary(std::string_view bytes, std::vector<double> &corners)
+{
+    for (std::size_t facet = 0; stl_start + stl_facet * facet < bytes.size(); facet++)
+        for (std::size_t k = 0; k < 9; k++) {
+            const std::uint32_t bits = four_bytes(bytes, stl_start + stl_facet * facet + stl_normal + 4 * k);
+            float value = 0;
+            std::memcpy(&value, &bits, sizeof value);
+            if (!std::isfinite(value))
+                return "facet " + std::to_string(facet) + ": a coordinate is not finite";
+            corners.push_back(static_cast<double>(value));
+        }
+    return {};
+}
+
+/* The next word of a line, which is taken off it. */
+inline std::string_view next_word(std::string_view &line) noexcept
+{
+    constexpr std::string_view blanks = " \t\r\v\f";
+    const std::size_t start = std::min(line.find_first_not_of(blanks), line.size());
+    const std::size_t end = std::min(line.find_first_of(blanks, start), line.size());
+    const std::string_view word = line.substr(start, end - start);
+    line.remove_prefix(end);
+    return word;
+}
+
+inline std::string lower_case(std::string_view word)
+{
+    std::string lower(word);
+    for (char &letter : lower)
+        if (letter >= 'A' && letter <= 'Z')
+            letter = static_cast<char>(letter - 'A' + 'a');
+    return lower;
+}
+
+/* Reads words as numbers, with a point in every locale. */
+class Numbers {
+public:
+    Numbers() { stream_.imbue(std::locale::classic()); }
+
+    /* The number, infinite where it is too large for a double; nothing where the word is none. */
+    std::optional<double> of(std::string_view word)
+    {
+        double value = 0;
+        stream_.clear();
+        stream_.str(std::string(word));
+        stream_ >> value;
+        if (!stream_.eof())
+            return std::nullopt;
+        if (!stream_.fail())
+            return value;
+        const bool too_large = std::fabs(value) == std::numeric_limits<double>::max();
+        return too_large ? std::optional<double>(std::numeric_limits<double>::infinity()) : std::nullopt;
+    }
+
+private:
+    std::istringstream stream_;
+};
+
+/* The facets of an ASCII file, line by line. It may hold several solids; their names and the normals are passed over. */
+class AsciiStl {
+public:
+    explicit AsciiStl(std::vector<double> &corners) : corners_(corners) {}
+
+    /* Takes a line. It returns what is wrong with it, or nothing. */
+    std::string line(std::string_view rest)
+    {
+        const std::string word = lower_case(next_word(rest));
+        if (word == "vertex")
+            return vertex(rest);
+        if (word == "endfacet")
+            return facet();
+        if (word == "facet")
+            facet_.clear();
+        else if (word == "solid" || word == "endsolid")
+            open_ = word == "solid";
+        else if (!word.empty() && word != "outer" && word != "endloop")
+            return '"' + word.substr(0, 20) + "\" is no word of an STL file";
+        return {};
+    }
+
+    bool is_open() const noexcept { return open_; }
+
+private:
+    std::string vertex(std::string_view rest)
+    {
+        for (int axis = 0; axis < 3; axis++) {
+            const std::optional<double> value = numbers_.of(next_word(rest));
+            if (!value)
+                return "'vertex' takes three numbers";
+            if (!std::isfinite(*value))
+                return "a coordinate is not finite";
+            facet_.push_back(*value);
+        }
+        return next_word(rest).empty() ? std::string() : "'vertex' takes three numbers";
+    }
+
+    std::string facet()
+    {
+        if (facet_.size() != 9)
+            return "a facet of " + std::to_string(facet_.size() / 3) + " vertices";
+        corners_.insert(corners_.end(), facet_.begin(), facet_.end());
+        return {};
+    }
+
+    std::vector<double> &corners_;
+    std::vector<double> facet_;
+    Numbers numbers_;
+    bool open_ = false;
+};
+
+inline std::string read_ascii(std::string_view text, std::vector<double> &corners)
+{
+    AsciiStl file(corners);
+    for (std::size_t number = 1; !text.empty(); number++) {
+        const std::size_t end = std::min(text.find('\n'), text.size());
+        const std::string wrong = file.line(text.substr(0, end));
+        if (!wrong.empty())
+            return "line " + std::to_string(number) + ": " + wrong;
+        text.remove_prefix(std::min(end + 1, text.size()));
+    }
+    return file.is_open() ? "cut short: the last solid has no 'endsolid'" : "";
+}
+
+/* The file without the three bytes of a BOM, if it begins with them. */
+inline std::string_view without_bom(std::string_view bytes) noexcept
+{
+    constexpr std::string_view bom = "\xEF\xBB\xBF";
+    return bytes.substr(bytes.substr(0, bom.size()) == bom ? bom.size() : 0);
+}
+
+/* Whether the first word begins with 'solid' and there is no zero byte, which an ASCII file does not have. */
+inline bool is_ascii_stl(std::string_view text)
+{
+    const std::size_t start = std::min(text.find_first_not_of(" \t\r\n\v\f"), text.size());
+    return lower_case(text.substr(start, 5)) == "solid" && text.find('\0') == text.npos;
+}
+
+/* Reads the facets of a file. A binary one may begin with 'solid', so the length decides first. */
+inline std::string read_facets(std::string_view bytes, std::vector<double> &corners)
+{
+    const bool has_count = bytes.size() >= stl_start;
+    const std::size_t count = has_count ? four_bytes(bytes, stl_start - 4) : 0;
+    const std::size_t length = stl_start + stl_facet * count;
+    if (has_count && bytes.size() == length)
+        return read_binary(bytes, corners);
+    const std::string_view text = without_bom(bytes);
+    if (is_ascii_stl(text))
+        return read_ascii(text, corners);
+    const std::string size = std::to_string(bytes.size()) + " bytes";
+    if (!has_count)
+        return "no STL file: " + size + " that are no ASCII file, and too few for a binary one";
+    return (bytes.size() < length ? "no STL file, or a binary one cut short: " : "no STL file: ") + size + ", and a binary file of "
+        + std::to_string(count) + " facets has " + std::to_string(length);
+}
+
+struct VertexHash {
+    std::size_t operator()(const std::array<double, 3> &vertex) const noexcept
+    {
+        std::size_t sum = 0;
+        for (const double part : vertex)
+            sum = sum * 1000003 ^ std::hash<double>()(part);
+        return sum;
+    }
+};
+
+/* The mesh of facets, nine numbers each. Equal vertices are merged, -0 and 0 too, each where it comes first. */
+inline Shape merged(const std::vector<double> &corners)
+{
+    Shape shape;
+    std::unordered_map<std::array<double, 3>, std::uint32_t, VertexHash> places;
+    shape.triangles.reserve(corners.size() / 3);
+    for (std::size_t at = 0; at + 3 <= corners.size(); at += 3) {
+        const std::array<double, 3> vertex{corners[at], corners[at + 1], corners[at + 2]};
+        const auto [place, is_new] = places.emplace(vertex, static_cast<std::uint32_t>(places.size()));
+        if (is_new)
+            shape.vertices.insert(shape.vertices.end(), vertex.begin(), vertex.end());
+        shape.triangles.push_back(place->second);
+    }
+    return shape;
+}
+
+} // namespace detail
+
+/* The mesh of an STL file's bytes, binary or ASCII. Equal vertices are merged, -0 and 0 too, and never near ones, so that no
+ * point moves. Triangles stand in the file's order. A file has no unit. The limits of a mesh are not looked at here: Mesh::build
+ * refuses with 2 above them. */
+inline Result<Shape, StlError> stl_shape(std::string_view bytes)
+{
+    std::vector<double> corners;
+    std::string wrong = detail::read_facets(bytes, corners);
+    if (wrong.empty() && corners.empty())
+        wrong = "no triangles";
+    if (!wrong.empty())
+        return Result<Shape, StlError>(StlError(wrong));
+    return Result<Shape, StlError>(detail::merged(corners));
+}
+
+/* The same of a file. What is wrong is said with the file's name. */
+inline Result<Shape, StlError> read_stl(const std::string &path)
+{
+    std::ifstream file(path, std::ios::binary);
+    const std::string bytes((std::istreambuf_iterator<char>(file)), std::istreambuf_iterator<char>());
+    if (!file.is_open() || file.bad())
+        return Result<Shape, StlError>(StlError(path + ": the file cannot be read"));
+    Result<Shape, StlError> shape = stl_shape(bytes);
+    if (shape.is_refused())
+        return Result<Shape, StlError>(StlError(path + ": " + shape.refusal().what()));
+    return shape;
+}
 
 /* ---- records of `probe` ---- */
 

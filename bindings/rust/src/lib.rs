@@ -32,7 +32,8 @@
 //! ```
 //!
 //! [`Mesh::cast_exact`] casts in whole numbers, so that a none is certain; [`Mesh::cast_many`] casts many rays over
-//! threads, and [`stl`] reads STL files.
+//! threads, and [`stl`] reads STL files. A [`LargeMesh`] has any number of triangles, and [`facts`] tells a mesh's box, open
+//! edges and shells.
 //!
 //! [`lent`] has the same calls over slices of the caller's, for those who allocate nothing, [`calls`] the numbers that
 //! they answer, and [`sys`] the declarations as C sees them.
@@ -43,6 +44,8 @@ mod answer;
 mod batch;
 pub mod cabinet;
 pub mod calls;
+pub mod facts;
+mod large;
 pub mod lent;
 mod mesh;
 mod plain;
@@ -56,6 +59,7 @@ pub mod sys;
 pub use answer::{Cast, Hit, MeshHit, Refusal};
 pub use batch::{Batch, Progress};
 pub use cabinet::{Cabinet, CabinetCast, PartHit};
+pub use large::LargeMesh;
 pub use mesh::{Mesh, Scratch, Tree, TreeError};
 pub use plain::PlainMesh;
 pub use ranges::{ray_height_ranges, Clearance, HeightRanges};
