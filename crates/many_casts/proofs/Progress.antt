@@ -21,7 +21,8 @@ pub record Answered (answer : Ray → Indexed) (rays : List Float) (count i : �
   pub stack-long : length stack ≡ length stack₀
 
 -- work areas of the same lengths give the same answer
-pub same-answer : (m : Mesh) (pose : List Float) (t : Tree) (list list' stack stack' : ℕ) → list ≡ list' → stack ≡ stack' → (r : Ray) (i : ℕ)
+pub same-answer : (m : Mesh) (pose : List Float) (t : Tree) (list list' stack stack' : ℕ) → list ≡ list' → stack ≡ stack'
+    → (r : Ray) (i : ℕ)
     (p : Places) → answerAt (meshAnswer m pose t list stack r) i p ≡ answerAt (meshAnswer m pose t list' stack' r) i p
 same-answer m pose t list list' stack stack' e f r i p =
     ap (λ (k : ℕ). answerAt (meshAnswer m pose t k stack r) i p) e ∙ ap (λ (k : ℕ). answerAt (meshAnswer m pose t list' k r) i p) f

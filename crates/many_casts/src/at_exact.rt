@@ -92,7 +92,7 @@ fn cast_each(
             triangle_boxes,
             node_words,
             order,
-                stack,
+            stack,
             codes,
             hits,
             indices,

@@ -15,7 +15,8 @@ use Rattle.many_casts.proofs.at_exact.cast_each.Tie as tie
 abbrev Inv-loop : tie.InvT-loop
 Inv-loop count rays vertices triangles pose nodes node-boxes triangle-boxes node-words order stack₀ codes₀ hits₀ indices₀ i₀ stack
     codes hits indices i =
-    Answered (exactAnswer (mesh vertices triangles) pose (treeOf nodes node-boxes triangle-boxes node-words order) (length stack₀)) rays count i (places codes₀ hits₀ indices₀) (places codes hits indices) stack₀ stack stack₀ stack
+    Answered (exactAnswer (mesh vertices triangles) pose (treeOf nodes node-boxes triangle-boxes node-words order) (length stack₀))
+    rays count i (places codes₀ hits₀ indices₀) (places codes hits indices) stack₀ stack stack₀ stack
 
 abbrev μ-loop : tie.MeasureT-loop
 μ-loop count rays vertices triangles pose nodes node-boxes triangle-boxes node-words order stack₀ codes₀ hits₀ indices₀ i₀ stack
