@@ -85,7 +85,8 @@ module _ (l : List Float) (at : ℕ) (x y z d : Float) where
   four-last h = getD-set-same l₃ (suc (suc (suc at))) d nan (omega (arith, h, long₃))
 
 -- four numbers by their places
-fours : {a b c d a' b' c' d' : Float} → a ≡ a' → b ≡ b' → c ≡ c' → d ≡ d' → _≡_ {A = List Float} (a ∷ b ∷ c ∷ d ∷ []) (a' ∷ b' ∷ c' ∷ d' ∷ [])
+fours : {a b c d a' b' c' d' : Float} → a ≡ a' → b ≡ b' → c ≡ c' → d ≡ d'
+    → _≡_ {A = List Float} (a ∷ b ∷ c ∷ d ∷ []) (a' ∷ b' ∷ c' ∷ d' ∷ [])
 fours e f g h = cc
 
 -- ---- one answer at its places
@@ -153,7 +154,8 @@ hit-else (stopped number) k p i h = refl
 read-else : (a : Indexed) (k : ℕ) (p : Places) (i : ℕ) → i < k → readAt (answerAt a k p) i ≡ readAt p i
 unfolding readAt
 read-else a k p i h =
-    read-as (answerAt a k p) i (wordAt (p .codes) i) (hitOf (p .hits) i) (wordAt (p .indices) i) (code-else a k p i (λ e. omega (arith, e, h)))
+    read-as (answerAt a k p) i (wordAt (p .codes) i) (hitOf (p .hits) i) (wordAt (p .indices) i)
+    (code-else a k p i (λ e. omega (arith, e, h)))
     (fours (hit-else a k p (4 * i) (inl (omega (arith, h)))) (hit-else a k p (4 * i + 1) (inl (omega (arith, h))))
     (hit-else a k p (4 * i + 2) (inl (omega (arith, h)))) (hit-else a k p (4 * i + 3) (inl (omega (arith, h)))))
     (index-else a k p i (λ e. omega (arith, e, h)))

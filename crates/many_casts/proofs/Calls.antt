@@ -27,10 +27,12 @@ module _ (answer : Ray → Indexed) (rays : List Float) (m : Mesh) (pose : List 
   abbrev pub Promises : ToldMany → Type 0
   Promises told =
       (told ≡ manyTold answer rays m pose t room p)
-      × ((allPass (manyTests rays m pose t room p) ≡ false → Unchanged) × (told .number ≡ doneCode → EachAsSingle answer rays p (told .after)))
+      × ((allPass (manyTests rays m pose t room p) ≡ false → Unchanged)
+      × (told .number ≡ doneCode → EachAsSingle answer rays p (told .after)))
 
   -- a refusal writes nothing and is no 'done'
-  refuses : Unchanged → (number : ℕ) → number < 256 → toldMany number p ≡ manyTold answer rays m pose t room p → Promises (toldMany number p)
+  refuses : Unchanged → (number : ℕ) → number < 256 → toldMany number p ≡ manyTold answer rays m pose t room p
+      → Promises (toldMany number p)
   refuses same number few e = (e, (λ _. same, λ done. absurd (omega (arith, few, done))))
 
   module _ (same : Unchanged) where

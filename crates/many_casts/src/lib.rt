@@ -4,3 +4,5 @@
 pub mod places;
 // The mesh cast.
 pub mod at_mesh;
+// The exact cast.
+pub mod at_exact;

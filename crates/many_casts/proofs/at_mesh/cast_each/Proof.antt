@@ -13,7 +13,8 @@ use Rattle.many_casts.proofs.at_mesh.cast_each.Statement.{statement}
 use Rattle.many_casts.proofs.at_mesh.cast_each.Tie as tie
 
 abbrev Inv-loop : tie.InvT-loop
-Inv-loop count rays vertices triangles pose nodes node-boxes triangle-boxes node-words order list₀ stack₀ codes₀ hits₀ indices₀ i₀ list stack
+Inv-loop count rays vertices triangles pose nodes node-boxes triangle-boxes node-words order list₀ stack₀ codes₀ hits₀ indices₀
+    i₀ list stack
     codes hits indices i =
     Answered (meshAnswer (mesh vertices triangles) pose (treeOf nodes node-boxes triangle-boxes node-words order) (length list₀)
     (length stack₀)) rays count i (places codes₀ hits₀ indices₀) (places codes hits indices) list₀ list stack₀ stack
