@@ -63,5 +63,4 @@ probe-ray-mesh-exact-spec =
     (search needs)  -- same-length
     (search needs)  -- same-length-2
     (search needs)  -- same-length-3
-    (search needs)  -- same-length-4
     returns-3)
