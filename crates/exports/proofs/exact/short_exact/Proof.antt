@@ -16,7 +16,8 @@ returns c =
 returns-2 : tie.Need-returns-2
 returns-2 c =
     let (s, v, e) : tie.Start × tie.After-validate × tie.Else1 = search in
-    short-off _ (s .args .shape) (test-passed (v .validate .ensures) (e .if1 .left)) (test-failed (c .before .admitted .ensures) (c .if2 .taken))
+    short-off _ (s .args .shape) (test-passed (v .validate .ensures) (e .if1 .left))
+    (test-failed (c .before .admitted .ensures) (c .if2 .taken))
 
 -- 2
 returns-3 : tie.Need-returns-3
