@@ -2,6 +2,7 @@
 use Prim.Native.Nat.{ℕ, _+_, _*_, _≤_, _<_}
 use mathlib.Core.Path.{_≡_, refl, sym, ap, _∙_, subst}
 use mathlib.Core.Bool.{Bool, true, false}
+use mathlib.Core.Logic.{inl, inr}
 use native.Mathlib.Nat.{mul-le-mul-right, le-of-mul-le-mul-right}
 use native.Mathlib.Omega.{arith}
 use lib.Dec.{ltb, le→leb, lt→ltb, lit<}
@@ -10,11 +11,11 @@ use lib.IntN.{ℤ, pos, negsuc, natAbs, _+ℤ_}
 use lib.Signed.{leZ-yes, ltZ-yes, _≤ℤ_, _<ℤ_}
 use lib.Ieee.{Float, nan, inf, fin, up, down}
 use Rattle.vectors.specs.declared.vec3.Vec3.{Vec3}
-use Rattle.geometry.specs.Box.{cornersBox}
+use Rattle.geometry.specs.Box.{cornersBox, touches}
 use Rattle.geometry.specs.declared.ray.Ray.{Ray}
 use Rattle.nearest_hit.specs.Nearest.{Indexed, hitAt, noHit, stopped}
 use Rattle.nearest_hit.proofs.IndexedCases.{hit-not-none}
-use Rattle.tree.specs.Mesh.{Mesh, cornersOf, triangleBox}
+use Rattle.tree.specs.Mesh.{Mesh, cornersOf, triangleBox, triangleCount}
 use Rattle.tree_check.proofs.Answers.{yes-passes}
 use Rattle.mesh.specs.MeshCast.{rayMesh}
 use Rattle.mesh.specs.Demand3.{Candidate}
@@ -22,6 +23,7 @@ use Rattle.mesh_plain.proofs.Agreement.{triangles-fit}
 use Rattle.exact_depth.proofs.Integers.{pp}
 use Rattle.any_direction.specs.Line.{Line}
 use Rattle.any_direction.specs.Grid.{units, gridLine}
+use Rattle.any_direction.specs.Box.{certainBox}
 use Rattle.any_direction.proofs.Touching.{met-touches}
 use Rattle.mesh_grid.specs.GridCast.{rayMeshExactPlain}
 use Rattle.mesh_grid.specs.Certain.{Met}
@@ -32,10 +34,11 @@ use Rattle.whole_numbers.specs.Board as Board112
 use Rattle.whole_numbers.specs.Boards.{Plan, drawingOf, Boards, Missed, outside, behind, beyond, AtMost, MeshExact}
 use Rattle.whole_numbers.specs.Boards as Boards112
 use Rattle.whole_numbers.proofs.WholeMeshes.{meshes-exact}
-use Rattle.exact_agreement.specs.Agreement.{Closed, NoOpenCase, OthersApart, SameDepth, Agree, BoardsAgree}
+use Rattle.exact_agreement.specs.Agreement.{Closed, NoOpenCase, WholeCorners, OthersApart, SameDepth, Agree, BoardsAgree}
 use Rattle.exact_agreement.proofs.Points.{lies-crossing, crossing-lies, has-area}
 use Rattle.exact_agreement.proofs.Readings.{surface-drawn, surface-read, area-read}
-use Rattle.exact_agreement.proofs.Ranges.{not-refused}
+use Rattle.exact_agreement.proofs.Ranges.{point-within, not-refused}
+use Rattle.exact_agreement.proofs.Touching.{whole-touches}
 
 -- ---- both bounds of a rounded depth: x is within 2^-51 of t' / D', and t / D is not above that, and bounds x from above
 not-below : (K x d t' D' t D : ℕ) → 0 < D' → (K + 1) * (t' * d) ≤ (K + 1) * (x * D') + t' * d → t * D' ≤ t' * D
@@ -94,7 +97,7 @@ strict n N h f = go (ltb n N) refl
     go true e = ltb-true n N e
     go false e = absurd (f (let w = ltb-false n N e in omega (arith, h, w)))
 
-module _ (r : Ray) (m : Mesh) (p : Plan) (boards : Boards r m p) (others : OthersApart r m) (closed : NoOpenCase r m p)
+module _ (r : Ray) (m : Mesh) (p : Plan) (boards : Boards r m p) (others : OthersApart r m p) (closed : NoOpenCase r m p)
     (runs : (number : ℕ) → rayMeshExactPlain r m ≡ stopped number → ⊥) where
   abbrev line : Line
   line = gridLine r
@@ -106,14 +109,23 @@ module _ (r : Ray) (m : Mesh) (p : Plan) (boards : Boards r m p) (others : Other
   F = p .maximum
 
   -- ---- a point of the segment in a triangle of the mesh is one of a candidate's
-  candidate-of : (i D : ℕ) (t : ℤ) → Met line m i D t → Candidate r m i
+  touches-box : (i D : ℕ) (t : ℤ) → Met line m i D t
+      → touches (triangleBox (m .vertices) (m .triangles) i) (certainBox (gridLine r)) ≡ true
   unfolding cornersOf cornersBox triangleBox
-  candidate-of i D t q =
+  touches-box i D t q =
       let inner = certain r m .within runs in
-      others .candidates i (q .triangle)
-      (met-touches r (inner .ray) (cornersOf (m .vertices) (m .triangles) i)
+      met-touches r (inner .ray) (cornersOf (m .vertices) (m .triangles) i)
       (vector-finite _ (inner .corners i 0 (q .triangle) (lit< tt))) (vector-finite _ (inner .corners i 1 (q .triangle) (lit< tt)))
-      (vector-finite _ (inner .corners i 2 (q .triangle) (lit< tt))) D t (q .point))
+      (vector-finite _ (inner .corners i 2 (q .triangle) (lit< tt))) D t (q .point)
+
+  candidate-of : (i D : ℕ) (t : ℤ) → Met line m i D t → Candidate r m i
+  candidate-of i D t q = elim (others .whole-or-apart i (q .triangle)) [
+    | inl w ↦ record { triangle = q .triangle; near = whole-touches r m p boards i w D t (q .point) }
+    | inr f ↦ f (touches-box i D t q)
+  ]
+
+  whole-of : (i : ℕ) → Candidate r m i → WholeCorners m p i
+  whole-of i c = record { corners = boards .corners i c }
 
   -- .. and one that M-112 promises to be hit
   record Promised (i D : ℕ) (t : ℤ) : Type 0 where
@@ -133,7 +145,7 @@ module _ (r : Ray) (m : Mesh) (p : Plan) (boards : Boards r m p) (others : Other
   promised : (i D n : ℕ) → Met line m i D (pos n) → Promised i (D * units) (pos n)
   promised i D n q =
       let c = candidate-of i D (pos n) q in
-      let s = surface-drawn r m p boards i c D (pos n) (q .point) in
+      let s = surface-drawn r m p boards i (whole-of i c) D (pos n) (q .point) in
       let j = s .lies .j * units in
       let k = s .lies .k * units in
       let D' = D * units in
@@ -189,8 +201,8 @@ module _ (r : Ray) (m : Mesh) (p : Plan) (boards : Boards r m p) (others : Other
         positive = x .divisor;
         met = record {
           triangle = c .triangle;
-          area = area-read r m p boards i c (has-area g (closed .parallel i c));
-          point = surface-read r m p boards i c D (pos (units * pp t)) (record {
+          area = area-read r m p boards i (whole-of i c) (has-area g (closed .parallel i c));
+          point = surface-read r m p boards i (whole-of i c) D (pos (units * pp t)) (record {
             positive = x .divisor;
             lies = crossing-lies g D (pos (pp t)) (pp u) (pp v) sum x';
             least = le-leb (0 * D) (units * pp t) (omega arith);
@@ -265,3 +277,10 @@ boards-agree r m t list stack p lengths passes room boards others closed =
     (λ number h. not-refused r m p boards others lengths fit number (certain r m .refused number h))
     (rayMesh r m (m .vertices) t list stack)
     (meshes-exact r m t list stack p lengths passes room boards)
+
+-- ---- a mesh with whole corners alone meets what is asked of the others
+pub whole-mesh : (r : Ray) (m : Mesh) (p : Plan) → ((i : ℕ) → i < triangleCount m → WholeCorners m p i) → OthersApart r m p
+whole-mesh r m p w = record {
+  in-range = λ i k h l. point-within _ (p .corner i k) (w i h .corners k l);
+  whole-or-apart = λ i h. inl (w i h);
+}

@@ -16,8 +16,8 @@ use Rattle.any_direction.proofs.Shears.{cancel-left, mix-more}
 use Rattle.any_direction.proofs.Areas.{zero-of-product}
 
 -- ---- i (a - o) + j (b - o) + k (c - o) = t d, and (i + j + k) (o - a) + t d = j (b - a) + k (c - a)
-module _ (i j k : ℕ) (A B C O e : ℤ) where
-  mean-rep : Rep (mix i j k (A -ℤ O) (B -ℤ O) (C -ℤ O))
+module _ (i j k : ℕ) (A B C O : ℤ) where
+  pub mean-rep : Rep (mix i j k (A -ℤ O) (B -ℤ O) (C -ℤ O))
       ((i * (pp A + np O) + 0 * (np A + pp O)) + (j * (pp B + np O) + 0 * (np B + pp O)) + (k * (pp C + np O) + 0 * (np C + pp O)))
       ((i * (np A + pp O) + 0 * (pp A + np O)) + (j * (np B + pp O) + 0 * (pp B + np O)) + (k * (np C + pp O) + 0 * (pp C + np O)))
   mean-rep =
@@ -25,10 +25,11 @@ module _ (i j k : ℕ) (A B C O e : ℤ) where
       (rep-add (rep-mul (own-pos i) (rep-sub (own A) (own O))) (rep-mul (own-pos j) (rep-sub (own B) (own O))))
       (rep-mul (own-pos k) (rep-sub (own C) (own O)))
 
+module _ (i j k : ℕ) (A B C O e : ℤ) where
   crossed : mix i j k (A -ℤ O) (B -ℤ O) (C -ℤ O) ≡ e
       → pos (i + j + k) *ℤ (O -ℤ A) +ℤ e ≡ pos j *ℤ (B -ℤ A) +ℤ pos k *ℤ (C -ℤ A)
   crossed h =
-      let m = rep-same mean-rep (own e) h in
+      let m = rep-same (mean-rep i j k A B C O) (own e) h in
       equal (rep-add (rep-mul (own-pos (i + j + k)) (rep-sub (own O) (own A))) (own e))
       (rep-add (rep-mul (own-pos j) (rep-sub (own B) (own A))) (rep-mul (own-pos k) (rep-sub (own C) (own A))))
       (omega (arith, m))
@@ -39,7 +40,7 @@ module _ (i j k : ℕ) (A B C O e : ℤ) where
       let m =
       rep-same (rep-add (rep-mul (own-pos (i + j + k)) (rep-sub (own O) (own A))) (own e))
       (rep-add (rep-mul (own-pos j) (rep-sub (own B) (own A))) (rep-mul (own-pos k) (rep-sub (own C) (own A)))) h in
-      equal mean-rep (own e) (omega (arith, m))
+      equal (mean-rep i j k A B C O) (own e) (omega (arith, m))
 
 -- ---- the same in units of the grid
 mix-enlarged : (i j k S u a b c o : ℤ)
@@ -47,7 +48,7 @@ mix-enlarged : (i j k S u a b c o : ℤ)
     ≡ S *ℤ (u *ℤ (i *ℤ (a -ℤ o) +ℤ j *ℤ (b -ℤ o) +ℤ k *ℤ (c -ℤ o)))
 mix-enlarged i j k S u a b c o = simp ring
 
-three : (i j k u : ℕ) → i * u + j * u + k * u ≡ (i + j + k) * u
+pub three : (i j k u : ℕ) → i * u + j * u + k * u ≡ (i + j + k) * u
 three i j k u = omega arith
 
 module _ (i j k D : ℕ) (total : i + j + k ≡ D) (a b c o t e : ℤ) where
@@ -57,21 +58,25 @@ module _ (i j k D : ℕ) (total : i + j + k ≡ D) (a b c o t e : ℤ) where
   abbrev onGrid : ℤ
   onGrid = mix i j k (pos units *ℤ a -ℤ pos units *ℤ o) (pos units *ℤ b -ℤ pos units *ℤ o) (pos units *ℤ c -ℤ pos units *ℤ o)
 
+  whole : i * units + j * units + k * units ≡ D * units
+  whole = three i j k units ∙ ap (λ (n : ℕ). n * units) total
+
   -- from t / D units to millimetres
+  pub mean-millimetres : pos parts *ℤ onGrid ≡ t *ℤ (pos parts *ℤ e)
+      → mix (i * units) (j * units) (k * units) (a -ℤ o) (b -ℤ o) (c -ℤ o) ≡ t *ℤ e
+  mean-millimetres h =
+      mix-more (pos i) (pos j) (pos k) (a -ℤ o) (b -ℤ o) (c -ℤ o) (pos units)
+      ∙ cancel-left parts (pos units *ℤ seen) (t *ℤ e) (lit< tt)
+      (sym (mix-enlarged (pos i) (pos j) (pos k) (pos parts) (pos units) a b c o) ∙ h ∙ regroup (pos parts) t e)
+    where
+      regroup : (S t e : ℤ) → t *ℤ (S *ℤ e) ≡ S *ℤ (t *ℤ e)
+      regroup S t e = simp ring
+
   pub to-millimetres : pos parts *ℤ onGrid ≡ t *ℤ (pos parts *ℤ e)
       → pos (D * units) *ℤ (o -ℤ a) +ℤ t *ℤ e ≡ pos (j * units) *ℤ (b -ℤ a) +ℤ pos (k * units) *ℤ (c -ℤ a)
   to-millimetres h =
       (λ s. pos (sym whole s) *ℤ (o -ℤ a) +ℤ t *ℤ e)
-      ∙ crossed (i * units) (j * units) (k * units) a b c o (t *ℤ e)
-      (mix-more (pos i) (pos j) (pos k) (a -ℤ o) (b -ℤ o) (c -ℤ o) (pos units)
-      ∙ cancel-left parts (pos units *ℤ seen) (t *ℤ e) (lit< tt)
-      (sym (mix-enlarged (pos i) (pos j) (pos k) (pos parts) (pos units) a b c o) ∙ h ∙ regroup (pos parts) t e))
-    where
-      whole : i * units + j * units + k * units ≡ D * units
-      whole = three i j k units ∙ ap (λ (n : ℕ). n * units) total
-
-      regroup : (S t e : ℤ) → t *ℤ (S *ℤ e) ≡ S *ℤ (t *ℤ e)
-      regroup S t e = simp ring
+      ∙ crossed (i * units) (j * units) (k * units) a b c o (t *ℤ e) (mean-millimetres h)
 
   -- from t / D millimetres to units
   pub to-units : pos D *ℤ (o -ℤ a) +ℤ t *ℤ e ≡ pos j *ℤ (b -ℤ a) +ℤ pos k *ℤ (c -ℤ a)

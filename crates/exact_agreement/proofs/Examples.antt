@@ -2,6 +2,7 @@
 use Prim.Native.Nat.{ℕ, zero, suc, _*_, _≤_, _<_}
 use mathlib.Core.Path.{_≡_, refl, sym, ap, _∙_, subst}
 use mathlib.Core.Bool.{Bool, true, false, true≢false}
+use mathlib.Core.Logic.{inr}
 use mathlib.Core.List.{List, [], _∷_}
 use native.Mathlib.Nat.{le-trans, mul-le-mul-right}
 use native.Mathlib.Omega.{arith}
@@ -126,9 +127,6 @@ candidates (suc zero) h g = absurd (true≢false (sym g ∙ second-off))
 candidates (suc (suc zero)) h g = record { triangle = h; near = ap (λ (xs : List Bool). getD xs 1 false) near-told }
 candidates (suc (suc (suc j))) h g = absurd (omega (arith, h))
 
-others : OthersApart ray mesh
-others = record { in-range = λ j k h g. in-range j k h g; candidates = candidates }
-
 -- ---- as M-112 draws it
 abbrev at : ℤ → ℤ → ℤ → Point
 at x y z = record { x = x; y = y; z = z }
@@ -146,6 +144,9 @@ heightOf (suc j) = negsuc 0
 
 abbrev plan : Plan
 plan = record { o = at (pos 0) (pos 0) (pos 1); direction = downward; maximum = 3; corner = λ (j : ℕ). board (heightOf j) }
+
+others : OthersApart ray mesh plan
+others = record { in-range = λ j k h g. in-range j k h g; whole-or-apart = λ j h. inr (candidates j h) }
 
 whole-floats : eq o (ofInt binary64 (pos 0)) ∷ (eq i (ofInt binary64 (pos 1)) ∷ (eq lower (ofInt binary64 (negsuc 0))
     ∷ (eq (ray .«max_distance») (ofInt binary64 (pos 3)) ∷ []))) ≡ true ∷ (true ∷ (true ∷ (true ∷ [])))

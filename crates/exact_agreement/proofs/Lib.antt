@@ -3,5 +3,9 @@ pub mod Crossings
 pub mod Points
 pub mod Readings
 pub mod Ranges
+pub mod Means
+pub mod Sides
+pub mod Ends
+pub mod Touching
 pub mod Agreeing
 pub mod Examples

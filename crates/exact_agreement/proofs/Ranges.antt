@@ -57,7 +57,7 @@ not-longer B x n l d =
         lt-values longest x false false 32768 1 n 1 (lit< tt) (lit< tt) longest-value v
         ∙ le-ltb (32768 * 1) (n * 1) (omega (arith, b))
 
-module _ (r : Ray) (m : Mesh) (p : Plan) (boards : Boards r m p) (others : OthersApart r m) where
+module _ (r : Ray) (m : Mesh) (p : Plan) (boards : Boards r m p) (others : OthersApart r m p) where
   in-range : OutOfRange r m → ⊥
   in-range (origin h) = true≢false (sym (point-within (r .origin) (p .o) (boards .origin)) ∙ h)
   in-range (near h) = true≢false (sym h ∙ not-longer 0 (r .near) 0 (lit≤ tt) (boards .near))

@@ -6,7 +6,6 @@ use lib.IntN.{ℤ, pos, natAbs}
 use Rattle.vectors.specs.declared.vec3.Vec3.{Vec3}
 use Rattle.geometry.specs.declared.ray.Ray.{Ray}
 use Rattle.tree.specs.Mesh.{Mesh}
-use Rattle.mesh.specs.Demand3.{Candidate}
 use Rattle.exact_triangle.specs.declared.whole.Point.{Point}
 use Rattle.any_direction.specs.Line.{parts, Line}
 use Rattle.any_direction.specs.Grid.{units, pointTo, gridLine}
@@ -17,6 +16,7 @@ use Rattle.whole_numbers.specs.Points as Points
 use Rattle.whole_numbers.specs.Board.{Drawing, DrawnAt, along}
 use Rattle.whole_numbers.specs.Boards.{Plan, drawingOf, Boards}
 use Rattle.whole_numbers.proofs.Drawings.{drawn}
+use Rattle.exact_agreement.specs.Agreement.{WholeCorners}
 use Rattle.exact_agreement.proofs.Points.{times, lineOn}
 
 drawn-read : (k B : ℕ) (v : Vec3) (p : Points.Point) → B ≤ 2 ^ 53 → DrawnAt B v p → pointTo k v ≡ times k p
@@ -44,12 +44,12 @@ module _ (r : Ray) (m : Mesh) (p : Plan) (boards : Boards r m p) where
       let f = ap natAbs (reads units far (pos (p .maximum)) (drawn 16384 far (pos (p .maximum)) (lit≤ tt) (boards .maximum) .value)) in
       λ s. record { origin = o s; direction = d s; near = n s; far = f s }
 
-  module _ (i : ℕ) (candidate : Candidate r m i) where
+  module _ (i : ℕ) (drawing : WholeCorners m p i) where
     abbrev g : Drawing
     g = drawingOf p i
 
     corner-read : (k : ℕ) → k < 3 → cornerOn m i k ≡ times units (p .corner i k)
-    corner-read k h = drawn-read units 4096 _ (p .corner i k) (lit≤ tt) (boards .corners i candidate k h)
+    corner-read k h = drawn-read units 4096 _ (p .corner i k) (lit≤ tt) (drawing .corners k h)
 
     abbrev read : Placed
     read = record { line = gridLine r; a = cornerOn m i 0; b = cornerOn m i 1; c = cornerOn m i 2 }

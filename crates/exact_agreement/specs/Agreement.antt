@@ -1,6 +1,7 @@
 -- The exact cast and the mesh cast through a tree, at a ray and a mesh on whole millimetres. Definitions only. Assumes nothing.
 use Prim.Native.Nat.{ℕ, _*_, _<_}
 use mathlib.Core.Path.{_≡_}
+use mathlib.Core.Logic.{_⊎_}
 use mathlib.Core.Bool.{true}
 use lib.IntN.{ℤ, pos, _+ℤ_}
 use lib.Signed.{_≤ℤ_}
@@ -18,7 +19,7 @@ use Rattle.any_direction.specs.Grid.{units, allWithin, furthest, gridLine}
 use Rattle.any_direction.specs.Box.{certainBox}
 use Rattle.mesh_grid.specs.GridCast.{rayMeshExactPlain}
 use Rattle.mesh_grid.specs.Certain.{LeastDepth}
-use Rattle.whole_numbers.specs.Board.{Parallel, Crossing, Within}
+use Rattle.whole_numbers.specs.Board.{DrawnAt, Parallel, Crossing, Within}
 use Rattle.whole_numbers.specs.Boards.{Plan, drawingOf, Boards}
 
 -- ---- the open cases
@@ -37,13 +38,18 @@ pub record NoOpenCase (r : Ray) (m : Mesh) (p : Plan) : Type 0 where
       → t ≡ pos (p .maximum * D) → ⊥
 
 -- ---- the other triangles, of which M-112 says nothing
-pub record OthersApart (r : Ray) (m : Mesh) : Type 0 where
+-- a triangle's corners are whole numbers from -4,096 to 4,096, as a candidate's are
+pub record WholeCorners (m : Mesh) (p : Plan) (i : ℕ) : Type 0 where
+  pub corners : (k : ℕ) → k < 3 → DrawnAt 4096 (cornerAt (m .vertices) (m .triangles) i k) (p .corner i k)
+
+pub record OthersApart (r : Ray) (m : Mesh) (p : Plan) : Type 0 where
   -- every corner of every triangle is in range: the exact cast refuses others with 12
   pub in-range : (i k : ℕ) → i < triangleCount m → k < 3 → allWithin furthest (cornerAt (m .vertices) (m .triangles) i k) ≡ true
-  -- a triangle that is no candidate does not touch the segment's box widened by a unit of the grid either: one that does may have corners
-  -- which are not on the grid, and be met there
-  pub candidates : (i : ℕ) → i < triangleCount m
-      → touches (triangleBox (m .vertices) (m .triangles) i) (certainBox (gridLine r)) ≡ true → Candidate r m i
+  -- a triangle whose corners are not whole is a candidate if its box touches the segment's widened by a unit of the grid: corners that are
+  -- not on the grid may be met there
+  pub whole-or-apart : (i : ℕ) → i < triangleCount m
+      → WholeCorners m p i
+      ⊎ (touches (triangleBox (m .vertices) (m .triangles) i) (certainBox (gridLine r)) ≡ true → Candidate r m i)
 
 -- ---- 'both agree in none and in the triangle's exact depth within M-112's bound'
 -- t / D units of the grid is the least depth: the exact cast's distance is the float nearest to it, and the other's lies within 2^-51 of
@@ -66,5 +72,5 @@ pub record Agree (r : Ray) (m : Mesh) (rounded exact : Indexed) : Type 0 where
 abbrev pub BoardsAgree : Type 0
 BoardsAgree =
     (r : Ray) (m : Mesh) (t : Tree) (list stack : ℕ) (p : Plan) → lengthsAdmitted (length (m .vertices)) (length (m .triangles)) ≡ true
-    → PassesCheck m t → roomFor m t list stack ≡ true → Boards r m p → OthersApart r m → NoOpenCase r m p
+    → PassesCheck m t → roomFor m t list stack ≡ true → Boards r m p → OthersApart r m p → NoOpenCase r m p
     → Agree r m (rayMesh r m (m .vertices) t list stack) (rayMeshExactPlain r m)
