@@ -37,6 +37,7 @@
 #include <iterator>
 #include <limits>
 #include <locale>
+#include <numeric>
 #include <optional>
 #include <sstream>
 #include <stdexcept>
@@ -994,6 +995,164 @@ private:
     std::vector<std::uint32_t> order_;
     std::size_t largest_ = 0;
     std::size_t most_nodes_ = 0;
+    Scratch scratch_;
+};
+
+/* ---- a mesh of any number of triangles ---- */
+
+/* One mesh, or, where that would be too large, a cabinet of meshes, halved along the longest side until each piece may be one.
+ * Triangles are counted from 0, in the order that they were given in. */
+class LargeMesh {
+public:
+    /* Builds the trees, of pieces of at most `most` triangles, and as many vertices: at least 1 and 3, at most 65,536. Refuses with
+     * 2 (more than 2^32 - 1 triangles), 5 (no triangle, an index past the vertices, a triangle whose box is not finite) or 6. */
+    static Result<LargeMesh> build(Shape shape, std::size_t most = PROBE_MAX_TRIANGLES)
+    {
+        const std::size_t count = shape.triangle_count();
+        if (count > std::numeric_limits<std::uint32_t>::max())
+            return Result<LargeMesh>(Refusal::bad_shape);
+        const auto past = [&](std::uint32_t index) { return index >= shape.vertex_count(); };
+        if (count == 0 || std::any_of(shape.triangles.begin(), shape.triangles.end(), past))
+            return Result<LargeMesh>(Refusal::out_of_bounds);
+        std::vector<std::uint32_t> numbers(count);
+        std::iota(numbers.begin(), numbers.end(), std::uint32_t{0});
+        LargeMesh large(std::move(shape));
+        const std::size_t limit = std::clamp(most, std::size_t{1}, std::size_t{PROBE_MAX_TRIANGLES});
+        if (const std::optional<Refusal> refusal = large.add(std::move(numbers), limit))
+            return Result<LargeMesh>(*refusal);
+        for (const Piece &piece : large.pieces_)
+            large.cabinet_.push(piece.mesh, Vec3{0, 0, 0});
+        return Result<LargeMesh>(std::move(large));
+    }
+
+    /* The nearest triangle by the exact cast: a none is certain. Of equally near ones, also of different pieces, that of the
+     * lowest number. Refuses with 1 or 12. */
+    Cast<MeshHit> cast(const Ray &ray) { return cast(ray, scratch_); }
+
+    Cast<MeshHit> cast(const Ray &ray, Scratch &scratch) const
+    {
+        std::optional<MeshHit> nearest;
+        for (const Piece &piece : pieces_) {
+            const Cast<MeshHit> answer = piece.mesh.cast_exact(ray, scratch);
+            if (answer.is_refused())
+                return answer;
+            if (answer.is_none())
+                continue;
+            MeshHit hit = answer.hit();
+            hit.triangle = piece.numbers[hit.triangle];
+            if (!nearest || std::pair(hit.distance, hit.triangle) < std::pair(nearest->distance, nearest->triangle))
+                nearest = hit;
+        }
+        return nearest ? Cast<MeshHit>(*nearest) : Cast<MeshHit>(None{});
+    }
+
+    /* The nearest triangle by the rounded cast, that of Mesh::cast. Of equally near ones of different pieces, that of the first
+     * piece. Refuses with 1, 6 or 7. */
+    Cast<MeshHit> cast_rounded(const Ray &ray) { return cast_rounded(ray, scratch_); }
+
+    Cast<MeshHit> cast_rounded(const Ray &ray, Scratch &scratch) const
+    {
+        return cabinet_.cast(ray, no_limit, scratch)
+            .answer.match(
+                [&](const PartHit &hit) {
+                    return Cast<MeshHit>(MeshHit{hit.normal, hit.distance, pieces_[hit.part].numbers[hit.triangle]});
+                },
+                [] { return Cast<MeshHit>(None{}); }, [](Refusal refusal) { return Cast<MeshHit>(refusal); });
+    }
+
+    const Shape &shape() const noexcept { return shape_; }
+
+    /* How many meshes it consists of. */
+    std::size_t pieces() const noexcept { return pieces_.size(); }
+
+private:
+    /* A mesh of some of the triangles, with the number of each in the whole. */
+    struct Piece {
+        Mesh mesh;
+        std::vector<std::uint32_t> numbers;
+    };
+
+    explicit LargeMesh(Shape shape) : shape_(std::move(shape)) {}
+
+    /* Adds the triangles of these numbers, ascending, as one piece, or in halves. */
+    std::optional<Refusal> add(std::vector<std::uint32_t> numbers, std::size_t most)
+    {
+        if (numbers.size() <= most) {
+            Shape part = part_of(numbers);
+            if (part.vertex_count() <= std::max(most, std::size_t{3})) {
+                Result<Mesh> mesh = Mesh::build(std::move(part));
+                if (mesh.is_refused())
+                    return mesh.refusal();
+                pieces_.push_back(Piece{std::move(mesh).value(), std::move(numbers)});
+                return std::nullopt;
+            }
+        }
+        std::vector<std::uint32_t> upper = upper_half(numbers);
+        const std::optional<Refusal> refusal = add(std::move(numbers), most);
+        return refusal ? refusal : add(std::move(upper), most);
+    }
+
+    /* Some of the triangles, with their vertices, each where it comes first. */
+    Shape part_of(const std::vector<std::uint32_t> &numbers) const
+    {
+        Shape part;
+        std::unordered_map<std::uint32_t, std::uint32_t> places;
+        for (const std::uint32_t number : numbers)
+            for (std::size_t k = 0; k < 3; k++) {
+                const std::uint32_t index = shape_.triangles[3 * std::size_t{number} + k];
+                const auto [place, is_new] = places.emplace(index, static_cast<std::uint32_t>(places.size()));
+                const double *vertex = &shape_.vertices[3 * std::size_t{index}];
+                if (is_new)
+                    part.vertices.insert(part.vertices.end(), vertex, vertex + 3);
+                part.triangles.push_back(place->second);
+            }
+        return part;
+    }
+
+    /* The sum of a triangle's three coordinates along an axis. */
+    double middle(std::uint32_t number, std::size_t axis) const
+    {
+        double sum = 0;
+        for (std::size_t k = 0; k < 3; k++)
+            sum += shape_.vertices[3 * std::size_t{shape_.triangles[3 * std::size_t{number} + k]} + axis];
+        return sum;
+    }
+
+    /* How far apart the middles of triangles are along an axis. */
+    double width(const std::vector<std::uint32_t> &numbers, std::size_t axis) const
+    {
+        double low = std::numeric_limits<double>::max(), high = std::numeric_limits<double>::lowest();
+        for (const std::uint32_t number : numbers) {
+            low = std::fmin(low, middle(number, axis));
+            high = std::fmax(high, middle(number, axis));
+        }
+        return high - low;
+    }
+
+    /* Takes the upper half off two or more triangles, along the longest side of the box of their middles. Both halves are
+     * ascending, so that of equally near triangles of a piece the first is the answer. */
+    std::vector<std::uint32_t> upper_half(std::vector<std::uint32_t> &numbers) const
+    {
+        const std::array<double, 3> widths{width(numbers, 0), width(numbers, 1), width(numbers, 2)};
+        const auto longest = static_cast<std::size_t>(std::max_element(widths.begin(), widths.end()) - widths.begin());
+        std::vector<std::pair<double, std::uint32_t>> keyed;
+        for (const std::uint32_t number : numbers) {
+            const double key = middle(number, longest);
+            keyed.emplace_back(std::isnan(key) ? 0 : key, number); // a NaN has no order, and Mesh::build refuses it
+        }
+        const auto half = static_cast<std::ptrdiff_t>(numbers.size() / 2);
+        std::nth_element(keyed.begin(), keyed.begin() + half, keyed.end());
+        std::transform(keyed.begin(), keyed.end(), numbers.begin(), [](const auto &pair) { return pair.second; });
+        std::vector<std::uint32_t> upper(numbers.begin() + half, numbers.end());
+        numbers.resize(static_cast<std::size_t>(half));
+        std::sort(numbers.begin(), numbers.end());
+        std::sort(upper.begin(), upper.end());
+        return upper;
+    }
+
+    Shape shape_;
+    std::vector<Piece> pieces_;
+    Cabinet cabinet_;
     Scratch scratch_;
 };
 

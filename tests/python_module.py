@@ -18,7 +18,9 @@ from concurrent.futures import ThreadPoolExecutor
 from fractions import Fraction
 
 import probe_rays
-from probe_rays import Cabinet, HeightField, HeightRanges, LevelSet, Mesh, PlainMesh, Ray, Refused, ray_plane, ray_triangle
+from probe_rays import (
+    Cabinet, HeightField, HeightRanges, LargeMesh, LevelSet, Mesh, PlainMesh, Ray, Refused, ray_plane, ray_triangle
+)
 
 HERE = pathlib.Path(__file__).resolve().parent
 EXAMPLES = HERE.parent / "examples"
@@ -507,6 +509,85 @@ class Stl(Case):
             self.assertEqual(f"stl: {caught.exception}\n", file.with_suffix(".says").read_text())
 
 
+class Facts(Case):
+    """A tetrahedron has six edges, each of two triangles; without one triangle its three edges are open."""
+
+    TETRAHEDRON = [(0, 2, 1), (0, 1, 3), (1, 2, 3), (2, 0, 3)]
+
+    def moved(self, by):
+        return [tuple(index + by for index in triangle) for triangle in self.TETRAHEDRON]
+
+    def test_bounds(self):
+        self.assertEqual(probe_rays.bounds([(1, -2, 5), (0.5, 7, 5)]), ((0.5, -2.0, 5.0), (1.0, 7.0, 5.0)))
+        self.assertEqual(probe_rays.bounds([(math.nan, 0, 0), (3, 1, 2)]), ((3.0, 0.0, 0.0), (3.0, 1.0, 2.0)))
+        self.assertIsNone(probe_rays.bounds([]))
+
+    def test_open_edges(self):
+        self.assertEqual(probe_rays.open_edges(self.TETRAHEDRON), 0)
+        self.assertEqual(probe_rays.open_edges(self.TETRAHEDRON[1:]), 3)
+        # a square of two triangles: its four sides, and the diagonal too where one of the two is the other way round
+        self.assertEqual(probe_rays.open_edges([(0, 1, 2), (0, 2, 3)]), 4)
+        self.assertEqual(probe_rays.open_edges([(0, 1, 2), (0, 3, 2)]), 5)
+        self.assertEqual(probe_rays.open_edges([]), 0)
+
+    def test_shells(self):
+        self.assertEqual(probe_rays.shells(self.TETRAHEDRON), 1)
+        self.assertEqual(probe_rays.shells(self.TETRAHEDRON + self.moved(4)), 2)
+        # a vertex in common connects nothing
+        self.assertEqual(probe_rays.shells(self.TETRAHEDRON + self.moved(3)), 2)
+        self.assertEqual(probe_rays.shells([]), 0)
+
+    def test_panel(self):
+        vertices, triangles = probe_rays.read_stl(EXAMPLES / "panel.stl")
+        self.assertEqual((probe_rays.open_edges(triangles), probe_rays.shells(triangles)), (0, 1))
+        self.assertEqual(probe_rays.bounds(vertices)[0], (0.0, 0.0, 0.0))
+
+
+class Large(Case):
+    """A mesh in pieces against the whole one."""
+
+    def test_pieces_answer_what_the_whole_mesh_does(self):
+        # a floor of 36 squares, 4 wide, each at a height of its own and in two triangles
+        vertices, triangles = [], []
+        for n in range(36):
+            x, y, z, first = n % 6 * 4, n // 6 * 4, n * 7 % 5, len(vertices)
+            vertices += [(x, y, z), (x + 4, y, z), (x + 4, y + 4, z), (x, y + 4, z)]
+            triangles += [(first, first + 1, first + 2), (first, first + 2, first + 3)]
+        whole = Mesh(vertices, triangles)
+        # at every millimetre, so also at sides and corners, and past the floor
+        rays = [down(x, y, 9, 20) for x in range(-1, 26) for y in range(-1, 26)]
+        for most in (1, 12, 72):
+            large = LargeMesh(vertices, triangles, most)
+            self.assertGreaterEqual(large.pieces, 72 // most)
+            hits = [large.cast(ray) for ray in rays]
+            self.assertEqual(hits, [whole.cast_exact(ray) for ray in rays])
+            self.assertEqual(sum(hit is not None for hit in hits), 25 * 25)
+            for ray in rays:
+                found, expected = large.cast_rounded(ray), whole.cast(ray)
+                self.assertEqual(found and found.distance, expected and expected.distance)
+
+    def test_of_equally_near_triangles_the_lowest_number_is_the_answer(self):
+        # the first triangle stands at the larger x, so that the pieces have them in the other order
+        large = LargeMesh([(0, 0, 0), (8, 0, 0), (8, 4, 0), (0, 4, 0)], [(0, 1, 2), (0, 2, 3)], 1)
+        hit = large.cast(down(4, 2, 3, 5))
+        self.assertEqual((large.pieces, hit.distance, hit.triangle), (2, 3.0, 0))
+
+    def test_more_than_a_mesh_admits(self):
+        # 250 by 264 triangles, 4 wide and 5 apart, the last one with its first corner at (1245, 1315)
+        starts = [(5.0 * (n % 250), 5.0 * (n // 250)) for n in range(66_000)]
+        vertices = array("d", (number for x, y in starts for number in (x, y, 0, x + 4, y, 0, x, y + 4, 0)))
+        large = LargeMesh(vertices, array("I", range(3 * 66_000)))
+        self.assertGreater(large.pieces, 1)
+        for hit in (large.cast(down(1246, 1316, 6, 10)), large.cast_rounded(down(1246, 1316, 6, 10))):
+            self.assertEqual((hit.distance, hit.triangle), (6.0, 65_999))
+        self.refuses(2, lambda: Mesh(vertices, array("I", range(3 * 66_000))))
+
+    def test_refusals(self):
+        self.refuses(5, lambda: LargeMesh(T, []))
+        self.refuses(5, lambda: LargeMesh(T, [(0, 1, 3)]))
+        self.refuses(1, lambda: LargeMesh(T, [(0, 1, 2)]).cast(Ray((0, 0, 1), (0, 0, 0), 2)))
+
+
 class Exact(Case):
     """The exact cast: where the rounded one passes, along outlines and faces, small boards of chance, and what is out of range."""
 
@@ -673,10 +754,10 @@ if __name__ == "__main__":
     import doctest
 
     program = unittest.main(exit=False, verbosity=0)
-    docs = doctest.testmod(probe_rays)
+    docs = [doctest.testmod(module) for module in (probe_rays, probe_rays.facts)]
     skipped = program.result.skipped
     for _, why in skipped:
         print(f"SKIPPED: {why}", file=sys.stderr)
-    if not program.result.wasSuccessful() or docs.failed or not docs.attempted:
+    if not program.result.wasSuccessful() or any(page.failed or not page.attempted for page in docs):
         sys.exit(1)
-    print(f"{program.result.testsRun - len(skipped) + docs.attempted} tests")
+    print(f"{program.result.testsRun - len(skipped) + sum(page.attempted for page in docs)} tests")

@@ -11,13 +11,14 @@ class StlError(NotAdmitted):
     """A file that is no STL file, or one whose mesh is not admitted."""
 
 
-def read_stl(path):
+def read_stl(path, most=MAX_COUNT):
     """Vertices and triangles, as two arrays, for Mesh or PlainMesh. Equal vertices are merged, -0 and 0 too, and never near
-    ones, so that no point moves. Triangles stand in the file's order."""
+    ones, so that no point moves. Triangles stand in the file's order. A file of more than `most` triangles or vertices raises
+    StlError; None takes any number, for LargeMesh."""
     with open(path, "rb") as file:
         data = file.read()
     try:
-        return _merged(_facets(data))
+        return _merged(_facets(data), most)
     except StlError as why:
         raise StlError(f"{path}: {why}") from None
 
@@ -97,7 +98,7 @@ def _ascii(text):
     return facets
 
 
-def _merged(facets):
+def _merged(facets, most):
     if not facets:
         raise StlError("no triangles")
     places, vertices, triangles = {}, array("d"), array("I")
@@ -109,6 +110,6 @@ def _merged(facets):
                 vertices.extend(corner)
             triangles.append(index)
     for count, what in ((len(facets), "triangles"), (len(places), "different vertices")):
-        if count > MAX_COUNT:
-            raise StlError(f"{count} {what}: at most {MAX_COUNT} are admitted")
+        if most is not None and count > most:
+            raise StlError(f"{count} {what}: at most {most} are admitted")
     return vertices, triangles
