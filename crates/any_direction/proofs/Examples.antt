@@ -6,7 +6,7 @@ use lib.IntN.{ℤ, pos, negsuc}
 use Rattle.exact_depth.specs.declared.spots.Depth.the-variants.{At, Miss}
 use Rattle.exact_depth.specs.FirstPoint.{firstPoint, byWeights, crossing, kept, beside, inPlane}
 use Rattle.exact_depth.specs.FirstPoint.{area}
-use Rattle.exact_triangle.specs.declared.whole.Point.{Point}
+use Rattle.exact_depth.specs.declared.spots.Point.{Point}
 use lib.Ieee.{binary64, span, climb, size, odd, units, round, neg, sum, add, sub, mul, lt, eq, le, ofFields, ofBits}
 use Rattle.arithmetic.specs.Basic.{isFinite, absolute}
 use Rattle.arithmetic.specs.Root.{rootDigits, wholeRoot, rootRound, rootOf}

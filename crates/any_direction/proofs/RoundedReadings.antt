@@ -150,7 +150,7 @@ module _ (N d : ℕ) (D : 0 < d) (small : N ≤ 2147483648 * d) where
           let e' : (A + N) * E ≡ middle * d * E = ap (λ (z : ℕ). z * E) e in
           omega (arith, g', e', w)
 
--- ---- taken off again, it leaves that number (as in exact_triangle/proofs/RoundedSums, where it is not pub)
+-- ---- taken off again, it leaves that number
 of-pos : (n : ℕ) → ofInt binary64 (pos n) ≡ round binary64 false n 1
 unfolding ofInt
 of-pos n = refl

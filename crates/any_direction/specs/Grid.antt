@@ -7,7 +7,7 @@ use lib.Ieee.Nearest.{closest}
 use Rattle.arithmetic.specs.Basic.{absolute}
 use Rattle.vectors.specs.declared.vec3.Vec3.{Vec3}
 use Rattle.geometry.specs.declared.ray.Ray.{Ray}
-use Rattle.exact_triangle.specs.declared.whole.Point.{Point}
+use Rattle.exact_depth.specs.declared.spots.Point.{Point}
 use Rattle.any_direction.specs.Line.{parts, Line}
 
 -- 2^15 units are a millimetre

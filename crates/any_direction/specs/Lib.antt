@@ -4,4 +4,3 @@ pub mod Shear
 pub mod Surface
 pub mod Grid
 pub mod Box
-pub mod Agreement

@@ -6,7 +6,7 @@ use lib.IntN.{ℤ, pos, natAbs}
 use Rattle.vectors.specs.declared.vec3.Vec3.{Vec3}
 use Rattle.geometry.specs.declared.ray.Ray.{Ray}
 use Rattle.tree.specs.Mesh.{Mesh}
-use Rattle.exact_triangle.specs.declared.whole.Point.{Point}
+use Rattle.exact_depth.specs.declared.spots.Point.{Point}
 use Rattle.any_direction.specs.Line.{parts, Line}
 use Rattle.any_direction.specs.Grid.{units, pointTo, gridLine}
 use Rattle.any_direction.specs.Surface.{Surface, Apart}

@@ -26,7 +26,7 @@ use Rattle.any_direction.specs.Grid.{gridAdmitted, gridLine}
 use Rattle.any_direction.specs.Shear.{depthOf}
 use Rattle.exact_depth.specs.declared.spots.Depth.{Depth}
 use Rattle.exact_depth.specs.declared.spots.Depth.the-variants.{At as Met, Miss as Unmet}
-use Rattle.exact_triangle.specs.declared.whole.Point.{Point}
+use Rattle.exact_depth.specs.declared.spots.Point.{Point}
 use Rattle.grid_triangle.specs.Normal.{normalOf}
 use Rattle.grid_triangle.specs.Reach.{outOfRange, cornersRead, reachAt, cornersReach, gridReach}
 use Rattle.grid_triangle.specs.Cast.{gridNormal, reachHit, crossAt, gridTriangle}

@@ -6,7 +6,7 @@ use lib.Signed.{ltZ, leZ}
 use lib.Ieee.{Float}
 use Rattle.geometry.specs.declared.aabb.Aabb.{Aabb}
 use Rattle.exact_depth.specs.declared.spots.Spot.{Spot}
-use Rattle.exact_triangle.specs.declared.whole.Point.{Point}
+use Rattle.exact_depth.specs.declared.spots.Point.{Point}
 use Rattle.any_direction.specs.Line.{Line}
 use Rattle.any_direction.specs.Shear.{Main, alongX, alongY, alongZ, mainOf, ahead, heading, gain}
 use Rattle.any_direction.specs.Grid.{units, nearestTo}

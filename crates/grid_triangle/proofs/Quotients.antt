@@ -10,7 +10,7 @@ use borrow.Author.Tests.{lt-ltb, ltb-true}
 use Rattle.exact_depth.specs.declared.spots.Fraction.{Fraction}
 use Rattle.exact_depth.specs.declared.spots.Depth.the-variants.{At}
 use Rattle.exact_depth.proofs.Polynomials.{ring}
-use Rattle.exact_triangle.specs.declared.whole.Point.{Point}
+use Rattle.exact_depth.specs.declared.spots.Point.{Point}
 use Rattle.wide.specs.Division.{fractionOf}
 use Rattle.any_direction.specs.Line.{Line, Moves}
 use Rattle.any_direction.specs.Surface.{FirstSurface}

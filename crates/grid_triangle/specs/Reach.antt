@@ -11,7 +11,7 @@ use Rattle.casts.specs.declared.answer.Reach.{Reach}
 use Rattle.casts.specs.declared.answer.Reach.the-variants.{At, Miss, Refused}
 use Rattle.exact_depth.specs.declared.spots.Depth.{Depth}
 use Rattle.exact_depth.specs.declared.spots.Depth.the-variants.{At as Met, Miss as Unmet}
-use Rattle.exact_triangle.specs.declared.whole.Point.{Point}
+use Rattle.exact_depth.specs.declared.spots.Point.{Point}
 use lib.Ieee.{Float}
 use Rattle.wide.specs.Value.{value}
 use Rattle.wide.specs.Division.{fractionOf}

@@ -3,7 +3,7 @@ use Prim.Native.Nat.{ℕ}
 use lib.IntN.{ℤ}
 use Rattle.exact_depth.specs.declared.spots.Spot.{Spot}
 use Rattle.exact_depth.specs.Sizes.{Sized}
-use Rattle.exact_triangle.specs.declared.whole.Point.{Point}
+use Rattle.exact_depth.specs.declared.spots.Point.{Point}
 
 -- each coordinate up to B
 pub record SizedAt (B : ℕ) (p : Point) : Type 0 where

@@ -8,7 +8,7 @@ use casts::answer;
 use casts::answer::Cast;
 use casts::answer::Reach;
 use casts::surface;
-use exact_triangle::whole::Point;
+use exact_depth::spots::Point;
 use geometry::ray::Ray;
 use vectors::vec3::Normalized;
 use vectors::vec3::Vec3;

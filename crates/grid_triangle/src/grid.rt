@@ -1,5 +1,5 @@
 use arithmetic::basic;
-use exact_triangle::whole::Point;
+use exact_depth::spots::Point;
 use vectors::vec3::Vec3;
 ghost use mathlib.Core.Path.{_≡_};
 ghost use mathlib.Core.Bool.{true};

@@ -1,5 +1,5 @@
 use crate::seen;
-use exact_triangle::whole::Point;
+use exact_depth::spots::Point;
 use vectors::vec3::Normalized;
 use vectors::vec3::Vec3;
 use wide::number;

@@ -1,7 +1,7 @@
 use crate::sight;
 use crate::sight::Sight;
+use exact_depth::spots::Point;
 use exact_depth::spots::Spot;
-use exact_triangle::whole::Point;
 use wide_depth::depth;
 use wide_depth::spots::Found;
 ghost use mathlib.Core.Path.{_≡_};

@@ -1,6 +1,6 @@
 use crate::grid;
+use exact_depth::spots::Point;
 use exact_depth::spots::Spot;
-use exact_triangle::whole::Point;
 use geometry::ray::Ray;
 ghost use mathlib.Core.Path.{_≡_};
 ghost use mathlib.Core.Bool.{true, _&&_};

@@ -21,7 +21,7 @@ use Rattle.casts.specs.Reach.{reachOf}
 use Rattle.casts.specs.declared.answer.Reach.the-variants.{At}
 use Rattle.tree.specs.Mesh.{Mesh, thirds, cornersInside, cornersOf, triangleCount}
 use Rattle.exact_depth.proofs.Integers.{pp}
-use Rattle.exact_triangle.specs.declared.whole.Point.{Point}
+use Rattle.exact_depth.specs.declared.spots.Point.{Point}
 use Rattle.any_direction.specs.Line.{Line}
 use Rattle.any_direction.specs.Grid.{units, gridAdmitted, gridLine}
 use Rattle.any_direction.specs.Surface.{Surface}

@@ -9,7 +9,7 @@ use lib.ListN.{length}
 use Rattle.vectors.specs.declared.vec3.Vec3.{Vec3}
 use Rattle.tree.specs.Layout.{vectorAt}
 use Rattle.tree.specs.Mesh.{thirds}
-use Rattle.exact_triangle.specs.declared.whole.Point.{Point}
+use Rattle.exact_depth.specs.declared.spots.Point.{Point}
 use Rattle.any_direction.specs.Grid.{allWithin, furthest}
 
 -- a side on each axis

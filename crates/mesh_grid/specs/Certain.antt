@@ -13,7 +13,7 @@ use Rattle.geometry.specs.declared.ray.Ray.{Ray}
 use Rattle.casts.specs.Answer.{invalidInput, badShape, outOfBounds}
 use Rattle.nearest_hit.specs.Nearest.{Indexed, hitAt, noHit, stopped}
 use Rattle.tree.specs.Mesh.{Mesh, cornerAt, triangleCount, lengthsAdmitted, trianglesFit}
-use Rattle.exact_triangle.specs.declared.whole.Point.{Point}
+use Rattle.exact_depth.specs.declared.spots.Point.{Point}
 use Rattle.any_direction.specs.Line.{Line}
 use Rattle.any_direction.specs.Grid.{units, allWithin, furthest, longest, gridAdmitted, gridPoint, gridLine}
 use Rattle.any_direction.specs.Surface.{Surface, Apart}

@@ -1,4 +1,4 @@
-use exact_triangle::whole::Point;
+use exact_depth::spots::Point;
 use geometry::aabb::Aabb;
 use geometry::ray::Ray;
 use grid_triangle::grid;

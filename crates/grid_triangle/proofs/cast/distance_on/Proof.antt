@@ -8,7 +8,7 @@ use lib.Signed.{ltZ}
 use Rattle.exact_depth.specs.Sizes.{Sized}
 use Rattle.exact_depth.specs.declared.spots.Fraction.{Fraction}
 use Rattle.exact_depth.proofs.Reading.{plain, widen, sized-bits, product-size, sum-size, negated-size}
-use Rattle.exact_triangle.specs.declared.whole.Point.{Point}
+use Rattle.exact_depth.specs.declared.spots.Point.{Point}
 use Rattle.wide.specs.Value.{value, Middling}
 use Rattle.wide.specs.Division.{fractionOf}
 use Rattle.wide.proofs.OperationLaws.{held, middling}
