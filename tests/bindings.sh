@@ -101,7 +101,7 @@ echo "$program tests of probe-part passed"
 "$CARGO_TARGET_DIR/release/probe-part" depth examples/panel.stl --face top --png "$work/top.png" --svg "$work/top.svg" > "$work/said"
 tests/depth_pictures.py "$work/top.png" "$work/top.svg"
 tests/progress.py "$CARGO_TARGET_DIR/release/probe-part" examples/panel.stl
-PROBE_PART=$CARGO_TARGET_DIR/release/probe-part tests/page.sh
+PROBE_PART=$CARGO_TARGET_DIR/release/probe-part bindings/probe-part/tests/page.sh
 
 # the tool's page: what its commands print; the page on STEP files: the board's list
 awk -v out="$work" '

@@ -1,9 +1,9 @@
 #!/usr/bin/env bash
 # The page of `probe-part batch`, of three parts, in a real browser: headless Chromium takes a picture of it, and
-# tests/page_picture.py looks at that. Skipped aloud where there is no Chromium.
-# usage: tests/page.sh [PICTURE]   (PROBE_PART names the program, else target/bindings/release/probe-part; PICTURE keeps it)
+# page_picture.py beside it looks at that. Skipped aloud where there is no Chromium.
+# usage: bindings/probe-part/tests/page.sh [PICTURE]   (PROBE_PART names the program, else target/bindings/release/probe-part; PICTURE keeps it)
 set -euo pipefail
-cd "$(dirname "$0")/.."
+cd "$(dirname "$0")/../../.."
 program=${PROBE_PART:-target/bindings/release/probe-part}
 work=$(mktemp -d)
 trap 'rm -rf "$work"' EXIT
@@ -38,4 +38,4 @@ picture=${1:-$work/page.png}
 timeout 120 "$browser" --headless --no-sandbox --disable-gpu --hide-scrollbars --force-device-scale-factor=1 \
   --user-data-dir="$work/browser" --window-size=1400,2000 --screenshot="$picture" "file://$work/out/index.html" > "$work/log" 2>&1 \
   || { cat "$work/log" >&2; exit 1; }
-tests/page_picture.py "$picture"
+bindings/probe-part/tests/page_picture.py "$picture"

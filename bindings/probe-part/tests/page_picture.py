@@ -1,5 +1,5 @@
 #!/usr/bin/env python3
-"""Looks at a browser's picture of the page that tests/page.sh makes: the colours of what it has to show, and where.
+"""Looks at a browser's picture of the page that page.sh makes: the colours of what it has to show, and where.
 
   page_picture.py PNG
 """
