@@ -27,39 +27,46 @@
  *
  * A refusal, a number below 256:
  *
- *   no.  name            when                                                          result areas afterwards
- *   1    invalid input   a ray's origin or maximum is not finite, its maximum is       unchanged
- *                        below 0, its direction is not finite or has a length more
- *                        than 1e-12 from 1, its near distance is not finite, below 0
- *                        or above the maximum; a query's box has a corner that is
- *                        not finite, or a minimum above its maximum
- *   2    bad shape       a count, length, spacing, normal, plane distance or grid      unchanged
- *                        origin outside the limits below
- *   3    no room         a lent slice shorter than stated                              unchanged
- *   4    wrong pose      the vertices to cast at are not as many as the mesh's         unchanged
- *   5    out of bounds   an index or a box that does not fit, a tree that is broken    build, query: zeros;
- *                        where the walk meets it                                       else unchanged
- *   6    overflow        a number on the way is not finite                             build: zeros; else unchanged
- *   7    no normal       the cross of the hit triangle's edges is zero or not finite   unchanged
- *   8    not convergent  the walk through a distance grid ends without an answer, or   unchanged
- *                        the gradient at its hit is zero or not finite
- *   9    bad range       a range of a visited cell is out of order or not finite       unchanged
- *   10   limit reached   the next node of a cabinet's walks would exceed the limit     unchanged but for spent
- *   11   not held        a float of a record is NaN, or no f32 is exactly that number  unchanged
- *   12   not whole       on whole millimetres: the ray or a candidate's corner is not   unchanged
+ *   no.  name            when
+ *   1    invalid input   a ray's origin or maximum is not finite, its maximum is below 0, its direction is not finite or has a
+ *                        length more than 1e-12 from 1, its near distance is not finite, below 0 or above the maximum; a
+ *                        query's box has a corner that is not finite, or a minimum above its maximum
+ *   2    bad shape       a count, length, spacing, normal, plane distance or grid origin outside the limits below; bytes that
+ *                        are not one well-formed record
+ *   3    no room         a lent slice is shorter than stated; a listing has more hits than places (the late 3)
+ *   4    wrong pose      the vertices to cast at are not as many as the mesh's
+ *   5    out of bounds   an index or a box that does not fit, a tree that is broken where the walk meets it, a tree to merge
+ *                        that does not pass the check
+ *   6    overflow        a number on the way is not finite
+ *   7    no normal       the cross of the hit triangle's edges is zero or not finite
+ *   8    not convergent  the walk through a distance grid ends without an answer, or the gradient at its hit is zero
+ *   9    bad range       a range of a visited cell is out of order or not finite
+ *   10   limit reached   the next node of a cabinet's walks would exceed the limit
+ *   11   not held        a float of a record is NaN, or no f32 is exactly that number
+ *   12   out of range    an exact cast's origin or a corner of a triangle of the mesh is not a number from -8,192 to 8,192,
+ *                        or near or the maximum is above 32,768
  *
  * Or one of the codes PROBE_HIT, PROBE_NONE, PROBE_YES, PROBE_NO, PROBE_DONE, PROBE_CLEAR and PROBE_POSSIBLE, which no
  * refusal has.
  * Numbers from 13 on may be added to the refusals; all stay below 256.
  *
- * Tested are 1, 2, 3 and 4 in this order, then the others as the cast meets them. The result slices hit, index, nodes
- * (of probe_build), found and cell are lent slices like the others: one that is too short is 3, after 1 and 2.
- * The result slices hit, index, nodes, found and cell are written only with PROBE_HIT, PROBE_DONE and PROBE_POSSIBLE;
- * their places past those stated are unchanged.
- * 'Zeros' fill every place of the build's node_boxes, triangle_boxes, node_words and order, or of the query's list,
- * however long they are.
- * Work areas are the mesh cast's list and stack, the query's stack, the build's work and the check's marks: they
- * need not be cleared before a call, they are unchanged after 1 to 4, and hold anything after any other answer.
+ * Tested are 1, 2, 3 and 4 in this order, then the others as the cast meets them. 12 of the ray comes directly after 1, 12 of a
+ * corner after 5, the late 3 last. The result slices hit, index, nodes (of probe_build and probe_merge), found, cell, part,
+ * spent and written are lent slices like the others: one that is too short is 3, after 1 and 2.
+ *
+ * After a refusal every result area and result slice is unchanged, but for these:
+ *
+ *   call                after                      what is written
+ *   probe_build         5, 6                       zeros: every place of node_boxes, triangle_boxes, node_words and order
+ *   probe_query         5                          zeros: every place of list
+ *   probe_ray_mesh_all  5, 6, 7 and the late 3     zeros: every place of indices and numbers
+ *   probe_ray_cabinet   5, 6, 7 and 10             the nodes spent, in spent[0]
+ *
+ * Else the result slices are written only with PROBE_HIT, PROBE_DONE and PROBE_POSSIBLE, and spent with PROBE_NONE too; their
+ * places past those stated are unchanged.
+ * Work areas are the list and the stack of a mesh cast, a listing and a cabinet, the query's stack, the build's work, and the
+ * marks of the check and of the merge. They need not be cleared before a call. They are unchanged after 1, 2, 4, 12 of the ray
+ * and every 3 but the late one, and hold anything after any other answer.
  *
  * LIMITS
  *
@@ -84,14 +91,14 @@ extern "C" {
 #endif
 
 /* The version of these calls: it changes when one of them does. */
-#define PROBE_VERSION 2u
+#define PROBE_VERSION 3u
 
 /* What a call answers where it does not refuse. */
 #define PROBE_HIT 256u  /* a hit: hit, and index of a mesh, are written */
-#define PROBE_NONE 257u /* no surface within the maximum distance */
-#define PROBE_YES 258u  /* the tree fits the mesh */
-#define PROBE_NO 259u   /* the tree does not fit the mesh */
-#define PROBE_DONE 260u /* the build wrote a tree, or the query its list */
+#define PROBE_NONE 257u /* no hit from near to the maximum, by the cast's definition */
+#define PROBE_YES 258u  /* the tree fits the mesh; the mesh's corners are numbers */
+#define PROBE_NO 259u   /* it does not; they are not */
+#define PROBE_DONE 260u /* the results are written: a tree, a list, a record */
 #define PROBE_CLEAR 261u /* no grid within the ranges is touched */
 #define PROBE_POSSIBLE 262u /* a grid within the ranges may be touched: cell is written */
 
@@ -107,7 +114,7 @@ extern "C" {
 #define PROBE_REFUSED_BAD_RANGE 9u
 #define PROBE_REFUSED_LIMIT_REACHED 10u
 #define PROBE_REFUSED_NOT_HELD 11u
-#define PROBE_REFUSED_NOT_WHOLE 12u
+#define PROBE_REFUSED_OUT_OF_RANGE 12u
 
 /* Whether an answer is a refusal. */
 #define PROBE_IS_REFUSAL(answer) ((answer) < 256u)
@@ -264,7 +271,8 @@ uint32_t probe_ray_height_ranges(
  * stands at values[(k * side_y + j) * side_x + i].
  *
  * Answers PROBE_HIT, PROBE_NONE, or refuses with 1, 2, 3, 5, 6 or 8. The normal is the gradient's direction: it
- * points to where the values grow, and is not turned towards the ray.
+ * points to where the values grow, and is not turned towards the ray. A hit may lie one float past the maximum, because the
+ * steps of the walk are rounded; none lies below near.
  */
 uint32_t probe_ray_level_set(
     double origin_x,
@@ -509,15 +517,19 @@ uint32_t probe_ray_mesh_plain(
     size_t index_length
 );
 
-/* Casts a ray along an axis at a mesh on whole millimetres, without a tree: the answer is decided in whole numbers, so
- * that a none is certain. A hit is the first point of the segment from near_distance to max_distance, both included,
- * that lies in any closed triangle of the mesh, its sides and corners included; so does a triangle whose plane the line
- * lies in, and a triangle without area does not count. The distance is the quotient of two whole numbers, rounded once.
+/* The exact cast at a mesh, without a tree: decided in whole numbers, so that a none is certain, for any mesh within 8,192 mm
+ * and any direction. A millimetre is the unit here: coordinates are read on a grid of 2^-15 mm (the nearest whole number of
+ * units, ties to even), a direction's component as the nearest multiple of 2^-30. The segment is origin + s direction / 2^30
+ * for s from near_distance to max_distance, both included. A triangle is the closed hull of its three grid corners, and counts
+ * if these do not lie on one line.
  *
- * Answers PROBE_HIT, PROBE_NONE, or refuses with 1, 12, 2, 3 or 5, tested in this order. 12, for the ray: the origin is
- * whole from -4,096 to 4,096, the direction one of the six axis directions, near_distance and max_distance whole from 0
- * to 16,384. Then 2, 3 (hit, index) and 5 as probe_ray_mesh_plain has them, and 12 where a triangle whose box touches
- * the segment's box has a corner that is not whole from -4,096 to 4,096.
+ * None exactly where no point of the segment lies in such a triangle of the mesh; else a hit at the least depth over all
+ * triangles: its distance is the double nearest to it, its index the lowest where several round to it, its normal the cross
+ * of the grid edges, normalised, facing the ray. A side, a corner and a triangle along the ray are hit.
+ *
+ * Answers PROBE_HIT, PROBE_NONE, or refuses with 1, 12, 2, 3 (hit, index), 5 or 12, tested in this order: 12 for the ray where
+ * its origin is not within 8,192, or near or the maximum is above 32,768; 5 as probe_ray_mesh_plain has it; and 12 where a
+ * corner of any triangle of the mesh is not a number from -8,192 to 8,192. There is no 6 and no 7.
  */
 uint32_t probe_ray_mesh_exact_plain(
     double origin_x,
@@ -538,15 +550,15 @@ uint32_t probe_ray_mesh_exact_plain(
     size_t index_length
 );
 
-/* The same through a tree: the arguments are probe_ray_mesh_near's. Of the triangles that the tree lists for the box of
- * the ray's segment, at the vertices `pose`, a hit is the first point of the segment in any of them. At the mesh's own
- * vertices, through a tree for which probe_tree_check says PROBE_YES, it answers what probe_ray_mesh_exact_plain answers:
- * that the two agree is proved. Through any other tree the call ends too, but a surface may be missed.
+/* The exact cast through a tree: the arguments are probe_ray_mesh_near's without the list. The walk looks into a node only
+ * where the line can meet its box before the nearest hit so far. At the mesh's own vertices, through a tree for which
+ * probe_tree_check says PROBE_YES and for a mesh for which probe_mesh_has_numbers does, it answers what
+ * probe_ray_mesh_exact_plain answers: that the two agree is proved, and a none is certain there. At other vertices, or through
+ * any other tree, the call ends too, and a hit is one of its triangle at `pose`, but a surface may be missed.
  *
- * Answers PROBE_HIT, PROBE_NONE, or refuses with 1, 12 (the ray), 2, 3, 4 or 5 (the tree is broken where the walk meets
- * it), tested in this order, and then as the listed triangle of the lowest index that refuses: 5 where an index of it is
- * past the vertices, 12 where a corner is not whole from -4,096 to 4,096. The list and the stack are unchanged after 1,
- * 12 for the ray, 2, 3 and 4, and hold anything after any other answer.
+ * Answers PROBE_HIT, PROBE_NONE, or refuses with 1, 12 (the ray), 2, 3 or 4, tested in this order, and then with 5 (the tree
+ * is broken where the walk meets it, or an index is past the vertices) or 12 (a corner is not a number from -8,192 to 8,192).
+ * The stack is unchanged after 1, 12 for the ray, 2, 3 and 4, and holds anything after any other answer.
  */
 uint32_t probe_ray_mesh_exact(
     double origin_x,
@@ -572,8 +584,6 @@ uint32_t probe_ray_mesh_exact(
     size_t node_words_length,
     const uint32_t *order,
     size_t order_length,
-    uint32_t *list,
-    size_t list_length,
     uint32_t *stack,
     size_t stack_length,
     double *hit,
@@ -774,6 +784,17 @@ uint32_t probe_tree_check(
     size_t order_length,
     uint32_t *marks,
     size_t marks_length
+);
+
+/* Whether every corner of every triangle of a mesh is three numbers: PROBE_YES, or PROBE_NO where one is NaN or an index is past
+ * the vertices. A NaN can hide in a valid box, so that a walk does not meet it. Asked once for a mesh, as the tree check is:
+ * where it is so, probe_ray_mesh_exact answers what probe_ray_mesh_exact_plain answers.
+ */
+uint32_t probe_mesh_has_numbers(
+    const double *vertices,
+    size_t vertices_length,
+    const uint32_t *triangles,
+    size_t triangles_length
 );
 
 /* A range of an area: its first element and how many. */

@@ -32,9 +32,18 @@
 #include <cstddef>
 #include <cstdint>
 #include <cstdlib>
+#include <cstring>
+#include <fstream>
+#include <iterator>
+#include <limits>
+#include <locale>
+#include <numeric>
 #include <optional>
+#include <sstream>
 #include <stdexcept>
 #include <string>
+#include <string_view>
+#include <unordered_map>
 #include <utility>
 #include <variant>
 #include <vector>
@@ -67,8 +76,8 @@ enum class Refusal : std::uint32_t {
 #ifdef PROBE_REFUSED_NOT_HELD
     not_held = PROBE_REFUSED_NOT_HELD,
 #endif
-#ifdef PROBE_REFUSED_NOT_WHOLE
-    not_whole = PROBE_REFUSED_NOT_WHOLE,
+#ifdef PROBE_REFUSED_OUT_OF_RANGE
+    out_of_range = PROBE_REFUSED_OUT_OF_RANGE,
 #endif
 };
 
@@ -92,8 +101,8 @@ inline std::string told(Refusal refusal)
 #ifdef PROBE_REFUSED_NOT_HELD
     case Refusal::not_held: words = "not held: a record's float is NaN, or is no f32 exactly"; break;
 #endif
-#ifdef PROBE_REFUSED_NOT_WHOLE
-    case Refusal::not_whole: words = "not whole: a ray or a corner that is not on whole millimetres"; break;
+#ifdef PROBE_REFUSED_OUT_OF_RANGE
+    case Refusal::out_of_range: words = "out of range: the origin or a corner is not within 8,192, near or the maximum above 32,768"; break;
 #endif
     }
     return "refused " + std::to_string(number(refusal)) + ", " + words;
@@ -118,6 +127,12 @@ struct TreeFault {
 class TreeDoesNotFit : public std::runtime_error {
 public:
     TreeDoesNotFit() : std::runtime_error("the tree does not fit the mesh") {}
+};
+
+/* Thrown where the mesh of a file is asked for that is no STL file. */
+class StlError : public std::runtime_error {
+public:
+    using std::runtime_error::runtime_error;
 };
 
 /* Thrown where a hit is asked for and there is none, or a refusal and there is none. */
@@ -147,6 +162,8 @@ template <class Error>
         fail(*fault.refusal);
     raise(TreeDoesNotFit());
 }
+
+[[noreturn]] inline void fail(const StlError &error) { raise(StlError(error)); }
 
 /* An area's pointer, which is not null for an empty one either: nothing is read or written through it then. */
 template <class T>
@@ -215,7 +232,7 @@ private:
     std::variant<T, Why> held_;
 };
 
-/* No surface within the ray's maximum distance. */
+/* No hit from near to the maximum, by the cast's definition. */
 struct None {};
 
 /* What a switch tells apart. */
@@ -460,7 +477,7 @@ inline Cast<Hit> ray_height_field(const Ray &ray, const HeightField &field)
     return detail::cast_of(answer, places.plain());
 }
 
-/* The normal points to where the distances grow, and is not turned towards the ray. */
+/* The normal points to where the distances grow, and is not turned towards the ray. A hit may lie one float past the maximum. */
 inline Cast<Hit> ray_level_set(const Ray &ray, const LevelSet &grid)
 {
     detail::Places places;
@@ -615,6 +632,26 @@ struct Shape {
     std::size_t triangle_count() const noexcept { return triangles.size() / 3; }
 };
 
+/* Whether every corner of every triangle is three numbers; one whose index is past the vertices is not. */
+inline bool mesh_has_numbers(const Shape &shape)
+{
+    return probe_mesh_has_numbers(detail::from(shape.vertices), shape.vertices.size(), detail::from(shape.triangles),
+                                  shape.triangles.size()) == PROBE_YES;
+}
+
+namespace detail {
+/* The exact cast without a tree. */
+inline Cast<MeshHit> cast_exact(const Shape &shape, const Ray &ray)
+{
+    Places places;
+    const std::uint32_t answer = probe_ray_mesh_exact_plain(
+        ray.origin.x, ray.origin.y, ray.origin.z, ray.direction.x, ray.direction.y, ray.direction.z, ray.max_distance,
+        ray.near_distance, from(shape.vertices), shape.vertices.size(), from(shape.triangles), shape.triangles.size(),
+        places.hit.data(), places.hit.size(), places.index.data(), places.index.size());
+    return cast_of(answer, places.of_mesh());
+}
+} // namespace detail
+
 /* Whether a tree, from whatever builder, fits a mesh. Refuses with 2 or 3. */
 inline Result<bool> tree_check(const Shape &shape, const Tree &tree)
 {
@@ -728,14 +765,18 @@ public:
         return detail::cast_of(answer, places.of_mesh());
     }
 
-    /* Along an axis and on whole millimetres, decided in whole numbers: what PlainMesh::cast_exact answers, through the tree;
-     * that the two agree is proved. Refuses with 1, or with 12 for the ray or a corner of a triangle whose box touches the
-     * segment's. */
+    /* On a grid of 2^-15 mm, in any direction, decided in whole numbers: what PlainMesh::cast_exact answers, through the tree;
+     * that the two agree is proved for a mesh without a NaN, so a none at the mesh's own vertices is certain. A mesh is asked
+     * for a NaN when it is made, and one that has it is cast at without its tree. Refuses with 1 or 12. */
     Cast<MeshHit> cast_exact(const Ray &ray) { return cast_exact(ray, scratch_); }
 
-    Cast<MeshHit> cast_exact(const Ray &ray, Scratch &scratch) const { return cast_exact_at(ray, shape_.vertices, scratch); }
+    Cast<MeshHit> cast_exact(const Ray &ray, Scratch &scratch) const
+    {
+        return has_numbers_ ? cast_exact_at(ray, shape_.vertices, scratch) : detail::cast_exact(shape_, ray);
+    }
 
-    /* The same at other vertices, as `cast_at` has them. */
+    /* The same at other vertices, as `cast_at` has them: a surface that has left the tree's boxes may be missed, so a none is
+     * not certain there. */
     Cast<MeshHit> cast_exact_at(const Ray &ray, const std::vector<Vec3> &pose, Scratch &scratch) const
     {
         return cast_exact_at(ray, Shape::flat(pose), scratch);
@@ -751,7 +792,7 @@ public:
             shape_.triangles.size(), detail::from(pose), pose.size(), tree_.nodes, detail::from(tree_.node_boxes),
             tree_.node_boxes.size(), detail::from(tree_.triangle_boxes), tree_.triangle_boxes.size(),
             detail::from(tree_.node_words), tree_.node_words.size(), detail::from(tree_.order), tree_.order.size(),
-            detail::into(scratch.list), scratch.list.size(), detail::into(scratch.stack), scratch.stack.size(),
+            detail::into(scratch.stack), scratch.stack.size(),
             places.hit.data(), places.hit.size(), places.index.data(), places.index.size());
         return detail::cast_of(answer, places.of_mesh());
     }
@@ -815,10 +856,14 @@ public:
     std::size_t vertex_count() const noexcept { return shape_.vertex_count(); }
 
 private:
-    Mesh(Shape shape, Tree tree) : shape_(std::move(shape)), tree_(std::move(tree)) {}
+    Mesh(Shape shape, Tree tree)
+        : shape_(std::move(shape)), tree_(std::move(tree)), has_numbers_(mesh_has_numbers(shape_))
+    {
+    }
 
     Shape shape_;
     Tree tree_;
+    bool has_numbers_; /* the exact cast through the tree asks it */
     Scratch scratch_;
 };
 
@@ -844,18 +889,11 @@ public:
         return detail::cast_of(answer, places.of_mesh());
     }
 
-    /* Along an axis and on whole millimetres, decided in whole numbers: the first point of the segment that lies in a closed
-     * triangle, sides, corners and triangles along the ray included. probe_rays.h says which rays and corners are admitted.
-     * Refuses with 1, 12 (the ray, or a corner of a triangle whose box touches the segment's), 2 or 5. */
-    Cast<MeshHit> cast_exact(const Ray &ray) const
-    {
-        detail::Places places;
-        const std::uint32_t answer = probe_ray_mesh_exact_plain(
-            ray.origin.x, ray.origin.y, ray.origin.z, ray.direction.x, ray.direction.y, ray.direction.z, ray.max_distance,
-            ray.near_distance, detail::from(shape_.vertices), shape_.vertices.size(), detail::from(shape_.triangles),
-            shape_.triangles.size(), places.hit.data(), places.hit.size(), places.index.data(), places.index.size());
-        return detail::cast_of(answer, places.of_mesh());
-    }
+    /* On a grid of 2^-15 mm, in any direction, decided in whole numbers: the first point of the segment that lies in a closed
+     * triangle, sides, corners and triangles along the ray included, so that a none is certain. probe_rays.h says how
+     * coordinates are read. Refuses with 1, 12 (the origin or a corner is not within 8,192, near or the maximum above 32,768),
+     * 2 or 5. */
+    Cast<MeshHit> cast_exact(const Ray &ray) const { return detail::cast_exact(shape_, ray); }
 
     /* The same mesh with a tree. */
     Result<Mesh> build() const { return Mesh::build(shape_); }
@@ -959,6 +997,391 @@ private:
     std::size_t most_nodes_ = 0;
     Scratch scratch_;
 };
+
+/* ---- a mesh of any number of triangles ---- */
+
+/* One mesh, or, where that would be too large, a cabinet of meshes, halved along the longest side until each piece may be one.
+ * Triangles are counted from 0, in the order that they were given in. */
+class LargeMesh {
+public:
+    /* Builds the trees, of pieces of at most `most` triangles, and as many vertices: at least 1 and 3, at most 65,536. Refuses with
+     * 2 (more than 2^32 - 1 triangles), 5 (no triangle, an index past the vertices, a triangle whose box is not finite) or 6. */
+    static Result<LargeMesh> build(Shape shape, std::size_t most = PROBE_MAX_TRIANGLES)
+    {
+        const std::size_t count = shape.triangle_count();
+        if (count > std::numeric_limits<std::uint32_t>::max())
+            return Result<LargeMesh>(Refusal::bad_shape);
+        const auto past = [&](std::uint32_t index) { return index >= shape.vertex_count(); };
+        if (count == 0 || std::any_of(shape.triangles.begin(), shape.triangles.end(), past))
+            return Result<LargeMesh>(Refusal::out_of_bounds);
+        std::vector<std::uint32_t> numbers(count);
+        std::iota(numbers.begin(), numbers.end(), std::uint32_t{0});
+        LargeMesh large(std::move(shape));
+        const std::size_t limit = std::clamp(most, std::size_t{1}, std::size_t{PROBE_MAX_TRIANGLES});
+        if (const std::optional<Refusal> refusal = large.add(std::move(numbers), limit))
+            return Result<LargeMesh>(*refusal);
+        for (const Piece &piece : large.pieces_)
+            large.cabinet_.push(piece.mesh, Vec3{0, 0, 0});
+        return Result<LargeMesh>(std::move(large));
+    }
+
+    /* The nearest triangle by the exact cast: a none is certain. Of equally near ones, also of different pieces, that of the
+     * lowest number. Refuses with 1 or 12. */
+    Cast<MeshHit> cast(const Ray &ray) { return cast(ray, scratch_); }
+
+    Cast<MeshHit> cast(const Ray &ray, Scratch &scratch) const
+    {
+        std::optional<MeshHit> nearest;
+        for (const Piece &piece : pieces_) {
+            const Cast<MeshHit> answer = piece.mesh.cast_exact(ray, scratch);
+            if (answer.is_refused())
+                return answer;
+            if (answer.is_none())
+                continue;
+            MeshHit hit = answer.hit();
+            hit.triangle = piece.numbers[hit.triangle];
+            if (!nearest || std::pair(hit.distance, hit.triangle) < std::pair(nearest->distance, nearest->triangle))
+                nearest = hit;
+        }
+        return nearest ? Cast<MeshHit>(*nearest) : Cast<MeshHit>(None{});
+    }
+
+    /* The nearest triangle by the rounded cast, that of Mesh::cast. Of equally near ones of different pieces, that of the first
+     * piece. Refuses with 1, 6 or 7. */
+    Cast<MeshHit> cast_rounded(const Ray &ray) { return cast_rounded(ray, scratch_); }
+
+    Cast<MeshHit> cast_rounded(const Ray &ray, Scratch &scratch) const
+    {
+        return cabinet_.cast(ray, no_limit, scratch)
+            .answer.match(
+                [&](const PartHit &hit) {
+                    return Cast<MeshHit>(MeshHit{hit.normal, hit.distance, pieces_[hit.part].numbers[hit.triangle]});
+                },
+                [] { return Cast<MeshHit>(None{}); }, [](Refusal refusal) { return Cast<MeshHit>(refusal); });
+    }
+
+    const Shape &shape() const noexcept { return shape_; }
+
+    /* How many meshes it consists of. */
+    std::size_t pieces() const noexcept { return pieces_.size(); }
+
+private:
+    /* A mesh of some of the triangles, with the number of each in the whole. */
+    struct Piece {
+        Mesh mesh;
+        std::vector<std::uint32_t> numbers;
+    };
+
+    explicit LargeMesh(Shape shape) : shape_(std::move(shape)) {}
+
+    /* Adds the triangles of these numbers, ascending, as one piece, or in halves. */
+    std::optional<Refusal> add(std::vector<std::uint32_t> numbers, std::size_t most)
+    {
+        if (numbers.size() <= most) {
+            Shape part = part_of(numbers);
+            if (part.vertex_count() <= std::max(most, std::size_t{3})) {
+                Result<Mesh> mesh = Mesh::build(std::move(part));
+                if (mesh.is_refused())
+                    return mesh.refusal();
+                pieces_.push_back(Piece{std::move(mesh).value(), std::move(numbers)});
+                return std::nullopt;
+            }
+        }
+        std::vector<std::uint32_t> upper = upper_half(numbers);
+        const std::optional<Refusal> refusal = add(std::move(numbers), most);
+        return refusal ? refusal : add(std::move(upper), most);
+    }
+
+    /* Some of the triangles, with their vertices, each where it comes first. */
+    Shape part_of(const std::vector<std::uint32_t> &numbers) const
+    {
+        Shape part;
+        std::unordered_map<std::uint32_t, std::uint32_t> places;
+        for (const std::uint32_t number : numbers)
+            for (std::size_t k = 0; k < 3; k++) {
+                const std::uint32_t index = shape_.triangles[3 * std::size_t{number} + k];
+                const auto [place, is_new] = places.emplace(index, static_cast<std::uint32_t>(places.size()));
+                const double *vertex = &shape_.vertices[3 * std::size_t{index}];
+                if (is_new)
+                    part.vertices.insert(part.vertices.end(), vertex, vertex + 3);
+                part.triangles.push_back(place->second);
+            }
+        return part;
+    }
+
+    /* The sum of a triangle's three coordinates along an axis. */
+    double middle(std::uint32_t number, std::size_t axis) const
+    {
+        double sum = 0;
+        for (std::size_t k = 0; k < 3; k++)
+            sum += shape_.vertices[3 * std::size_t{shape_.triangles[3 * std::size_t{number} + k]} + axis];
+        return sum;
+    }
+
+    /* How far apart the middles of triangles are along an axis. */
+    double width(const std::vector<std::uint32_t> &numbers, std::size_t axis) const
+    {
+        double low = std::numeric_limits<double>::max(), high = std::numeric_limits<double>::lowest();
+        for (const std::uint32_t number : numbers) {
+            low = std::fmin(low, middle(number, axis));
+            high = std::fmax(high, middle(number, axis));
+        }
+        return high - low;
+    }
+
+    /* Takes the upper half off two or more triangles, along the longest side of the box of their middles. Both halves are
+     * ascending, so that of equally near triangles of a piece the first is the answer. */
+    std::vector<std::uint32_t> upper_half(std::vector<std::uint32_t> &numbers) const
+    {
+        const std::array<double, 3> widths{width(numbers, 0), width(numbers, 1), width(numbers, 2)};
+        const auto longest = static_cast<std::size_t>(std::max_element(widths.begin(), widths.end()) - widths.begin());
+        std::vector<std::pair<double, std::uint32_t>> keyed;
+        for (const std::uint32_t number : numbers) {
+            const double key = middle(number, longest);
+            keyed.emplace_back(std::isnan(key) ? 0 : key, number); // a NaN has no order, and Mesh::build refuses it
+        }
+        const auto half = static_cast<std::ptrdiff_t>(numbers.size() / 2);
+        std::nth_element(keyed.begin(), keyed.begin() + half, keyed.end());
+        std::transform(keyed.begin(), keyed.end(), numbers.begin(), [](const auto &pair) { return pair.second; });
+        std::vector<std::uint32_t> upper(numbers.begin() + half, numbers.end());
+        numbers.resize(static_cast<std::size_t>(half));
+        std::sort(numbers.begin(), numbers.end());
+        std::sort(upper.begin(), upper.end());
+        return upper;
+    }
+
+    Shape shape_;
+    std::vector<Piece> pieces_;
+    Cabinet cabinet_;
+    Scratch scratch_;
+};
+
+/* ---- STL files ---- */
+
+namespace detail {
+
+/* A binary file: 80 bytes of a header, four of the count, and 50 a facet, of which the first 12 are its normal. */
+inline constexpr std::size_t stl_start = 84, stl_facet = 50, stl_normal = 12;
+
+/* Four bytes, lowest first. */
+inline std::uint32_t four_bytes(std::string_view bytes, std::size_t at) noexcept
+{
+    std::uint32_t sum = 0;
+    for (std::size_t k = 0; k < 4; k++)
+        sum |= std::uint32_t{static_cast<unsigned char>(bytes[at + k])} << (8 * k);
+    return sum;
+}
+
+/* Reads the facets of a binary file, nine numbers each. It returns what is wrong with the file, or nothing. */
+inline std::string read_binary(std::string_view bytes, std::vector<double> &corners)
+{
+    for (std::size_t facet = 0; stl_start + stl_facet * facet < bytes.size(); facet++)
+        for (std::size_t k = 0; k < 9; k++) {
+            const std::uint32_t bits = four_bytes(bytes, stl_start + stl_facet * facet + stl_normal + 4 * k);
+            float value = 0;
+            std::memcpy(&value, &bits, sizeof value);
+            if (!std::isfinite(value))
+                return "facet " + std::to_string(facet) + ": a coordinate is not finite";
+            corners.push_back(static_cast<double>(value));
+        }
+    return {};
+}
+
+/* The next word of a line, which is taken off it. */
+inline std::string_view next_word(std::string_view &line) noexcept
+{
+    constexpr std::string_view blanks = " \t\r\v\f";
+    const std::size_t start = std::min(line.find_first_not_of(blanks), line.size());
+    const std::size_t end = std::min(line.find_first_of(blanks, start), line.size());
+    const std::string_view word = line.substr(start, end - start);
+    line.remove_prefix(end);
+    return word;
+}
+
+inline std::string lower_case(std::string_view word)
+{
+    std::string lower(word);
+    for (char &letter : lower)
+        if (letter >= 'A' && letter <= 'Z')
+            letter = static_cast<char>(letter - 'A' + 'a');
+    return lower;
+}
+
+/* Reads words as numbers, with a point in every locale. */
+class Numbers {
+public:
+    Numbers() { stream_.imbue(std::locale::classic()); }
+
+    /* The number, infinite where it is too large for a double; nothing where the word is none. */
+    std::optional<double> of(std::string_view word)
+    {
+        double value = 0;
+        stream_.clear();
+        stream_.str(std::string(word));
+        stream_ >> value;
+        if (!stream_.eof())
+            return std::nullopt;
+        if (!stream_.fail())
+            return value;
+        const bool too_large = std::fabs(value) == std::numeric_limits<double>::max();
+        return too_large ? std::optional<double>(std::numeric_limits<double>::infinity()) : std::nullopt;
+    }
+
+private:
+    std::istringstream stream_;
+};
+
+/* The facets of an ASCII file, line by line. It may hold several solids; their names and the normals are passed over. */
+class AsciiStl {
+public:
+    explicit AsciiStl(std::vector<double> &corners) : corners_(corners) {}
+
+    /* Takes a line. It returns what is wrong with it, or nothing. */
+    std::string line(std::string_view rest)
+    {
+        const std::string word = lower_case(next_word(rest));
+        if (word == "vertex")
+            return vertex(rest);
+        if (word == "endfacet")
+            return facet();
+        if (word == "facet")
+            facet_.clear();
+        else if (word == "solid" || word == "endsolid")
+            open_ = word == "solid";
+        else if (!word.empty() && word != "outer" && word != "endloop")
+            return '"' + word.substr(0, 20) + "\" is no word of an STL file";
+        return {};
+    }
+
+    bool is_open() const noexcept { return open_; }
+
+private:
+    std::string vertex(std::string_view rest)
+    {
+        for (int axis = 0; axis < 3; axis++) {
+            const std::optional<double> value = numbers_.of(next_word(rest));
+            if (!value)
+                return "'vertex' takes three numbers";
+            if (!std::isfinite(*value))
+                return "a coordinate is not finite";
+            facet_.push_back(*value);
+        }
+        return next_word(rest).empty() ? std::string() : "'vertex' takes three numbers";
+    }
+
+    std::string facet()
+    {
+        if (facet_.size() != 9)
+            return "a facet of " + std::to_string(facet_.size() / 3) + " vertices";
+        corners_.insert(corners_.end(), facet_.begin(), facet_.end());
+        return {};
+    }
+
+    std::vector<double> &corners_;
+    std::vector<double> facet_;
+    Numbers numbers_;
+    bool open_ = false;
+};
+
+inline std::string read_ascii(std::string_view text, std::vector<double> &corners)
+{
+    AsciiStl file(corners);
+    for (std::size_t number = 1; !text.empty(); number++) {
+        const std::size_t end = std::min(text.find('\n'), text.size());
+        const std::string wrong = file.line(text.substr(0, end));
+        if (!wrong.empty())
+            return "line " + std::to_string(number) + ": " + wrong;
+        text.remove_prefix(std::min(end + 1, text.size()));
+    }
+    return file.is_open() ? "cut short: the last solid has no 'endsolid'" : "";
+}
+
+/* The file without the three bytes of a BOM, if it begins with them. */
+inline std::string_view without_bom(std::string_view bytes) noexcept
+{
+    constexpr std::string_view bom = "\xEF\xBB\xBF";
+    return bytes.substr(bytes.substr(0, bom.size()) == bom ? bom.size() : 0);
+}
+
+/* Whether the first word begins with 'solid' and there is no zero byte, which an ASCII file does not have. */
+inline bool is_ascii_stl(std::string_view text)
+{
+    const std::size_t start = std::min(text.find_first_not_of(" \t\r\n\v\f"), text.size());
+    return lower_case(text.substr(start, 5)) == "solid" && text.find('\0') == text.npos;
+}
+
+/* Reads the facets of a file. A binary one may begin with 'solid', so the length decides first. */
+inline std::string read_facets(std::string_view bytes, std::vector<double> &corners)
+{
+    const bool has_count = bytes.size() >= stl_start;
+    const std::size_t count = has_count ? four_bytes(bytes, stl_start - 4) : 0;
+    const std::size_t length = stl_start + stl_facet * count;
+    if (has_count && bytes.size() == length)
+        return read_binary(bytes, corners);
+    const std::string_view text = without_bom(bytes);
+    if (is_ascii_stl(text))
+        return read_ascii(text, corners);
+    const std::string size = std::to_string(bytes.size()) + " bytes";
+    if (!has_count)
+        return "no STL file: " + size + " that are no ASCII file, and too few for a binary one";
+    return (bytes.size() < length ? "no STL file, or a binary one cut short: " : "no STL file: ") + size + ", and a binary file of "
+        + std::to_string(count) + " facets has " + std::to_string(length);
+}
+
+struct VertexHash {
+    std::size_t operator()(const std::array<double, 3> &vertex) const noexcept
+    {
+        std::size_t sum = 0;
+        for (const double part : vertex)
+            sum = sum * 1000003 ^ std::hash<double>()(part);
+        return sum;
+    }
+};
+
+/* The mesh of facets, nine numbers each. Equal vertices are merged, -0 and 0 too, each where it comes first. */
+inline Shape merged(const std::vector<double> &corners)
+{
+    Shape shape;
+    std::unordered_map<std::array<double, 3>, std::uint32_t, VertexHash> places;
+    shape.triangles.reserve(corners.size() / 3);
+    for (std::size_t at = 0; at + 3 <= corners.size(); at += 3) {
+        const std::array<double, 3> vertex{corners[at], corners[at + 1], corners[at + 2]};
+        const auto [place, is_new] = places.emplace(vertex, static_cast<std::uint32_t>(places.size()));
+        if (is_new)
+            shape.vertices.insert(shape.vertices.end(), vertex.begin(), vertex.end());
+        shape.triangles.push_back(place->second);
+    }
+    return shape;
+}
+
+} // namespace detail
+
+/* The mesh of an STL file's bytes, binary or ASCII. Equal vertices are merged, -0 and 0 too, and never near ones, so that no
+ * point moves. Triangles stand in the file's order. A file has no unit. The limits of a mesh are not looked at here: Mesh::build
+ * refuses with 2 above them. */
+inline Result<Shape, StlError> stl_shape(std::string_view bytes)
+{
+    std::vector<double> corners;
+    std::string wrong = detail::read_facets(bytes, corners);
+    if (wrong.empty() && corners.empty())
+        wrong = "no triangles";
+    if (!wrong.empty())
+        return Result<Shape, StlError>(StlError(wrong));
+    return Result<Shape, StlError>(detail::merged(corners));
+}
+
+/* The same of a file. What is wrong is said with the file's name. */
+inline Result<Shape, StlError> read_stl(const std::string &path)
+{
+    std::ifstream file(path, std::ios::binary);
+    const std::string bytes((std::istreambuf_iterator<char>(file)), std::istreambuf_iterator<char>());
+    if (!file.is_open() || file.bad())
+        return Result<Shape, StlError>(StlError(path + ": the file cannot be read"));
+    Result<Shape, StlError> shape = stl_shape(bytes);
+    if (shape.is_refused())
+        return Result<Shape, StlError>(StlError(path + ": " + shape.refusal().what()));
+    return shape;
+}
 
 /* ---- records of `probe` ---- */
 

@@ -101,6 +101,7 @@ echo "$program tests of probe-part passed"
 "$CARGO_TARGET_DIR/release/probe-part" depth examples/panel.stl --face top --png "$work/top.png" --svg "$work/top.svg" > "$work/said"
 tests/depth_pictures.py "$work/top.png" "$work/top.svg"
 tests/progress.py "$CARGO_TARGET_DIR/release/probe-part" examples/panel.stl
+PROBE_PART=$CARGO_TARGET_DIR/release/probe-part bindings/probe-part/tests/page.sh
 
 # the tool's page: what its commands print; the page on STEP files: the board's list
 awk -v out="$work" '
@@ -134,7 +135,7 @@ if command -v gmsh > /dev/null; then
   "$PROBE_PART" cast "$work/pegs.stl" > "$work/counts"
   triangles=$(cut -d' ' -f1 "$work/counts")
   [ "$triangles" -le 65536 ] || { echo "error: the board of 216 bores has $triangles triangles" >&2; exit 1; }
-  "$PROBE_PART" bores "$work/pegs.stl" --face top --step 2 --csv | awk -F, 'NR > 1 && /circle,5.000,5.000/ && $9 == "12.000"' > "$work/pegs"
+  "$PROBE_PART" bores "$work/pegs.stl" --csv | awk -F, 'NR > 1 && /,top,bore,circle,5.000,5.000,/ && $13 == "12.000"' > "$work/pegs"
   [ "$(wc -l < "$work/pegs")" = 216 ] || { echo "error: $(wc -l < "$work/pegs") of 216 bores were found" >&2; exit 1; }
   step=4
   echo "from STEP: the board's list is the drawing's, and a board of 216 bores has $triangles triangles"

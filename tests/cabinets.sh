@@ -9,4 +9,4 @@ seed=${2:-1}
 [ -n "${PROBE_RAYS_LIB:-}" ] || rt staticlib exports | tail -n 1
 cd differential
 cargo run --offline --release --quiet --bin cabinets -- "$seed" "$cases"
-echo "cabinets: $cases tests passed"
+echo "cabinets: $((cases + 1)) tests passed"

@@ -30,6 +30,7 @@ while at < len(data):
     at += 12 + length
 assert names[0] == b"IHDR" and names[-1] == b"IEND" and b"IDAT" in names
 rows = zlib.decompress(stream)
+assert 10 * len(stream) < len(rows), "the picture is not packed"
 assert len(rows) == height * (1 + 3 * width)
 assert all(rows[row * (1 + 3 * width)] == 0 for row in range(height))
 
@@ -64,5 +65,6 @@ assert len(circles) == 2
 for circle, want in zip(sorted(circles), wanted):
     assert all(abs(a - b) < 0.01 for a, b in zip(circle, want)), (circle, want)
 words = [text.text for text in tree.iter(name + "text")]
-assert "1: circle 37.88, depth 13.00" in words and "2: circle 8.63, through" in words, words
+listed = ["1: circle 37.88, depth 13.00, x 50.00, y 50.00", "2: circle 8.63, through, x 150.00, y 50.00"]
+assert [line for line in words if ": " in line] == listed, words
 print(f"the picture has the panel's depths at {looked} places, and the drawing its bores")

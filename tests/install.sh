@@ -143,13 +143,15 @@ if ! g++ $sanitize "$work/nothing.cpp" -o "$work/nothing" 2> "$log" || ! "$work/
   echo "SKIPPED: the sanitizers, which g++ lacks here: apt-get install libasan8 libubsan1" >&2
   sanitize=
 fi
-# shellcheck disable=SC2046
-g++ -std=c++17 $strict -Wshadow $sanitize -pthread $(pkg-config --cflags probe_rays) tests/cpp/answers.cpp \
-  $(pkg-config --libs probe_rays) -o "$work/answers"
-said=$(LD_LIBRARY_PATH=$prefix/lib "$work/answers")
-[[ $said =~ ^([1-9][0-9]*)\ checks$ ]] || fail "answers: $said"
-ran=$((ran + BASH_REMATCH[1]))
-echo "C++: $said"
+for program in answers stl; do
+  # shellcheck disable=SC2046
+  g++ -std=c++17 $strict -Wshadow $sanitize -pthread $(pkg-config --cflags probe_rays) "tests/cpp/$program.cpp" \
+    $(pkg-config --libs probe_rays) -o "$work/$program"
+  said=$(LD_LIBRARY_PATH=$prefix/lib "$work/$program" examples/panel.stl) # which `stl` reads
+  [[ $said =~ ^([1-9][0-9]*)\ checks$ ]] || fail "$program: $said"
+  ran=$((ran + BASH_REMATCH[1]))
+  echo "C++, $program: $said"
+done
 
 # accepted STATEMENTS, rejected STATEMENTS: whether a function of these compiles
 compiles() {
@@ -178,6 +180,7 @@ rejected() {
 accepted 'if (auto hit = mesh.cast(ray).hit_or_none()) (void)hit->distance;'
 accepted 'if (auto hit = mesh.cast(ray).hit_or_none()) (void)hit->distance;' -fno-exceptions
 accepted 'if (ray_height_ranges(ray, ranges).is_clear()) return;'
+accepted '(void)read_stl("part.stl").value();' -fno-exceptions
 # an answer is no yes or no, and is not thrown away; all three cases are named
 rejected 'if (mesh.cast(ray)) return;' 'deleted function'
 rejected 'if (!mesh.cast(ray)) return;' 'deleted function'
@@ -186,6 +189,7 @@ rejected 'mesh.cast(ray);' 'nodiscard'
 rejected 'mesh.cast_all(ray);' 'nodiscard'
 rejected 'Mesh::build(std::vector<Vec3>(), std::vector<Triangle>());' 'nodiscard'
 rejected 'cabinet.cast(ray);' 'nodiscard'
+rejected 'read_stl("part.stl");' 'nodiscard'
 rejected 'if (cabinet.cast(ray).answer) return;' 'deleted function'
 rejected 'if (ray_height_ranges(ray, ranges)) return;' 'deleted function'
 rejected 'mesh.cast(ray).match([](const MeshHit &) {}, [] {});' 'no matching function'
@@ -226,6 +230,14 @@ echo "Rust: a crate against the folder"
 if [ -d bindings/probe-part ]; then
   quiet "$prefix/bin/probe-part" --help
   ran=$((ran + 1))
+  # docs/STEP.md's example, from the installed folder
+  if command -v gmsh > /dev/null; then
+    (cd "$work" && env -u PROBE_PART "$prefix/share/probe_rays/examples/board.sh" "$work/board" > "$work/board.said")
+    tail -n +2 "$work/board/board.bores" | diff - examples/board.bores
+    ran=$((ran + 1))
+  else
+    echo "SKIPPED: docs/STEP.md's example in an installation, since gmsh is not installed (apt-get install gmsh)"
+  fi
 fi
 
 # the program: document 01's example, and a word on what it reads to whoever gives it arguments or a terminal

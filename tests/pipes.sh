@@ -1,12 +1,14 @@
 #!/usr/bin/env bash
 # `probe` at its ends: a full device, a pipe that closes, one that refuses for a while, a read that fails, a slow pipe and one of single
-# bytes. A write or a read that fails ends the run, standard error says so, and what was written is the front of the whole output.
+# bytes, reads that end in a record, and many reads and records. A write or a read that fails ends the run, standard error says so, and
+# what was written is the front of the whole output.
 # usage: tests/pipes.sh   (PROBE: the program; default target/bin/probe)
 set -euo pipefail
 cd "$(dirname "$0")/.."
 exec python3 - "${PROBE:-target/bin/probe}" <<'PYTHON'
 import os
 import signal
+import socket
 import subprocess
 import sys
 import time
@@ -96,5 +98,57 @@ whole = subprocess.run([probe], input=few, capture_output=True).stdout
 same("single bytes", fed(cut(few, 1), 0), (whole, b""))
 same("single bytes, cut short", fed(cut(few[:-1], 1), 0)[0].splitlines()[-1].split()[1:], [b"bad"])
 same("nothing", fed([], 0), (b"", b""))
+
+# document 01's first record and its line, so many times
+record = open("examples/plane.records", "rb").read()[:94]
+answer = open("examples/plane.lines", "rb").readline().split(b" ", 1)[1]
+
+
+def numbered(count):
+    return b"".join(b"%d %s" % (number, answer) for number in range(1, count + 1))
+
+
+def packets(pieces):
+    """Each piece is what one read gives; the end of the input follows. A run that hangs is ended."""
+    ours, theirs = socket.socketpair(socket.AF_UNIX, socket.SOCK_SEQPACKET)
+    run = started(theirs, subprocess.PIPE)
+    theirs.close()
+    if os.fork() == 0:
+        for piece in pieces:
+            ours.send(piece)
+        os._exit(0)
+    ours.close()
+    try:
+        return run.communicate(timeout=120)
+    except subprocess.TimeoutExpired:
+        run.kill()
+        sys.exit("error: probe hangs")
+
+
+def failing(data):
+    """A pipe that holds these bytes and then has a read that fails."""
+    out, into = os.pipe()
+    os.set_blocking(out, False)
+    os.write(into, data)
+    found = started(out, subprocess.PIPE).communicate()
+    os.close(out)
+    os.close(into)
+    return found
+
+
+# what is read before a read that fails is neither answered as if the input had ended nor read as a malformed record
+same("a record, 40 bytes and a failure", failing(record + record[:40]), (b"", UNREAD))
+found, said = failing(record * 100 + record[:40])
+same("100 records, 40 bytes and a failure: said", said, UNREAD)
+same("100 records, 40 bytes and a failure: lines", found, numbered(found.count(b"\n")))
+if not 0 < found.count(b"\n") < 100:
+    sys.exit("error: the failure came before the first line or after the last")
+# a read that ends one byte before a longest record would: 8,195 bytes, then 77, which are 88 records
+same("8,195 bytes and 77", packets([(record * 88)[:8195], (record * 88)[8195:]]), (numbered(88), b""))
+# as many reads as records, more than 65,536
+same("70,000 reads", packets([record] * 70000), (numbered(70000), b""))
+# more than 262,144 records
+run = subprocess.run([probe], input=record * 300000, capture_output=True)
+same("300,000 records", (run.stdout, run.stderr), (numbered(300000), b""))
 print(f"pipes: {tests} tests passed")
 PYTHON

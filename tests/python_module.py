@@ -18,7 +18,9 @@ from concurrent.futures import ThreadPoolExecutor
 from fractions import Fraction
 
 import probe_rays
-from probe_rays import Cabinet, HeightField, HeightRanges, LevelSet, Mesh, PlainMesh, Ray, Refused, ray_plane, ray_triangle
+from probe_rays import (
+    Cabinet, HeightField, HeightRanges, LargeMesh, LevelSet, Mesh, PlainMesh, Ray, Refused, ray_plane, ray_triangle
+)
 
 HERE = pathlib.Path(__file__).resolve().parent
 EXAMPLES = HERE.parent / "examples"
@@ -282,17 +284,21 @@ def exact(mesh, numbers):
 
 
 def first_point(board, ray):
-    """The least depth at which a ray on whole numbers is in a closed triangle that has area, as a fraction, and the first
-    triangle that has it; None where there is none. A triangle is what lies on both sides of its plane and within each side:
-    each of these keeps the depths d where first + d * slope is not below 0."""
+    """The least depth at which a ray is in a closed triangle that has area, on the grid of 2^-15 mm, as the float nearest to it in
+    millimetres, and the first triangle that has this float; None where there is none. A triangle is what lies on both sides of
+    its plane and within each side: each of these keeps the depths d where first + d * slope is not below 0."""
     vertices, triangles = board
-    origin, direction, most, near = ray.origin, ray.direction, ray.max_distance, ray.near_distance
-    sub = lambda a, b: [Fraction(p) - Fraction(q) for p, q in zip(a, b)]
+    # round() of a fraction takes half to even
+    read = lambda part, units: Fraction(round(Fraction(part) * units), units)
+    grid = lambda point: [read(part, 1 << 15) for part in point]
+    origin, direction = grid(ray.origin), [read(part, 1 << 30) for part in ray.direction]
+    most, near = grid((ray.max_distance, ray.near_distance))
+    sub = lambda a, b: [p - q for p, q in zip(a, b)]
     cross = lambda a, b: [a[1] * b[2] - a[2] * b[1], a[2] * b[0] - a[0] * b[2], a[0] * b[1] - a[1] * b[0]]
     dot = lambda a, b: sum(p * q for p, q in zip(a, b))
     least = None
     for index, corners in enumerate(triangles):
-        a, b, c = (vertices[corner] for corner in corners)
+        a, b, c = (grid(vertices[corner]) for corner in corners)
         normal = cross(sub(b, a), sub(c, a))
         if not any(normal):
             continue
@@ -301,10 +307,10 @@ def first_point(board, ray):
         for p, q in ((a, b), (b, c), (c, a)):
             side = sub(q, p)
             tests.append((dot(normal, cross(side, sub(origin, p))), dot(normal, cross(side, direction))))
-        low = max([Fraction(near)] + [-first / slope for first, slope in tests if slope > 0])
-        high = min([Fraction(most)] + [-first / slope for first, slope in tests if slope < 0])
-        if low <= high and all(first >= 0 for first, slope in tests if slope == 0) and (least is None or low < least[0]):
-            least = low, index
+        low = max([near] + [-first / slope for first, slope in tests if slope > 0])
+        high = min([most] + [-first / slope for first, slope in tests if slope < 0])
+        if low <= high and all(first >= 0 for first, slope in tests if slope == 0) and (least is None or float(low) < least[0]):
+            least = float(low), index
     return least
 
 
@@ -503,18 +509,96 @@ class Stl(Case):
             self.assertEqual(f"stl: {caught.exception}\n", file.with_suffix(".says").read_text())
 
 
-class WholeMillimetres(Case):
-    """The exact cast: where the rounded one passes, along outlines and faces, small boards of chance, and what is not whole."""
+class Facts(Case):
+    """A tetrahedron has six edges, each of two triangles; without one triangle its three edges are open."""
+
+    TETRAHEDRON = [(0, 2, 1), (0, 1, 3), (1, 2, 3), (2, 0, 3)]
+
+    def moved(self, by):
+        return [tuple(index + by for index in triangle) for triangle in self.TETRAHEDRON]
+
+    def test_bounds(self):
+        self.assertEqual(probe_rays.bounds([(1, -2, 5), (0.5, 7, 5)]), ((0.5, -2.0, 5.0), (1.0, 7.0, 5.0)))
+        self.assertEqual(probe_rays.bounds([(math.nan, 0, 0), (3, 1, 2)]), ((3.0, 0.0, 0.0), (3.0, 1.0, 2.0)))
+        self.assertIsNone(probe_rays.bounds([]))
+
+    def test_open_edges(self):
+        self.assertEqual(probe_rays.open_edges(self.TETRAHEDRON), 0)
+        self.assertEqual(probe_rays.open_edges(self.TETRAHEDRON[1:]), 3)
+        # a square of two triangles: its four sides, and the diagonal too where one of the two is the other way round
+        self.assertEqual(probe_rays.open_edges([(0, 1, 2), (0, 2, 3)]), 4)
+        self.assertEqual(probe_rays.open_edges([(0, 1, 2), (0, 3, 2)]), 5)
+        self.assertEqual(probe_rays.open_edges([]), 0)
+
+    def test_shells(self):
+        self.assertEqual(probe_rays.shells(self.TETRAHEDRON), 1)
+        self.assertEqual(probe_rays.shells(self.TETRAHEDRON + self.moved(4)), 2)
+        # a vertex in common connects nothing
+        self.assertEqual(probe_rays.shells(self.TETRAHEDRON + self.moved(3)), 2)
+        self.assertEqual(probe_rays.shells([]), 0)
+
+    def test_panel(self):
+        vertices, triangles = probe_rays.read_stl(EXAMPLES / "panel.stl")
+        self.assertEqual((probe_rays.open_edges(triangles), probe_rays.shells(triangles)), (0, 1))
+        self.assertEqual(probe_rays.bounds(vertices)[0], (0.0, 0.0, 0.0))
+
+
+class Large(Case):
+    """A mesh in pieces against the whole one."""
+
+    def test_pieces_answer_what_the_whole_mesh_does(self):
+        # a floor of 36 squares, 4 wide, each at a height of its own and in two triangles
+        vertices, triangles = [], []
+        for n in range(36):
+            x, y, z, first = n % 6 * 4, n // 6 * 4, n * 7 % 5, len(vertices)
+            vertices += [(x, y, z), (x + 4, y, z), (x + 4, y + 4, z), (x, y + 4, z)]
+            triangles += [(first, first + 1, first + 2), (first, first + 2, first + 3)]
+        whole = Mesh(vertices, triangles)
+        # at every millimetre, so also at sides and corners, and past the floor
+        rays = [down(x, y, 9, 20) for x in range(-1, 26) for y in range(-1, 26)]
+        for most in (1, 12, 72):
+            large = LargeMesh(vertices, triangles, most)
+            self.assertGreaterEqual(large.pieces, 72 // most)
+            hits = [large.cast(ray) for ray in rays]
+            self.assertEqual(hits, [whole.cast_exact(ray) for ray in rays])
+            self.assertEqual(sum(hit is not None for hit in hits), 25 * 25)
+            for ray in rays:
+                found, expected = large.cast_rounded(ray), whole.cast(ray)
+                self.assertEqual(found and found.distance, expected and expected.distance)
+
+    def test_of_equally_near_triangles_the_lowest_number_is_the_answer(self):
+        # the first triangle stands at the larger x, so that the pieces have them in the other order
+        large = LargeMesh([(0, 0, 0), (8, 0, 0), (8, 4, 0), (0, 4, 0)], [(0, 1, 2), (0, 2, 3)], 1)
+        hit = large.cast(down(4, 2, 3, 5))
+        self.assertEqual((large.pieces, hit.distance, hit.triangle), (2, 3.0, 0))
+
+    def test_more_than_a_mesh_admits(self):
+        # 250 by 264 triangles, 4 wide and 5 apart, the last one with its first corner at (1245, 1315)
+        starts = [(5.0 * (n % 250), 5.0 * (n // 250)) for n in range(66_000)]
+        vertices = array("d", (number for x, y in starts for number in (x, y, 0, x + 4, y, 0, x, y + 4, 0)))
+        large = LargeMesh(vertices, array("I", range(3 * 66_000)))
+        self.assertGreater(large.pieces, 1)
+        for hit in (large.cast(down(1246, 1316, 6, 10)), large.cast_rounded(down(1246, 1316, 6, 10))):
+            self.assertEqual((hit.distance, hit.triangle), (6.0, 65_999))
+        self.refuses(2, lambda: Mesh(vertices, array("I", range(3 * 66_000))))
+
+    def test_refusals(self):
+        self.refuses(5, lambda: LargeMesh(T, []))
+        self.refuses(5, lambda: LargeMesh(T, [(0, 1, 3)]))
+        self.refuses(1, lambda: LargeMesh(T, [(0, 1, 2)]).cast(Ray((0, 0, 1), (0, 0, 0), 2)))
+
+
+class Exact(Case):
+    """The exact cast: where the rounded one passes, along outlines and faces, small boards of chance, and what is out of range."""
 
     def as_in_fractions(self, board, ray):
-        """Compares an answer with that in fractions, divided once; whether it is a hit."""
+        """Compares an answer with that in fractions; whether it is a hit."""
         hit, expected = PlainMesh(*board).cast_exact(ray), first_point(board, ray)
         self.assertEqual(Mesh(*board).cast_exact(ray), hit)
         if expected is None:
             self.assertIsNone(hit)
             return False
-        # a fraction is turned into the float nearest to it
-        self.assertEqual((hit.distance, hit.triangle), (float(expected[0]), expected[1]))
+        self.assertEqual((hit.distance, hit.triangle), expected)
         return True
 
     def test_where_the_rounded_cast_passes(self):
@@ -551,6 +635,26 @@ class WholeMillimetres(Case):
             told[self.as_in_fractions((vertices, [(k, k + 1, k + 2) for k in range(0, 3 * count, 3)]), ray)] += 1
         self.assertGreater(min(told), 200)
 
+    def test_any_direction(self):
+        pick = random.Random(17)
+        told = [0, 0]
+        for number in range(1500):
+            # within half a millimetre, where the grid flattens some triangles, and within 8,192
+            size, count = (2 ** -14, 0.5, 30, 8000)[number % 4], pick.randint(1, 4)
+            whole = pick.random() < 0.3
+            place = lambda: pick.randint(-4, 4) * size / 4 if whole else pick.uniform(-size, size)
+            vertices = [(place(), place(), place()) for _ in range(3 * count)]
+            p, q = pick.choice(vertices), pick.choice(vertices)
+            aim = pick.choice((p, [(a + b) / 2 for a, b in zip(p, q)], (place(), place(), place())))
+            way = pick.choice(((1, 1, 0), (1, 1, 1), (0, -1, 1), (place(), place(), place()), (0, 0, 1)))
+            origin = [a - pick.choice((0, 0.5)) * b for a, b in zip(aim, Ray.toward(aim, way, 1).direction)]
+            if any(abs(part) > 8192 for part in origin) or not any(way):
+                continue
+            near = pick.choice((0, 0, pick.uniform(0, size)))
+            ray = Ray.toward(origin, way, near + pick.choice((0, pick.uniform(0, 2 * size), 4)), near)
+            told[self.as_in_fractions((vertices, [(k, k + 1, k + 2) for k in range(0, 3 * count, 3)]), ray)] += 1
+        self.assertGreater(min(told), 200)
+
     def test_every_ray_into_a_closed_board_hits(self):
         board = PlainMesh(*box((0, 0, 0), (6, 5, 4)))
         for x in range(7):
@@ -566,67 +670,46 @@ class WholeMillimetres(Case):
         moved = lambda z: [(x, y, z) for x, y, _ in mesh.vertices.tolist()]
         self.hits(mesh.cast_exact(ray, pose=moved(-1)), 2)
         self.assertIsNone(mesh.cast_exact(ray, pose=moved(-2)))
-        self.refuses(12, lambda: mesh.cast_exact(ray, pose=moved(0.5)))
+        self.hits(mesh.cast_exact(ray, pose=moved(0.5)), 0.5)
+        self.refuses(12, lambda: mesh.cast_exact(ray, pose=moved(8193)))
         # 1, 12 of the ray, then 4
         short = moved(0)[:3]
-        self.refuses(1, lambda: mesh.cast_exact(down(0.5, 30, 1, -1), pose=short))
-        self.refuses(12, lambda: mesh.cast_exact(down(0.5, 30, 1, 2), pose=short))
+        self.refuses(1, lambda: mesh.cast_exact(down(8193, 30, 1, -1), pose=short))
+        self.refuses(12, lambda: mesh.cast_exact(down(8193, 30, 1, 2), pose=short))
         self.refuses(4, lambda: mesh.cast_exact(ray, pose=short))
 
-    def test_not_whole(self):
+    def test_out_of_range(self):
         vertices, triangles = SQUARE
         square = PlainMesh(vertices, triangles)
-        for ray in (
-            down(0.5, 1, 1, 2), down(1, 1, 4097, 9), down(1, 1, 1, 2.5), down(1, 1, 1, 16385), down(1, 1, 1, 2, near=0.5),
-            Ray((1, 1, 1), (0, 0.6, -0.8), 2),
-        ):
+        for ray in (down(1, 1, 8192.5, 9), down(1, 1, 1, 32768.5), down(1, 1, 1, 40000, near=33000), down(-8193, 1, 1, 2)):
             self.refuses(12, lambda: square.cast_exact(ray))
-        for corner in ((4, 0, 0.5), (4097, 0, 0)):
+        for corner in ((4, 0, 8192.5), (-8193, 0, 0), (4, math.nan, 0)):
             moved = [vertices[0], corner, *vertices[2:]]
             self.refuses(12, lambda: PlainMesh(moved, triangles).cast_exact(down(1, 1, 1, 2)))
-        self.hits(PlainMesh([vertices[0], (4096, 0, 0), *vertices[2:]], triangles).cast_exact(down(1, 1, 1, 2)), 1)
+        self.hits(PlainMesh([vertices[0], (8192, 0, 0), *vertices[2:]], triangles).cast_exact(down(1, 1, 1, 2)), 1)
         # it comes after 1, and of the ray before 2 and 5
-        self.refuses(1, lambda: square.cast_exact(down(0.5, 1, 1, -1)))
+        self.refuses(1, lambda: square.cast_exact(down(9000, 1, 1, -1)))
         wrong = PlainMesh(vertices, [(0, 1, 4)])
-        self.refuses(12, lambda: wrong.cast_exact(down(0.5, 1, 1, 2)))
-        self.assertIn("not whole", str(self.refuses(12, lambda: wrong.cast_exact(down(0.5, 1, 1, 2)))))
+        self.assertIn("out of range", str(self.refuses(12, lambda: wrong.cast_exact(down(9000, 1, 1, 2)))))
         self.refuses(5, lambda: wrong.cast_exact(down(1, 1, 1, 2)))
 
+    def test_a_nan_is_found_without_the_tree(self):
+        vertices = [(0, 0, 0), (9, 0, 0), (0, 9, 0), (500, math.nan, 0), (509, 0, 0), (500, 9, 0)]
+        for mesh in (Mesh, PlainMesh):
+            self.refuses(12, lambda: mesh(vertices, [(0, 1, 2), (3, 4, 5)]).cast_exact(down(1, 1, 1, 2)))
+            self.hits(mesh(vertices, [(0, 1, 2)]).cast_exact(down(1, 1, 1, 2)), 1)
 
-class Careful(Case):
-    def test_a_mesh_that_leaks(self):
-        # docs/DIFFERENCES.md, 'Found in the Rust', 2: the ray runs on the square's diagonal, and passes
-        mesh = Mesh([(0, 0, 0), (31, 0, 0), (0, 31, 0), (31, 31, 0)], [(0, 1, 2), (3, 2, 1)])
-        ray = down(1, 30, 1, 10)
-        self.assertIsNone(mesh.cast(ray))
-        self.assertEqual(mesh.cast_careful(ray).distance, 1)
-        self.assertIsNone(mesh.cast_careful(down(40, 40, 1, 10)))
-        self.refuses(1, lambda: mesh.cast_careful(down(1, 30, 1, -1)))
-
-    def test_three_beside(self):
-        for direction in ((0, 0, -1), (1, 0, 0), (0.6, 0, -0.8)):
-            ray = Ray((1, 2, 3), direction, 10, 0.5)
-            besides = list(ray.beside(0.5))
-            for beside in besides:
-                aside = [a - b for a, b in zip(beside.origin, ray.origin)]
-                self.assertAlmostEqual(math.hypot(*aside), 0.5, places=12)
-                self.assertAlmostEqual(sum(a * b for a, b in zip(aside, direction)), 0, places=12)
-                self.assertEqual(beside[1:], ray[1:])
-            self.assertAlmostEqual(math.dist(besides[0].origin, besides[1].origin), 0.5 * math.sqrt(3), places=12)
-            self.assertAlmostEqual(math.dist(besides[0].origin, besides[2].origin), 0.5 * math.sqrt(3), places=12)
-
-    def test_the_nearest_of_four(self):
-        answers = [None, probe_rays.Hit(3.0, UP), probe_rays.Hit(2.0, UP), None]
-        given = iter(answers)
-        self.assertEqual(probe_rays.careful(down(0, 0, 0, 5), lambda _: next(given)).distance, 2.0)
-
-        def fourth(ray, seen=[]):
-            seen.append(ray)
-            if len(seen) == 4:
-                raise Refused(6)
-            return probe_rays.Hit(1.0, UP)
-
-        self.refuses(6, lambda: probe_rays.careful(down(0, 0, 0, 5), fourth))
+    def test_every_ray_out_of_a_closed_board_hits(self):
+        board, pick = Mesh(*box((0, 0, 0), (6, 5, 4))), random.Random(5)
+        for _ in range(2000):
+            origin = [pick.uniform(0.001, size - 0.001) for size in (6, 5, 4)]
+            # toward a place of the surface, corners, outlines and diagonals too
+            toward = [pick.randint(0, size) for size in (6, 5, 4)]
+            axis = pick.randrange(3)
+            toward[axis] = pick.choice((0, (6, 5, 4)[axis]))
+            ray = Ray.toward(origin, [a - b for a, b in zip(toward, origin)], 100)
+            met = ray.at(board.cast_exact(ray).distance)
+            self.assertLess(min(min(abs(part), abs(part - size)) for part, size in zip(met, (6, 5, 4))), 1e-4)
 
 
 class Records(Case):
@@ -671,10 +754,10 @@ if __name__ == "__main__":
     import doctest
 
     program = unittest.main(exit=False, verbosity=0)
-    docs = doctest.testmod(probe_rays)
+    docs = [doctest.testmod(module) for module in (probe_rays, probe_rays.facts)]
     skipped = program.result.skipped
     for _, why in skipped:
         print(f"SKIPPED: {why}", file=sys.stderr)
-    if not program.result.wasSuccessful() or docs.failed or not docs.attempted:
+    if not program.result.wasSuccessful() or any(page.failed or not page.attempted for page in docs):
         sys.exit(1)
-    print(f"{program.result.testsRun - len(skipped) + docs.attempted} tests")
+    print(f"{program.result.testsRun - len(skipped) + sum(page.attempted for page in docs)} tests")

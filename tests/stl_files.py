@@ -34,8 +34,9 @@ def strip(count):
 numbers = [float(word) for line in text.splitlines() if "vertex" in line for word in line.split()[1:]]
 panel = [numbers[at : at + 9] for at in range(0, len(numbers), 9)]
 
-# a binary file whose header begins with 'solid'; capitals, line ends of two bytes and a zero with a sign; two solids
+# a binary file whose header begins with 'solid'; a mark of UTF-8; capitals, line ends of two bytes and a zero with a sign; two solids
 (folder / "same-binary.stl").write_bytes(binary(panel))
+(folder / "same-mark.stl").write_bytes(b"\xef\xbb\xbf" + text.encode())
 capitals = text.upper().replace("\n", "\r\n").replace("VERTEX 0 ", "VERTEX -0 ", 1)
 (folder / "same-capitals.stl").write_bytes(capitals.encode())
 middle = text.index("facet normal", len(text) // 2)
@@ -47,7 +48,24 @@ wrong("short", binary(panel)[16:84], "no STL file: 68 bytes that do not begin wi
 wrong(
     "cut-binary",
     b"panel".ljust(80) + binary(panel)[80:-1],
-    "no STL file: it does not begin with 'solid', and a binary file of 120 facets has 6084 bytes, not 6083",
+    "cut short: a binary file of 120 facets has 6084 bytes, not 6083",
+)
+wrong("cut-solid-binary", binary(panel)[:-50], "cut short: a binary file of 120 facets has 6084 bytes, not 6034")
+wrong("cut-header", binary(panel)[:82], "cut short: a binary file has 84 bytes before its facets, and this 82")
+wrong(
+    "long-binary",
+    b"panel".ljust(80) + binary(panel)[80:] + b"more",
+    "no STL file: it does not begin with 'solid', and a binary file of 120 facets has 6084 bytes, not 6088",
+)
+wrong(
+    "long-solid-binary",
+    binary(panel) + b"more",
+    "no STL file: it begins with 'solid' and is no text, and a binary file of 120 facets has 6084 bytes, not 6088",
+)
+wrong(
+    "text",
+    b"a text of no kind, ".ljust(200, b"-"),
+    "no STL file: it does not begin with 'solid', and a binary file of 757935405 facets has 37896770334 bytes, not 200",
 )
 wrong("cut-ascii", text[: text.index("endsolid")].encode(), "cut short: the last solid has no 'endsolid'")
 wrong("no-facet", b"solid nothing\nendsolid nothing\n", "no triangles")

@@ -6,16 +6,18 @@
 
 Compared are, of every call, its name, its parameters' order, names and types, and what it returns; the codes and the
 refusals with their numbers; the version; the lengths of the areas; and of every struct that a call reads through a
-pointer its size, and its fields' names, types and offsets. The proved source decides:
+pointer its size, and its fields' names, types and offsets. The proved source decides. A refusal's words, as C++, Rust and
+Python tell it, are the same in all three, and begin with its name in the header's table:
 
   crates/exports/src/*.rt       the calls, the version, and the codes
   crates/casts/src/answer.rt    the refusals, and that of the ranges in crates/height_ranges/src/answer.rt,
                                 of a limit in crates/cabinet_cast/src/cast.rt, of a float that is not held in
-                                crates/float_forms/src/forms.rt, and of what is not whole in crates/exact_triangle/src/cast.rt
+                                crates/float_forms/src/forms.rt, and of what is out of range in crates/grid_triangle/src/cast.rt
   crates/cabinet/src/part.rt    the structs; crates/vectors/src/vec3.rt has the vector in them
   crates/tree/src/lib.rt        the table of areas
   include/probe_rays.h          for C and C++
   bindings/rust/src/sys.rs      for Rust; src/lent.rs has the lengths
+  include/probe_rays.hpp, bindings/rust/src/answer.rs, bindings/python/probe_rays/answers.py    a refusal's words
 """
 import pathlib
 import re
@@ -29,7 +31,7 @@ REFUSALS = [
     "crates/casts/src/answer.rt",
     "crates/height_ranges/src/answer.rt",
     "crates/float_forms/src/forms.rt",
-    "crates/exact_triangle/src/cast.rt",
+    "crates/grid_triangle/src/cast.rt",
     "crates/cabinet_cast/src/cast.rt",
 ]
 STRUCTS = ["crates/cabinet/src/part.rt", "crates/vectors/src/vec3.rt"]
@@ -37,6 +39,12 @@ AREAS = "crates/tree/src/lib.rt"
 HEADER = "include/probe_rays.h"
 RUST = "bindings/rust/src/sys.rs"
 LENGTHS = "bindings/rust/src/lent.rs"
+# where a refusal is told in words, and how
+WORDS = {
+    "include/probe_rays.hpp": r'case Refusal::(\w+): words = "([^"]*)"',
+    "bindings/rust/src/answer.rs": r'Refusal::(\w+) => (?:\{\s*)?"([^"]*)"',
+    "bindings/python/probe_rays/answers.py": r'^    "(\w+)": "([^"]*)",',
+}
 
 # the areas whose lengths have a macro and a function; the table of the source has more rows
 SIZED = ["node_boxes", "triangle_boxes", "node_words", "order", "work", "list", "stack", "marks"]
@@ -249,6 +257,28 @@ def read(folder):
     }
 
 
+def snake(name):
+    return re.sub(r"(?<=[a-z])(?=[A-Z])", "_", name).upper()
+
+
+def words_differ(folder, refusals):
+    """Where a refusal's words differ, or do not begin with its name in the header's table."""
+    rows = re.findall(r"^ \*   (\d+) +(\w+(?: \w+)*)  ", (folder / HEADER).read_text(), re.M)
+    names = {int(number): name for number, name in rows}
+    told = {
+        path: {snake(name): words for name, words in re.findall(pattern, (folder / path).read_text(), re.M)}
+        for path, pattern in WORDS.items()
+    }
+    found = []
+    for refusal, number in sorted(refusals.items()):
+        said = {path: words.get(refusal) for path, words in told.items()}
+        if None in said.values() or len(set(said.values())) > 1:
+            found.append(f"refusal {number} is worded in more than one way: {said}")
+        elif not said[next(iter(WORDS))].startswith(f"{names.get(number)}: "):
+            found.append(f"{HEADER}: refusal {number} is {names.get(number)} in the table")
+    return found
+
+
 def difference(name, ours, theirs):
     """Where two declarations of a call differ first."""
     if ours[1] != theirs[1]:
@@ -293,7 +323,9 @@ def compare(folder):
                     found.append(f"{side}: {name} {struct_difference(ours, theirs)}")
                 else:
                     found.append(f"{side}: {what} {name} is {theirs}, in the source {ours}")
-    return found, {what: len(values) for what, values in source.items()}
+    refusals = {name[8:]: number for name, number in source["code"].items() if name.startswith("REFUSED_")}
+    found += words_differ(folder, refusals)
+    return found, {**{what: len(values) for what, values in source.items()}, "wording": len(refusals)}
 
 
 # one fault each: the file, the text (its first place), and what it becomes
@@ -317,7 +349,7 @@ FAULTS = [
     (HEADER, "#define PROBE_DONE 260u", "#define PROBE_READY 260u"),
     (HEADER, "#define PROBE_REFUSED_NO_ROOM 3u", "#define PROBE_REFUSED_NO_ROOM 4u"),
     (HEADER, "#define PROBE_REFUSED_OVERFLOW 6u\n", ""),
-    (HEADER, "#define PROBE_VERSION 2u", "#define PROBE_VERSION 1u"),
+    (HEADER, "#define PROBE_VERSION 3u", "#define PROBE_VERSION 2u"),
     (HEADER, "PROBE_NODE_BOXES_LENGTH(n) ((size_t)12 * (n))", "PROBE_NODE_BOXES_LENGTH(n) ((size_t)6 * (n))"),
     (HEADER, "((size_t)(nodes) + 1)", "((size_t)(nodes))"),
     (RUST, "a_x: f64,\n        a_y: f64,", "a_y: f64,\n        a_x: f64,"),
@@ -331,12 +363,12 @@ FAULTS = [
     (RUST, "pub fn probe_version() -> u32;", "pub fn probe_version() -> usize;"),
     (RUST, "pub const NONE: u32 = 257;", "pub const NONE: u32 = 256;"),
     (RUST, "pub const REFUSED_NO_NORMAL: u32 = 7;", "pub const REFUSED_NO_NORMAL: u32 = 8;"),
-    (RUST, "pub const VERSION: u32 = 2;", "pub const VERSION: u32 = 0;"),
+    (RUST, "pub const VERSION: u32 = 3;", "pub const VERSION: u32 = 0;"),
     (LENGTHS, "3 * n\n", "2 * n\n"),
     (RATTLE + "/shapes.rt", "    rows: usize,\n    columns: usize,", "    columns: usize,\n    rows: usize,"),
     (RATTLE + "/shapes.rt", "heights: &[f64],", "heights: &mut [f64],"),
     (RATTLE + "/shapes.rt", "side_x: u32,", "side_x: usize,"),
-    (RATTLE + "/shapes.rt", "{\n    2\n}", "{\n    1\n}"),
+    (RATTLE + "/shapes.rt", "{\n    3\n}", "{\n    2\n}"),
     (RATTLE + "/meshes.rt", "fn probe_query(", "fn probe_list("),
     (RATTLE + "/meshes.rt", "#[no_mangle]\n", ""),
     (CODES, "pub const NO: u32 = 259;", "pub const NO: u32 = 258;"),
@@ -354,10 +386,14 @@ FAULTS = [
     (STRUCTS[0], "    pub node_boxes: Span,\n    pub triangle_boxes: Span,", "    pub triangle_boxes: Span,\n    pub node_boxes: Span,"),
     (STRUCTS[1], "#[repr(C)]\n", ""),
     (REFUSALS[-1], "pub const LIMIT_REACHED: u32 = 10;", "pub const LIMIT_REACHED: u32 = 11;"),
-    (REFUSALS[3], "pub const NOT_WHOLE: u32 = 12;", "pub const NOT_WHOLE: u32 = 13;"),
+    (REFUSALS[3], "pub const OUT_OF_RANGE: u32 = 12;", "pub const OUT_OF_RANGE: u32 = 13;"),
     (REFUSALS[2], "pub const NOT_HELD: u32 = 11;", "pub const NOT_HELD: u32 = 10;"),
     (HEADER, "    const uint8_t *bytes,", "    const uint32_t *bytes,"),
     (RUST, "        out: *mut u8,", "        out: *const u8,"),
+    (HEADER, " *   12   out of range  ", " *   12   out of reach  "),
+    ("include/probe_rays.hpp", "no room: a lent slice", "no room: a slice"),
+    ("bindings/rust/src/answer.rs", "out of range: the origin or", "out of range: an origin or"),
+    ("bindings/python/probe_rays/answers.py", '    "NOT_HELD"', '    "HELD"'),
 ]
 
 
@@ -367,7 +403,7 @@ def self_test(folder, loud):
     for file, old, new in [(HEADER, "", "")] + FAULTS:
         with tempfile.TemporaryDirectory() as name:
             copy = pathlib.Path(name)
-            for path in [RATTLE, CODES, *REFUSALS, AREAS, HEADER, RUST, LENGTHS] + STRUCTS:
+            for path in [RATTLE, CODES, *REFUSALS, AREAS, HEADER, RUST, LENGTHS, *WORDS] + STRUCTS:
                 (copy / path).parent.mkdir(parents=True, exist_ok=True)
                 if (folder / path).is_dir():
                     shutil.copytree(folder / path, copy / path)

@@ -143,7 +143,6 @@ pub fn exact_mesh(ray: &Ray, mesh: &Mesh, tree: &Tree, lent: &mut Lent) -> u32 {
         &mesh.triangles,
         &mesh.vertices,
         &tree.lent(),
-        &mut lent.list,
         &mut lent.stack,
         &mut lent.hit,
         &mut lent.index,

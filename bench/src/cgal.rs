@@ -1,14 +1,14 @@
 //! CGAL's tree of boxes beside ours, where tools/bench has built its side (bench/cgal.cpp) and BENCH_CGAL names it.
 
 use crate::{
-    areas::{self, Mesh, Ray, Tree},
+    areas::{self, Lent, Mesh, Ray, Tree},
     clock, inputs,
     rows::{Both, Planned, plan, turns},
     timing::Row,
 };
 use probe_rays::sys::{DONE, HIT, NONE};
 use std::{
-    ffi::{CStr, CString, c_char, c_int, c_void},
+    ffi::{CString, c_char, c_int, c_void},
     hint::black_box,
     mem::transmute,
     rc::Rc,
@@ -43,22 +43,24 @@ struct Board {
 }
 
 impl Side {
-    fn loaded(file: &str) -> Self {
+    /// The side of one of the kernels, by what its functions' names begin with.
+    fn loaded(file: &str, kernel: &str) -> Self {
         let file = CString::new(file).expect("a file's name");
-        // SAFETY: the names are C strings, and the types are those of the four functions in bench/cgal.cpp.
+        // SAFETY: the names are C strings, and the types are those of a kernel's four functions in bench/cgal.cpp.
         unsafe {
             let library = dlopen(file.as_ptr(), RTLD_NOW);
             assert!(!library.is_null(), "{file:?} cannot be loaded");
-            let named = |name: &CStr| {
+            let named = |name: &str| {
+                let name = CString::new(format!("{kernel}_{name}")).expect("a name");
                 let found = dlsym(library, name.as_ptr());
                 assert!(!found.is_null(), "{file:?} has no {name:?}");
                 found
             };
             Self {
-                build: transmute::<*mut c_void, Build>(named(c"cgal_build")),
-                free: transmute::<*mut c_void, Free>(named(c"cgal_free")),
-                first: transmute::<*mut c_void, Cast>(named(c"cgal_first")),
-                nearest: transmute::<*mut c_void, Cast>(named(c"cgal_nearest")),
+                build: transmute::<*mut c_void, Build>(named("build")),
+                free: transmute::<*mut c_void, Free>(named("free")),
+                first: transmute::<*mut c_void, Cast>(named("first")),
+                nearest: transmute::<*mut c_void, Cast>(named("nearest")),
             }
         }
     }
@@ -109,19 +111,38 @@ fn build(name: &str, side: Side, mesh: Mesh) -> Row {
     }
 }
 
-/// Both answers are compared first: a hit on both sides or none, and distances that agree but for rounding.
-fn casts(name: &str, side: Side, cast: Cast, both: &Rc<Both>, rays: Vec<Ray>) -> Row {
+/// One of our casts through a tree, and how far its distances may be from CGAL's.
+#[derive(Clone, Copy)]
+struct Ours {
+    cast: fn(&Ray, &Mesh, &Tree, &mut Lent) -> u32,
+    off: f64,
+}
+
+/// But for rounding.
+const ROUNDED: Ours = Ours {
+    cast: areas::mesh,
+    off: 1e-9,
+};
+
+/// But for some units of the grid.
+const EXACT: Ours = Ours {
+    cast: areas::exact_mesh,
+    off: 1e-3,
+};
+
+/// Both answers are compared first: a hit on both sides or none, and distances that agree.
+fn casts(name: &str, side: Side, cast: Cast, ours: Ours, both: &Rc<Both>, rays: Vec<Ray>) -> Row {
     let (both, board) = (both.clone(), side.built(&both.mesh));
     let mut lent = both.lent();
     for ray in &rays {
-        let number = areas::mesh(ray, &both.mesh, &both.tree, &mut lent);
+        let number = (ours.cast)(ray, &both.mesh, &both.tree, &mut lent);
         match board.hit(cast, &numbers(ray)) {
             None => assert_eq!(number, NONE, "{name}: {ray:?}"),
             Some(distance) => {
                 assert_eq!(number, HIT, "{name}: {ray:?}");
                 let off = (lent.hit[3] - distance).abs();
                 assert!(
-                    off <= 1e-9 * (1.0 + distance),
+                    off <= ours.off * (1.0 + distance),
                     "{name}: {ray:?}, {distance}"
                 );
             }
@@ -133,7 +154,7 @@ fn casts(name: &str, side: Side, cast: Cast, both: &Rc<Both>, rays: Vec<Ray>) ->
         rays,
         theirs,
         move |ray, hit| {
-            let number = areas::mesh(ray, &both.mesh, &both.tree, &mut lent);
+            let number = (ours.cast)(ray, &both.mesh, &both.tree, &mut lent);
             *hit = lent.hit;
             number
         },
@@ -146,13 +167,45 @@ pub fn rows() -> Vec<Planned> {
     let Some(file) = std::env::var_os("BENCH_CGAL") else {
         return Vec::new();
     };
-    let side = Side::loaded(&file.to_string_lossy());
+    let side = Side::loaded(&file.to_string_lossy(), "cgal");
+    let sharp = Side::loaded(&file.to_string_lossy(), "cgal_exact");
     let at = |name: &str, cast: Cast, mesh: fn() -> Mesh, rays: Vec<Ray>| {
         plan(name, move |name: &str| {
-            casts(name, side, cast, &Both::of(mesh()), rays)
+            casts(name, side, cast, ROUNDED, &Both::of(mesh()), rays)
+        })
+    };
+    // the exact cast beside the kernel whose predicates are exact
+    let exact = |kind: &str, cast: Cast, mesh: fn() -> Mesh, rays: Vec<Ray>| {
+        let name = format!("exact, {kind}, beside CGAL's exact predicates");
+        plan(&name, move |name: &str| {
+            casts(name, sharp, cast, EXACT, &Both::of(mesh()), rays)
         })
     };
     vec![
+        exact(
+            "drawer front, hit",
+            sharp.nearest,
+            inputs::front,
+            inputs::front_rays(256),
+        ),
+        exact(
+            "panel, short axis probes",
+            sharp.nearest,
+            inputs::panel,
+            inputs::short_probes(1_024),
+        ),
+        exact(
+            "panel, long oblique rays",
+            sharp.first,
+            inputs::panel,
+            inputs::long_rays(8),
+        ),
+        exact(
+            "panel, miss through a hole",
+            sharp.nearest,
+            inputs::panel,
+            inputs::through_holes(1_024),
+        ),
         plan("build, panel, beside CGAL", move |name: &str| {
             build(name, side, inputs::panel())
         }),

@@ -1,5 +1,5 @@
-//! The cast on whole millimetres, without a tree and through one, and the rounded casts beside them, at the same part with the
-//! same rays along an axis. The Rust's side is its tree cast in all.
+//! The exact cast, without a tree and through one, and the rounded casts beside them, at the same part with the same rays: on
+//! whole millimetres along an axis, and short probes and long oblique rays at the panel. The Rust's side is its tree cast in all.
 
 use crate::{
     areas::{self, Lent, Mesh, Ray},
@@ -54,20 +54,26 @@ fn is_small(part: &str) -> bool {
     part.starts_with("12 ")
 }
 
-/// The same number, the same normal, and a distance that is the Rust's but for rounding (crates/whole_numbers: 2^-51, and ours).
-fn compare(name: &str, wanted: u32, ours: (u32, [f64; 4]), rust: (u32, [f64; 4])) {
-    assert_eq!((ours.0, rust.0), (wanted, wanted), "{name}");
-    let near = (ours.1[3] - rust.1[3]).abs() <= rust.1[3] * f64::EPSILON * 3.0;
-    let same = ours.1[..3] == rust.1[..3] && near;
-    assert!(ours.0 != HIT || same, "{name}: {ours:?}, {rust:?}");
+/// How far an answer may be from the Rust's: on whole millimetres by rounding alone (crates/whole_numbers: 2^-51, and ours), and
+/// elsewhere by some units of the grid.
+type Compare = fn(ours: [f64; 4], rust: [f64; 4]) -> bool;
+
+fn but_for_rounding(ours: [f64; 4], rust: [f64; 4]) -> bool {
+    let near = (ours[3] - rust[3]).abs() <= rust[3] * f64::EPSILON * 3.0;
+    ours[..3] == rust[..3] && near
+}
+
+fn but_for_the_grid(ours: [f64; 4], rust: [f64; 4]) -> bool {
+    (ours[3] - rust[3]).abs() <= 1e-3
 }
 
 /// A row of one of our casts, its hit in the lent areas.
 fn row(
     name: &str,
-    wanted: u32,
+    wanted: Option<u32>,
     both: &Rc<Both>,
     rays: Vec<Ray>,
+    same: Compare,
     cast: impl Fn(&Ray, &Both, &mut Lent) -> u32 + 'static,
 ) -> Row {
     let (a, b) = (both.clone(), both.clone());
@@ -76,7 +82,11 @@ fn row(
     for (ray, rust_ray) in rays.iter().zip(&rust) {
         let number = cast(ray, both, &mut lent);
         let rust = timed::mesh(*rust_ray, &b.rust_mesh, &b.rust_tree, &mut scratch);
-        compare(name, wanted, (number, lent.hit), numbered(rust));
+        let (theirs, hit) = numbered(rust);
+        assert_eq!(number, wanted.unwrap_or(number), "{name}");
+        assert_eq!(number, theirs, "{name}: {ray:?}");
+        let same = number != HIT || same(lent.hit, hit);
+        assert!(same, "{name}: {:?}, {hit:?}", lent.hit);
     }
     turns(
         name,
@@ -98,12 +108,40 @@ fn planned(
 ) -> Planned {
     let (mesh, wanted, rays) = (*mesh, *wanted, rays.clone());
     plan(&format!("{how}, {part}, {kind}"), move |name: &str| {
-        row(name, wanted, &Both::of(mesh()), rays, cast)
+        row(
+            name,
+            Some(wanted),
+            &Both::of(mesh()),
+            rays,
+            but_for_rounding,
+            cast,
+        )
     })
+}
+
+/// At the panel, through its tree: exact and rounded.
+fn at_panel(kind: &str, rays: fn() -> Vec<Ray>) -> [Planned; 2] {
+    let planned = |how: &str, cast: fn(&Ray, &Both, &mut Lent) -> u32| {
+        plan(&format!("{how}, panel, {kind}"), move |name: &str| {
+            let both = Both::of(inputs::panel());
+            row(name, None, &both, rays(), but_for_the_grid, cast)
+        })
+    };
+    [
+        planned("exact, its tree", exact_tree),
+        planned("rounded, its tree", rounded_tree),
+    ]
 }
 
 pub fn rows() -> Vec<Planned> {
     let mut rows = Vec::new();
+    rows.extend(at_panel("short axis probes", || {
+        inputs::short_probes(1_024)
+    }));
+    rows.extend(at_panel("long oblique rays", || inputs::long_rays(8)));
+    rows.extend(at_panel("miss through a hole", || {
+        inputs::through_holes(1_024)
+    }));
     for met in &met() {
         if is_small(met.0) {
             rows.push(planned("exact, no tree", met, exact));

@@ -440,9 +440,61 @@ pub fn case(seed: u64, number: u64) -> Call {
     }
 }
 
-/// One case without a limit, and with limits about its need.
+/// A ray from a part's own origin, on a corner of its triangle. The distance is a zero, and its sign tells which of the two origins was
+/// taken off the other.
+fn from_own_origin() -> Call {
+    let around = vec![-2.0, 0.0, 0.0, 2.0, 2.0, 0.0];
+    let areas = Areas {
+        vertices: vec![2.0, 2.0, 0.0, -2.0, 0.0, 0.0, 0.0, 0.0, 0.0],
+        triangles: vec![0, 1, 2],
+        node_boxes: around.repeat(2),
+        triangle_boxes: around,
+        node_words: vec![0, 0, 1, 0, 0, 0],
+        order: vec![0],
+    };
+    let span = |length| Span { start: 0, length };
+    let origin = [1.0, 2.0, -3.0];
+    Call {
+        ray: Ray {
+            origin,
+            direction: [0.0, 0.0, 1.0],
+            maximum: 4.0,
+            near: 0.0,
+        },
+        parts: vec![Part {
+            origin,
+            nodes: 1,
+            vertices: span(9),
+            triangles: span(3),
+            node_boxes: span(12),
+            triangle_boxes: span(6),
+            node_words: span(6),
+            order: span(1),
+        }],
+        areas,
+        limit: usize::MAX,
+        list: vec![7],
+        stack: vec![7; 2],
+        hit: vec![7.0; 4],
+        index: vec![7],
+        part: vec![7],
+        spent: vec![7],
+    }
+}
+
+/// The case that no seeded one stands for.
+pub fn compare_made(log: &mut Log) {
+    with_limits(log, from_own_origin(), &mut Random::new(1));
+}
+
+/// A seeded case.
 pub fn compare(log: &mut Log, seed: u64, number: u64) {
-    let mut call = case(seed, number);
+    let random = &mut Random::of_record(seed ^ 0x6c69_6d69, number);
+    with_limits(log, case(seed, number), random);
+}
+
+/// One case without a limit, and with limits about its need.
+fn with_limits(log: &mut Log, mut call: Call, random: &mut Random) {
     log.context = "no limit";
     let Some(done) = beside_the_model(log, &call) else {
         return;
@@ -453,7 +505,6 @@ pub fn compare(log: &mut Log, seed: u64, number: u64) {
         _ => done.spent.first().copied().unwrap_or(0),
     };
     log.context = "a limit about the need";
-    let random = &mut Random::of_record(seed ^ 0x6c69_6d69, number);
     for limit in [
         0,
         need.saturating_sub(1),

@@ -9,7 +9,7 @@ use crate::{
 use oracle::{
     answer::{self, Answer, agree},
     model::{self, BuildAreas},
-    plain, record,
+    plain,
     tree::{self, FlatTree},
 };
 use probe_rays::sys;
@@ -453,9 +453,6 @@ fn cast_beside_the_rust(held: &mut Held, call: &Cast, done: &library::Hit) {
         return held.left_out(NO_END);
     }
     let rust = answer::mesh_with_tree(&call.ray, call.vertices, call.indices, call.pose, call.tree);
-    if rust == Answer::Refused(7) {
-        return held.left_out(record::NORMAL);
-    }
     if !walk.within_limits && done.number == 5 && rust != Answer::Refused(5) {
         return held.left_out(NO_LIMIT);
     }

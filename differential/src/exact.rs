@@ -1,14 +1,14 @@
-//! The cast on whole millimetres: beside the model everywhere, and on boards beside the judge in fractions too. The Rust has
-//! no such cast.
+//! The exact cast: beside the model everywhere, and on boards beside the judge in fractions too; and whether a mesh's corners
+//! are numbers. The Rust has no such call.
 
 use crate::{
-    boards::{self, Board, FARTHEST, LONGEST, met},
+    boards::{self, Board, met},
     calls::{Held, MODEL, SHORT_RESULT, answer_is, exact, run},
     exact_tree,
     lent::Lent,
     library::{self, Fault, Hit, only_read, written},
     log::Log,
-    plain::PlainCast,
+    plain::{PlainCast, plain_cast},
     run::{Mesh, changed, result},
 };
 use oracle::{
@@ -20,8 +20,17 @@ use probe_rays::{calls, sys};
 
 pub const EXACT: &str = "exact cast without a tree";
 
+pub const NUMBERS: &str = "numbers of a mesh";
+
 const JUDGE: &str = "the judge in fractions";
-const CLOSED: &str = "a closed board, which every way in hits";
+const CLOSED: &str = "a closed board, which every way in and out hits";
+
+/// What the rounded cast misses of them.
+pub const MISSED: &str = "ways that the rounded cast misses";
+
+/// The farthest coordinate and the longest segment in millimetres.
+const FARTHEST: f64 = 8_192.0;
+const LONGEST: f64 = 32_768.0;
 
 /// Rays that are cast at one mesh.
 const RAYS: usize = 3;
@@ -49,19 +58,20 @@ pub(crate) fn exact_cast(call: &PlainCast) -> Result<Hit, Fault> {
     })
 }
 
-/// The mesh as it is; on whole millimetres, with and without one thing that is not whole or beyond the range; and a board.
+/// The mesh as it is; with coordinates that are whole, of a grid or half a unit off it; with one thing out of range; and a
+/// board.
 pub fn compare(log: &mut Log, seed: u64, number: u64, mesh: &Mesh) {
     let random = &mut Random::of_record(seed.rotate_left(32) ^ 0x6578_6163_7400, number);
     log.context = "as drawn";
     casts(log, random, mesh);
-    let rounded = on_whole_millimetres(random, mesh);
-    log.context = "on whole millimetres";
+    let rounded = on_grid(random, mesh);
+    log.context = "on a grid";
     casts(log, random, &rounded);
     let board = boards::board(random);
     let mut board = Mesh {
-        ray: board.line.ray(),
-        vertices: board.vertices(),
+        ray: board.ray,
         indices: board.indices(),
+        vertices: board.vertices,
     };
     log.context = "a board";
     casts(log, random, &board);
@@ -69,7 +79,7 @@ pub fn compare(log: &mut Log, seed: u64, number: u64, mesh: &Mesh) {
     damage(random, &mut board);
     casts(log, random, &board);
     if rounded.indices.len() >= 3 && rounded.vertices.len() >= 3 {
-        log.context = "on whole millimetres, one coordinate or index changed";
+        log.context = "on a grid, one coordinate or index changed";
         let mut other = changed(random, &rounded);
         if random.once_in(2) {
             damage(random, &mut other);
@@ -78,29 +88,31 @@ pub fn compare(log: &mut Log, seed: u64, number: u64, mesh: &Mesh) {
     }
 }
 
-/// Every coordinate of an ordinary part at a whole number near it, times a whole number; a ray along an axis.
-fn on_whole_millimetres(random: &mut Random, mesh: &Mesh) -> Mesh {
+/// Every coordinate of an ordinary part at a whole number near it, times whole millimetres, units or half units.
+fn on_grid(random: &mut Random, mesh: &Mesh) -> Mesh {
+    let unit = 1.0 / 32_768.0;
     let times = random.pick(&[1.0, 2.0, 30.0, 1_000.0]);
+    let scale = random.pick(&[1.0, 1.0, unit, unit / 2.0]);
     let mut whole = mesh.clone();
     whole
         .vertices
         .iter_mut()
-        .for_each(|x| *x = (*x * times).round());
+        .for_each(|x| *x = (*x * times).round() * scale);
     whole.ray = ray_at(random, &whole);
     whole
 }
 
-/// A ray along an axis on whole millimetres, often at a corner's place or half way along a side.
+/// A ray at a corner's place or half way along a side: along an axis, or from one such place toward another.
 fn ray_at(random: &mut Random, mesh: &Mesh) -> Ray {
     let place = |random: &mut Random| -> [f64; 3] {
         let vertex = 3 * random.below((mesh.vertices.len() / 3).max(1));
         let corner = mesh.vertices.get(vertex..vertex + 3).unwrap_or(&[0.0; 3]);
         [0, 1, 2].map(|k| corner[k])
     };
-    let (p, q) = (place(random), place(random));
+    let (p, q, r) = (place(random), place(random), place(random));
     let mut origin = match random.below(3) {
         0 => p,
-        1 => [0, 1, 2].map(|k| ((p[k] + q[k]) / 2.0).round()),
+        1 => [0, 1, 2].map(|k| (p[k] + q[k]) / 2.0),
         _ => [p[0], q[1], q[2]],
     };
     let axis = random.below(3);
@@ -108,9 +120,15 @@ fn ray_at(random: &mut Random, mesh: &Mesh) -> Ray {
     let zero = random.pick(&[0.0, 0.0, 0.0, -0.0]);
     let mut direction = [zero; 3];
     direction[axis] = random.sign();
+    let way = [0, 1, 2].map(|k| r[k] - origin[k]);
+    let length = way.iter().map(|x| x * x).sum::<f64>().sqrt();
+    if random.once_in(2) && length > 0.0 && length.is_finite() {
+        direction = way.map(|x| x / length);
+    }
     let maximum = match random.below(8) {
-        0 => LONGEST as f64,
+        0 => LONGEST,
         1 => random.within(0, 4) as f64,
+        2 => random.between(0.0, 40.0),
         _ => random.within(0, 40) as f64,
     };
     let near = match random.below(6) {
@@ -127,18 +145,17 @@ fn ray_at(random: &mut Random, mesh: &Mesh) -> Ray {
     }
 }
 
-/// One number of the ray or of the mesh that is not whole, or at or beyond the end of its range.
+/// One number of the ray or of the mesh off the grid, or at or beyond the end of its range.
 fn damage(random: &mut Random, mesh: &mut Mesh) {
-    let (farthest, longest) = (FARTHEST as f64, LONGEST as f64);
     let coordinate = |random: &mut Random, x: f64| match random.below(10) {
-        0 => x + 0.5,
+        0 => x + 1.0 / 65_536.0,
         1 => random.nudged(x),
         2 => -0.0,
         3 => random.special(),
-        4 => farthest,
-        5 => -farthest,
-        6 | 7 => farthest + 1.0,
-        8 => -farthest - 1.0,
+        4 => FARTHEST,
+        5 => -FARTHEST,
+        6 | 7 => random.pick(&[FARTHEST + 1.0, 8_192.000_000_000_002, FARTHEST + 1e-5]),
+        8 => -FARTHEST - 1.0,
         _ => x * 1e300,
     };
     let ray = &mut mesh.ray;
@@ -147,10 +164,10 @@ fn damage(random: &mut Random, mesh: &mut Mesh) {
             let axis = random.below(3);
             ray.origin[axis] = coordinate(random, ray.origin[axis]);
         }
-        1 => ray.maximum = random.pick(&[longest, longest + 1.0, ray.maximum + 0.5, 1e300]),
+        1 => ray.maximum = random.pick(&[LONGEST, LONGEST + 1.0, ray.maximum + 1.0, 1e300]),
         2 => {
             // the longest segment starts at its end
-            ray.maximum = random.pick(&[longest, longest + 1.0]);
+            ray.maximum = random.pick(&[LONGEST, LONGEST + 1.0]);
             ray.near = random.pick(&[ray.maximum, ray.maximum + 1.0, ray.near + 0.5, -0.0]);
         }
         3 => ray.direction = random.pick(&[[0.6, 0.8, 0.0], [1.0, 1e-13, 0.0], [-0.0, 0.0, 1.0]]),
@@ -171,8 +188,30 @@ fn damage(random: &mut Random, mesh: &mut Mesh) {
     }
 }
 
+/// Whether every corner of every triangle is a number, as the model has it.
+fn numbers(log: &mut Log, mesh: &Mesh) {
+    let held = &mut Held {
+        log,
+        name: NUMBERS,
+        call: &(&mesh.vertices, &mesh.indices),
+    };
+    let (vertices, indices) = (Lent::new(&mesh.vertices), Lent::new(&mesh.indices));
+    let number = calls::mesh_has_numbers(vertices.contents(), indices.contents());
+    let unread = only_read("the vertices", &vertices, &mesh.vertices).and(only_read(
+        "the triangles",
+        &indices,
+        &mesh.indices,
+    ));
+    let Some(number) = run(held, unread.map(|()| number), |&number| number) else {
+        return;
+    };
+    let has = mesh_exact::mesh_has_numbers(&mesh.vertices, &mesh.indices);
+    held.number(number, if has { sys::YES } else { sys::NO }, MODEL);
+}
+
 /// The mesh's own ray, and others at its corners and sides, without a tree and through trees.
 fn casts(log: &mut Log, random: &mut Random, mesh: &Mesh) {
+    numbers(log, mesh);
     let mut rays = vec![mesh.ray];
     if mesh.vertices.len() >= 3 {
         rays.extend([(); RAYS - 1].map(|()| ray_at(random, mesh)));
@@ -219,19 +258,19 @@ fn cast(log: &mut Log, call: &PlainCast) {
     }
 }
 
-/// 1, 12 of the ray and 2 go before the result slices' 3; 12 of a candidate does not.
+/// 1, 12 of the ray and 2 go before the result slices' 3; 12 of a corner does not.
 pub(crate) fn before_results(ray: &Ray, answer: &Answer) -> Option<u32> {
     match answer {
         Answer::Refused(number @ 1..=2) => Some(*number),
-        Answer::Refused(12) if !mesh_exact::ray_is_whole(ray) => Some(12),
+        Answer::Refused(12) if !mesh_exact::ray_in_range(ray) => Some(12),
         _ => None,
     }
 }
 
-fn call_of<'a>(board: &Board, vertices: &'a [f64], indices: &'a [u32]) -> PlainCast<'a> {
+fn call_of<'a>(board: &'a Board, indices: &'a [u32]) -> PlainCast<'a> {
     PlainCast {
-        ray: board.line.ray(),
-        vertices,
+        ray: board.ray,
+        vertices: &board.vertices,
         indices,
         hit: &[f64::NAN; 4],
         index: &[u32::MAX],
@@ -240,8 +279,8 @@ fn call_of<'a>(board: &Board, vertices: &'a [f64], indices: &'a [u32]) -> PlainC
 
 /// A board beside the judge and beside the model; what it met is counted.
 pub fn board(log: &mut Log, board: &Board) {
-    let (vertices, indices) = (board.vertices(), board.indices());
-    let call = &call_of(board, &vertices, &indices);
+    let indices = board.indices();
+    let call = &call_of(board, &indices);
     let held = &mut Held {
         log,
         name: EXACT,
@@ -252,7 +291,7 @@ pub fn board(log: &mut Log, board: &Board) {
     };
     let judged = board.judged();
     met(board, judged.as_ref(), |what| held.log.count(what));
-    let model = mesh_exact::ray_mesh_exact_plain(&call.ray, &vertices, &indices);
+    let model = mesh_exact::ray_mesh_exact_plain(&call.ray, call.vertices, call.indices);
     answer_is(held, &done, &model, exact, MODEL);
     held.compared(JUDGE);
     let same = match &judged {
@@ -269,10 +308,16 @@ pub fn board(log: &mut Log, board: &Board) {
     exact_tree::board(log, call, &done);
 }
 
-/// A segment from outside of a closed board to a place in it: a hit, from near to the maximum.
-pub fn way_in(log: &mut Log, board: &Board) {
-    let (vertices, indices) = (board.vertices(), board.indices());
-    let call = &call_of(board, &vertices, &indices);
+/// A segment into a closed board or out of it: a hit, from near to the maximum, through a tree and without one. What the
+/// rounded cast misses of them is counted.
+pub fn way(log: &mut Log, ray: &Ray, vertices: &[f64], indices: &[u32]) {
+    let call = &PlainCast {
+        ray: *ray,
+        vertices,
+        indices,
+        hit: &[f64::NAN; 4],
+        index: &[u32::MAX],
+    };
     let held = &mut Held {
         log,
         name: EXACT,
@@ -282,9 +327,14 @@ pub fn way_in(log: &mut Log, board: &Board) {
         return;
     };
     held.compared(CLOSED);
-    let reached = call.ray.near <= done.hit[3] && done.hit[3] <= call.ray.maximum;
+    let unit = 1.0 / 32_768.0;
+    let reached = call.ray.near - unit <= done.hit[3] && done.hit[3] <= call.ray.maximum + unit;
     if done.number != sys::HIT || !reached {
         let told = (done.number, &done.hit);
-        held.differs(format!("answers {told:?} on the way into a closed board"));
+        held.differs(format!("answers {told:?} through a closed board"));
     }
+    if plain_cast(call).is_ok_and(|rounded| rounded.number == sys::NONE) {
+        held.log.count(MISSED);
+    }
+    exact_tree::board(log, call, &done);
 }

@@ -1,9 +1,10 @@
-//! The cast on whole millimetres through trees of every sort: beside the model, and through a tree that passes the check
-//! beside the library's own cast without a tree.
+//! The exact cast through trees of every sort: its refusals beside the model; through a tree that passes the check, for a mesh
+//! without a NaN, beside the library's own cast without a tree and the model; through any other tree, or at other vertices, that
+//! the call ends, and that a hit is the model's of its triangle.
 
 use crate::{
     calls::{Held, MODEL, SHORT_RESULT, answer_is, exact, run},
-    exact::{before_results, exact_cast},
+    exact::exact_cast,
     lent::same_bits,
     library::{self, Cast},
     log::Log,
@@ -52,7 +53,7 @@ fn casts(log: &mut Log, random: &mut Random, mesh: &Mesh, mut tree: FlatTree, ra
     }
     let pose = cases::pose(random, &mesh.vertices);
     for pose in [&mesh.vertices, &pose] {
-        let [list, stack] = work_areas(random, mesh.indices.len() / 3, tree.node_count);
+        let [_, stack] = work_areas(random, mesh.indices.len() / 3, tree.node_count);
         cast(
             log,
             &Cast {
@@ -61,7 +62,7 @@ fn casts(log: &mut Log, random: &mut Random, mesh: &Mesh, mut tree: FlatTree, ra
                 indices: &mesh.indices,
                 pose,
                 tree: &tree,
-                list: &list,
+                list: &[],
                 stack: &stack,
                 hit: &result(random, 4, Random::special),
                 index: &result(random, 1, |random| random.bits() as u32),
@@ -70,56 +71,98 @@ fn casts(log: &mut Log, random: &mut Random, mesh: &Mesh, mut tree: FlatTree, ra
     }
 }
 
+/// The call has no list.
+fn through(call: &Cast) -> Result<library::Hit, library::Fault> {
+    library::cast_by(
+        |ray, vertices, triangles, pose, tree, _, stack, hit, index| {
+            calls::ray_mesh_exact(ray, vertices, triangles, pose, tree, stack, hit, index)
+        },
+        call,
+    )
+}
+
 fn cast(log: &mut Log, call: &Cast) {
     let held = &mut Held {
         log,
         name: EXACT_TREE,
         call,
     };
-    let done = library::cast_by(calls::ray_mesh_exact, call);
-    let Some(done) = run(held, done, |done| done.number) else {
+    let Some(done) = run(held, through(call), |done| done.number) else {
         return;
     };
     let short = call.hit.len() < 4 || call.index.is_empty();
-    let answer = mesh_exact::ray_mesh_exact(
+    let refused = mesh_exact::refused_before_walk(
         &call.ray,
         call.vertices,
         call.indices,
         call.pose,
         call.tree.into(),
-        call.list.len(),
         call.stack.len(),
     );
-    let expected = match before_results(&call.ray, &answer) {
-        Some(number) => Answer::Refused(number),
-        None if short => Answer::Refused(3),
-        None => answer,
+    let refused = match refused {
+        None | Some(4) if short => Some(3),
+        refused => refused,
     };
-    answer_is(held, &done, &expected, exact, MODEL);
-    let written = done.number == sys::HIT && !short;
+    if let Some(number) = refused {
+        held.number(done.number, number, MODEL);
+        held.slice("the stack", &done.stack, call.stack);
+    }
+    let written = done.number == sys::HIT;
     let (values, indices) = if written { (4, 1) } else { (0, 0) };
     held.slice("the hit", &done.hit[values..], &call.hit[values..]);
     held.slice("the index", &done.index[indices..], &call.index[indices..]);
-    let untouched = short || !mesh_exact::ray_is_whole(&call.ray);
-    if untouched || matches!(expected, Answer::Refused(1..=4)) {
-        held.slice("the list", &done.list, call.list);
-        held.slice("the stack", &done.stack, call.stack);
-    }
     if short {
         return held.left_out(SHORT_RESULT);
     }
-    beside_no_tree(held, call, &done);
+    if refused.is_none() {
+        after_walk(held, call, &done);
+        beside_no_tree(held, call, &done);
+    }
 }
 
-/// Number, hit and index are those of the cast without a tree, to the bit, where the tree passes the check.
+/// Through any tree and at any vertices: a hit is that of its triangle, 12 has a corner out of range, and nothing but these, 5
+/// and none is answered.
+fn after_walk(held: &mut Held, call: &Cast, done: &library::Hit) {
+    let at = |index| mesh_exact::triangle_at(&call.ray, call.pose, call.indices, index);
+    match done.number {
+        sys::HIT => match at(done.index[0]) {
+            Answer::Hit {
+                normal, distance, ..
+            } => {
+                let index = Some(done.index[0]);
+                let found = Answer::Hit {
+                    normal,
+                    distance,
+                    index,
+                };
+                answer_is(held, done, &found, exact, MODEL);
+            }
+            other => held.differs(format!("hits a triangle that answers {other:?}")),
+        },
+        12 => {
+            held.compared(MODEL);
+            let mut all = 0..call.indices.len() as u32 / 3;
+            if !all.any(|index| at(index) == Answer::Refused(12)) {
+                held.differs("answers 12, and no corner is out of range".to_owned());
+            }
+        }
+        5 | sys::NONE => {}
+        number => held.differs(format!("answers {number} after the walk")),
+    }
+}
+
+/// Number, hit and index are those of the cast without a tree, to the bit, where the tree passes the check and no corner is NaN.
 fn beside_no_tree(held: &mut Held, call: &Cast, done: &library::Hit) {
-    if matches!(done.number, 2..=4) || !same_bits(call.pose, call.vertices) {
-        return held.left_out("the areas do not suffice, or cast at other vertices");
+    if !same_bits(call.pose, call.vertices) {
+        return held.left_out("cast at other vertices");
     }
     let marks = call.indices.len();
     let passes = model::tree_check(call.vertices, call.indices, call.tree.into(), marks);
     if passes != model::Check::Yes {
         return held.left_out("the tree does not pass the check");
+    }
+    if !mesh_exact::mesh_has_numbers(call.vertices, call.indices) {
+        return held.left_out("a corner is NaN");
     }
     let without = exact_cast(&PlainCast {
         ray: call.ray,
@@ -151,19 +194,18 @@ pub fn board(log: &mut Log, call: &PlainCast, without: &library::Hit) {
     let Some(built) = built_tree(call.vertices, call.indices) else {
         return held.differs("no tree is built".to_owned());
     };
-    let through = Cast {
+    let call = Cast {
         ray: call.ray,
         vertices: call.vertices,
         indices: call.indices,
         pose: call.vertices,
         tree: &built,
-        list: &vec![0; call.indices.len() / 3],
+        list: &[],
         stack: &vec![0; built.node_count + 1],
         hit: call.hit,
         index: call.index,
     };
-    let done = library::cast_by(calls::ray_mesh_exact, &through);
-    if let Some(done) = run(held, done, |done| done.number) {
+    if let Some(done) = run(held, through(&call), |done| done.number) {
         same(held, &done, without);
     }
 }

@@ -14,7 +14,7 @@ use oracle::{
     listing::{self, HitArea, Row},
     plain,
     random::Random,
-    record, tree,
+    tree,
 };
 use probe_rays::{calls, sys};
 
@@ -171,9 +171,6 @@ fn beside_the_rust(held: &mut Held, call: &Listing, done: &Listed) {
         return held.left_out(NO_LIMIT);
     }
     let rust = rust_rows(call, &bounds);
-    if rust == Err(7) {
-        return held.left_out(record::NORMAL);
-    }
     held.compared(RUST);
     match rust {
         Err(number) => held.number(done.number, number, RUST),

@@ -10,7 +10,7 @@ use crate::{
     run::{Mesh, aimed_ray, mesh_of, places, result},
 };
 use oracle::{
-    answer::{Answer, Ray},
+    answer::{Answer, MOST_TRIANGLES, MOST_VERTICES, Ray},
     cases::{self, about, about_tree, filled, filled_floats},
     merge::{self, Areas, Board},
     random::Random,
@@ -220,6 +220,55 @@ pub fn largest(log: &mut Log, random: &mut Random, first: &Mesh, second: &Mesh, 
     let mut more = second.clone();
     more.indices.extend([0, 1, 2]);
     glued(log, random, &a, &own(&more), exact, &[]);
+}
+
+/// A board of one triangle and vertices beside it, or of that triangle many times, with the library's tree.
+fn repeated(vertices: usize, triangles: usize) -> Own {
+    let mut mesh = Mesh {
+        ray: Ray {
+            origin: [0.25, 0.25, 1.0],
+            direction: [0.0, 0.0, -1.0],
+            maximum: 2.0,
+            near: 0.0,
+        },
+        vertices: vec![0.0, 0.0, 0.0, 1.0, 0.0, 0.0, 0.0, 1.0, 0.0],
+        indices: [0, 1, 2].repeat(triangles),
+    };
+    mesh.vertices.resize(3 * vertices, 1.0);
+    let tree = library_tree(&mesh).expect("the library builds it");
+    Own {
+        vertices: mesh.vertices,
+        indices: mesh.indices,
+        tree,
+    }
+}
+
+/// Two boards with as many vertices, and with as many triangles, as are admitted together, and with one more.
+pub fn at_the_limits(log: &mut Log, random: &mut Random) {
+    let (vertices, triangles) = (MOST_VERTICES / 2, MOST_TRIANGLES / 2);
+    let exact: Length = |_, stated| stated;
+    let small = repeated(vertices, 1);
+    for more in [0, 1] {
+        glued(
+            log,
+            random,
+            &small,
+            &repeated(vertices + more, 1),
+            exact,
+            &[],
+        );
+    }
+    let many = repeated(3, triangles);
+    for more in [0, 1] {
+        glued(
+            log,
+            random,
+            &many,
+            &repeated(3, triangles + more),
+            exact,
+            &[],
+        );
+    }
 }
 
 /// The ray of a board's mesh, and one aimed at a triangle of it.

@@ -12,7 +12,6 @@ use oracle::{
     answer::{self, Answer, Ray, agree},
     mesh_plain, plain,
     random::Random,
-    record,
     tree::{self, FlatTree},
 };
 use probe_rays::{calls, sys};
@@ -33,7 +32,7 @@ pub struct PlainCast<'a> {
     pub index: &'a [u32],
 }
 
-fn plain_cast(call: &PlainCast) -> Result<Hit, Fault> {
+pub(crate) fn plain_cast(call: &PlainCast) -> Result<Hit, Fault> {
     let vertices = Lent::new(call.vertices);
     let indices = Lent::new(call.indices);
     let mut hit = Lent::new(call.hit);
@@ -170,9 +169,6 @@ fn beside_the_rust(held: &mut Held, call: &PlainCast, done: &Hit) {
     match tree::build(call.vertices, call.indices) {
         Ok(_) => {
             let rust = answer::mesh(&call.ray, call.vertices, call.indices);
-            if rust == Answer::Refused(7) {
-                return held.left_out(record::NORMAL);
-            }
             answer_is(held, done, &rust, agree, RUST);
         }
         Err(5) => held.left_out("the Rust builds no tree: no triangle, an index or a box"),

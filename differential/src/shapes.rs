@@ -12,6 +12,7 @@ use oracle::{
     cases, generate, plain,
     random::Random,
     record::{Record, Shape},
+    telling,
 };
 use probe_rays::{HeightField, LevelSet, Plane, calls, sys};
 
@@ -39,6 +40,14 @@ pub fn compare(log: &mut Log, random: &mut Random, seed: u64, number: u64) {
     let rows_above = random.once_in(400).then_some(1 << 32);
     log.context = "as drawn";
     cast(log, &record, &hit, rows_above);
+}
+
+/// Distance grids of as many layers as are admitted, and of one more.
+pub fn at_the_limits(log: &mut Log) {
+    log.context = "at the limits";
+    for layers in [256, 257] {
+        cast(log, &telling::layered(layers), &[7.0; 4], None);
+    }
 }
 
 fn name(shape: &Shape) -> &'static str {

@@ -1,11 +1,12 @@
-//! Closed boards on whole millimetres: boxes, sheared ones, prisms, boards with a pocket or a bore through. A segment from a
-//! place outside to one in the closed board has to hit, wherever it goes through the surface.
+//! Closed boards on a lattice: boxes, sheared ones, prisms, boards with a pocket or a bore through. A segment from a place
+//! outside to one in the closed board has to hit, wherever it goes through the surface, and so has a ray from a place in it.
 
 use crate::boards::{
-    Board, FARTHEST, LONGEST, Line, direction,
+    Board, Direction, FARTHEST, LONGEST, Line,
     judge::{Point, cross, dot, minus},
+    step,
 };
-use oracle::random::Random;
+use oracle::{answer::Ray, random::Random};
 
 type Holds = Box<dyn Fn(Point) -> bool>;
 
@@ -264,40 +265,140 @@ pub fn any(random: &mut Random) -> Solid {
 }
 
 impl Solid {
-    /// A segment from a whole place outside, along an axis, to one in the closed board; none where a few tries find no such.
-    pub fn way_in(&self, random: &mut Random) -> Option<Board> {
-        let inside = (0..20).find_map(|_| {
+    fn inside(&self, random: &mut Random) -> Option<Point> {
+        (0..20).find_map(|_| {
             let p = [0, 1, 2].map(|k| between(random, self.low[k], self.high[k]));
             (self.holds)(p).then_some(p)
-        })?;
-        let direction = direction(random);
-        let span = (0..3).map(|k| self.high[k] - self.low[k]).max().unwrap();
-        let length = between(random, 1, (span + 8).min(LONGEST));
-        let origin = minus(inside, times(direction, length));
-        if (self.holds)(origin) || origin.iter().any(|x| x.abs() > FARTHEST) {
-            return None;
-        }
-        // near is 0, or another place outside
-        let near = between(random, 0, length);
-        let near = if (self.holds)(plus(origin, times(direction, near))) {
-            0
-        } else {
-            near
-        };
-        let far = if random.once_in(2) {
-            length
-        } else {
-            between(random, length, LONGEST)
-        };
-        let line = Line {
-            origin,
-            direction,
-            near,
-            far,
-        };
-        Some(Board {
-            line,
-            triangles: self.triangles.clone(),
         })
     }
+
+    fn farthest(&self) -> i128 {
+        let ends = self.low.iter().chain(&self.high);
+        ends.map(|x| x.abs()).max().unwrap()
+    }
+
+    /// A segment from a place outside, in a direction of the lattice, to one in the closed board; none where a few tries find
+    /// no such.
+    pub fn way_in(&self, random: &mut Random) -> Option<Board> {
+        let inside = self.inside(random)?;
+        let direction = Direction::any(random);
+        let span = (0..3).map(|k| self.high[k] - self.low[k]).max().unwrap();
+        let length = between(random, 1, span + 8);
+        let origin = minus(inside, times(direction.vector, length));
+        let farthest = origin
+            .iter()
+            .fold(self.farthest(), |far, x| far.max(x.abs()));
+        if (self.holds)(origin) || farthest > FARTHEST {
+            return None;
+        }
+        let mut line = Line {
+            origin,
+            direction,
+            step: step(random, farthest),
+            near: 0,
+            far: 0,
+        };
+        let (over, under) = line.in_units((length, 1));
+        let end = over.div_euclid(under) + i128::from(over % under != 0);
+        if end > LONGEST {
+            return None;
+        }
+        line.far = if random.once_in(2) {
+            end
+        } else {
+            between(random, end, LONGEST)
+        };
+        Some(Board::new(random, line, self.triangles.clone()))
+    }
+
+    /// A ray from a place in the closed board that ends outside of it: in a direction of the lattice, along an axis, toward a
+    /// corner or the middle of a side, or in any direction.
+    pub fn way_out(&self, random: &mut Random) -> Option<Board> {
+        let origin = self.inside(random)?;
+        let line = Line {
+            origin,
+            direction: Direction::any(random),
+            step: step(random, self.farthest()),
+            near: 0,
+            far: LONGEST,
+        };
+        let mut board = Board::new(random, line, self.triangles.clone());
+        let t = random.pick(&self.triangles);
+        let toward = match random.below(4) {
+            0 => t[0],
+            1 => plus(t[0], minus(t[1], t[0]).map(|x| x / 2)),
+            2 => [0; 3].map(|_: i128| between(random, -1_000, 1_000)),
+            _ => return Some(board),
+        };
+        let way = minus(toward, origin).map(|x| x as f64);
+        let length = way.iter().map(|x| x * x).sum::<f64>().sqrt();
+        if length > 0.0 {
+            board.ray.direction = way.map(|x| x / length);
+        }
+        Some(board)
+    }
+}
+
+pub const ROUND: &str = "round bodies, finer than the grid in places";
+
+/// A closed round body of floats, and a ray from its middle outward: rings of corners about an axis between two poles, some of
+/// them closer than a unit of the grid, so that it flattens triangles. In any direction, along an axis, or toward a corner or the
+/// middle of a side.
+pub fn round(random: &mut Random) -> (Ray, Vec<f64>, Vec<u32>) {
+    let radius = random.pick(&[2e-4, 1e-3, 0.1, 5.0, 900.0]);
+    let middle = [0.0; 3].map(|_: f64| random.between(-6_000.0, 6_000.0));
+    let (rings, sectors) = (random.within(1, 6) as u32, random.within(3, 40) as u32);
+    let angle = |share: f64| (share * std::f64::consts::PI).sin_cos();
+    let mut vertices = Vec::new();
+    let mut put = |[x, y, z]: [f64; 3]| {
+        let at = [x, y, z];
+        vertices.extend((0..3).map(|k| middle[k] + radius * at[k]));
+    };
+    put([0.0, 0.0, 1.0]);
+    for ring in 1..=rings {
+        // every second ring lies close to the one before it
+        let share = f64::from(ring + ring % 2) / f64::from(rings + 2) + 1e-7 * f64::from(ring);
+        let (wide, high) = angle(share);
+        for sector in 0..sectors {
+            let (y, x) = angle(2.0 * f64::from(sector) / f64::from(sectors));
+            put([wide * x, wide * y, high]);
+        }
+    }
+    put([0.0, 0.0, -1.0]);
+    let at = |ring: u32, sector: u32| 1 + ring * sectors + sector % sectors;
+    let last = 1 + rings * sectors;
+    let mut indices = Vec::new();
+    for sector in 0..sectors {
+        indices.extend([0, at(0, sector), at(0, sector + 1)]);
+        for ring in 1..rings {
+            let (a, b) = (at(ring - 1, sector), at(ring - 1, sector + 1));
+            let (c, d) = (at(ring, sector), at(ring, sector + 1));
+            indices.extend([a, c, b, b, c, d]);
+        }
+        indices.extend([last, at(rings - 1, sector + 1), at(rings - 1, sector)]);
+    }
+    let corner = |random: &mut Random| {
+        let vertex = 3 * random.below(vertices.len() / 3);
+        [0, 1, 2].map(|k| vertices[vertex + k] - middle[k])
+    };
+    let (p, q) = (corner(random), corner(random));
+    let way = match random.below(4) {
+        0 => p,
+        1 => [0, 1, 2].map(|k| (p[k] + q[k]) / 2.0),
+        2 => Direction::any(random).floats,
+        _ => [0.0; 3].map(|_: f64| random.between(-1.0, 1.0)),
+    };
+    let length = way.iter().map(|x| x * x).sum::<f64>().sqrt();
+    let direction = if length > 0.0 {
+        way.map(|x| x / length)
+    } else {
+        [0.0, 0.0, 1.0]
+    };
+    let ray = Ray {
+        origin: middle,
+        direction,
+        maximum: 4_000.0,
+        near: 0.0,
+    };
+    (ray, vertices, indices)
 }

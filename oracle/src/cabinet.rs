@@ -4,6 +4,7 @@ use crate::{
     answer::{Answer, Ray},
     model::{self, Node, Tree},
     plain::{ray_admitted, segment_box, touches},
+    slips::{Slip::*, or},
 };
 
 /// A range of an area: its first element and how many.
@@ -88,7 +89,8 @@ fn refused(number: u32, spent: Option<usize>) -> CabinetAnswer {
 pub fn moved(ray: &Ray, part: &Part) -> Option<Ray> {
     let mut moved = *ray;
     for axis in 0..3 {
-        moved.origin[axis] = ray.origin[axis] - part.origin[axis];
+        let (from, to) = (part.origin[axis], ray.origin[axis]);
+        moved.origin[axis] = or(CabinetOrigin, to - from, -(from - to));
     }
     moved.origin.iter().all(|x| x.is_finite()).then_some(moved)
 }

@@ -70,7 +70,9 @@ pub fn merge(a: &Board, b: &Board, areas: &mut Areas, marks_length: usize) -> Re
         a.vertices.len() + b.vertices.len(),
         a.indices.len() + b.indices.len(),
     );
-    if !whole(a) || !whole(b) || v > 3 * MOST_VERTICES || n > 3 * MOST_TRIANGLES {
+    let vertices = or(MergeVertices, MOST_VERTICES, MOST_VERTICES - 1);
+    let triangles = or(MergeTriangles, MOST_TRIANGLES, MOST_TRIANGLES - 1);
+    if !whole(a) || !whole(b) || v > 3 * vertices || n > 3 * triangles {
         return Err(2);
     }
     let n = n / 3;

@@ -1,187 +1,301 @@
-//! The cast on whole millimetres, written down plainly, in whole numbers of 128 bits: 'the first point of the segment that
-//! lies in any closed triangle of the mesh, sides and corners included'.
+//! The exact cast written down plainly, in space and in whole numbers of 128 bits: 'none exactly where no point of the segment
+//! lies in a closed triangle of the mesh that has area on the grid; else a hit at the least depth over all triangles'.
 
 use crate::{
     answer::{Answer, Ray},
-    model::{Tree, candidates, corners, indices_admitted, vertices_admitted, vertices_box, walk},
-    plain::{self, ray_admitted, segment_box},
+    model::{Tree, candidates, corners, indices_admitted, vertices_admitted, vertices_box},
+    plain::{self, parts, ray_admitted},
     slips::{Slip::*, or, slipped},
 };
+use std::cmp::Ordering;
 
 type Point = [i128; 3];
 
 /// A number over one above 0.
 type Fraction = (i128, i128);
 
-const FARTHEST: i64 = 4_096;
-const LONGEST: i64 = 16_384;
+/// 2^15 units are a millimetre, and a direction's component is a whole number of 2^-30.
+const UNITS: u32 = 15;
+const PARTS: u32 = 30;
 
-/// A float that is a whole number from low to high; -0 is 0.
-fn whole(x: f64, low: i64, high: i64) -> Option<i128> {
-    let signed = slipped(ExactMinusZero) && x == 0.0 && x.is_sign_negative();
-    let admitted = x.fract() == 0.0 && x >= low as f64 && x <= high as f64 && !signed;
-    admitted.then_some(x as i128)
+const FURTHEST: f64 = 8_192.0;
+const LONGEST: f64 = 32_768.0;
+
+fn units() -> u32 {
+    or(ExactUnit, UNITS, UNITS + 1)
 }
 
-fn point(p: [f64; 3], farthest: i64) -> Option<Point> {
-    let [x, y, z] = p.map(|c| whole(c, -farthest, farthest));
-    Some([x?, y?, z?])
+/// 'the nearest whole number of units, ties to even': x times 2^places, by the float's digits.
+fn nearest_whole(x: f64, places: u32) -> i128 {
+    let (digits, exponent) = parts(x);
+    let digits = i128::from(digits);
+    let size = match exponent + places as i32 {
+        up @ 0.. => digits << up,
+        down @ -64..0 => {
+            let one = 1 << -down;
+            let (kept, rest) = (digits / one, digits % one);
+            let odd = or(ExactTie, kept % 2, 1);
+            kept + i128::from(2 * rest > one || 2 * rest == one && odd == 1)
+        }
+        _ => 0,
+    };
+    if x < 0.0 { -size } else { size }
 }
 
-/// 'origin whole from -4,096 to 4,096, one of the six axis directions, near and maximum whole, 0 to 16,384'
+fn within(x: f64, limit: f64) -> bool {
+    x.abs() <= limit
+}
+
+/// A point within 8,192 mm, on the grid.
+fn on_grid(p: [f64; 3], furthest: f64) -> Option<Point> {
+    let inside = p.iter().all(|&x| within(x, furthest));
+    inside.then(|| p.map(|x| nearest_whole(x, units())))
+}
+
+fn minus(p: Point, q: Point) -> Point {
+    [0, 1, 2].map(|k| p[k] - q[k])
+}
+
+fn cross(p: Point, q: Point) -> Point {
+    [1, 2, 0].map(|k| p[k] * q[(k + 1) % 3] - p[(k + 1) % 3] * q[k])
+}
+
+fn dot(p: Point, q: Point) -> i128 {
+    (0..3).map(|k| p[k] * q[k]).sum()
+}
+
+fn fraction(over: i128, under: i128) -> Fraction {
+    (over * under.signum(), under.abs())
+}
+
+/// By the whole parts, and then by what is left of each, upside down: no product is formed.
+fn order((a, b): Fraction, (c, d): Fraction) -> Ordering {
+    let wholes = a.div_euclid(b).cmp(&c.div_euclid(d));
+    match (wholes, a.rem_euclid(b), c.rem_euclid(d)) {
+        (Ordering::Equal, 0, 0) => Ordering::Equal,
+        (Ordering::Equal, 0, _) => Ordering::Less,
+        (Ordering::Equal, _, 0) => Ordering::Greater,
+        (Ordering::Equal, rest, other) => order((d, other), (b, rest)),
+        (told, _, _) => told,
+    }
+}
+
+/// 'the segment is origin + s · direction / 2^30 for s from near to the maximum, both included'
 struct Line {
-    axis: usize,
-    sign: i128,
     origin: Point,
+    direction: Point,
     near: i128,
     far: i128,
 }
 
 impl Line {
+    /// 'the origin .. from -8,192 to 8,192, or near or the maximum is above 32,768'
     fn of(ray: &Ray) -> Option<Self> {
-        let axis = (0..3).find(|&axis| ray.direction[axis].abs() == 1.0)?;
-        if (0..3).any(|other| other != axis && ray.direction[other] != 0.0) {
+        let longest = or(ExactReach, LONGEST, LONGEST + 1.0) - or(ExactReachAt, 0.0, 1e-9);
+        let furthest = or(ExactOrigin, FURTHEST, FURTHEST + 1.0) - or(ExactOriginAt, 0.0, 1e-9);
+        if !within(ray.near, longest) || !within(ray.maximum, longest) {
             return None;
         }
-        let longest = or(ExactReach, LONGEST, LONGEST + 1) - or(ExactReachAt, 0, 1);
+        let parts = or(ExactParts, PARTS, PARTS - 1);
+        let unscaled = 1 << (PARTS - parts);
         Some(Self {
-            axis,
-            sign: ray.direction[axis] as i128,
-            origin: point(ray.origin, FARTHEST)?,
-            near: whole(ray.near, 0, LONGEST)?,
-            far: whole(ray.maximum, 0, longest)?,
+            origin: on_grid(ray.origin, furthest)?,
+            direction: ray.direction.map(|x| nearest_whole(x, parts) * unscaled),
+            near: nearest_whole(ray.near, units()),
+            far: nearest_whole(ray.maximum, units()),
         })
     }
 
-    /// Across, up and along, from the origin.
-    fn seen(&self, p: Point) -> Point {
-        let from = [0, 1, 2].map(|k| p[k] - self.origin[k]);
-        let [across, up] = [1, 2].map(|k| from[(self.axis + k) % 3]);
-        [across, up, from[self.axis] * self.sign]
-    }
-
-    /// 'the first point of the segment': the line is in the triangle from low to high.
+    /// The first point of the segment where the line is in a triangle from low to high.
     fn first(&self, low: Fraction, high: Fraction) -> Option<Fraction> {
-        let below = |f: Fraction, whole: i128| f.0 < whole * f.1;
-        let above = |f: Fraction, whole: i128| f.0 > whole * f.1;
-        let at = |f: Fraction, whole: i128| f.0 == whole * f.1;
-        if below(high, self.near) || above(low, self.far) {
+        let (near, far) = ((self.near, 1), (self.far, 1));
+        let (before, behind) = (order(high, near), order(low, far));
+        if before.is_lt() || slipped(ExactNear) && before.is_eq() {
             return None;
         }
-        if slipped(ExactNear) && at(high, self.near) || slipped(ExactMaximum) && at(low, self.far) {
+        if behind.is_gt() || slipped(ExactMaximum) && behind.is_eq() {
             return None;
         }
-        if !below(low, self.near) {
+        if order(low, near).is_ge() {
             return Some(low);
         }
         // the line enters before near and is still inside there
-        (!slipped(ExactInside)).then_some((self.near, 1))
+        (!slipped(ExactInside)).then_some(near)
     }
 
-    /// 'decided by the signs of three whole numbers and its depth t / W by two'; 'a triangle without area .. is skipped'
+    /// The depth of a triangle of these corners, in units: by the signs of three volumes where the line crosses its plane.
     fn depth(&self, corners: [Point; 3]) -> Option<Fraction> {
-        let seen = corners.map(|corner| self.seen(corner));
-        let turn = |p: Point, q: Point| p[0] * q[1] - p[1] * q[0];
-        let weights = [1, 2, 3].map(|k| turn(seen[k % 3], seen[(k + 1) % 3]));
-        let sum: i128 = weights.iter().sum();
-        if sum == 0 {
-            let beside = weights.iter().any(|&weight| weight != 0);
-            return if beside || slipped(ExactParallel) {
+        let from = corners.map(|corner| minus(corner, self.origin));
+        let normal = cross(minus(from[1], from[0]), minus(from[2], from[0]));
+        let rise = dot(normal, self.direction);
+        let height = dot(normal, from[0]);
+        if normal == [0; 3] {
+            return slipped(ExactFlat)
+                .then(|| self.depth_on_line(from))
+                .flatten();
+        }
+        if rise == 0 {
+            let missed = height != 0 || slipped(ExactParallel);
+            return if missed {
                 None
             } else {
-                self.depth_along(seen)
+                self.depth_along(from, normal)
             };
         }
-        let weights = weights.map(|weight| weight * sum.signum());
-        if weights.iter().any(|&weight| weight < 0) || slipped(ExactSide) && weights[0] == 0 {
+        let volumes = [0, 1, 2].map(|k| {
+            let sides = cross(from[(k + 1) % 3], from[(k + 2) % 3]);
+            dot(self.direction, sides) * rise.signum()
+        });
+        let on_side = slipped(ExactSide) && volumes[0] == 0;
+        let at_corner = slipped(ExactCorner) && volumes.iter().filter(|&&v| v == 0).count() == 2;
+        if volumes.iter().any(|&volume| volume < 0) || on_side || at_corner {
             return None;
         }
-        let t = (0..3).map(|k| weights[k] * seen[k][2]).sum();
-        self.first((t, sum.abs()), (t, sum.abs()))
+        let at = fraction(height << PARTS, rise);
+        self.first(at, at)
     }
 
-    /// 'one whose plane the line lies in .. (over its three sides; a side that the ray runs along has an interval)'
-    fn depth_along(&self, seen: [Point; 3]) -> Option<Fraction> {
-        // seen from the side: the corners' places beside the line and along it
-        let side = (0..2).find(|&k| seen.iter().any(|corner| corner[k] != 0));
-        let side = or(ExactFlat, side, side.or(Some(0)))?;
-        let plot = seen.map(|corner| (corner[side], corner[2]));
-        let turn = |p: (i128, i128), q: (i128, i128)| p.0 * q.1 - p.1 * q.0;
-        let area: i128 = (0..3).map(|k| turn(plot[k], plot[(k + 1) % 3])).sum();
-        if area == 0 && !slipped(ExactFlat) {
-            return None;
-        }
+    /// A triangle whose plane the line lies in, looked at along the axis that its normal leans to most: the line's depths at
+    /// its corners and sides.
+    fn depth_along(&self, from: [Point; 3], normal: Point) -> Option<Fraction> {
+        let axis = (0..3).max_by_key(|&k| normal[k].abs())?;
+        let (i, j) = ((axis + 1) % 3, (axis + 2) % 3);
+        let d = self.direction;
+        let along = if d[i].abs() >= d[j].abs() { i } else { j };
+        let beside = from.map(|p| d[i] * p[j] - d[j] * p[i]);
         let mut ends = Vec::new();
         for k in 0..3 {
-            let (p, q) = (plot[k], plot[(k + 1) % 3]);
-            if p.0 == 0 {
-                ends.push((p.1, 1));
+            let next = (k + 1) % 3;
+            let (p, q) = (beside[k], beside[next]);
+            if p == 0 {
+                ends.push(fraction(from[k][along] << PARTS, d[along]));
             }
-            if p.0 * q.0 < 0 {
-                let over = (q.1 * p.0 - p.1 * q.0) * (p.0 - q.0).signum();
-                ends.push((over, (p.0 - q.0).abs()));
+            if p.signum() * q.signum() < 0 {
+                let over = (from[next][along] * p - from[k][along] * q) << PARTS;
+                ends.push(fraction(over, (p - q) * d[along]));
             }
         }
-        let order = |f: &Fraction, g: &Fraction| (f.0 * g.1).cmp(&(g.0 * f.1));
-        let (low, high) = (
-            ends.iter().copied().min_by(order)?,
-            ends.iter().copied().max_by(order)?,
-        );
+        let low = ends.iter().copied().min_by(|&a, &b| order(a, b))?;
+        let high = ends.iter().copied().max_by(|&a, &b| order(a, b))?;
         self.first(low, high)
     }
-}
 
-/// 'The distance is t / W, both exact as f64, divided once'
-fn distance(line: &Line, whole: [Point; 3], depth: Fraction) -> f64 {
-    if slipped(ExactRounded) {
-        return from_rounded(line, whole).unwrap_or(depth.0 as f64 / depth.1 as f64);
+    /// The slip's depth of a triangle that the grid flattens: that of its corners on the line.
+    fn depth_on_line(&self, from: [Point; 3]) -> Option<Fraction> {
+        let d = self.direction;
+        let along = (0..3).max_by_key(|&k| d[k].abs())?;
+        let on = from.iter().filter(|&&p| cross(p, d) == [0; 3]);
+        let depths = on.map(|p| fraction(p[along] << PARTS, d[along]));
+        depths
+            .filter_map(|at| self.first(at, at))
+            .min_by(|&a, &b| order(a, b))
     }
-    depth.0 as f64 / depth.1 as f64
 }
 
-/// The slip's depth: the corners' depths weighed by u and v that were rounded before.
-fn from_rounded(line: &Line, whole: [Point; 3]) -> Option<f64> {
-    let [a, b, c] = whole.map(|corner| line.seen(corner).map(|x| x as f64));
-    let turn = |p: [f64; 3], q: [f64; 3]| p[0] * q[1] - p[1] * q[0];
-    let sum = turn(b, c) + turn(c, a) + turn(a, b);
-    let (u, v) = (turn(c, a) / sum, turn(a, b) / sum);
-    (sum != 0.0).then_some(a[2] + u * (b[2] - a[2]) + v * (c[2] - a[2]))
+/// 'its distance the f64 nearest to it', of a depth in units, in millimetres: by long division, digit after digit.
+fn millimetres((over, under): Fraction) -> f64 {
+    let under = under << units();
+    if slipped(ExactRounded) {
+        return over as f64 / under as f64;
+    }
+    let (mut digits, mut rest, mut exponent) = (over / under, over % under, 0);
+    if over == 0 {
+        return 0.0;
+    }
+    while digits < 1 << 52 {
+        rest *= 2;
+        digits = 2 * digits + rest / under;
+        rest %= under;
+        exponent -= 1;
+    }
+    let up = 2 * rest > under || 2 * rest == under && digits % 2 == 1;
+    (digits + i128::from(up && !slipped(ExactCut))) as f64 * 2f64.powi(exponent)
 }
 
-/// Whether the ray is one along an axis on whole millimetres, so that 12 is a candidate's.
-pub fn ray_is_whole(ray: &Ray) -> bool {
+/// Whether 12 is not the ray's.
+pub fn ray_in_range(ray: &Ray) -> bool {
     Line::of(ray).is_some()
 }
 
-/// A candidate's own answer: 12 where a corner is not whole.
+/// One triangle's own answer: 12 where a corner is out of range.
 fn triangle(ray: &Ray, line: &Line, corners: [[f64; 3]; 3]) -> Answer {
-    let farthest = or(ExactCorner, FARTHEST, FARTHEST + 1) - or(ExactCornerAt, 0, 1);
-    let [Some(a), Some(b), Some(c)] = corners.map(|corner| point(corner, farthest)) else {
+    let furthest = or(ExactFar, FURTHEST, FURTHEST + 1.0) - or(ExactFarAt, 0.0, 1e-9);
+    let nan = |p: [f64; 3]| {
+        p.map(|x| {
+            if slipped(ExactNan) && x.is_nan() {
+                0.0
+            } else {
+                x
+            }
+        })
+    };
+    let [Some(a), Some(b), Some(c)] = corners.map(|corner| on_grid(nan(corner), furthest)) else {
         return Answer::Refused(12);
     };
-    match line.depth([a, b, c]) {
-        None => Answer::None,
-        Some(depth) => plain::hit_at(ray, corners, distance(line, [a, b, c], depth)),
+    let Some(depth) = line.depth([a, b, c]) else {
+        return Answer::None;
+    };
+    let normal = cross(minus(b, a), minus(c, a)).map(|x| x as f64);
+    if slipped(ExactNormal) {
+        return plain::hit_on(ray, corners, millimetres(depth));
+    }
+    plain::hit_with(ray, normal, millimetres(depth))
+}
+
+/// The answer of the triangle of an index at these vertices, for a ray that refusals 1 and 12 let pass; 5 where it has no
+/// corners.
+pub fn triangle_at(ray: &Ray, vertices: &[f64], indices: &[u32], index: u32) -> Answer {
+    let (Some(line), Some(corners)) = (Line::of(ray), corners(vertices, indices, index as usize))
+    else {
+        return Answer::Refused(5);
+    };
+    triangle(ray, &line, corners)
+}
+
+/// 'the lowest index where several round to it'
+fn nearest(ray: &Ray, line: &Line, vertices: &[f64], indices: &[u32]) -> Answer {
+    let mut best = Answer::None;
+    let mut refused = None;
+    let touching = if slipped(ExactCandidates) {
+        candidates(ray, vertices, indices)
+    } else {
+        Vec::new()
+    };
+    for index in 0..indices.len() as u32 / 3 {
+        let Some(corners) = corners(vertices, indices, index as usize) else {
+            continue;
+        };
+        match triangle(ray, line, corners) {
+            Answer::None => {}
+            Answer::Refused(_) if slipped(ExactCandidates) && !touching.contains(&index) => {}
+            Answer::Refused(number) => refused = refused.or(Some(number)),
+            Answer::Hit {
+                normal, distance, ..
+            } => {
+                let nearer = match best {
+                    Answer::Hit {
+                        distance: least, ..
+                    } => distance < least || slipped(ExactTies) && distance == least,
+                    _ => true,
+                };
+                if nearer {
+                    best = Answer::Hit {
+                        normal,
+                        distance,
+                        index: Some(index),
+                    };
+                }
+            }
+        }
+    }
+    let held = slipped(ExactNearest) && matches!(best, Answer::Hit { .. });
+    match refused {
+        Some(number) if !held => Answer::Refused(number),
+        _ => best,
     }
 }
 
-/// 'least rounded distance, lowest index on ties'; the first refusal goes before.
-fn nearest(
-    ray: &Ray,
-    line: &Line,
-    vertices: &[f64],
-    indices: &[u32],
-    candidates: &[u32],
-) -> Answer {
-    plain::nearest(candidates.iter().map(|&index| {
-        let corners = corners(vertices, indices, index as usize);
-        let cast = corners.map_or(Answer::Refused(5), |corners| triangle(ray, line, corners));
-        (Some(index), cast)
-    }))
-}
-
-/// 1, then 12 of the ray, then 2, then 5 where a triangle, touching or not, has no valid box, then 12 of a candidate, and only
-/// then the candidates are decided.
+/// 1, then 12 of the ray, then 2, then 5 where a triangle has no valid box, then 12 of a corner of any triangle.
 pub fn ray_mesh_exact_plain(ray: &Ray, vertices: &[f64], indices: &[u32]) -> Answer {
     if !ray_admitted(ray) {
         return Answer::Refused(1);
@@ -196,13 +310,8 @@ pub fn ray_mesh_exact_plain(ray: &Ray, vertices: &[f64], indices: &[u32]) -> Ans
     if !admitted {
         return Answer::Refused(2);
     }
-    if segment_box(ray).is_none() {
-        return Answer::Refused(6);
-    }
     let fits = |index| corners(vertices, indices, index).is_some_and(|c| vertices_box(c).is_some());
-    let all = Vec::from_iter(0..indices.len() as u32 / 3);
-    let listed = or(ExactAll, candidates(ray, vertices, indices), all);
-    let found = nearest(ray, &line, vertices, indices, &listed);
+    let found = nearest(ray, &line, vertices, indices);
     if slipped(ExactLate) && found == Answer::Refused(12) {
         return found;
     }
@@ -212,19 +321,17 @@ pub fn ray_mesh_exact_plain(ray: &Ray, vertices: &[f64], indices: &[u32]) -> Ans
     found
 }
 
-/// Through a tree: the mesh cast's refusals in their order, 12 of the ray after 1, and the listed triangles, ascending.
-#[allow(clippy::too_many_arguments)]
-pub fn ray_mesh_exact(
+/// Through a tree, what refuses before the walk: 1, 12 of the ray, 2, 3, 4.
+pub fn refused_before_walk(
     ray: &Ray,
     vertices: &[f64],
     indices: &[u32],
     cast_vertices: &[f64],
     tree: Tree,
-    list_length: usize,
     stack_length: usize,
-) -> Answer {
+) -> Option<u32> {
     if !ray_admitted(ray) {
-        return Answer::Refused(1);
+        return Some(1);
     }
     let n = indices.len() / 3;
     let admitted = vertices_admitted(vertices)
@@ -232,31 +339,31 @@ pub fn ray_mesh_exact(
         && indices_admitted(indices)
         && tree.node_count <= 2 * n;
     if slipped(ExactTreeShape) && !admitted {
-        return Answer::Refused(2);
+        return Some(2);
     }
-    let Some(line) = Line::of(ray) else {
-        return Answer::Refused(12);
-    };
+    if Line::of(ray).is_none() {
+        return Some(12);
+    }
     if !admitted {
-        return Answer::Refused(2);
+        return Some(2);
     }
     let posed = vertices.len() == cast_vertices.len();
-    let short = !tree.is_long_enough(n) || list_length < n || stack_length < tree.node_count + 1;
+    let room = tree.node_count + or(ExactTreeStack, 1, 0);
+    let short = !tree.is_long_enough(n) || stack_length < room;
     if short && !(slipped(ExactTreePose) && !posed) {
-        return Answer::Refused(3);
+        return Some(3);
     }
-    if !posed {
-        return Answer::Refused(4);
-    }
-    let Some(segment) = segment_box(ray) else {
-        return Answer::Refused(6);
-    };
-    match walk(tree, n, &segment) {
-        None => or(ExactTreeWalk, Answer::Refused(5), Answer::None),
-        Some(mut listed) => {
-            listed.sort_unstable();
-            let vertices = or(ExactTreeVertices, cast_vertices, vertices);
-            nearest(ray, &line, vertices, indices, &listed)
-        }
-    }
+    (!posed).then_some(4)
+}
+
+/// 'every corner of every triangle of the mesh is three numbers (no NaN; an index past the vertices is a no)'
+pub fn mesh_has_numbers(vertices: &[f64], indices: &[u32]) -> bool {
+    let looked = or(NumbersThird, 3, 2);
+    (0..indices.len() / 3).all(|index| {
+        corners(vertices, indices, index).map_or(slipped(NumbersIndex), |corners| {
+            let numbers = corners[..looked].as_flattened();
+            let admitted = |x: &f64| !x.is_nan() && !(slipped(NumbersInfinite) && x.is_infinite());
+            numbers.iter().all(admitted)
+        })
+    })
 }

@@ -20,8 +20,17 @@ pub const NAN: &str = "a triangle's distance is not a number";
 pub const NEAR_GRID: &str = "a distance grid with a near distance above 0";
 pub const NEAR_NORMAL: &str = "a triangle nearer than near has no normal, which the Rust asks";
 
+/// Document 02, M-104: 'Where the old rule succeeded, the bits are as before, and the Rust is compared there.' Where both rules
+/// fail, for a zero vector or a component that is not finite, both refuse, and the Rust is compared too.
+pub const SCALED: &str = "a vector is scaled before it is normalised, which the Rust refuses";
+
 thread_local! {
     static CHANGED: Cell<Option<&'static str>> = const { Cell::new(None) };
+}
+
+/// Notes why an input is not held against the Rust. The first reason stands.
+fn changed(reason: &'static str) {
+    CHANGED.set(CHANGED.get().or(Some(reason)));
 }
 
 /// Runs a cast of this model, and says why its input is not held against the Rust, if it is not: a rule of document 02 was met
@@ -109,6 +118,7 @@ fn normalised(v: Vec3) -> Option<Vec3> {
     if !v.is_finite() || largest == 0.0 || (slipped(NormalZero) && square == 0.0) {
         return None;
     }
+    changed(SCALED);
     let e = exponent(largest) - or(NormalHalf, 0, -1);
     let scaled = Vec3::new(
         times_two_to_minus(e, v.x),
@@ -123,7 +133,7 @@ fn over(v: Vec3, length: f64) -> Vec3 {
 }
 
 /// The digits and the exponent of a finite number's size: it is digits times 2 to the exponent.
-fn parts(x: f64) -> (u64, i32) {
+pub(crate) fn parts(x: f64) -> (u64, i32) {
     let digits = x.to_bits() & ((1 << 52) - 1);
     match (x.to_bits() >> 52) as i32 & 0x7ff {
         0 => (digits, -1074),
@@ -231,7 +241,8 @@ fn shape_admitted(shape: &Shape) -> bool {
         } => {
             let sides = sides.map(|side| side as usize);
             let least = or(GridSides, 2, 1);
-            sides.iter().all(|side| (least..=256).contains(side))
+            let most = or(GridMost, or(GridMore, 256, 257), 255);
+            sides.iter().all(|side| (least..=most).contains(side))
                 && spacings_admitted(spacing)
                 && values.len() == sides[0] * sides[1] * sides[2]
                 && (origin.iter().all(|o| o.is_finite()) || slipped(GridOrigin))
@@ -398,7 +409,7 @@ fn triangle_cast(ray: &Ray, corners: [Vec3; 3]) -> Step<(Vec3, f64)> {
     }
     let distance = dot(b, q) * inverse;
     if distance >= 0.0 && distance < ray.near && normalised(a.cross(b)).is_none() {
-        CHANGED.set(Some(NEAR_NORMAL));
+        changed(NEAR_NORMAL);
         if slipped(NearAfterNormal) {
             return refuse(7);
         }
@@ -415,7 +426,7 @@ fn triangle_cast(ray: &Ray, corners: [Vec3; 3]) -> Step<(Vec3, f64)> {
         a.cross(b)
     };
     if distance.is_nan() {
-        CHANGED.set(Some(NAN));
+        changed(NAN);
         if !slipped(NanKept) && !(slipped(NanAfterNormal) && normalised(across).is_none()) {
             return refuse(or(NanSeven, 6, 7));
         }
@@ -434,11 +445,17 @@ fn facing(direction: Vec3, across: Vec3) -> Step<Vec3> {
     })
 }
 
-/// The hit of a triangle at a distance that was found before.
-pub(crate) fn hit_at(ray: &Ray, corners: [[f64; 3]; 3], distance: f64) -> Answer {
+/// The hit of a triangle at a distance that was found before, by the cross of its edges.
+pub(crate) fn hit_with(ray: &Ray, across: [f64; 3], distance: f64) -> Answer {
+    let across = Vec3::from_array(across);
+    told(facing(Vec3::from_array(ray.direction), across).map(|normal| (normal, distance)))
+}
+
+/// The same of the corners' floats.
+pub(crate) fn hit_on(ray: &Ray, corners: [[f64; 3]; 3], distance: f64) -> Answer {
     let [first, second, third] = corners.map(Vec3::from_array);
     let across = (second - first).cross(third - first);
-    told(facing(Vec3::from_array(ray.direction), across).map(|normal| (normal, distance)))
+    hit_with(ray, across.to_array(), distance)
 }
 
 /// The first refusal, else the first strictly least distance, over triangles in their order.
@@ -675,7 +692,7 @@ impl Grid<'_> {
         }
         let (low, high) = (low.to_array(), high.to_array());
         if ray.near > 0.0 {
-            CHANGED.set(Some(NEAR_GRID));
+            changed(NEAR_GRID);
         }
         let (mut entry, mut exit) = (or(NearGrid, ray.near, 0.0), ray.maximum);
         for axis in 0..3 {
@@ -778,7 +795,8 @@ impl Grid<'_> {
             } else if point[axis] <= last[axis] {
                 point[axis]
             } else if admitted {
-                or(SampleOutside, last[axis], origin[axis])
+                let below = or(SampleBelow, last[axis], last[axis].next_down());
+                or(SampleOutside, below, origin[axis])
             } else {
                 last[axis].next_down()
             }
@@ -906,7 +924,7 @@ fn turning_points(a: f64, b: f64, c: f64) -> Vec<f64> {
         };
     }
     let discriminant = db * db - 4.0 * da * c;
-    if !(discriminant >= 0.0) {
+    if !(discriminant >= 0.0) || (slipped(RootDouble) && discriminant == 0.0) {
         return Vec::new();
     }
     let root = discriminant.sqrt();

@@ -101,9 +101,6 @@ impl Fields<'_> {
     }
 }
 
-/// M-104: 'Where the old rule succeeded, the bits are as before, and the Rust is compared there.'
-pub const NORMAL: &str = "the Rust refuses with 7 or 8, where normalising may now scale (M-104)";
-
 impl Record {
     /// The record in a body without its length bytes; none if it is malformed.
     pub fn parse(body: &[u8]) -> Option<Self> {
@@ -165,7 +162,6 @@ impl Record {
             (Shape::LevelSet { .. }, Answer::Refused(5)) => {
                 Some("the Rust refuses a distance grid with 5 (M-103)")
             }
-            (_, Answer::Refused(7 | 8)) => Some(NORMAL),
             _ => plain::beside_the_rust(|| plain::answer(self)).1,
         }
     }

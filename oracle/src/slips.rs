@@ -1,10 +1,12 @@
 //! Altered models: the plain models with one operand, bound, order or constant changed at a time. A slip that no stored record
 //! and no case tells could stand in a definition and in the code together; differential/tests/slips.rs shows that every one is
-//! told. Four changes are none, since no input tells them: a length taken for its square within 2e-12 (the same rays pass,
+//! told. Five changes are none, since no input tells them: a length taken for its square within 2e-12 (the same rays pass,
 //! `close-by-square` in crates/geometry/proofs/UnitLength.antt); half to even where a cell is told (a coordinate that lies half way
 //! and still within 16 EPS of a whole number is above 2^47, and every cell index ends at 254; K15 tells the function); an end
 //! beyond the exit kept in one of its two places (either one alone cuts it); the value's overflow at the hit ignored (an
-//! interpolation between finite values is finite, and where a value is not, the cell's samples refuse first).
+//! interpolation between finite values is finite, and where a value is not, the cell's samples refuse first); two floats below
+//! the last node in place of one where that node's way from the origin overflows (both ways round to one number; `DrawnRight` in
+//! crates/grid_laws/specs/Drawing.antt tells the two apart).
 
 use std::cell::Cell;
 
@@ -53,6 +55,8 @@ slips! {
     PlaneDistance: "a plane's distance may be infinite",
     FieldSides: "rows and columns may be 1",
     GridSides: "a grid's sides may be 1",
+    GridMost: "a grid's sides end at 255",
+    GridMore: "a grid's sides end at 257",
     SpacingOfZero: "a spacing of 0 is admitted",
     GridOrigin: "a grid's origin may be infinite",
     // the plane
@@ -146,33 +150,49 @@ slips! {
     PlainUnfit: "without a tree a triangle without a valid box is skipped",
     PlainLate: "without a tree 5 is found while casting",
     PlainEnd: "without a tree 5 goes before the segment end's 6",
-    // the cast on whole millimetres
+    // the exact cast
     ExactSide: "the side opposite the first corner is left out",
+    ExactCorner: "a corner is left out",
     ExactMaximum: "a depth at the maximum is none",
     ExactNear: "a depth at near is none",
     ExactParallel: "a triangle whose plane the line lies in is none",
     ExactInside: "such a triangle is none where the line enters it before near",
-    ExactFlat: "a triangle without area along the line is hit",
-    ExactCorner: "a corner at 4,097 is admitted",
-    ExactCornerAt: "a corner at 4,096 is refused",
-    ExactReach: "a maximum of 16,385 is admitted",
-    ExactReachAt: "a maximum of 16,384 is refused",
-    ExactMinusZero: "-0 is not whole",
-    ExactRounded: "the depth comes from rounded u and v",
-    ExactAll: "12 is looked for in every triangle",
-    ExactLate: "12 of a candidate goes before 5",
+    ExactFlat: "a triangle that the grid flattens counts",
+    ExactFar: "a corner at 8,193 is admitted",
+    ExactFarAt: "a corner at 8,192 is refused",
+    ExactOrigin: "an origin at 8,193 is admitted",
+    ExactOriginAt: "an origin at 8,192 is refused",
+    ExactReach: "a maximum of 32,769 is admitted",
+    ExactReachAt: "a maximum of 32,768 is refused",
+    ExactNan: "a corner that is NaN is read as 0",
+    ExactTie: "a tie on the grid goes away from 0",
+    ExactUnit: "the grid is of 2^-16 mm",
+    ExactParts: "a direction is read in 2^-29",
+    ExactRounded: "the distance is a quotient of two rounded numbers",
+    ExactCut: "the distance is cut and not rounded",
+    ExactTies: "of equal distances the highest index wins",
+    ExactNearest: "12 of a corner does not count where a triangle is hit",
+    ExactCandidates: "12 is looked for only where a triangle's box touches the segment's",
+    ExactNormal: "the normal is of the floats' edges",
+    ExactLate: "12 of a corner goes before 5",
     ExactShape: "2 goes before 12 of the ray",
     ExactTreeShape: "through a tree 2 goes before 12 of the ray",
     ExactTreePose: "through a tree 4 goes before 3",
-    ExactTreeWalk: "through a tree the walk's 5 is none",
-    ExactTreeVertices: "through a tree the mesh's own vertices are cast at",
+    ExactTreeStack: "through a tree a stack of as many places as nodes is room enough",
+    NumbersThird: "the third corner may be NaN",
+    NumbersIndex: "an index past the vertices has numbers",
+    NumbersInfinite: "an infinity is no number",
     // the merge
+    MergeVertices: "a merge's vertices end at 65,535",
+    MergeTriangles: "a merge's triangles end at 65,535",
     MergeNodes: "in a merge a node count above 2n is 2",
     MergeMarks: "a merge's marks for the larger board are room enough",
     MergeIndices: "a merge moves the second's indices by the triangles",
     MergeRoot: "a merge has a root over a board without triangles",
     MergeZeros: "after 5 a merge's order is zeros",
     MergeTies: "of equal distances the second board's wins",
+    // the cabinet
+    CabinetOrigin: "the ray's origin is taken off a part's, and the difference negated",
     // the height grid
     HeightSpan: "a span that is not finite is none",
     HeightEarly: "the first cell is not one early",
@@ -197,6 +217,7 @@ slips! {
     BoundaryNear: "a boundary at hand counts though it is within 16 EPS",
     SampleThirds: "the second and third sample are at 1/4 and 3/4",
     SampleOutside: "a sample past the last node is taken at the origin",
+    SampleBelow: "a sample past the last node is taken at the float below that node",
     SampleGradient: "a gradient that is not finite does not refuse a sample",
     SampleLast: "the last node belongs to no cell",
     LerpForm: "a + (b - a) t for a (1 - t) + b t",
@@ -206,6 +227,7 @@ slips! {
     RootHighFirst: "the high end is accepted before the low end",
     RootTurns: "turning points are not looked at",
     RootLinear: "the turning point of a parabola is not looked at",
+    RootDouble: "a discriminant of 0 has no turning point",
     Halvings63: "63 halvings",
     Halvings65: "65 halvings",
     HalvingEarly: "a middle within the tolerance is not accepted",

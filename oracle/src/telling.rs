@@ -68,8 +68,15 @@ fn slanted(layers: u32, height: f64, direction: Point) -> Record {
     record([0.0, 0.5, height], direction, 4.0 * wide, shape)
 }
 
+/// A grid of so many layers from above, its surface half way between two of them. No stored record has room for the largest.
+pub fn layered(layers: u32) -> Record {
+    let values = (0..layers).flat_map(|layer| [f64::from(layer) - 100.5; 4]);
+    let shape = grid([2, 2, layers], [1.0; 3], values.collect());
+    record([0.5, 0.5, 300.0], DOWN, 400.0, shape)
+}
+
 pub fn records() -> Vec<Record> {
-    [planes_and_triangles(), grids(), walks()].concat()
+    [planes_and_triangles(), grids(), faces(), walks()].concat()
 }
 
 fn planes_and_triangles() -> Vec<Record> {
@@ -186,6 +193,36 @@ fn grids() -> Vec<Record> {
         ),
         // the cubic's value jumps from below 0 to infinity at a small fraction, so that no middle is accepted
         record([0.0; 3], diagonal, 4e160, grid([2; 3], vast, jump)),
+    ]
+}
+
+/// A sample past the last node, and a cubic that turns twice at one point.
+fn faces() -> Vec<Record> {
+    let far = 2f64.powi(1000);
+    let steep = 2f64.powi(60);
+    let past = vec![
+        -steep,
+        -1.0,
+        -steep,
+        -1.0,
+        3.0 * steep,
+        1.0,
+        3.0 * steep,
+        1.0,
+    ];
+    let diagonal = [0.577_350_269_189_625_8; 3];
+    let (first, second) = (-0.5, -3.5);
+    let turning = vec![-1.5, first, first, second, first, second, second, 5.5];
+    vec![
+        // along the face x = 1, and past it by the way: the values at x = 0 are so large that the float below 1 tells
+        record(
+            [1.0, 0.5, 2.0 * far],
+            [f64::MIN_POSITIVE, 0.0, -1.0],
+            4.0 * far,
+            grid([2; 3], [1.0, 1.0, far], past),
+        ),
+        // 16 (u - 1/4)^3 - 5/4 along the diagonal, u from 0 to 1: both roots of its derivative are 1/4
+        record([0.0; 3], diagonal, 4.0, grid([2; 3], [1.0; 3], turning)),
     ]
 }
 

@@ -4,6 +4,7 @@ use oracle::{
     answer::{Answer, Ray},
     generate, plain,
     record::{Record, Shape},
+    telling,
 };
 
 fn by_now(record: &Record) -> (Answer, Option<&'static str>) {
@@ -56,4 +57,64 @@ fn generation_finds_nan_beside_hits() {
                 && by_now(record) == (Answer::Refused(6), Some(plain::NAN))
         });
     assert!(beside.count() > 20);
+}
+
+/// M-104: K7 is a hit once its cross is scaled, and only the Rust refuses it.
+#[test]
+fn k7_is_left_out() {
+    let k7 = &generate::marked()[6];
+    assert_eq!(k7.answer(), Answer::Refused(7));
+    assert_eq!(k7.left_out(), Some(plain::SCALED));
+}
+
+/// A 2x2x2 grid of zeros has the gradient 0 everywhere.
+fn zeros() -> Record {
+    Record {
+        version: 1,
+        ray: Ray {
+            origin: [0.5, 0.5, 2.0],
+            direction: [0.0, 0.0, -1.0],
+            maximum: 5.0,
+            near: 0.0,
+        },
+        shape: Shape::LevelSet {
+            sides: [2; 3],
+            origin: [0.0; 3],
+            spacing: [1.0; 3],
+            values: vec![0.0; 8],
+        },
+    }
+}
+
+/// The 8 of a zero gradient and of a walk past its last cell did not change: both sides refuse, and are compared.
+#[test]
+fn an_old_8_is_compared() {
+    let past_the_last_cell = telling::records().pop().expect("a slanted walk");
+    for record in [zeros(), past_the_last_cell] {
+        assert_eq!(record.answer(), Answer::Refused(8), "{record:?}");
+        assert_eq!(by_now(&record), (Answer::Refused(8), None), "{record:?}");
+        assert_eq!(record.left_out(), None);
+    }
+}
+
+/// Of what the Rust refuses with 7 or 8 only that is left out in which a vector is scaled; the rest is refused here too.
+#[test]
+fn a_7_or_8_is_left_out_only_where_a_vector_is_scaled() {
+    let (mut compared, mut scaled) = ([0; 2], [0; 2]);
+    for number in 0..20_000 {
+        let record = generate::record(5, number, &[2, 3, 4, 5]);
+        let Answer::Refused(refusal @ 7..=8) = record.answer() else {
+            continue;
+        };
+        let place = refusal as usize - 7;
+        match by_now(&record) {
+            (answer, None) => {
+                assert_eq!(answer, Answer::Refused(refusal), "{record:?}");
+                compared[place] += 1;
+            }
+            (_, Some(reason)) => scaled[place] += usize::from(reason == plain::SCALED),
+        }
+    }
+    let met = compared.iter().chain(&scaled).all(|count| *count > 0);
+    assert!(met, "{compared:?} {scaled:?}");
 }

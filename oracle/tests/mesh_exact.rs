@@ -1,8 +1,8 @@
-//! The model of the cast on whole millimetres, at boards whose answers are told by their measures.
+//! The model of the exact cast, at boards whose answers are told by their measures.
 
 use oracle::{
     answer::{Answer, Ray},
-    mesh_exact::{ray_mesh_exact, ray_mesh_exact_plain},
+    mesh_exact::{mesh_has_numbers, ray_mesh_exact_plain, refused_before_walk, triangle_at},
     mesh_plain::ray_mesh_plain,
     model::Tree,
     tree::{self, FlatTree},
@@ -79,7 +79,97 @@ fn near_and_maximum_belong_to_the_segment() {
     assert_eq!(found, [Some(7.0), None, Some(7.0), None]);
 }
 
-/// 1, 12 of the ray, 2, 5 of any triangle, 12 of a candidate.
+/// A unit of the grid is 2^-15 mm; a half goes to the even number.
+#[test]
+fn coordinates_are_read_on_the_grid() {
+    let unit = 2f64.powi(-15);
+    let corners = |z: f64| [[0.0, 0.0, z], [9.0, 0.0, z], [0.0, 9.0, z]];
+    let down = ray([1.0, 1.0, 5.0], DOWN, 10.0);
+    let depth = |units: f64| distance(at_triangle(&down, corners(units * unit)));
+    let read = [0.25, 0.5, 0.75, 1.5, 2.5, -0.5, -1.5].map(depth);
+    let whole = [0.0, 0.0, 1.0, 2.0, 2.0, 0.0, -2.0].map(|units| Some(5.0 - units * unit));
+    assert_eq!(read, whole);
+    // half a unit before the maximum, and half a unit behind it, which is read as the maximum
+    let to = |maximum: f64| {
+        distance(at_triangle(
+            &ray([1.0, 1.0, 5.0], DOWN, maximum),
+            corners(0.0),
+        ))
+    };
+    let ends = [5.0 - unit, 5.0 - 0.75 * unit, 5.0 - 0.25 * unit].map(to);
+    assert_eq!(ends, [None, None, Some(5.0)]);
+    // a slant of less than half of 2^-30 is none
+    let [slight, slant] = [0.25, 0.75].map(|part| part * 2f64.powi(-30));
+    let beside = |across| {
+        ray(
+            [9.0 - 2.0 * unit, 0.0, 8_000.0],
+            [across, 0.0, -1.0],
+            9_000.0,
+        )
+    };
+    assert_eq!(
+        distance(at_triangle(&beside(slight), corners(0.0))),
+        Some(8_000.0)
+    );
+    assert_eq!(
+        distance(at_triangle(&beside(slant), corners(0.0))),
+        Some(8_000.0)
+    );
+    assert_eq!(
+        distance(at_triangle(&beside(16.0 * slant), corners(0.0))),
+        None
+    );
+}
+
+/// Along (1, 1, 1), which is read as 619,925,131 parts of 2^-30 on each axis.
+#[test]
+fn aslant_through_a_corner_a_side_and_along_a_face() {
+    let aslant = [(1.0f64 / 3.0).sqrt(); 3];
+    let from = |origin| ray(origin, aslant, 50.0);
+    let after = |steps: f64| Some(steps * 1_073_741_824.0 / 619_925_131.0);
+    let corners = [[0.0; 3], [4.0, 0.0, 0.0], [0.0, 4.0, 0.0]];
+    let met = [
+        // the first corner, the side opposite it, inside, and beside
+        [-3.0, -3.0, -3.0],
+        [-1.0, -1.0, -3.0],
+        [-2.0, -2.0, -3.0],
+        [0.5, 0.5, -3.0],
+    ];
+    let found = met.map(|origin| distance(at_triangle(&from(origin), corners)));
+    assert_eq!(found, [after(3.0), after(3.0), after(3.0), None]);
+    // along a face, from before it, and a segment that ends there
+    let face = [[0.0; 3], [4.0, 4.0, 4.0], [4.0, 0.0, 0.0]];
+    let along = from([-2.0, -3.0, -3.0]);
+    assert_eq!(distance(at_triangle(&along, face)), after(3.0));
+    let short = Ray {
+        maximum: 5.0,
+        ..along
+    };
+    assert_eq!(distance(at_triangle(&short, face)), None);
+}
+
+/// A triangle whose grid corners lie on one line does not count; its neighbour has the side.
+#[test]
+fn a_flattened_triangle_does_not_count() {
+    let sliver = [[0.0; 3], [10.0, 0.0, 0.0], [5.0, 1e-6, 0.0]];
+    let neighbour = [[0.0; 3], [10.0, 0.0, 0.0], [5.0, -4.0, 0.0]];
+    let down = ray([5.0, 0.0, 3.0], DOWN, 10.0);
+    assert_eq!(distance(at_triangle(&down, sliver)), None);
+    let vertices = [sliver, neighbour].concat();
+    let answer = ray_mesh_exact_plain(&down, vertices.as_flattened(), &[0, 1, 2, 3, 4, 5]);
+    let hit = Answer::Hit {
+        normal: [0.0, 0.0, 1.0],
+        distance: 3.0,
+        index: Some(1),
+    };
+    assert_eq!(answer, hit);
+    // with a whole unit of area it counts
+    let [a, b, _] = sliver;
+    let thin = [a, b, [5.0, 2f64.powi(-15), 0.0]];
+    assert_eq!(distance(at_triangle(&down, thin)), Some(3.0));
+}
+
+/// 1, 12 of the ray, 2, 5 of any triangle, 12 of any corner.
 #[test]
 fn refusals_in_their_order() {
     let flat = [0.0, 0.0, 0.0, 9.0, 0.0, 0.0, 0.0, 9.0, 0.0];
@@ -90,27 +180,31 @@ fn refusals_in_their_order() {
         Answer::Refused(number) => number,
         _ => 0,
     };
-    let long = ray([1.0, 1.0, 1.0], [0.0, 0.0, -2.0], 16_385.0);
-    let beyond = ray([1.0, 1.0, 1.0], DOWN, 16_385.0);
+    let long = ray([1.0, 1.0, 1.0], [0.0, 0.0, -2.0], 32_769.0);
+    let beyond = ray([1.0, 1.0, 1.0], DOWN, 32_769.0);
     let moved = |x: f64| [x, 0.0, 0.0, 9.0, 0.0, 0.0, 0.0, 9.0, 0.0];
+    let next = 8_192.000_000_000_002;
     let told = [
         refused(&down, &flat, &[0, 1, 2]),
         refused(&long, &flat[1..], &[0, 1, 9]),
         refused(&beyond, &flat[1..], &[0, 1, 9]),
         refused(&down, &flat[1..], &[0, 1, 9]),
-        refused(&down, &moved(0.5), &[0, 1, 2, 0, 1, 9]),
-        refused(&down, &moved(0.5), &[0, 1, 2]),
-        refused(&down, &moved(-4_096.0), &[0, 1, 2]),
-        refused(&down, &moved(-4_097.0), &[0, 1, 2]),
+        refused(&down, &moved(next), &[0, 1, 2, 0, 1, 9]),
+        refused(&down, &moved(next), &[0, 1, 2]),
+        refused(&down, &moved(-8_192.0), &[0, 1, 2]),
+        refused(&down, &moved(f64::NAN), &[0, 1, 2]),
+        refused(&down, &moved(f64::INFINITY), &[0, 1, 2]),
+        refused(&ray([1.0, 1.0, next], DOWN, 2.0), &flat, &[0, 1, 2]),
+        refused(&ray([1.0, 1.0, 8_192.0], DOWN, 32_768.0), &flat, &[0, 1, 2]),
     ];
-    assert_eq!(told, [0, 1, 12, 2, 5, 12, 0, 12]);
-    // a triangle that the segment's box does not touch may be anywhere
+    assert_eq!(told, [0, 1, 12, 2, 5, 12, 0, 12, 5, 12, 0]);
+    // 12 of a triangle far from the segment, behind one that is hit
     let mut two = flat.to_vec();
     two.extend([0.5, 0.0, 50.0, 9.0, 0.0, 50.0, 0.0, 9_000.0, 50.0]);
-    assert_eq!(refused(&down, &two, &[3, 4, 5, 0, 1, 2]), 0);
+    assert_eq!(refused(&down, &two, &[0, 1, 2, 3, 4, 5]), 12);
 }
 
-/// Through the Rust's tree the answer is the same; a tree's own faults come where the mesh cast has them.
+/// Through a tree 1, 12, 2, 3 and 4 come before the walk.
 #[test]
 fn through_a_tree() {
     let vertices = [
@@ -119,20 +213,32 @@ fn through_a_tree() {
     let indices = [0, 1, 2, 3, 2, 1];
     let built = tree::build(&vertices, &indices).expect("a tree").padded(2);
     let down = ray([1.0, 30.0, 1.0], DOWN, 2.0);
-    let cast = |ray: &Ray, pose: &[f64], tree: &FlatTree, list| {
-        ray_mesh_exact(ray, &vertices, &indices, pose, Tree::from(tree), list, 9)
+    let before = |ray: &Ray, pose: &[f64], tree: &FlatTree, stack| {
+        refused_before_walk(ray, &vertices, &indices, pose, Tree::from(tree), stack)
     };
-    let without = ray_mesh_exact_plain(&down, &vertices, &indices);
-    assert_eq!(cast(&down, &vertices, &built, 2), without);
-    let beyond = ray([1.0, 30.0, 1.0], DOWN, 16_385.0);
+    let room = built.node_count + 1;
+    let beyond = ray([1.0, 30.0, 1.0], DOWN, 32_769.0);
     let told = [
-        cast(&beyond, &vertices[1..], &built, 1),
-        cast(&down, &vertices[1..], &built, 1),
-        cast(&down, &vertices[3..], &built, 1),
-        cast(&down, &vertices[3..], &built, 2),
+        before(&down, &vertices, &built, room),
+        before(&beyond, &vertices[1..], &built, room - 1),
+        before(&down, &vertices[1..], &built, room - 1),
+        before(&down, &vertices[3..], &built, room - 1),
+        before(&down, &vertices[3..], &built, room),
     ];
-    assert_eq!(told, [12, 2, 3, 4].map(Answer::Refused));
-    let mut broken = built.clone();
-    broken.node_words[0] = 7;
-    assert_eq!(cast(&down, &vertices, &broken, 2), Answer::Refused(5));
+    assert_eq!(told, [None, Some(12), Some(2), Some(3), Some(4)]);
+    let first = triangle_at(&down, &vertices, &indices, 0);
+    assert_eq!(distance(first), Some(1.0));
+}
+
+#[test]
+fn a_nan_of_a_triangle_is_told() {
+    let mut vertices = [0.0; 12];
+    assert!(mesh_has_numbers(&vertices, &[0, 1, 2, 1, 2, 3]));
+    assert!(!mesh_has_numbers(&vertices, &[0, 1, 2, 1, 2, 4]));
+    vertices[4] = f64::INFINITY;
+    assert!(mesh_has_numbers(&vertices, &[0, 1, 2]));
+    vertices[11] = f64::NAN;
+    assert!(mesh_has_numbers(&vertices, &[0, 1, 2]));
+    assert!(!mesh_has_numbers(&vertices, &[0, 1, 2, 1, 2, 3]));
+    assert!(mesh_has_numbers(&[f64::NAN; 3], &[]));
 }

@@ -22,9 +22,6 @@ fn meshes(seed: u64, count: u64) -> Vec<Mesh> {
     (0..count).map(mesh).collect()
 }
 
-/// M-104: where the Rust finds no normal, normalising may now scale.
-const NO_NORMAL: Answer = Answer::Refused(7);
-
 fn same(a: &Answer, b: &Answer) -> bool {
     match (a, b) {
         (
@@ -122,9 +119,6 @@ fn built_and_other_trees_pass_and_give_the_rusts_answers() {
             continue;
         }
         let rust = answer::mesh(&ray, &vertices, &indices);
-        if rust == NO_NORMAL {
-            continue;
-        }
         assert!(same(&plain, &rust));
         hits += i32::from(matches!(plain, Answer::Hit { .. }));
         for lent in [built.clone().padded(n), trees::valid(random, &built)] {
@@ -176,9 +170,6 @@ fn a_cast_at_other_vertices_is_the_rusts() {
             continue;
         }
         let rust = answer::mesh_with_tree(&ray, &vertices, &indices, &posed, &lent);
-        if rust == NO_NORMAL {
-            continue;
-        }
         assert!(same(&cast, &rust), "{cast:?} {rust:?}");
     }
 }

@@ -417,8 +417,9 @@ bool as_in_fractions(const Whole &o, const Whole &d, std::int64_t most, const st
     return cast.hit().triangle == first && cast.hit().distance == double(least->over) / double(least->under);
 }
 
-/* On whole millimetres: where the rounded cast passes, along an outline, small boards of chance, and what is not whole. */
-void whole_millimetres()
+/* The exact cast: where the rounded one passes, along an outline, small boards of chance, off the grid, aslant, and what is out
+ * of range. */
+void exactly()
 {
     // docs/DIFFERENCES.md, 'Found in the Rust', 2
     const PlainMesh square({{0, 0, 0}, {31, 0, 0}, {0, 31, 0}, {31, 31, 0}}, {{0, 1, 2}, {3, 2, 1}});
@@ -456,16 +457,77 @@ void whole_millimetres()
         CHECK(as_in_fractions(origin, direction, below(2 * size), triangles, met));
     }
     CHECK(met[0] > 300 && met[1] > 300);
-    // not whole, and what is refused before and after it
-    CHECK(refuses(square.cast_exact(from(0.5, 30, 1, 2)), 12) && refuses(square.cast_exact(from(1, 30, 4097, 9)), 12));
-    CHECK(refuses(square.cast_exact(from(1, 30, 1, 2.5)), 12) && refuses(square.cast_exact(from(1, 30, 1, 16385)), 12));
-    CHECK(refuses(square.cast_exact(from(1, 30, 1, 2).with_near(0.5)), 12));
-    CHECK(refuses(square.cast_exact(Ray{{1, 30, 1}, {0, 0.6, -0.8}, 2}), 12));
-    CHECK(refuses(PlainMesh({{0, 0, 0}, {31, 0, 0.5}, {0, 31, 0}}, {{0, 1, 2}}).cast_exact(from(1, 1, 1, 2)), 12));
-    CHECK(refuses(PlainMesh({{0, 0, 0}, {4097, 0, 0}, {0, 31, 0}}, {{0, 1, 2}}).cast_exact(from(1, 1, 1, 2)), 12));
-    CHECK(hits_at(PlainMesh({{0, 0, 0}, {4096, 0, 0}, {0, 31, 0}}, {{0, 1, 2}}).cast_exact(from(1, 1, 1, 2)), 1));
-    CHECK(refuses(square.cast_exact(from(1, 30, 1, -1)), 1) && refuses(PlainMesh(T, {{0, 1, 3}}).cast_exact(from(0, 0, 1, 2)), 5));
-    CHECK(told(Refusal::not_whole).find("refused 12, not whole") == 0);
+    // off the grid: a quarter of a unit, 2^-15 mm, is read as none; aslant through a corner and beside it
+    const double unit = 1.0 / 32768, third = std::sqrt(1.0 / 3.0);
+    CHECK(hits_at(square.cast_exact(from(0.5, 30, 1 + unit / 4, 2)), 1) && hits_at(square.cast_exact(from(1, 30, 1, 2.5)), 1));
+    CHECK(PlainMesh({{0, 0, 0}, {31, 0, 0.5}, {0, 31, 0}}, {{0, 1, 2}}).cast_exact(from(0, 1, 1, 2)).hit().distance == 1);
+    CHECK(square.cast_exact(Ray{{31.5, 31.5, 0.5}, {-third, -third, -third}, 2}).hit().triangle == 1);
+    CHECK(square.cast_exact(Ray{{31.5 + 2 * unit, 31.5, 0.5}, {-third, -third, -third}, 2}).is_none());
+    // out of range, and what is refused before and after it
+    CHECK(refuses(square.cast_exact(from(1, 30, 8192.5, 9)), 12) && refuses(square.cast_exact(from(1, 30, 1, 32768.5)), 12));
+    CHECK(refuses(square.cast_exact(from(1, 30, 1, 32769).with_near(0.5)), 12));
+    CHECK(refuses(PlainMesh({{0, 0, 0}, {8192.5, 0, 0}, {0, 31, 0}}, {{0, 1, 2}}).cast_exact(from(1, 1, 1, 2)), 12));
+    CHECK(hits_at(PlainMesh({{0, 0, 0}, {8192, 0, 0}, {0, 31, 0}}, {{0, 1, 2}}).cast_exact(from(1, 1, 1, 2)), 1));
+    CHECK(refuses(square.cast_exact(from(1, 30, 9000, -1)), 1) && refuses(PlainMesh(T, {{0, 1, 3}}).cast_exact(from(0, 0, 1, 2)), 5));
+    CHECK(told(Refusal::out_of_range).find("refused 12, out of range") == 0);
+    // a NaN far from the ray: its mesh is cast at without the tree
+    const double nan = std::numeric_limits<double>::quiet_NaN();
+    const PlainMesh holed({{0, 0, 0}, {9, 0, 0}, {0, 9, 0}, {500, nan, 0}, {509, 0, 0}, {500, 9, 0}}, {{0, 1, 2}, {3, 4, 5}});
+    CHECK(!mesh_has_numbers(holed.shape()) && mesh_has_numbers(square.shape()));
+    CHECK(refuses(holed.cast_exact(from(1, 1, 1, 2)), 12) && refuses(holed.build().value().cast_exact(from(1, 1, 1, 2)), 12));
+}
+
+/* A floor of 36 squares, 4 wide, each at a height of its own and in two triangles: in pieces it answers what the whole does. */
+void large_meshes()
+{
+    std::vector<Vec3> vertices;
+    std::vector<Triangle> triangles;
+    for (std::uint32_t n = 0; n < 36; n++) {
+        const double x = n % 6 * 4, y = n / 6 * 4, z = n * 7 % 5;
+        for (const Vec3 &corner : {Vec3{x, y, z}, Vec3{x + 4, y, z}, Vec3{x + 4, y + 4, z}, Vec3{x, y + 4, z}})
+            vertices.push_back(corner);
+        triangles.push_back({4 * n, 4 * n + 1, 4 * n + 2});
+        triangles.push_back({4 * n, 4 * n + 2, 4 * n + 3});
+    }
+    const Shape shape = Shape::of(vertices, triangles);
+    Mesh whole = Mesh::build(shape).value();
+    for (const std::size_t most : {1, 5, 72}) {
+        LargeMesh large = LargeMesh::build(shape, most).value();
+        CHECK(large.pieces() >= 72 / most);
+        int hits = 0;
+        // at every millimetre, so also at sides and corners, and past the floor
+        for (int x = -1; x <= 25; x++)
+            for (int y = -1; y <= 25; y++) {
+                const Ray ray = from(x, y, 9, 20);
+                const std::optional<MeshHit> exact = whole.cast_exact(ray).hit_or_none(), found = large.cast(ray).hit_or_none();
+                CHECK(exact.has_value() == found.has_value());
+                CHECK(!exact || (exact->distance == found->distance && exact->triangle == found->triangle));
+                const std::optional<MeshHit> rounded = whole.cast(ray).hit_or_none(), near = large.cast_rounded(ray).hit_or_none();
+                CHECK(rounded.has_value() == near.has_value() && (!rounded || rounded->distance == near->distance));
+                hits += exact.has_value();
+            }
+        CHECK(hits == 25 * 25);
+    }
+    // the first triangle stands at the larger x, so that the pieces have the two in the other order
+    LargeMesh board = LargeMesh::build(Shape({0, 0, 0, 8, 0, 0, 8, 4, 0, 0, 4, 0}, {0, 1, 2, 0, 2, 3}), 1).value();
+    CHECK(board.pieces() == 2 && hits_at(board.cast(from(4, 2, 3, 5)), 3) && board.cast(from(4, 2, 3, 5)).hit().triangle == 0);
+    CHECK(refuses(board.cast(from(4, 2, 3, -1)), 1) && refuses(board.cast_rounded(from(4, 2, 3, -1)), 1));
+    CHECK(LargeMesh::build(Shape::of(T, {})).refusal() == Refusal::out_of_bounds);
+    CHECK(LargeMesh::build(Shape::of(T, {{0, 1, 3}})).refusal() == Refusal::out_of_bounds);
+    CHECK(LargeMesh::build(Shape({0, 0, 0, infinite, 0, 0, 0, 1, 0}, {0, 1, 2})).refusal() == Refusal::out_of_bounds);
+
+    // 250 by 280 triangles, 4 wide and 5 apart, the last one with its first corner at (1245, 1395)
+    Shape floor;
+    for (std::uint32_t n = 0; n < 70000; n++) {
+        const double x = n % 250 * 5, y = n / 250 * 5;
+        floor.vertices.insert(floor.vertices.end(), {x, y, 0, x + 4, y, 0, x, y + 4, 0});
+        floor.triangles.insert(floor.triangles.end(), {3 * n, 3 * n + 1, 3 * n + 2});
+    }
+    CHECK(Mesh::build(floor).refusal() == Refusal::bad_shape);
+    LargeMesh large = LargeMesh::build(floor).value();
+    const Ray last = from(1246, 1396, 6, 10);
+    CHECK(large.pieces() > 1 && hits_at(large.cast(last), 6) && large.cast(last).hit().triangle == 69999);
+    CHECK(hits_at(large.cast_rounded(last), 6) && large.cast_rounded(last).hit().triangle == 69999);
 }
 
 } // namespace
@@ -485,7 +547,8 @@ int main()
     ranges();
     cabinets();
     records();
-    whole_millimetres();
+    exactly();
+    large_meshes();
     std::printf("%d checks\n", checks);
     return 0;
 }

@@ -1,11 +1,10 @@
-//! Counts the probes on the edges of a part that pass the surface, by one cast and by the careful one.
+//! Counts the probes on the edges of a part that pass the surface, by the rounded cast and by the exact one.
 //!
 //! usage: edges FILE...   (STL files)
 //!
 //! On each edge between two triangles that lie across an axis, side by side, sixteen points are probed straight from
 //! 0.5 mm before them: a probe that goes further has passed the surface. And the six faces of the box around the part are
-//! probed every 0.5 mm: where the one cast goes deeper than the careful one, it has passed a surface, or runs within a
-//! hair of a rim.
+//! probed every 0.5 mm: where the rounded cast goes deeper than the exact one, it has passed a surface.
 use probe_part::faces::{View, FACES};
 use probe_part::raster::Grid;
 use probe_part::shape::Shape;
@@ -18,7 +17,7 @@ const STEP: f64 = 0.5;
 const POINTS: u32 = 16;
 
 fn main() -> ExitCode {
-    println!("on edges\tpass by one cast\tpass carefully\ton rasters\tone cast deeper\tfile");
+    println!("on edges\trounded passes\texact passes\ton rasters\trounded deeper\tfile");
     for file in std::env::args().skip(1) {
         let shape = match Shape::load(&file) {
             Ok(shape) => shape,
@@ -27,27 +26,27 @@ fn main() -> ExitCode {
                 return ExitCode::from(2);
             }
         };
-        let [probes, plain, careful] = on_edges(&shape);
+        let [probes, rounded, exact] = on_edges(&shape);
         let [places, deeper] = on_rasters(&shape);
-        println!("{probes}\t{plain}\t{careful}\t{places}\t{deeper}\t{file}");
+        println!("{probes}\t{rounded}\t{exact}\t{places}\t{deeper}\t{file}");
     }
     ExitCode::SUCCESS
 }
 
-/// How many probes on edges, and how many pass by one cast and by the careful one.
+/// How many probes on edges, and how many pass by the rounded cast and by the exact one.
 fn on_edges(shape: &Shape) -> [usize; 3] {
     let rays = probes(shape);
     let passed =
         |cast: Cast<MeshHit>| !matches!(cast, Cast::Hit(hit) if hit.distance < BEFORE + 1e-3);
     let both = Batch::new().run(&rays, |ray, scratch| {
-        let plain = passed(shape.cast(ray, scratch));
-        [plain, passed(shape.cast_careful(ray, scratch))]
+        let rounded = passed(shape.cast_rounded(ray, scratch));
+        [rounded, passed(shape.cast(ray, scratch))]
     });
     let count = |which: usize| both.iter().filter(|passed| passed[which]).count();
     [rays.len(), count(0), count(1)]
 }
 
-/// How many places of rasters, and at how many of them the one cast goes deeper.
+/// How many places of rasters, and at how many of them the rounded cast goes deeper.
 fn on_rasters(shape: &Shape) -> [usize; 2] {
     let (mut places, mut deeper) = (0, 0);
     for view in FACES.map(|face| View::new(shape, face)) {
@@ -55,9 +54,15 @@ fn on_rasters(shape: &Shape) -> [usize; 2] {
         let cells: Vec<usize> = (0..grid.len()).collect();
         let found = Batch::new().run(&cells, |&cell, scratch| {
             let place = grid.place(cell);
-            let one = view.glance(place, scratch)?.depth;
-            let careful = view.depth(place, scratch)?;
-            Ok::<bool, Refusal>(one > careful + 0.01)
+            let exact = view.depth(place, scratch)?;
+            let ray = view.ray(place);
+            let point = |depth: f64| view.point(place, depth);
+            let rounded = match shape.cast_rounded(&ray, scratch) {
+                Cast::Hit(hit) => hit.distance - distance(ray.origin, point(0.0)),
+                Cast::None => f64::INFINITY,
+                Cast::Refused(refusal) => return Err(refusal),
+            };
+            Ok::<bool, Refusal>(rounded > exact + 0.01)
         });
         places += cells.len();
         deeper += found
@@ -66,6 +71,11 @@ fn on_rasters(shape: &Shape) -> [usize; 2] {
             .count();
     }
     [places, deeper]
+}
+
+/// How far two points on a line along an axis are apart.
+fn distance(a: [f64; 3], b: [f64; 3]) -> f64 {
+    (0..3).map(|k| (a[k] - b[k]).abs()).sum()
 }
 
 /// The probes on the edges of a part.

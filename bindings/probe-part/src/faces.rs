@@ -5,19 +5,6 @@ use probe_rays::{Cast, MeshHit, Ray, Refusal, Scratch};
 /// How far before the box a probe starts.
 const MARGIN: f64 = 1.0;
 
-/// A surface whose unit normal leans less to the probe is a wall: it is steeper than 70 degrees. The walls of a bore are
-/// not straight down where the mesh has other corners above than below.
-const STEEP: f64 = 0.34;
-
-/// What lies below a place of a face.
-#[derive(Clone, Copy, Debug, PartialEq)]
-pub struct Probe {
-    /// How deep below the box's face the first surface lies; infinite where there is none.
-    pub depth: f64,
-    /// Whether it is a wall.
-    pub is_wall: bool,
-}
-
 /// A face of the box around a part.
 #[derive(Clone, Copy, Debug, PartialEq, Eq)]
 pub struct Face {
@@ -137,32 +124,16 @@ impl<'a> View<'a> {
         )
     }
 
-    /// What lies below a place, by a careful cast.
-    pub fn probe(&self, place: [f64; 2], scratch: &mut Scratch) -> Result<Probe, Refusal> {
-        self.told(self.shape.cast_careful(&self.ray(place), scratch))
-    }
-
-    /// What lies below a place, by one cast.
-    pub fn glance(&self, place: [f64; 2], scratch: &mut Scratch) -> Result<Probe, Refusal> {
-        self.told(self.shape.cast(&self.ray(place), scratch))
-    }
-
-    fn told(&self, cast: Cast<MeshHit>) -> Result<Probe, Refusal> {
-        match cast {
-            Cast::Hit(hit) => Ok(Probe {
-                depth: hit.distance - MARGIN,
-                is_wall: hit.normal[self.face.axis].abs() < STEEP,
-            }),
-            Cast::None => Ok(Probe {
-                depth: f64::INFINITY,
-                is_wall: false,
-            }),
-            Cast::Refused(refusal) => Err(refusal),
-        }
-    }
-
-    /// The depth alone.
+    /// How deep below the box's face the first surface lies; infinite where there is none.
     pub fn depth(&self, place: [f64; 2], scratch: &mut Scratch) -> Result<f64, Refusal> {
-        Ok(self.probe(place, scratch)?.depth)
+        below(self.shape.cast(&self.ray(place), scratch))
+    }
+}
+
+fn below(cast: Cast<MeshHit>) -> Result<f64, Refusal> {
+    match cast {
+        Cast::Hit(hit) => Ok(hit.distance - MARGIN),
+        Cast::None => Ok(f64::INFINITY),
+        Cast::Refused(refusal) => Err(refusal),
     }
 }

@@ -1,39 +1,56 @@
 //! `probe-part`: probes a part in an STL file. `probe-part --help` says how.
 //!
-//! Exit status: 0 if all was answered, 1 if a cast was refused, 2 if the call or a file is not right.
-use probe_part::bores::{search, Recess};
-use probe_part::faces::{Face, View, FACES};
+//! Exit status: 0 if all was answered, 1 if a cast was refused, 2 if the call or a file is not right, 3 if a list may be
+//! incomplete or wrong.
+use probe_part::batch::{run as run_batch, Job};
+use probe_part::corner::from_corner;
+use probe_part::faces::{Face, View};
+use probe_part::files::{pictures, write_all};
+use probe_part::json::json;
+use probe_part::model::{Part, Report, Row, Unit};
 use probe_part::pictures::DepthMap;
 use probe_part::raster::{Grid, Raster};
 use probe_part::rays::{from_words, Lines};
+use probe_part::recognise::{recognise, Options};
 use probe_part::shape::Shape;
+use probe_part::summary::{counted, exit_status, Line};
+use probe_part::tables::{doubt_words, Listing};
 use probe_part::words::{all_told, fixed, told};
-use probe_part::{svg, tables};
+use probe_part::{csv, svg, tables};
 use probe_rays::{Cast, Progress, Ray};
 use std::fs::{self, File};
 use std::io::{self, BufRead, BufReader, BufWriter, IsTerminal, Write};
+use std::path::Path;
 use std::process::ExitCode;
 
 const HELP: &str = "\
 probe-part probes a part in an STL file, binary or ASCII, in millimetres.
 
-  probe-part cast FILE [--all | --careful] [--rays FILE] [X Y Z  DX DY DZ  MAX]...
+  probe-part cast FILE [--all | --rounded] [--rays FILE] [X Y Z  DX DY DZ  MAX]...
       what rays hit: origin, direction of any length, how far; --rays reads them from a file, one a line (- is standard
-      input; # begins a comment); --all tells every depth along a ray; --careful casts three more a hair beside each
-      ray and tells the nearest hit; a part on whole millimetres, of up to 65,536 triangles, is cast at in whole numbers
-      by rays along an axis from a whole origin to a whole maximum, but for --all: 'exact' stands behind such an answer
-  probe-part bores FILE [--face NAME]... [--step MM] [--from-corner] [--csv]
-      the bores and pockets of the part's faces: outline, size, depth, through or not, middle; --face asks for some faces
-      alone; the faces are probed every MM (1); --from-corner counts x, y, z from the least corner of the part; --csv
-      prints commas
+      input; # begins a comment); casts are exact, on a grid of 2^-15 mm within 8,192 mm; --all tells every depth along a
+      ray and --rounded the first hit, both by the rounded casts
+  probe-part bores FILE [--face NAME]... [--unit UNIT] [--as-drawn] [--from-corner] [--shells] [--csv | --json]
+                   [--out DIR]
+      the bores, pockets, grooves and so on of the part, recognised from its triangles and probed by casts: outline, size,
+      depth of the entry below the outer face, own depth, middle; what is not understood is marked by !, and the exit
+      status is 3 then; --face asks for the rows of some faces alone; --unit mm, cm, m or in is the file's unit (mm);
+      the part's own frame has z across its largest flat face and x along its longest side, --as-drawn keeps the file's;
+      --from-corner counts x, y, z from the least corner of the part; --shells says that the file holds several parts;
+      --csv prints commas, --json prints JSON; --out DIR writes the list as txt, csv and json there, and each face as
+      a drawing (DXF R12) and a picture (SVG)
+  probe-part batch FOLDER --out DIR [--unit UNIT] [--as-drawn] [--from-corner] [--shells] [--threads N]
+      the same for every .stl, .step and .stp file of a folder (STEP through gmsh, in millimetres), with summary.csv and
+      index.html, a page that shows each part's faces beside its list, and in red what needs a look
   probe-part depth FILE --face NAME [--step MM] [--png FILE] [--svg FILE]
-      a picture of how deep a face is; the SVG has its bores numbered as `bores --face NAME` numbers them
-  probe-part --help
+      a picture of how deep a face is; the SVG has its bores numbered as `bores --as-drawn` numbers them
+  probe-part --help, probe-part --version
 
 Faces: top (+z), bottom (-z), front (-y), back (+y), left (-x), right (+x).
 A part of more than 65,536 triangles is cast at in pieces.
-Proved are the casts. What `bores` finds between its probes, and the pictures, are tested and not proved.
-Exit status: 0 if all was answered, 1 if a cast was refused, 2 if the call or a file is not right.
+Proved are the casts. What `bores` recognises, and the pictures, are tested and not proved.
+Exit status: 0 if all was answered, and a list is complete and confirmed; 1 if a cast was refused; 2 if the call or a file
+is not right; 3 if a list may be incomplete or wrong.
 ";
 
 /// So many rays of a file are cast at a time.
@@ -45,8 +62,7 @@ const MOST_PLACES: f64 = 100_000_000.0;
 fn main() -> ExitCode {
     let words: Vec<String> = std::env::args().skip(1).collect();
     match run(&words) {
-        Ok(true) => ExitCode::SUCCESS,
-        Ok(false) => ExitCode::from(1),
+        Ok(status) => ExitCode::from(status),
         Err(why) => {
             eprintln!("probe-part: {why}");
             ExitCode::from(2)
@@ -54,8 +70,13 @@ fn main() -> ExitCode {
     }
 }
 
-/// Does what the words ask; whether no cast was refused.
-fn run(words: &[String]) -> Result<bool, String> {
+/// The exit statuses beside 2.
+const ANSWERED: u8 = 0;
+const REFUSED: u8 = 1;
+const DOUBTFUL: u8 = 3;
+
+/// Does what the words ask, and tells the exit status.
+fn run(words: &[String]) -> Result<u8, String> {
     let asks_help = |word: &String| word == "--help" || word == "-h" || word == "help";
     let mut out = Output::new();
     let Some((command, rest)) = words.split_first() else {
@@ -63,15 +84,31 @@ fn run(words: &[String]) -> Result<bool, String> {
     };
     if words.iter().any(asks_help) {
         out.print(HELP)?;
-        return out.done().map(|()| true);
+        return out.done().map(|()| ANSWERED);
+    }
+    if command == "--version" {
+        out.print(concat!("probe-part ", env!("CARGO_PKG_VERSION"), "\n"))?;
+        return out.done().map(|()| ANSWERED);
     }
     let answered = match command.as_str() {
         "cast" => cast(
-            &Call::new(rest, &["--all", "--careful"], &["--rays"])?,
+            &Call::new(rest, &["--all", "--rounded"], &["--rays"])?,
             &mut out,
         )?,
         "bores" => bores(
-            &Call::new(rest, &["--from-corner", "--csv"], &["--face", "--step"])?,
+            &Call::new(
+                rest,
+                &["--from-corner", "--csv", "--json", "--as-drawn", "--shells"],
+                &["--face", "--unit", "--out"],
+            )?,
+            &mut out,
+        )?,
+        "batch" => batch(
+            &Call::new(
+                rest,
+                &["--from-corner", "--as-drawn", "--shells"],
+                &["--out", "--unit", "--threads"],
+            )?,
             &mut out,
         )?,
         "depth" => depth(
@@ -80,7 +117,7 @@ fn run(words: &[String]) -> Result<bool, String> {
         )?,
         other => {
             return Err(format!(
-                "{other:?} is none of cast, bores, depth; probe-part --help says more"
+                "{other:?} is none of cast, bores, batch, depth; probe-part --help says more"
             ));
         }
     };
@@ -117,6 +154,15 @@ struct Call {
 }
 
 impl Call {
+    /// What is asked of the recognition.
+    fn options(&self) -> Result<Options, String> {
+        Ok(Options {
+            unit: self.unit()?,
+            as_drawn: self.has("--as-drawn"),
+            several: self.has("--shells"),
+        })
+    }
+
     fn new(words: &[String], switches: &[&str], options: &[&str]) -> Result<Call, String> {
         let mut call = Call {
             file: String::new(),
@@ -181,6 +227,12 @@ impl Call {
             .collect()
     }
 
+    /// The unit; millimetres if none is given.
+    fn unit(&self) -> Result<Unit, String> {
+        let name = self.value("--unit").unwrap_or("mm");
+        Unit::named(name).ok_or_else(|| format!("--unit takes mm, cm, m or in, not {name:?}"))
+    }
+
     /// The step, if it is given.
     fn step(&self) -> Result<Option<f64>, String> {
         let Some(word) = self.value("--step") else {
@@ -221,10 +273,10 @@ fn counts(shape: &Shape) -> String {
 }
 
 /// `probe-part cast`.
-fn cast(call: &Call, out: &mut Output) -> Result<bool, String> {
-    if call.has("--all") && call.has("--careful") {
+fn cast(call: &Call, out: &mut Output) -> Result<u8, String> {
+    if call.has("--all") && call.has("--rounded") {
         return Err(
-            "--careful is about the first hit, --all about every one: take one of them".into(),
+            "--rounded is about the first hit, --all about every one: take one of them".into(),
         );
     }
     let given = from_words(&call.rest)?;
@@ -233,7 +285,7 @@ fn cast(call: &Call, out: &mut Output) -> Result<bool, String> {
     let mut casting = Casting {
         shape: &shape,
         all: call.has("--all"),
-        careful: call.has("--careful"),
+        rounded: call.has("--rounded"),
         number: 0,
         answered: true,
         // where the answers go to a terminal, they are the progress
@@ -257,13 +309,13 @@ fn cast(call: &Call, out: &mut Output) -> Result<bool, String> {
             casting.block(&rays, out)?;
         }
     }
-    Ok(casting.answered)
+    Ok(if casting.answered { ANSWERED } else { REFUSED })
 }
 
 struct Casting<'a> {
     shape: &'a Shape,
     all: bool,
-    careful: bool,
+    rounded: bool,
     number: usize,
     answered: bool,
     line: Option<Progress>,
@@ -278,8 +330,8 @@ impl Casting<'_> {
                 self.line(&all_told(ray, &hits), out)?;
             }
         } else {
-            for (ray, answer) in rays.iter().zip(self.shape.cast_many(rays, self.careful)) {
-                self.answered &= !matches!(answer.cast, Cast::Refused(_));
+            for (ray, answer) in rays.iter().zip(self.shape.cast_many(rays, self.rounded)) {
+                self.answered &= !matches!(answer, Cast::Refused(_));
                 self.line(&told(ray, &answer), out)?;
             }
         }
@@ -296,54 +348,111 @@ impl Casting<'_> {
 }
 
 /// `probe-part bores`.
-fn bores(call: &Call, out: &mut Output) -> Result<bool, String> {
+fn bores(call: &Call, out: &mut Output) -> Result<u8, String> {
     call.no_rest()?;
-    let (asked, step) = (call.faces()?, call.step()?.unwrap_or(1.0));
-    let faces = if asked.is_empty() {
-        FACES.to_vec()
-    } else {
-        asked
-    };
-    let shape = Shape::load(&call.file)?;
-    for &face in &faces {
-        check_step(&View::new(&shape, face), step)?;
+    if call.has("--csv") && call.has("--json") {
+        return Err("--csv or --json: take one of them".into());
     }
-    let found = match search(&shape, &faces, step) {
-        Ok(found) => found,
+    let options = call.options()?;
+    let listing = Listing {
+        faces: call
+            .faces()?
+            .iter()
+            .map(|face| face.name().into())
+            .collect(),
+        from_corner: call.has("--from-corner"),
+        ..Listing::default()
+    };
+    let shape = Shape::load_in(&call.file, options.unit)?;
+    let report = match recognise(&shape, &options) {
+        Ok(report) => report,
         Err(refusal) => {
             eprintln!("probe-part: a cast was {refusal}");
-            return Ok(false);
+            return Ok(REFUSED);
         }
     };
-    let bounds = shape.bounds();
-    let origin = if call.has("--from-corner") {
-        bounds.low
+    if let Some(folder) = call.value("--out") {
+        write_files(&shape, &report, &listing, &call.file, folder)?;
+    }
+    if call.has("--csv") || call.has("--json") {
+        out.print(&if call.has("--csv") {
+            csv::csv(&report, &listing)
+        } else if listing.from_corner {
+            json(&from_corner(&report), &listing, &call.file)
+        } else {
+            json(&report, &listing, &call.file)
+        })?;
+        let parts = report.parts.iter().flat_map(|part| &part.doubts);
+        for doubt in parts.chain(&report.doubts) {
+            eprintln!("probe-part: {}", doubt_words(doubt));
+        }
     } else {
-        [0.0; 3]
+        out.print(&tables::table(&report, &listing))?;
+    }
+    Ok(if report.is_certain() {
+        ANSWERED
+    } else {
+        DOUBTFUL
+    })
+}
+
+/// Writes a report's files into a folder, named after the STL file.
+fn write_files(
+    shape: &Shape,
+    report: &Report,
+    listing: &Listing,
+    file: &str,
+    folder: &str,
+) -> Result<(), String> {
+    fs::create_dir_all(folder).map_err(|why| format!("{folder}: {why}"))?;
+    let stem = Path::new(file).file_stem().unwrap_or_default();
+    let name = stem.to_string_lossy();
+    let (report, listing) = if listing.from_corner {
+        let whole = Listing {
+            from_corner: false,
+            ..listing.clone()
+        };
+        (from_corner(report), whole)
+    } else {
+        (report.clone(), listing.clone())
     };
-    if call.has("--csv") {
-        out.print(&tables::csv(&found, origin))?;
-    } else {
-        let sides: [String; 3] =
-            std::array::from_fn(|axis| fixed(bounds.high[axis] - bounds.low[axis], 2));
-        out.print(&format!(
-            "{} mm, {} triangles, probed every {step} mm\n",
-            sides.join(" x "),
-            shape.triangles().len()
-        ))?;
-        out.print(&tables::table(&found, origin))?;
+    let listing = Listing {
+        name: name.clone().into_owned(),
+        ..listing
+    };
+    let pictures = pictures(shape, &report, &name).map_err(|why| format!("a cast was {why}"))?;
+    write_all(Path::new(folder), &name, &report, &listing, &pictures).map(|_| ())
+}
+
+/// `probe-part batch`.
+fn batch(call: &Call, out: &mut Output) -> Result<u8, String> {
+    call.no_rest()?;
+    let folder = call.value("--out").ok_or("where to? --out DIR")?;
+    let threads = match call.value("--threads") {
+        None => 0,
+        Some(word) => match word.parse() {
+            Ok(count) if count > 0 => count,
+            _ => return Err(format!("--threads takes a number above 0, not {word:?}")),
+        },
+    };
+    let entries = run_batch(&Job {
+        folder: call.file.clone().into(),
+        out: folder.into(),
+        options: call.options()?,
+        from_corner: call.has("--from-corner"),
+        threads,
+    })?;
+    let lines: Vec<Line> = entries.iter().flat_map(Line::of).collect();
+    for line in &lines {
+        out.print(&line.words())?;
     }
-    for face in &found.not_flat {
-        eprintln!(
-            "probe-part: the {} face has no flat surface, and was left out",
-            face.name()
-        );
-    }
-    Ok(true)
+    let page = Path::new(folder).join("index.html");
+    out.print(&format!("{}: {}\n", page.display(), counted(&lines)))?;
+    Ok(exit_status(&lines))
 }
 
 /// `probe-part depth`.
-fn depth(call: &Call, out: &mut Output) -> Result<bool, String> {
+fn depth(call: &Call, out: &mut Output) -> Result<u8, String> {
     call.no_rest()?;
     let faces = call.faces()?;
     let &[face] = faces.as_slice() else {
@@ -363,28 +472,47 @@ fn depth(call: &Call, out: &mut Output) -> Result<bool, String> {
         Ok(raster) => raster,
         Err(refusal) => {
             eprintln!("probe-part: a cast was {refusal}");
-            return Ok(false);
+            return Ok(REFUSED);
         }
     };
     let map = DepthMap::new(face, &raster);
+    let name = Path::new(&call.file).file_name().unwrap_or_default();
+    let title = format!("{}, {} face", name.to_string_lossy(), face.name());
     if let Some(file) = call.value("--png") {
-        written(file, &map.picture().to_png())?;
+        written(file, &map.picture(&title).to_png())?;
         out.print(&format!("{file}: {}\n", size(&raster.grid)))?;
     }
     if let Some(file) = call.value("--svg") {
-        let found =
-            search(&shape, &[face], step.max(1.0)).map_err(|why| format!("a cast was {why}"))?;
-        let numbered: Vec<(usize, Recess)> = found
-            .recesses
-            .into_iter()
-            .enumerate()
-            .map(|(place, recess)| (place + 1, recess))
-            .collect();
-        let title = format!("{}, {} face", call.file, face.name());
-        written(file, svg::svg(&map, &title, &numbered).as_bytes())?;
+        let options = Options {
+            as_drawn: true,
+            ..Options::default()
+        };
+        let report = recognise(&shape, &options).map_err(|why| format!("a cast was {why}"))?;
+        let of_face =
+            |part: &'_ Part, row: &Row| row.face.is_some_and(|n| part.faces[n].name == face.name());
+        let mut numbered: Vec<(usize, &Row)> = Vec::new();
+        for part in &report.parts {
+            let rows = part
+                .rows
+                .iter()
+                .enumerate()
+                .filter(|(_, row)| of_face(part, row));
+            numbered.extend(rows.map(|(place, row)| (place + 1, row)));
+        }
+        let overlay = svg::Overlay {
+            title,
+            rows: numbered,
+            left_over: report
+                .parts
+                .iter()
+                .flat_map(|part| &part.left_over)
+                .collect(),
+            listed: true,
+        };
+        written(file, svg::svg(&map, &overlay).as_bytes())?;
         out.print(&format!("{file}: {}\n", size(&raster.grid)))?;
     }
-    Ok(true)
+    Ok(ANSWERED)
 }
 
 fn size(grid: &Grid) -> String {

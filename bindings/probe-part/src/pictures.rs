@@ -1,8 +1,8 @@
 //! Pictures of a face's depths.
-use crate::bores::face_level;
 use crate::faces::Face;
+use crate::letters::{width, write, HEIGHT};
 use crate::png::Picture;
-use crate::raster::Raster;
+use crate::raster::{face_level, Raster};
 use crate::words::fixed;
 
 /// Where a ray goes through.
@@ -12,7 +12,12 @@ pub const SURFACE: [u8; 3] = [232, 218, 190];
 /// What stands out of the face.
 pub const RAISED: [u8; 3] = [196, 64, 48];
 const INK: [u8; 3] = [40, 40, 40];
+const TITLE: [u8; 3] = [70, 70, 70];
 const PAPER: [u8; 3] = [250, 250, 250];
+
+/// The margin, and how wide the scale is, in pixels.
+const EDGE: usize = 12;
+const BAR: usize = 16;
 
 /// From the shallowest to the deepest.
 const RAMP: [[u8; 3]; 5] = [
@@ -94,46 +99,77 @@ impl<'a> DepthMap<'a> {
         (0..=count).map(|mark| mark as f64 * step).collect()
     }
 
-    /// The picture, with the scale of its colours at the right: millimetres below the face.
-    pub fn picture(&self) -> Picture {
+    /// A pixel for each probe.
+    pub fn pixels(&self) -> Picture {
         let [columns, rows] = self.counts();
-        let (edge, bar, text) = (12, 16, 60);
-        let bar_rows = rows.max(120);
-        let width = edge + columns + edge + bar + text;
-        let mut picture = Picture::new(width, bar_rows + 2 * edge, PAPER);
+        let mut picture = Picture::new(columns, rows, PAPER);
         for row in 0..rows {
             for column in 0..columns {
-                let colour = self.colour(self.depth(column, row));
-                picture.set(edge + column, edge + row, colour);
+                picture.set(column, row, self.colour(self.depth(column, row)));
             }
-        }
-        frame(&mut picture, [edge, edge], [columns, rows]);
-        let left = edge + columns + edge;
-        for row in 0..bar_rows {
-            let depth = self.deepest * row as f64 / (bar_rows - 1) as f64;
-            for column in 0..bar {
-                picture.set(left + column, edge + row, self.colour(depth));
-            }
-        }
-        frame(&mut picture, [left, edge], [bar, bar_rows]);
-        for mark in self.marks() {
-            let row = (mark / self.deepest * (bar_rows - 1) as f64).round() as usize;
-            for column in bar..bar + 4 {
-                picture.set(left + column, edge + row, INK);
-            }
-            let text = if mark.fract() == 0.0 {
-                fixed(mark, 0)
-            } else {
-                fixed(mark, 1)
-            };
-            write(
-                &mut picture,
-                [left + bar + 7, (edge + row).saturating_sub(5)],
-                &text,
-            );
         }
         picture
     }
+
+    /// The picture below a title, with the scale of its colours at the right: millimetres below the face.
+    pub fn picture(&self, title: &str) -> Picture {
+        let [columns, rows] = self.counts();
+        let bar_rows = rows.max(120);
+        let top = 3 * EDGE + 2 * HEIGHT;
+        let left = EDGE + columns + 2 * EDGE;
+        let wide = (left + BAR + width("stands out") + 2 * EDGE).max(2 * EDGE + width(title));
+        let high = top + bar_rows + EDGE + 3 * (HEIGHT + EDGE);
+        let mut picture = Picture::new(wide, high, PAPER);
+        write(&mut picture, [EDGE, EDGE], title, TITLE);
+        for row in 0..rows {
+            for column in 0..columns {
+                let colour = self.colour(self.depth(column, row));
+                picture.set(EDGE + column, top + row, colour);
+            }
+        }
+        frame(&mut picture, [EDGE, top], [columns, rows]);
+        self.scale(&mut picture, [left, top], bar_rows);
+        let below = top + bar_rows + EDGE;
+        let legend = [("face", SURFACE), ("through", OPEN), ("stands out", RAISED)];
+        for (place, (words, colour)) in legend.into_iter().enumerate() {
+            let row = below + place * (HEIGHT + EDGE);
+            patch(&mut picture, [left, row], [BAR, HEIGHT], colour);
+            write(&mut picture, [left + BAR + 7, row], words, TITLE);
+        }
+        picture
+    }
+
+    /// The colours and their depths.
+    fn scale(&self, picture: &mut Picture, [left, top]: [usize; 2], rows: usize) {
+        let title = top - HEIGHT - EDGE;
+        write(picture, [left, title], "mm deep", TITLE);
+        for row in 0..rows {
+            let depth = self.deepest * row as f64 / (rows - 1) as f64;
+            for column in 0..BAR {
+                picture.set(left + column, top + row, self.colour(depth));
+            }
+        }
+        frame(picture, [left, top], [BAR, rows]);
+        for mark in self.marks() {
+            let row = (mark / self.deepest * (rows - 1) as f64).round() as usize;
+            for column in BAR..BAR + 4 {
+                picture.set(left + column, top + row, INK);
+            }
+            let text = fixed(mark, usize::from(mark.fract() != 0.0));
+            let place = [left + BAR + 7, (top + row).saturating_sub(HEIGHT / 2)];
+            write(picture, place, &text, TITLE);
+        }
+    }
+}
+
+/// A rectangle of one colour, with a line around it.
+fn patch(picture: &mut Picture, [left, top]: [usize; 2], size: [usize; 2], colour: [u8; 3]) {
+    for x in 0..size[0] {
+        for y in 0..size[1] {
+            picture.set(left + x, top + y, colour);
+        }
+    }
+    frame(picture, [left, top], size);
 }
 
 fn ramp(share: f64) -> [u8; 3] {
@@ -155,34 +191,5 @@ fn frame(picture: &mut Picture, [left, top]: [usize; 2], [width, height]: [usize
     for y in top - 1..=top + height {
         picture.set(left - 1, y, INK);
         picture.set(left + width, y, INK);
-    }
-}
-
-/// Digits and a point, three columns of five rows, a row in three bits.
-const DIGITS: [[u8; 5]; 11] = [
-    [7, 5, 5, 5, 7],
-    [2, 6, 2, 2, 7],
-    [7, 1, 7, 4, 7],
-    [7, 1, 7, 1, 7],
-    [5, 5, 7, 1, 1],
-    [7, 4, 7, 1, 7],
-    [7, 4, 7, 5, 7],
-    [7, 1, 1, 2, 2],
-    [7, 5, 7, 5, 7],
-    [7, 5, 7, 1, 7],
-    [0, 0, 0, 0, 2],
-];
-
-/// Writes a number, its dots two pixels wide.
-fn write(picture: &mut Picture, [left, top]: [usize; 2], number: &str) {
-    for (place, letter) in number.chars().enumerate() {
-        let glyph = DIGITS[letter.to_digit(10).map_or(10, |digit| digit as usize)];
-        for (row, bits) in glyph.into_iter().enumerate() {
-            for column in (0..3).filter(|column| bits >> (2 - column) & 1 == 1) {
-                for (x, y) in [(0, 0), (1, 0), (0, 1), (1, 1)] {
-                    picture.set(left + 8 * place + 2 * column + x, top + 2 * row + y, INK);
-                }
-            }
-        }
     }
 }

@@ -1,4 +1,5 @@
-//! PNG files of colours, not packed: the blocks of their stream are stored as they are.
+//! PNG files of colours.
+use crate::deflate::zlib;
 
 /// A picture: rows of pixels from the top, each red, green and blue.
 #[derive(Clone, Debug, PartialEq)]
@@ -47,7 +48,7 @@ impl Picture {
         header.extend([8, 2, 0, 0, 0]);
         let mut file = b"\x89PNG\r\n\x1a\n".to_vec();
         chunk(&mut file, b"IHDR", &header);
-        chunk(&mut file, b"IDAT", &stored(&rows));
+        chunk(&mut file, b"IDAT", &zlib(&rows));
         chunk(&mut file, b"IEND", &[]);
         file
     }
@@ -61,25 +62,6 @@ fn chunk(file: &mut Vec<u8>, name: &[u8; 4], bytes: &[u8]) {
     file.extend(bytes);
     let sum = crc(&file[start..]);
     file.extend(sum.to_be_bytes());
-}
-
-/// A zlib stream of stored blocks, of at most 65,535 bytes each.
-fn stored(bytes: &[u8]) -> Vec<u8> {
-    let mut stream = vec![0x78, 0x01];
-    let blocks = bytes.chunks(65_535);
-    let last = blocks.len().saturating_sub(1);
-    if bytes.is_empty() {
-        stream.extend([1, 0, 0, 0xff, 0xff]);
-    }
-    for (number, block) in blocks.enumerate() {
-        let length = block.len() as u16;
-        stream.push(u8::from(number == last));
-        stream.extend(length.to_le_bytes());
-        stream.extend((!length).to_le_bytes());
-        stream.extend(block);
-    }
-    stream.extend(adler(bytes).to_be_bytes());
-    stream
 }
 
 /// The check sum of a PNG chunk (CRC-32).
@@ -96,14 +78,4 @@ pub fn crc(bytes: &[u8]) -> u32 {
     !bytes.iter().fold(!0_u32, |sum, &byte| {
         table[usize::from(sum as u8 ^ byte)] ^ (sum >> 8)
     })
-}
-
-/// The check sum of a zlib stream (Adler-32).
-pub fn adler(bytes: &[u8]) -> u32 {
-    let (mut a, mut b) = (1_u32, 0_u32);
-    for &byte in bytes {
-        a = (a + u32::from(byte)) % 65_521;
-        b = (b + a) % 65_521;
-    }
-    b << 16 | a
 }

@@ -1,6 +1,6 @@
 //! Depths at a raster of places.
-use crate::faces::{Probe, View};
-use probe_rays::{Batch, Refusal, Scratch};
+use crate::faces::View;
+use probe_rays::{Batch, Refusal};
 
 /// Where the places of a raster stand: in the middles of equal cells that fill a rectangle.
 #[derive(Clone, Copy, Debug, PartialEq)]
@@ -49,16 +49,6 @@ impl Grid {
         std::array::from_fn(|side| self.low[side] + (at[side] as f64 + 0.5) * self.step[side])
     }
 
-    /// The cell that a place lies in, or the nearest one.
-    pub fn cell(&self, place: [f64; 2]) -> usize {
-        let at: [usize; 2] = std::array::from_fn(|side| {
-            let cells = ((place[side] - self.low[side]) / self.step[side]).floor();
-            // a negative one becomes 0
-            (cells as usize).min(self.counts[side] - 1)
-        });
-        at[1] * self.counts[0] + at[0]
-    }
-
     /// The neighbours of a cell to the left, the right, below and above; none past a side.
     pub fn neighbours(&self, cell: usize) -> [Option<usize>; 4] {
         let [columns, rows] = self.counts;
@@ -82,13 +72,10 @@ pub struct Raster {
     pub grid: Grid,
     /// The depths.
     pub depths: Vec<f64>,
-    /// Whether the surface is a wall.
-    pub walls: Vec<bool>,
 }
 
 impl Raster {
-    /// Probes the whole face of a view, over the machine's threads. Where a place is as deep as its neighbours, one cast
-    /// has told it; elsewhere, as at a rim, and where a ray has passed between two triangles, the careful cast does.
+    /// Probes the whole face of a view, over the machine's threads.
     pub fn of_face(view: &View<'_>, step: f64) -> Result<Raster, Refusal> {
         let grid = Grid::new(view.low(), view.high(), step);
         let [columns, rows] = grid.counts();
@@ -96,44 +83,37 @@ impl Raster {
         let label = format!("probing the {} face, rows", view.face.name());
         let rows = Batch::new().progress(label).run(&numbers, |row, scratch| {
             let cells = row * columns..(row + 1) * columns;
-            let glance = |cell: usize| view.glance(grid.place(cell), scratch);
-            cells.map(glance).collect::<Result<Vec<Probe>, Refusal>>()
+            let depth = |cell: usize| view.depth(grid.place(cell), scratch);
+            cells.map(depth).collect::<Result<Vec<f64>, Refusal>>()
         });
-        let mut probes = Vec::with_capacity(grid.len());
+        let mut depths = Vec::with_capacity(grid.len());
         for row in rows {
-            probes.append(&mut row?);
+            depths.append(&mut row?);
         }
-        let depth = |cell: usize| probes[cell].depth;
-        let differs = |cell: usize, other: usize| {
-            depth(cell) != depth(other) && (depth(cell) - depth(other)).abs() > SAME
-        };
-        let neighbours = |cell: usize| grid.neighbours(cell).into_iter().flatten();
-        let unsure: Vec<usize> = (0..grid.len())
-            .filter(|&cell| neighbours(cell).any(|other| differs(cell, other)))
-            .collect();
-        let label = format!("probing the {} face with care", view.face.name());
-        let sure = Batch::new().progress(label).run(&unsure, |&cell, scratch| {
-            view.probe(grid.place(cell), scratch)
-        });
-        for (cell, probe) in unsure.into_iter().zip(sure) {
-            probes[cell] = probe?;
-        }
-        Ok(Raster::of_probes(grid, probes.into_iter()))
+        Ok(Raster { grid, depths })
     }
+}
 
-    /// Probes the places of a grid, here and now.
-    pub fn of_grid(view: &View<'_>, grid: Grid, scratch: &mut Scratch) -> Result<Raster, Refusal> {
-        let probe = |cell: usize| view.probe(grid.place(cell), scratch);
-        let probes: Vec<Probe> = (0..grid.len()).map(probe).collect::<Result<_, _>>()?;
-        Ok(Raster::of_probes(grid, probes.into_iter()))
-    }
-
-    fn of_probes(grid: Grid, probes: impl Iterator<Item = Probe>) -> Raster {
-        let (depths, walls) = probes.map(|probe| (probe.depth, probe.is_wall)).unzip();
-        Raster {
-            grid,
-            depths,
-            walls,
-        }
-    }
+/// The depth of the face itself below the box's: of the flat depths that have a fifth of the raster, or half of its
+/// border, the least. What stands out of a face has neither, and the floor of a tray has no border.
+pub fn face_level(raster: &Raster) -> Option<f64> {
+    let bin = |depth: f64| (depth / SAME).round();
+    let grid = &raster.grid;
+    let on_border = |cell: usize| grid.neighbours(cell).iter().any(Option::is_none);
+    let mut cells: Vec<(f64, bool)> = raster
+        .depths
+        .iter()
+        .enumerate()
+        .filter(|(_, depth)| depth.is_finite())
+        .map(|(cell, &depth)| (depth, on_border(cell)))
+        .collect();
+    cells.sort_by(|a, b| a.0.total_cmp(&b.0));
+    let border = cells.iter().filter(|cell| cell.1).count();
+    cells
+        .chunk_by(|a, b| bin(a.0) == bin(b.0))
+        .find(|same| {
+            let on_border = same.iter().filter(|cell| cell.1).count();
+            5 * same.len() >= cells.len() || (2 * on_border >= border && on_border > 0)
+        })
+        .map(|same| same[same.len() / 2].0)
 }

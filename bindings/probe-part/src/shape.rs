@@ -1,8 +1,9 @@
 //! A part of any number of triangles.
 use crate::kinds::kind_of;
+use crate::model::Unit;
 use probe_rays::stl::{self, Corners};
 use probe_rays::{
-    careful, Batch, Cabinet, Cast, Mesh, MeshHit, PartHit, Ray, Refusal, Scratch, HAIR, MAX_COUNT,
+    Batch, Cabinet, Cast, Mesh, MeshHit, PartHit, Ray, Refusal, Scratch, MAX_COUNT,
 };
 use std::fs;
 
@@ -13,16 +14,6 @@ pub struct Shape {
     triangles: Vec<[u32; 3]>,
     meshes: Vec<Piece>,
     cabinet: Cabinet,
-    whole: bool,
-}
-
-/// An answer, and whether it was decided in whole numbers.
-#[derive(Clone, Debug, PartialEq)]
-pub struct Answer {
-    /// The answer.
-    pub cast: Cast<MeshHit>,
-    /// Whether it is that of the exact cast.
-    pub exact: bool,
 }
 
 /// A mesh of some of the triangles, with the number of each in the whole.
@@ -41,18 +32,29 @@ pub struct Bounds {
 }
 
 impl Shape {
-    /// The part of an STL file. What cannot be read is said in words, with the file's name.
+    /// The part of an STL file in millimetres. What cannot be read is said in words, with the file's name.
     pub fn load(file: &str) -> Result<Shape, String> {
-        let bytes = fs::read(file).map_err(|why| format!("{file}: {why}"))?;
-        Shape::read(&bytes).map_err(|why| format!("{file}: {why}"))
+        Shape::load_in(file, Unit::Millimetre)
     }
 
-    /// The part of an STL file's bytes.
-    pub fn read(bytes: &[u8]) -> Result<Shape, String> {
-        let facets = stl::facets(bytes).map_err(|why| match kind_of(bytes) {
+    /// The part of an STL file in some unit, in millimetres.
+    pub fn load_in(file: &str, unit: Unit) -> Result<Shape, String> {
+        let bytes = fs::read(file).map_err(|why| format!("{file}: {why}"))?;
+        Shape::read(&bytes, unit).map_err(|why| format!("{file}: {why}"))
+    }
+
+    /// The part of an STL file's bytes, in some unit.
+    pub fn read(bytes: &[u8], unit: Unit) -> Result<Shape, String> {
+        let mut facets = stl::facets(bytes).map_err(|why| match kind_of(bytes) {
             Some(kind) => format!("this is {}: {}", kind.name, kind.advice),
             None => why.to_string(),
         })?;
+        if unit != Unit::Millimetre {
+            let numbers = facets.as_flattened_mut().as_flattened_mut();
+            numbers
+                .iter_mut()
+                .for_each(|number| *number *= unit.millimetres());
+        }
         Shape::of(&facets)
     }
 
@@ -72,13 +74,11 @@ impl Shape {
             triangles,
             meshes: Vec::new(),
             cabinet: Cabinet::new(),
-            whole: false,
         };
         let all = (0..facets.len() as u32).collect();
         shape
             .add(facets, all, most)
             .map_err(|why| why.to_string())?;
-        shape.whole = shape.meshes.iter().all(|piece| piece.mesh.is_whole());
         if shape.meshes.len() > 1 {
             for piece in &shape.meshes {
                 shape.cabinet.push(&piece.mesh, [0.0; 3]);
@@ -173,9 +173,30 @@ impl Shape {
         }
     }
 
-    /// The nearest triangle that a ray hits. Of equally near ones it is that of the lowest number; where the part
-    /// is in pieces, that of the first piece.
+    /// The nearest triangle that a ray hits, by the exact cast: a none is certain. Of equally near ones it is that of the
+    /// lowest number, also where the part is in pieces.
     pub fn cast(&self, ray: &Ray, scratch: &mut Scratch) -> Cast<MeshHit> {
+        let mut nearest: Option<MeshHit> = None;
+        for piece in &self.meshes {
+            let hit = match piece.mesh.cast_exact_with(ray, scratch) {
+                Cast::Refused(refusal) => return Cast::Refused(refusal),
+                Cast::None => continue,
+                Cast::Hit(hit) => MeshHit {
+                    triangle: piece.numbers[hit.triangle as usize],
+                    ..hit
+                },
+            };
+            let key = |hit: &MeshHit| (hit.distance, hit.triangle);
+            if nearest.as_ref().map_or(true, |other| key(&hit) < key(other)) {
+                nearest = Some(hit);
+            }
+        }
+        nearest.map_or(Cast::None, Cast::Hit)
+    }
+
+    /// The same by the rounded cast of document 01. Of equally near triangles of different pieces it is that of the first
+    /// piece.
+    pub fn cast_rounded(&self, ray: &Ray, scratch: &mut Scratch) -> Cast<MeshHit> {
         if let [piece] = self.meshes.as_slice() {
             return piece.mesh.cast_with(ray, scratch);
         }
@@ -196,26 +217,6 @@ impl Shape {
             normal: hit.normal,
             distance: hit.distance,
             triangle: self.meshes[hit.part].numbers[hit.triangle as usize],
-        }
-    }
-
-    /// The careful cast, by a hair of [`HAIR`].
-    pub fn cast_careful(&self, ray: &Ray, scratch: &mut Scratch) -> Cast<MeshHit> {
-        careful(ray, HAIR, |ray| self.cast(ray, scratch))
-    }
-
-    /// The exact cast, where the part is one mesh, all on whole millimetres, and the ray is one that
-    /// [`Mesh::cast_exact`] admits; else nothing.
-    pub fn cast_exact(&self, ray: &Ray, scratch: &mut Scratch) -> Option<Cast<MeshHit>> {
-        let [piece] = self.meshes.as_slice() else {
-            return None;
-        };
-        if !self.whole {
-            return None;
-        }
-        match piece.mesh.cast_exact_with(ray, scratch) {
-            Cast::Refused(_) => None,
-            answer => Some(answer),
         }
     }
 
@@ -242,18 +243,14 @@ impl Shape {
         Ok(all)
     }
 
-    /// The answer of each ray, in their order, over the machine's threads: that of the exact cast where there is one.
-    pub fn cast_many(&self, rays: &[Ray], with_care: bool) -> Vec<Answer> {
-        Batch::new().run(rays, |ray, scratch| match self.cast_exact(ray, scratch) {
-            Some(cast) => Answer { cast, exact: true },
-            None if with_care => Answer {
-                cast: self.cast_careful(ray, scratch),
-                exact: false,
-            },
-            None => Answer {
-                cast: self.cast(ray, scratch),
-                exact: false,
-            },
+    /// The answer of each ray, in their order, over the machine's threads.
+    pub fn cast_many(&self, rays: &[Ray], rounded: bool) -> Vec<Cast<MeshHit>> {
+        Batch::new().run(rays, |ray, scratch| {
+            if rounded {
+                self.cast_rounded(ray, scratch)
+            } else {
+                self.cast(ray, scratch)
+            }
         })
     }
 

@@ -1,14 +1,32 @@
-//! A face's depths as an SVG picture, with its recesses numbered.
-use crate::bores::Recess;
-use crate::fit::Outline;
+//! A face's depths as an SVG picture, with its rows numbered.
+use crate::base64::base64;
+use crate::geometry::Vector;
+use crate::model::{Check, End, Kind, LeftOver, Outline, Row};
 use crate::pictures::{DepthMap, OPEN};
-use crate::tables::{depth_words, size_words};
+use crate::tables::{depth_words, outline_word, size_words};
 use crate::words::fixed;
 use std::fmt::Write;
 
-/// The picture. Its unit is a millimetre of the part; the recesses carry their numbers in the list, from 1.
-pub fn svg(map: &DepthMap<'_>, title: &str, recesses: &[(usize, Recess)]) -> String {
-    let sheet = Sheet::new(map, recesses.len());
+/// What is drawn over a face's depths.
+#[derive(Clone, Debug, Default)]
+pub struct Overlay<'a> {
+    /// The words above; none where they are empty.
+    pub title: String,
+    /// The rows with their numbers in the list, from 1.
+    pub rows: Vec<(usize, &'a Row)>,
+    /// What is not understood, marked in red.
+    pub left_over: Vec<&'a LeftOver>,
+    /// Whether the rows stand below in words.
+    pub listed: bool,
+}
+
+/// What is marked.
+const RED: &str = "#d00000";
+
+/// The picture. Its unit is a millimetre of the part.
+pub fn svg(map: &DepthMap<'_>, overlay: &Overlay<'_>) -> String {
+    let rows = overlay.rows.as_slice();
+    let sheet = Sheet::new(map, overlay);
     let mut out = String::new();
     let mut line = |text: String| {
         out += &text;
@@ -17,14 +35,17 @@ pub fn svg(map: &DepthMap<'_>, title: &str, recesses: &[(usize, Recess)]) -> Str
     let [left, top] = [sheet.left, sheet.top];
     let [width, height] = sheet.size;
     let letter = sheet.letter;
-    head(&mut line, &sheet, title);
-    cells(&mut line, map, &sheet);
-    outlines(&mut line, map, &sheet, recesses);
-    numbers(&mut line, map, &sheet, recesses);
+    head(&mut line, &sheet, &overlay.title);
+    line(depths(map, &sheet));
+    outlines(&mut line, map, &sheet, rows);
+    not_understood(&mut line, map, &sheet, &overlay.left_over);
+    numbers(&mut line, map, &sheet, rows);
     let scale_at = [left + width + 2.0 * letter, top];
     scale(&mut line, map, scale_at, height.max(12.0 * letter), letter);
     ticks(&mut line, map, [left, top], [width, height], letter);
-    list(&mut line, &sheet, recesses);
+    if overlay.listed {
+        list(&mut line, map, &sheet, rows);
+    }
     line("</svg>".into());
     out
 }
@@ -41,18 +62,25 @@ struct Sheet {
 }
 
 impl Sheet {
-    fn new(map: &DepthMap<'_>, recesses: usize) -> Sheet {
+    fn new(map: &DepthMap<'_>, overlay: &Overlay<'_>) -> Sheet {
         let (counts, step) = (map.counts(), map.raster.grid.step());
         let size: [f64; 2] = std::array::from_fn(|side| counts[side] as f64 * step[side]);
-        let letter = (size[0].max(size[1]) / 60.0).max(2.0);
-        let columns = ((size[0] / (26.0 * letter)) as usize).max(1);
+        // a page shows it smaller
+        let share = if overlay.listed { 60.0 } else { 44.0 };
+        let letter = (size[0].max(size[1]) / share).max(2.0);
+        let rows = if overlay.listed {
+            overlay.rows.len()
+        } else {
+            0
+        };
+        let columns = ((size[0] / (36.0 * letter)) as usize).max(1);
         Sheet {
             letter,
             left: 4.0 * letter,
             top: 4.0 * letter,
             size,
             columns,
-            lines: recesses.div_ceil(columns),
+            lines: rows.div_ceil(columns),
         }
     }
 
@@ -69,14 +97,18 @@ fn head(line: &mut impl FnMut(String), sheet: &Sheet, title: &str) {
     let letter = sheet.letter;
     let width = fixed(sheet.left + sheet.size[0] + 9.0 * letter, 2);
     let listed = sheet.lines as f64 * 1.4 * letter;
-    let height = fixed(sheet.top + sheet.size[1] + 6.0 * letter + listed, 2);
+    let scale = sheet.size[1].max(12.0 * letter) + 3.0 * letter;
+    let below = (sheet.size[1] + 4.0 * letter + listed).max(scale);
+    let height = fixed(sheet.top + below, 2);
     let size =
         format!("width=\"{width}mm\" height=\"{height}mm\" viewBox=\"0 0 {width} {height}\"");
     let font = format!("font-family=\"sans-serif\" font-size=\"{letter:.2}\"");
     line(format!(
         "<svg xmlns=\"http://www.w3.org/2000/svg\" {size} {font}>"
     ));
-    line(format!("<title>{}</title>", escaped(title)));
+    if !title.is_empty() {
+        line(format!("<title>{}</title>", escaped(title)));
+    }
     line("<rect width=\"100%\" height=\"100%\" fill=\"#fafafa\"/>".into());
     line(text([sheet.left, 2.2 * letter], &escaped(title)));
 }
@@ -85,27 +117,45 @@ fn text([x, y]: [f64; 2], words: &str) -> String {
     format!("<text x=\"{x:.2}\" y=\"{y:.2}\">{words}</text>")
 }
 
-/// The depths: a rectangle for each run of one colour in a row.
-fn cells(line: &mut impl FnMut(String), map: &DepthMap<'_>, sheet: &Sheet) {
-    let [columns, rows] = map.counts();
-    let [step_x, step_y] = map.raster.grid.step();
-    line(sheet.group("shape-rendering=\"crispEdges\""));
-    for row in 0..rows {
-        let colours: Vec<[u8; 3]> = (0..columns)
-            .map(|column| map.colour(map.depth(column, row)))
-            .collect();
-        let mut start = 0;
-        for run in colours.chunk_by(|a, b| a == b) {
-            line(format!(
-                "<rect x=\"{}\" y=\"{}\" width=\"{}\" height=\"{}\" fill=\"{}\"/>",
-                fixed(start as f64 * step_x, 3),
-                fixed(row as f64 * step_y, 3),
-                fixed(run.len() as f64 * step_x, 3),
-                fixed(step_y, 3),
-                hex(run[0])
-            ));
-            start += run.len();
-        }
+/// The depths: a picture of a pixel for each probe.
+fn depths(map: &DepthMap<'_>, sheet: &Sheet) -> String {
+    let [width, height] = sheet.size.map(|side| fixed(side, 3));
+    format!(
+        "<image x=\"{:.2}\" y=\"{:.2}\" width=\"{width}\" height=\"{height}\" preserveAspectRatio=\"none\" \
+         style=\"image-rendering:pixelated\" href=\"data:image/png;base64,{}\"/>",
+        sheet.left,
+        sheet.top,
+        base64(&map.pixels().to_png())
+    )
+}
+
+/// Whether a row is to be looked at: it is not confirmed, or its end is not understood.
+fn is_marked(row: &Row) -> bool {
+    row.check != Check::Confirmed || row.end == End::Unknown
+}
+
+/// The boxes around what is left over, in red.
+fn not_understood(
+    line: &mut impl FnMut(String),
+    map: &DepthMap<'_>,
+    sheet: &Sheet,
+    left_over: &[&LeftOver],
+) {
+    let stroke = format!(
+        "stroke=\"{RED}\" stroke-width=\"{:.3}\"",
+        sheet.letter / 4.0
+    );
+    line(sheet.group(&format!("fill=\"{RED}\" fill-opacity=\"0.25\" {stroke}")));
+    for rest in left_over {
+        let ends = [seen(map, rest.low), seen(map, rest.high)];
+        let low: [f64; 2] = std::array::from_fn(|side| ends[0][side].min(ends[1][side]));
+        let wide: [f64; 2] = std::array::from_fn(|side| (ends[0][side] - ends[1][side]).abs());
+        let margin = sheet.letter / 3.0;
+        let [x, y] = low.map(|part| fixed(part - margin, 3));
+        let [width, height] = wide.map(|part| fixed(part + 2.0 * margin, 3));
+        line(format!(
+            "<rect x=\"{x}\" y=\"{y}\" width=\"{width}\" height=\"{height}\"/>"
+        ));
     }
     line("</g>".into());
 }
@@ -114,7 +164,7 @@ fn outlines(
     line: &mut impl FnMut(String),
     map: &DepthMap<'_>,
     sheet: &Sheet,
-    recesses: &[(usize, Recess)],
+    rows: &[(usize, &Row)],
 ) {
     let [width, height] = sheet.size.map(|side| fixed(side, 3));
     let stroke = format!(
@@ -123,32 +173,43 @@ fn outlines(
     );
     line(sheet.group(&format!("fill=\"none\" {stroke}")));
     line(format!("<rect width=\"{width}\" height=\"{height}\"/>"));
-    for (_, recess) in recesses {
-        line(drawn(map, recess));
+    for (_, row) in rows {
+        let outline = drawn(map, row);
+        line(if is_marked(row) {
+            format!(
+                "<g stroke=\"{RED}\" stroke-width=\"{:.3}\">{outline}</g>",
+                sheet.letter / 4.0
+            )
+        } else {
+            outline
+        });
     }
     line("</g>".into());
 }
 
-/// The numbers of the recesses.
+/// The numbers of the rows.
 fn numbers(
     line: &mut impl FnMut(String),
     map: &DepthMap<'_>,
     sheet: &Sheet,
-    recesses: &[(usize, Recess)],
+    rows: &[(usize, &Row)],
 ) {
     let letter = sheet.letter;
     let halo = format!(
         "stroke=\"#ffffff\" stroke-width=\"{:.3}\" paint-order=\"stroke\"",
         letter / 5.0
     );
-    line(sheet.group(&format!("text-anchor=\"middle\" fill=\"#a01020\" {halo}")));
-    for (number, recess) in recesses {
-        let [x, y] = seen(map, recess);
-        let [width, height] = recess.size;
-        // beside what is too small to be written into, and what lies within another to its right
-        let place = if recess.within.is_some() {
+    line(sheet.group(&format!(
+        "text-anchor=\"middle\" font-weight=\"bold\" fill=\"#182848\" {halo}"
+    )));
+    for (number, row) in rows {
+        let [x, y] = seen(map, row.centre);
+        let [width, height] = extent(map, row);
+        // below what is too small to be written into; what lies within another, or on a narrow face, to its right
+        let is_strip = sheet.size[1] < 5.0 * letter;
+        let place = if row.within.is_some() || is_strip {
             [x + width / 2.0 + letter, y + letter / 3.0]
-        } else if height < 2.0 * letter || holds_another(recesses, *number) {
+        } else if height < 2.0 * letter || holds_another(rows, *number) {
             [x, y + height / 2.0 + letter]
         } else {
             [x, y + letter / 3.0]
@@ -159,9 +220,13 @@ fn numbers(
 }
 
 /// What the numbers stand for, in columns below.
-fn list(line: &mut impl FnMut(String), sheet: &Sheet, recesses: &[(usize, Recess)]) {
-    for (place, (number, recess)) in recesses.iter().enumerate() {
-        let words = format!("{number}: {}, {}", size_words(recess), depth_words(recess));
+fn list(line: &mut impl FnMut(String), map: &DepthMap<'_>, sheet: &Sheet, rows: &[(usize, &Row)]) {
+    for (place, (number, listed)) in rows.iter().enumerate() {
+        let at = map.face.along().map(|axis| {
+            let name = ["x", "y", "z"][axis];
+            format!("{name} {}", fixed(listed.centre[axis], 2))
+        });
+        let words = format!("{number}: {}, {}", words(listed), at.join(", "));
         let [column, row] = [place / sheet.lines, place % sheet.lines].map(|count| count as f64);
         let x = sheet.left + column * sheet.size[0] / sheet.columns as f64;
         let y = sheet.top + sheet.size[1] + (5.0 + 1.4 * row) * sheet.letter;
@@ -169,22 +234,35 @@ fn list(line: &mut impl FnMut(String), sheet: &Sheet, recesses: &[(usize, Recess
     }
 }
 
-/// Whether another recess lies within the one of a number.
-fn holds_another(recesses: &[(usize, Recess)], number: usize) -> bool {
-    recesses
-        .iter()
+/// Whether another row lies within the one of a number.
+fn holds_another(rows: &[(usize, &Row)], number: usize) -> bool {
+    rows.iter()
         .any(|(_, other)| other.within == Some(number - 1))
 }
 
-/// The middle of a recess, from the left and from the top.
-fn seen(map: &DepthMap<'_>, recess: &Recess) -> [f64; 2] {
+/// A row in words, such as 'circle 8.00, depth 12.00'.
+fn words(row: &Row) -> String {
+    let depth = match (row.end, row.kind) {
+        (End::Through, _) => depth_words(row),
+        (_, Kind::Island | Kind::Boss) => format!("stands out {}", depth_words(row)),
+        _ => format!("depth {}", depth_words(row)),
+    };
+    format!(
+        "{} {}, {depth}",
+        outline_word(&row.outline),
+        size_words(&row.outline)
+    )
+}
+
+/// A place of the face, from the left and from the top.
+fn seen(map: &DepthMap<'_>, place: Vector) -> [f64; 2] {
     let grid = &map.raster.grid;
     let [first, second] = map.face.along();
     let [columns, rows] = grid.counts();
     let [step_x, step_y] = grid.step();
     let corner = grid.place(0);
-    let x = recess.centre[first] - (corner[0] - step_x / 2.0);
-    let y = recess.centre[second] - (corner[1] - step_y / 2.0);
+    let x = place[first] - (corner[0] - step_x / 2.0);
+    let y = place[second] - (corner[1] - step_y / 2.0);
     let x = if map.face.is_mirrored() {
         columns as f64 * step_x - x
     } else {
@@ -193,31 +271,49 @@ fn seen(map: &DepthMap<'_>, recess: &Recess) -> [f64; 2] {
     [x, rows as f64 * step_y - y]
 }
 
-/// The outline of a recess; of one that is no circle or rectangle, the box around it, dashed.
-fn drawn(map: &DepthMap<'_>, recess: &Recess) -> String {
-    let [x, y] = seen(map, recess);
-    let [width, height] = recess.size;
-    let rectangle = |more: String| {
+/// How wide and high a row's outline is.
+fn extent(map: &DepthMap<'_>, row: &Row) -> [f64; 2] {
+    let points = row.loops.iter().flatten().map(|&point| seen(map, point));
+    let points: Vec<[f64; 2]> = points.collect();
+    let wide = |side: usize| {
+        let low = points
+            .iter()
+            .map(|point| point[side])
+            .fold(f64::INFINITY, f64::min);
+        let high = points
+            .iter()
+            .map(|point| point[side])
+            .fold(f64::NEG_INFINITY, f64::max);
+        (high - low).max(0.0)
+    };
+    [wide(0), wide(1)]
+}
+
+/// The outline of a row: circles, or the polygons around it.
+fn drawn(map: &DepthMap<'_>, row: &Row) -> String {
+    let [x, y] = seen(map, row.centre).map(|part| fixed(part, 3));
+    let circle = |diameter: f64| {
         format!(
-            "<rect x=\"{}\" y=\"{}\" width=\"{}\" height=\"{}\"{more}/>",
-            fixed(x - width / 2.0, 3),
-            fixed(y - height / 2.0, 3),
-            fixed(width, 3),
-            fixed(height, 3)
+            "<circle cx=\"{x}\" cy=\"{y}\" r=\"{}\"/>",
+            fixed(diameter / 2.0, 3)
         )
     };
-    match recess.outline {
-        Outline::Circle { .. } => format!(
-            "<circle cx=\"{}\" cy=\"{}\" r=\"{}\"/>",
-            fixed(x, 3),
-            fixed(y, 3),
-            fixed(width / 2.0, 3)
-        ),
-        Outline::Rectangle => rectangle(String::new()),
-        Outline::Rounded { radius } => rectangle(format!(" rx=\"{}\"", fixed(radius, 3))),
-        Outline::Slot => rectangle(format!(" rx=\"{}\"", fixed(width.min(height) / 2.0, 3))),
-        Outline::Other => rectangle(" stroke-dasharray=\"2 1\"".into()),
+    match &row.outline {
+        Outline::Circle { diameter, .. } => circle(*diameter),
+        Outline::Ring { outer, inner } => circle(*outer) + &circle(*inner),
+        _ => row
+            .loops
+            .iter()
+            .take(1)
+            .map(|around| polygon(map, around))
+            .collect(),
     }
+}
+
+fn polygon(map: &DepthMap<'_>, around: &[Vector]) -> String {
+    let point = |&point: &Vector| seen(map, point).map(|part| fixed(part, 3)).join(",");
+    let points: Vec<String> = around.iter().map(point).collect();
+    format!("<polygon points=\"{}\"/>", points.join(" "))
 }
 
 /// The colours and their depths.
@@ -324,8 +420,10 @@ fn hex([red, green, blue]: [u8; 3]) -> String {
     text
 }
 
-fn escaped(text: &str) -> String {
+/// Words as a page takes them.
+pub fn escaped(text: &str) -> String {
     text.replace('&', "&amp;")
         .replace('<', "&lt;")
         .replace('>', "&gt;")
+        .replace('"', "&quot;")
 }

@@ -1,15 +1,13 @@
 //! Answers in words.
-use crate::shape::Answer;
 use probe_rays::{Cast, MeshHit, Ray, Refusal};
 
-/// An answer, with a word on one that was decided in whole numbers.
-pub fn told(ray: &Ray, answer: &Answer) -> String {
-    let words = match &answer.cast {
+/// An answer.
+pub fn told(ray: &Ray, answer: &Cast<MeshHit>) -> String {
+    match answer {
         Cast::Hit(hit) => format!("hit {}", place(ray, hit)),
         Cast::None => "none".into(),
-        Cast::Refused(refusal) => refusal.to_string(),
-    };
-    words + if answer.exact { ", exact" } else { "" }
+        Cast::Refused(refusal) => refusal.explained(ray),
+    }
 }
 
 /// A listing: how many hits, and a line for each.
@@ -24,7 +22,7 @@ pub fn all_told(ray: &Ray, hits: &Result<Vec<MeshHit>, Refusal>) -> String {
             let noun = if hits.len() == 1 { "hit" } else { "hits" };
             format!("{} {noun}{lines}", hits.len())
         }
-        Err(refusal) => refusal.to_string(),
+        Err(refusal) => refusal.explained(ray),
     }
 }
 

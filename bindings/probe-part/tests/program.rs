@@ -73,6 +73,7 @@ fn help_names_every_command() {
         for word in [
             "probe-part cast",
             "probe-part bores",
+            "probe-part batch",
             "probe-part depth",
             "--rays",
         ] {
@@ -86,8 +87,11 @@ fn help_names_every_command() {
 
 #[test]
 fn calls_that_are_not_right() {
-    let wrong: [(&[&str], &str); 14] = [
-        (&["drill", PANEL], "\"drill\" is none of cast, bores, depth"),
+    let wrong: [(&[&str], &str); 15] = [
+        (
+            &["drill", PANEL],
+            "\"drill\" is none of cast, bores, batch, depth",
+        ),
         (&["cast"], "which file?"),
         (
             &["cast", PANEL, "1", "2"],
@@ -98,7 +102,7 @@ fn calls_that_are_not_right() {
             "no number: x",
         ),
         (&["cast", PANEL, "--every"], "--every is not known here"),
-        (&["cast", PANEL, "--all", "--careful"], "take one of them"),
+        (&["cast", PANEL, "--all", "--rounded"], "take one of them"),
         (&["cast", PANEL, "--rays"], "--rays takes a value"),
         (
             &["cast", "/no/such/file.stl"],
@@ -106,12 +110,18 @@ fn calls_that_are_not_right() {
         ),
         (&["bores", PANEL, "7"], "\"7\" is one word too many"),
         (
-            &["bores", PANEL, "--step", "0"],
+            &["depth", PANEL, "--face", "top", "--svg", "x", "--step", "0"],
             "--step takes millimetres above 0, not \"0\"",
         ),
         (
-            &["bores", PANEL, "--step", "0.0001"],
+            &[
+                "depth", PANEL, "--face", "top", "--svg", "x", "--step", "0.0001",
+            ],
             "asks for 2000000000000 probes of the top face",
+        ),
+        (
+            &["bores", PANEL, "--unit", "ft"],
+            "--unit takes mm, cm, m or in, not \"ft\"",
         ),
         (&["bores", PANEL, "--face", "upper"], "\"upper\" is no face"),
         (
@@ -241,7 +251,14 @@ fn rays_from_words_a_file_and_standard_input() {
     let folder = concat!(env!("CARGO_MANIFEST_DIR"), "/../../examples");
     let read = |name: &str| fs::read_to_string(format!("{folder}/{name}")).unwrap();
     let rays = read("panel.rays");
-    let hits = read("panel.hits");
+    // the files have the crate's words on refusal 1; the tool says which test the ray fails
+    let told = |name: &str| {
+        read(name).replace(
+            "a ray or a query's box that is not admitted",
+            "the maximum is below 0",
+        )
+    };
+    let hits = told("panel.hits");
     let words: Vec<&str> = rays
         .lines()
         .map(|line| line.split('#').next().unwrap())
@@ -255,7 +272,7 @@ fn rays_from_words_a_file_and_standard_input() {
     let commas = rays.replace("  ", ", ").into_bytes();
     let (status, out, _) = said(&["cast", "--rays", "-", PANEL], &commas);
     assert_eq!((status, out.as_str()), (1, hits.as_str()));
-    let depths = read("panel.depths");
+    let depths = told("panel.depths");
     let (status, out, _) = said(
         &[
             "cast",
@@ -267,37 +284,32 @@ fn rays_from_words_a_file_and_standard_input() {
         b"",
     );
     assert_eq!((status, out.as_str()), (1, depths.as_str()));
-    // no ray meets a surface aslant but the seventh, from a hair aside of which it is 0.0000008 nearer
-    let (status, out, _) = said(&["cast", "--careful", PANEL, "--rays", "-"], &commas);
+    let (status, out, _) = said(&["cast", "--rounded", PANEL, "--rays", "-"], &commas);
     assert_eq!((status, out.as_str()), (1, hits.as_str()));
 }
 
 /// docs/DIFFERENCES.md, 'Found in the Rust', 2: the diagonal of a square of 31 is the side opposite the first corner of both
 /// its triangles, and from (1, 30) the rounded cast passes there. (1, 2, 4) + 5 · (0.6, 0, -0.8) is (4, 2, 0).
 #[test]
-fn whole_millimetres_are_exact() {
-    let folder = Folder::new("whole");
+fn casts_are_exact() {
+    let folder = Folder::new("exact");
     let square = |side: f64| {
         let (near, far) = ([side, 0.0, 0.0], [0.0, side, 0.0]);
         [[[0.0; 3], near, far], [[side, side, 0.0], far, near]]
     };
-    let rays = b"1 30 1  0 0 -1  10\n1 30 1  0 0 -4  1\n-5 0 0  1 0 0  10\n40 30 1  0 0 -1  10\n1 30 2  0 0 -1  1\n\
-        0.5 30 1  0 0 -1  10\n1 2 4  3 0 -4  10\n1 2 4  0 0 -1  4.5\n1 30 1  0 0 -1  -1\n";
+    let rays = b"1 30 1  0 0 -1  10\n-5 0 0  1 0 0  10\n40 30 1  0 0 -1  10\n1 30 2  0 0 -1  1\n\
+        1 2 4  3 0 -4  10\n1 30 1  0 0 -1  -1\n";
     let at = |place: &str, triangle: u32| {
         format!("hit at {place}, normal (0.000, 0.000, 1.000), triangle {triangle}")
     };
     let told = [
-        at("1.000 mm, point (1.000, 30.000, 0.000)", 0) + ", exact",
-        at("1.000 mm, point (1.000, 30.000, 0.000)", 0) + ", exact",
+        at("1.000 mm, point (1.000, 30.000, 0.000)", 0),
         // along the outline, from 5 before it
-        at("5.000 mm, point (0.000, 0.000, 0.000)", 0) + ", exact",
-        "none, exact".into(),
-        "none, exact".into(),
-        // the origin, the direction and the maximum that are not whole, and a maximum below 0
-        at("1.000 mm, point (0.500, 30.000, 0.000)", 0),
+        at("5.000 mm, point (0.000, 0.000, 0.000)", 0),
+        "none".into(),
+        "none".into(),
         at("5.000 mm, point (4.000, 2.000, 0.000)", 0),
-        at("4.000 mm, point (1.000, 2.000, 0.000)", 0),
-        "refused 1, invalid input: a ray or a query's box that is not admitted".into(),
+        "refused 1, invalid input: the maximum is below 0".into(),
     ];
     let lines = |facets: &[_], switches: &[&str], rays: &[u8]| -> Vec<String> {
         let file = folder.file("square.stl", &binary(facets));
@@ -307,33 +319,22 @@ fn whole_millimetres_are_exact() {
         out.lines().skip(1).map(after).collect()
     };
     assert_eq!(lines(&square(31.0), &[], rays), told);
-    assert_eq!(lines(&square(31.0), &["--careful"], rays), told);
-    // every depth is not told exactly, nor is a part that has a corner elsewhere
+    // the rounded cast passes on the diagonal, and misses a triangle that the ray lies in
+    let rounded = lines(&square(31.0), &["--rounded"], rays);
+    assert_eq!(rounded[..2], ["none", "none"]);
+    assert_eq!(rounded[2..], told[2..]);
+    // every depth is told by the rounded casts; a part out of range is refused
     let first = b"1 2 4  0 0 -1  10\n".as_slice();
-    assert_eq!(
-        lines(&square(31.0), &[], first),
-        [at("4.000 mm, point (1.000, 2.000, 0.000)", 0) + ", exact"]
-    );
     assert_eq!(lines(&square(31.0), &["--all"], first)[0], "1 hit");
-    for other in [31.5, 4097.0] {
-        assert_eq!(
-            lines(&square(other), &[], first),
-            [at("4.000 mm, point (1.000, 2.000, 0.000)", 0)]
-        );
-    }
-    // of 128 triangles, of 512 and of 2,048, all on whole millimetres; of 8,192, whose corners are not
-    for (times, exact) in [(3, true), (4, true), (5, true), (6, false)] {
-        let of = lines(&finer(&square(32.0), times), &[], first);
-        assert!(
-            of[0].starts_with("hit at 4.000 mm") && of[0].ends_with(", exact") == exact,
-            "{of:?}"
-        );
-    }
+    assert!(lines(&square(8193.0), &[], first)[0].starts_with("refused 12"));
+    // of 8,192 triangles, whose corners are not on whole millimetres
+    let of = lines(&finer(&square(32.0), 6), &[], first);
+    assert!(of[0].starts_with("hit at 4.000 mm"), "{of:?}");
 }
 
 /// A ray from outside into a closed board hits it, also over its outline and over the edges between its triangles.
 #[test]
-fn every_exact_ray_into_a_board_hits() {
+fn every_ray_into_a_board_hits() {
     let folder = Folder::new("closed");
     let file = folder.file("board.stl", &binary(&made([60.0, 40.0, 18.0], &[])));
     let rays: String = (0..61 * 41)
@@ -343,7 +344,7 @@ fn every_exact_ray_into_a_board_hits() {
     assert_eq!((status, out.lines().count()), (0, 2502));
     for line in out.lines().skip(1) {
         assert!(
-            line.contains(": hit at 12.000 mm") && line.ends_with(", exact"),
+            line.contains(": hit at 12.000 mm"),
             "{line}"
         );
     }
@@ -361,7 +362,7 @@ fn a_quarter_of_a_million_rays() {
     };
     let text: String = (0..count).map(ray).collect();
     let (status, out, _) = said(
-        &["cast", PANEL, "--careful", "--rays", "-"],
+        &["cast", PANEL, "--rays", "-"],
         text.as_bytes(),
     );
     assert_eq!(status, 0);
@@ -394,19 +395,26 @@ fn the_panels_bores() {
     let (status, out, err) = said(&["bores", PANEL], b"");
     assert_eq!((status, err.as_str()), (0, ""));
     let table = "\
-200.00 x 100.00 x 18.00 mm, 120 triangles, probed every 1 mm
-no  face  outline   size    depth       x      y      z
- 1  top   circle   37.88    13.00   50.00  50.00  18.00  of 8 sides
- 2  top   circle    8.63  through  150.00  50.00  18.00  of 8 sides
+200.00 x 100.00 x 18.00 mm, 120 triangles
+no  face  kind  outline   size  entry    depth       x      y      z
+ 1  top   bore  circle   37.88   0.00    13.00   50.00  50.00  18.00  of 8 sides
+ 2  top   bore  circle    8.63   0.00  through  150.00  50.00  18.00  of 8 sides
+complete: all of the surface is accounted for, and every row is confirmed
 ";
     assert_eq!(out, table);
-    let (_, out, _) = said(&["bores", PANEL, "--csv", "--face", "bottom"], b"");
+    let (status, out, err) = said(&["bores", PANEL, "--csv", "--face", "top"], b"");
+    assert_eq!((status, err.as_str()), (0, ""));
     let lines: Vec<&str> = out.lines().collect();
     assert_eq!(
         lines[1..],
-        ["1,bottom,circle,8.635,8.635,,8,yes,,,,150.000,50.000,0.000,,no"]
+        [
+            "1,1,1,top,bore,circle,37.885,37.885,,,8,0.000,13.000,,floor,50.000,50.000,18.000,0.000000,0.000000,-1.000000,,,yes,of 8 sides,200.000,100.000,18.000,18.000",
+            "1,2,2,top,bore,circle,8.635,8.635,,,8,0.000,18.000,,through,150.000,50.000,18.000,0.000000,0.000000,-1.000000,,,yes,of 8 sides,200.000,100.000,18.000,18.000"
+        ]
     );
     assert_eq!(lines[0].split(',').count(), lines[1].split(',').count());
+    let (status, out, _) = said(&["bores", PANEL, "--csv", "--face", "bottom"], b"");
+    assert_eq!((status, out.lines().count()), (0, 1));
 }
 
 /// A board elsewhere: from its own corner its bores are where they were drawn.
@@ -419,17 +427,20 @@ fn from_the_corner() {
     );
     let facets = board::moved(&facets, [-500.0, 250.0, 40.0]);
     let file = folder.file("board.stl", &binary(&facets));
-    let lines = |words: &[&str]| said(words, b"").1.lines().last().unwrap().to_string();
-    let csv = lines(&["bores", &file, "--csv"]);
-    assert_eq!(
-        csv,
-        "1,top,circle,10.000,10.000,,32,no,6.000,6.000,,-470.000,270.000,58.000,,no"
-    );
-    let csv = lines(&["bores", &file, "--csv", "--from-corner"]);
-    assert_eq!(
-        csv,
-        "1,top,circle,10.000,10.000,,32,no,6.000,6.000,,30.000,20.000,18.000,,no"
-    );
+    let place = |words: &[&str]| -> Vec<String> {
+        let (status, out, _) = said(words, b"");
+        assert_eq!(status, 0);
+        let line = out.lines().last().unwrap().to_string();
+        assert!(
+            line.starts_with("1,1,1,top,bore,circle,10.000,10.000,,,32,0.000,6.000,,floor,"),
+            "{line}"
+        );
+        line.split(',').skip(15).take(3).map(String::from).collect()
+    };
+    let drawn = place(&["bores", &file, "--csv"]);
+    assert_eq!(drawn, ["-470.000", "270.000", "58.000"]);
+    let from_corner = place(&["bores", &file, "--csv", "--from-corner"]);
+    assert_eq!(from_corner, ["30.000", "20.000", "18.000"]);
 }
 
 /// More than 65,536 triangles: the same answers as of the same surfaces of few, in pieces.
@@ -464,7 +475,7 @@ fn a_part_of_many_triangles() {
         let before = |line: &str| line.split(", triangle").next().unwrap().to_string();
         out.lines().skip(1).map(before).collect()
     };
-    let (one, other) = (of(&few, "--careful"), of(&many, "--careful"));
+    let (one, other) = (of(&few, "--rounded"), of(&many, "--rounded"));
     assert!(!one.lines().next().unwrap().contains("pieces"));
     assert!(other.lines().next().unwrap().ends_with(" pieces"));
     assert_eq!(first(&one), first(&other));
@@ -498,8 +509,14 @@ fn a_part_of_many_triangles() {
     };
     let bores = table(&many);
     assert_eq!(bores.len(), 3);
-    assert!(bores[1].starts_with("1,top,circle,35.0"), "{bores:?}");
-    assert!(bores[2].starts_with("2,left,circle,8.0"), "{bores:?}");
+    assert!(
+        bores[1].starts_with("1,1,1,top,bore,circle,35.000,"),
+        "{bores:?}"
+    );
+    assert!(
+        bores[2].starts_with("1,2,2,left,bore,circle,8.000,"),
+        "{bores:?}"
+    );
 }
 
 /// The pictures are files of their kinds; tests/bindings.sh reads them with another program's eyes.

@@ -21,16 +21,18 @@ comes back in arrays is a memoryview, which numpy.asarray takes as it is.
 """
 from .answers import Casts, Hit, MeshHit, NotAdmitted, PartHit, Possible, Refused, TreeDoesNotFit
 from .cabinet import Cabinet, CabinetCast
+from .facts import bounds, open_edges, shells
 from .grids import HeightField, HeightRanges, LevelSet
+from .large import LargeMesh
 from .mesh import Mesh, PlainMesh, Tree, tree_check
 from .records import record_to_long, record_to_short
-from .ray import HAIR, Ray, careful, ray_plane, ray_triangle
+from .ray import Ray, ray_plane, ray_triangle
 from .stl import StlError, read_stl
 from ._library import VERSION, version
 
 __all__ = [
-    "Cabinet", "CabinetCast", "Casts", "HAIR", "HeightField", "HeightRanges", "Hit", "LevelSet", "Mesh", "MeshHit",
+    "Cabinet", "CabinetCast", "Casts", "HeightField", "HeightRanges", "Hit", "LargeMesh", "LevelSet", "Mesh", "MeshHit",
     "NotAdmitted", "PartHit", "PlainMesh", "Possible", "Ray", "Refused", "StlError", "Tree", "TreeDoesNotFit", "VERSION",
-    "careful", "ray_plane", "ray_triangle", "read_stl", "record_to_long", "record_to_short",
+    "bounds", "open_edges", "ray_plane", "ray_triangle", "read_stl", "record_to_long", "record_to_short", "shells",
     "tree_check", "version",
 ]

@@ -58,5 +58,5 @@ class LevelSet:
 
     def cast(self, ray):
         """The Hit at the surface, or None. Its normal points to where the distances grow, and is not turned towards the ray.
-        Raises Refused with 1, 2, 5, 6 or 8."""
+        A hit may lie one float past the maximum. Raises Refused with 1, 2, 5, 6 or 8."""
         return cast_at_shape(library.probe_ray_level_set_near, ray, *self._shape, *lent(self._values))

@@ -6,7 +6,6 @@ from typing import NamedTuple
 from ._arrays import lent, owned, read_only, shaped, whole, zeros
 from ._library import DONE, HIT, MAX_COUNT, NO, NONE, YES, library
 from .answers import Casts, MeshHit, Refused, TreeDoesNotFit, settled
-from .ray import HAIR, careful
 from .stl import read_stl
 
 
@@ -67,7 +66,8 @@ class _Scratch:
 
     def __init__(self, n, nodes):
         self.list, self.stack = zeros("I", n), zeros("I", nodes + 1)
-        self.lent = (*lent(self.list), *lent(self.stack))
+        self.walk = lent(self.stack)
+        self.lent = (*lent(self.list), *self.walk)
 
 
 class _Place:
@@ -119,12 +119,17 @@ class PlainMesh:
         return settled(answer, place.met)
 
     def cast_exact(self, ray):
-        """The first MeshHit of a ray along an axis at a mesh on whole millimetres, decided in whole numbers, or None. A ray down a
-        side, through a corner or along a face is a hit.
+        """The first MeshHit, decided in whole numbers, or None, which is certain: a ray down a side, through a corner or along a
+        face is a hit.
 
-        The origin is whole from -4,096 to 4,096, the direction one of the six axis directions, near and maximum whole from 0 to
-        16,384, and so are the corners of every triangle whose box touches the segment's, from -4,096 to 4,096. Else it raises
-        Refused with 12; with 1, 2 or 5 as `cast` does."""
+        Coordinates are read on a grid of 2^-15 mm (the nearest whole number of units, ties to even), a direction's component as
+        the nearest multiple of 2^-30; the segment is origin + s * direction / 2^30 for s from near to the maximum, both included;
+        a triangle is the closed hull of its three grid corners and counts if these do not lie on one line. None exactly where no
+        point of the segment lies in such a triangle; else a hit at the least depth over all triangles, its distance the float
+        nearest to it, the lowest index where several round to it.
+
+        Raises Refused with 12 where the origin or a corner of a triangle of the mesh is not a number from -8,192 to 8,192, or near
+        or the maximum is above 32,768; with 1, 2 or 5 as `cast` does."""
         place = _Place()
         answer = library.probe_ray_mesh_exact_plain(*ray.numbers(), *self._fixed, *place.lent)
         return settled(answer, place.met)
@@ -154,6 +159,7 @@ class Mesh:
         self._vertices, self._triangles, self._tree = vertices, triangles, tree
         self._mesh = (*lent(vertices), *lent(triangles))
         self._areas = (tree.nodes, *_areas(tree))
+        self._has_numbers = library.probe_mesh_has_numbers(*self._mesh) == YES
         self._own = threading.local()
 
     @classmethod
@@ -211,25 +217,25 @@ class Mesh:
         return settled(answer, place.met)
 
     def cast_exact(self, ray, pose=None):
-        """What PlainMesh.cast_exact answers, through the tree: that the two agree is proved. With a pose it casts at those
-        vertices, as `cast` does.
+        """What PlainMesh.cast_exact answers, through the tree: that the two agree is proved for a mesh without a NaN. A mesh is
+        asked for one when it is made; one that has it is cast at without its tree. With a pose it casts at those vertices, as
+        `cast` does, and None is not certain there.
 
         >>> from probe_rays import Mesh, Ray
         >>> part = Mesh([(0, 0, 0), (31, 0, 0), (0, 31, 0), (31, 31, 0)], [(0, 1, 2), (3, 2, 1)])
         >>> part.cast_exact(Ray((1, 30, 1), (0, 0, -1), 2)).distance
         1.0
 
-        Raises Refused with 1, or with 12 where the ray or a corner of a triangle whose box touches the segment's is not whole."""
-        pose = self._vertices if pose is None else owned(pose, "d", 3, "pose")
+        Raises Refused with 1, or with 12 where the origin or a corner of a triangle of the mesh is not a number from -8,192 to
+        8,192, or near or the maximum is above 32,768."""
         place = _Place()
+        if pose is None and not self._has_numbers:
+            return settled(library.probe_ray_mesh_exact_plain(*ray.numbers(), *self._mesh, *place.lent), place.met)
+        pose = self._vertices if pose is None else owned(pose, "d", 3, "pose")
         answer = library.probe_ray_mesh_exact(
-            *ray.numbers(), *self._mesh, *lent(pose), *self._areas, *self._scratch().lent, *place.lent
+            *ray.numbers(), *self._mesh, *lent(pose), *self._areas, *self._scratch().walk, *place.lent
         )
         return settled(answer, place.met)
-
-    def cast_careful(self, ray, hair=HAIR):
-        """The cast and three more a hair beside it, as `careful` has it: a guard, and no proof."""
-        return careful(ray, self.cast, hair)
 
     def cast_many(self, origins, directions, max_distance, near_distance=0.0, refused="raise"):
         """Casts many rays: Casts. Origins, directions, maxima and near distances are one for each ray, or one for all.

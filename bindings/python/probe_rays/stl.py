@@ -11,30 +11,47 @@ class StlError(NotAdmitted):
     """A file that is no STL file, or one whose mesh is not admitted."""
 
 
-def read_stl(path):
+def read_stl(path, most=MAX_COUNT):
     """Vertices and triangles, as two arrays, for Mesh or PlainMesh. Equal vertices are merged, -0 and 0 too, and never near
-    ones, so that no point moves. Triangles stand in the file's order."""
+    ones, so that no point moves. Triangles stand in the file's order. A file of more than `most` triangles or vertices raises
+    StlError; None takes any number, for LargeMesh."""
     with open(path, "rb") as file:
         data = file.read()
     try:
-        return _merged(_facets(data))
+        return _merged(_facets(data), most)
     except StlError as why:
         raise StlError(f"{path}: {why}") from None
 
 
+# no binary file has more facets; the letters of a text are counts above
+_MOST_FACETS = 100_000_000
+
+
 def _facets(data):
-    """Nine numbers a facet. A binary file may begin with 'solid', so the length decides: 84 bytes and 50 a facet."""
+    """Nine numbers a facet. A binary file may begin with 'solid', so the length decides: 84 bytes and 50 a facet. No byte of
+    a text is 0. A mark of UTF-8 before the text is passed over."""
     count = struct.unpack_from("<I", data, 80)[0] if len(data) >= 84 else None
     if count is not None and len(data) == 84 + 50 * count:
         return _binary(data)
-    if data.lstrip()[:5].lower() == b"solid":
-        return _ascii(data.decode("utf-8", "replace"))
+    text = data.removeprefix(b"\xef\xbb\xbf")
+    is_solid = text.lstrip()[:5].lower() == b"solid"
+    if is_solid and 0 not in text:
+        return _ascii(text.decode("utf-8", "replace"))
+    raise StlError(_fault(len(data), count, is_solid))
+
+
+def _fault(length, count, is_solid):
+    """Why bytes are no STL file."""
+    if count is None and is_solid:
+        return f"cut short: a binary file has 84 bytes before its facets, and this {length}"
     if count is None:
-        raise StlError(f"no STL file: {len(data)} bytes that do not begin with 'solid'")
-    raise StlError(
-        f"no STL file: it does not begin with 'solid', and a binary file of {count} facets has {84 + 50 * count} bytes,"
-        f" not {len(data)}"
-    )
+        return f"no STL file: {length} bytes that do not begin with 'solid'"
+    wanted = f"a binary file of {count} facets has {84 + 50 * count} bytes, not {length}"
+    if count <= _MOST_FACETS and length < 84 + 50 * count:
+        return f"cut short: {wanted}"
+    if is_solid:
+        return f"no STL file: it begins with 'solid' and is no text, and {wanted}"
+    return f"no STL file: it does not begin with 'solid', and {wanted}"
 
 
 def _finite(corners, place):
@@ -81,7 +98,7 @@ def _ascii(text):
     return facets
 
 
-def _merged(facets):
+def _merged(facets, most):
     if not facets:
         raise StlError("no triangles")
     places, vertices, triangles = {}, array("d"), array("I")
@@ -93,6 +110,6 @@ def _merged(facets):
                 vertices.extend(corner)
             triangles.append(index)
     for count, what in ((len(facets), "triangles"), (len(places), "different vertices")):
-        if count > MAX_COUNT:
-            raise StlError(f"{count} {what}: at most {MAX_COUNT} are admitted")
+        if most is not None and count > most:
+            raise StlError(f"{count} {what}: at most {most} are admitted")
     return vertices, triangles

@@ -1,5 +1,5 @@
 //! What the calls answer.
-use crate::sys;
+use crate::{sys, Ray};
 use std::error::Error;
 use std::fmt;
 
@@ -38,7 +38,7 @@ pub struct MeshHit {
 pub enum Cast<H = Hit> {
     /// The nearest surface along the ray.
     Hit(H),
-    /// No surface within the ray's maximum distance.
+    /// No hit from near to the maximum, by the cast's definition.
     None,
     /// The cast could not be answered: nothing is known of the surface.
     Refused(Refusal),
@@ -77,31 +77,35 @@ impl<H> Cast<H> {
 #[derive(Clone, Copy, Debug, PartialEq, Eq, Hash)]
 #[non_exhaustive]
 pub enum Refusal {
-    /// 1: a ray's origin or maximum is not finite, its maximum is below 0, its direction is not finite or not of
-    /// length 1 within 1e-12; a query's box is not valid.
+    /// 1: a ray's origin or maximum is not finite, its maximum is below 0, its direction is not finite or has a length
+    /// more than 1e-12 from 1, its near distance is not finite, below 0 or above the maximum; a query's box has a corner
+    /// that is not finite, or a minimum above its maximum.
     InvalidInput,
-    /// 2: a count, length, spacing, normal, plane distance or grid origin outside the limits.
+    /// 2: a count, length, spacing, normal, plane distance or grid origin outside the limits; bytes that are not one
+    /// well-formed record.
     BadShape,
-    /// 3: a lent slice is too short.
+    /// 3: a lent slice is shorter than stated; a listing has more hits than places.
     NoRoom,
     /// 4: the vertices to cast at are not as many as the mesh's.
     WrongPose,
-    /// 5: an index or a box that does not fit, a tree that is broken.
+    /// 5: an index or a box that does not fit, a tree that is broken where the walk meets it, a tree to merge that does
+    /// not pass the check.
     OutOfBounds,
     /// 6: a number on the way is not finite.
     Overflow,
-    /// 7: the normal of the surface hit cannot be normalised.
+    /// 7: the cross of the hit triangle's edges is zero or not finite.
     NoNormal,
-    /// 8: the walk through a distance grid ends without an answer, or the gradient at its hit cannot be normalised.
+    /// 8: the walk through a distance grid ends without an answer, or the gradient at its hit is zero.
     NotConvergent,
-    /// 9: a range of heights that counts is out of order or not finite.
+    /// 9: a range of a visited cell is out of order or not finite.
     BadRange,
     /// 10: the next node of a cabinet's walks would exceed the limit.
     LimitReached,
     /// 11: a float of a record is NaN, or no f32 is exactly that number.
     NotHeld,
-    /// 12: on whole millimetres, the ray or a candidate's corner is not whole in its range.
-    NotWhole,
+    /// 12: the origin or a corner of a triangle of the mesh is not a number from -8,192 to 8,192, or near or the maximum
+    /// is above 32,768.
+    OutOfRange,
     /// A number that this crate has no name for: a library newer than it.
     Other(u32),
 }
@@ -128,7 +132,7 @@ impl Refusal {
             sys::REFUSED_BAD_RANGE => Refusal::BadRange,
             sys::REFUSED_LIMIT_REACHED => Refusal::LimitReached,
             sys::REFUSED_NOT_HELD => Refusal::NotHeld,
-            sys::REFUSED_NOT_WHOLE => Refusal::NotWhole,
+            sys::REFUSED_OUT_OF_RANGE => Refusal::OutOfRange,
             other => Refusal::Other(other),
         }
     }
@@ -147,8 +151,23 @@ impl Refusal {
             Refusal::BadRange => sys::REFUSED_BAD_RANGE,
             Refusal::LimitReached => sys::REFUSED_LIMIT_REACHED,
             Refusal::NotHeld => sys::REFUSED_NOT_HELD,
-            Refusal::NotWhole => sys::REFUSED_NOT_WHOLE,
+            Refusal::OutOfRange => sys::REFUSED_OUT_OF_RANGE,
             Refusal::Other(number) => number,
+        }
+    }
+
+    /// The refusal of a cast of this ray in words: for refusal 1 with the test that the ray fails.
+    ///
+    /// ```
+    /// use probe_rays::{Ray, Refusal};
+    ///
+    /// let ray = Ray::new([0.0; 3], [0.0, 0.0, 1.0], -1.0);
+    /// assert_eq!(Refusal::InvalidInput.explained(&ray), "refused 1, invalid input: the maximum is below 0");
+    /// ```
+    pub fn explained(self, ray: &Ray) -> String {
+        match (self, ray.fault()) {
+            (Refusal::InvalidInput, Some(fault)) => format!("refused 1, invalid input: {fault}"),
+            _ => self.to_string(),
         }
     }
 }
@@ -169,8 +188,8 @@ impl fmt::Display for Refusal {
                 "limit reached: the cast would look at more nodes than admitted"
             }
             Refusal::NotHeld => "not held: a record's float is NaN, or is no f32 exactly",
-            Refusal::NotWhole => {
-                "not whole: the ray or a corner is not on whole millimetres in its range"
+            Refusal::OutOfRange => {
+                "out of range: the origin or a corner is not within 8,192, near or the maximum above 32,768"
             }
             Refusal::Other(_) => "a refusal that this version does not know",
         };

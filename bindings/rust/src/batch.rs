@@ -1,6 +1,5 @@
 //! Many rays at one mesh, over threads.
 use crate::answer::{Cast, MeshHit, Refusal};
-use crate::careful::careful;
 use crate::{Mesh, Ray, Scratch};
 use std::io::{self, IsTerminal, Write};
 use std::num::NonZeroUsize;
@@ -222,11 +221,9 @@ impl Mesh {
         Batch::new().run(rays, |ray, scratch| self.cast_with(ray, scratch))
     }
 
-    /// The [`cast_careful`](Mesh::cast_careful) of each ray, in the same way.
-    pub fn cast_careful_many(&self, rays: &[Ray], hair: f64) -> Vec<Cast<MeshHit>> {
-        Batch::new().run(rays, |ray, scratch| {
-            careful(ray, hair, |ray| self.cast_with(ray, scratch))
-        })
+    /// The [`cast_exact`](Mesh::cast_exact) of each ray, in the same way.
+    pub fn cast_exact_many(&self, rays: &[Ray]) -> Vec<Cast<MeshHit>> {
+        Batch::new().run(rays, |ray, scratch| self.cast_exact_with(ray, scratch))
     }
 
     /// The [`cast_all`](Mesh::cast_all) of each ray, in the same way.

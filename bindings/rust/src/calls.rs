@@ -286,7 +286,7 @@ pub fn ray_mesh_plain(
     }
 }
 
-/// The mesh cast on whole millimetres, without a tree; `index` has one place.
+/// The exact mesh cast without a tree; `index` has one place.
 #[inline]
 pub fn ray_mesh_exact_plain(
     ray: &Ray,
@@ -318,7 +318,7 @@ pub fn ray_mesh_exact_plain(
     }
 }
 
-/// The mesh cast on whole millimetres, through a tree; `index` has one place.
+/// The exact mesh cast through a tree; `index` has one place.
 #[allow(clippy::too_many_arguments)]
 #[inline]
 pub fn ray_mesh_exact(
@@ -327,7 +327,6 @@ pub fn ray_mesh_exact(
     triangles: &[u32],
     pose: &[f64],
     tree: &TreeRef<'_>,
-    list: &mut [u32],
     stack: &mut [u32],
     hit: &mut [f64],
     index: &mut [u32],
@@ -358,8 +357,6 @@ pub fn ray_mesh_exact(
             tree.node_words.len(),
             tree.order.as_ptr(),
             tree.order.len(),
-            list.as_mut_ptr(),
-            list.len(),
             stack.as_mut_ptr(),
             stack.len(),
             hit.as_mut_ptr(),
@@ -528,6 +525,20 @@ pub fn tree_check(
             tree.order.len(),
             marks.as_mut_ptr(),
             marks.len(),
+        )
+    }
+}
+
+/// Whether every corner of every triangle of a mesh is three numbers.
+#[inline]
+pub fn mesh_has_numbers(vertices: &[f64], triangles: &[u32]) -> u32 {
+    // SAFETY: every pointer and length is a slice's.
+    unsafe {
+        sys::probe_mesh_has_numbers(
+            vertices.as_ptr(),
+            vertices.len(),
+            triangles.as_ptr(),
+            triangles.len(),
         )
     }
 }

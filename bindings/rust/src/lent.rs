@@ -246,11 +246,22 @@ pub fn ray_mesh_plain(ray: &Ray, vertices: &[f64], triangles: &[u32]) -> Cast<Me
     Cast::of(answer, || mesh_hit(&places, &index))
 }
 
-/// Casts a ray along an axis at a mesh on whole millimetres, without a tree, decided in whole numbers: a none is certain.
+/// Whether every corner of every triangle is three numbers; one whose index is past the vertices is not. Asked once for a
+/// mesh: through a tree, [`ray_mesh_exact`] answers what [`ray_mesh_exact_plain`] answers where it is so.
+pub fn mesh_has_numbers(vertices: &[f64], triangles: &[u32]) -> bool {
+    calls::mesh_has_numbers(vertices, triangles) == sys::YES
+}
+
+/// Casts a ray at a mesh on a grid, without a tree, decided in whole numbers: a none is certain.
 ///
-/// A hit is the first point of the segment that lies in any closed triangle, sides and corners included, also where the
-/// line lies in the triangle's plane. Refuses with 1, 12 (the ray is not whole), 2, 5, and 12 where a corner of a triangle
-/// whose box touches the segment's is not a whole number from -4,096 to 4,096.
+/// Coordinates are read on a grid of 2^-15 mm (the nearest whole number of units, ties to even), a direction's component as
+/// the nearest multiple of 2^-30. The segment is origin + s · direction / 2^30 for s from near to the maximum, both included.
+/// A triangle is the closed hull of its three grid corners and counts if these do not lie on one line. The answer is none
+/// exactly where no point of the segment lies in such a triangle; else a hit at the least depth over all triangles, its
+/// distance the f64 nearest to it, the lowest index where several round to it.
+///
+/// Refuses with 1, 12 (the origin is not within 8,192, near or the maximum above 32,768), 2, 5, and 12 where a corner of a
+/// triangle is not a number from -8,192 to 8,192.
 pub fn ray_mesh_exact_plain(ray: &Ray, vertices: &[f64], triangles: &[u32]) -> Cast<MeshHit> {
     let mut places: Places = [0.0; 4];
     let mut index = [0_u32];
@@ -260,16 +271,16 @@ pub fn ray_mesh_exact_plain(ray: &Ray, vertices: &[f64], triangles: &[u32]) -> C
 
 /// The same through a tree, at the vertices `pose`: the arguments are those of [`ray_mesh`].
 ///
-/// At the mesh's own vertices, through a tree that passes [`tree_check`], it answers what [`ray_mesh_exact_plain`]
-/// answers: that the two agree is proved. Refuses with 1, 12 (the ray), 2, 3, 4, 5 (the tree is broken where the walk
-/// meets it), and then as the listed triangle of the lowest index that refuses, with 5 or 12.
+/// At the mesh's own vertices, through a tree that passes [`tree_check`] and for a mesh that [`mesh_has_numbers`], it
+/// answers what [`ray_mesh_exact_plain`] answers: that the two agree is proved. At other vertices a none is not certain.
+/// Refuses with 1, 12 (the ray), 2, 3, 4, 5 (the tree is broken where the walk meets it), and 12 (a corner). The stack is
+/// the only work area.
 pub fn ray_mesh_exact(
     ray: &Ray,
     vertices: &[f64],
     triangles: &[u32],
     pose: &[f64],
     tree: &TreeRef<'_>,
-    list: &mut [u32],
     stack: &mut [u32],
 ) -> Cast<MeshHit> {
     let mut places: Places = [0.0; 4];
@@ -280,7 +291,6 @@ pub fn ray_mesh_exact(
         triangles,
         pose,
         tree,
-        list,
         stack,
         &mut places,
         &mut index,

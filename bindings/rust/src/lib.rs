@@ -31,8 +31,9 @@
 //! # Ok::<(), Refusal>(())
 //! ```
 //!
-//! [`Mesh::cast_many`] casts many rays over threads, [`careful`] guards a cast against passing between two triangles, and
-//! [`stl`] reads STL files.
+//! [`Mesh::cast_exact`] casts in whole numbers, so that a none is certain; [`Mesh::cast_many`] casts many rays over
+//! threads, and [`stl`] reads STL files. A [`LargeMesh`] has any number of triangles, and [`facts`] tells a mesh's box, open
+//! edges and shells.
 //!
 //! [`lent`] has the same calls over slices of the caller's, for those who allocate nothing, [`calls`] the numbers that
 //! they answer, and [`sys`] the declarations as C sees them.
@@ -43,7 +44,8 @@ mod answer;
 mod batch;
 pub mod cabinet;
 pub mod calls;
-mod careful;
+pub mod facts;
+mod large;
 pub mod lent;
 mod mesh;
 mod plain;
@@ -57,7 +59,7 @@ pub mod sys;
 pub use answer::{Cast, Hit, MeshHit, Refusal};
 pub use batch::{Batch, Progress};
 pub use cabinet::{Cabinet, CabinetCast, PartHit};
-pub use careful::{careful, AtDistance, HAIR};
+pub use large::LargeMesh;
 pub use mesh::{Mesh, Scratch, Tree, TreeError};
 pub use plain::PlainMesh;
 pub use ranges::{ray_height_ranges, Clearance, HeightRanges};

@@ -1,7 +1,6 @@
 //! A mesh that owns its tree.
 use crate::answer::{Cast, MeshHit, Refusal};
 use crate::lent::{self, BoardRef, TreeAreas, TreeRef};
-use crate::plain::are_whole;
 use crate::{Ray, MAX_COUNT};
 use std::error::Error;
 use std::fmt;
@@ -114,6 +113,8 @@ pub struct Mesh {
     vertices: Vec<[f64; 3]>,
     triangles: Vec<[u32; 3]>,
     tree: Tree,
+    /// Whether every corner of every triangle is three numbers.
+    has_numbers: bool,
     scratch: Scratch,
 }
 
@@ -149,12 +150,19 @@ impl Mesh {
             },
             &mut work,
         )?;
-        Ok(Mesh {
+        Ok(Mesh::of(vertices, triangles, tree))
+    }
+
+    /// A mesh with a tree that fits it.
+    fn of(vertices: Vec<[f64; 3]>, triangles: Vec<[u32; 3]>, tree: Tree) -> Mesh {
+        let has_numbers = lent::mesh_has_numbers(vertices.as_flattened(), triangles.as_flattened());
+        Mesh {
             vertices,
             triangles,
             tree,
+            has_numbers,
             scratch: Scratch::new(),
-        })
+        }
     }
 
     /// Takes a tree that somebody else built, if it passes the check: with a tree that does not, a cast could miss
@@ -187,12 +195,7 @@ impl Mesh {
             &mut marks,
         );
         match fits {
-            Ok(true) => Ok(Mesh {
-                vertices,
-                triangles,
-                tree,
-                scratch: Scratch::new(),
-            }),
+            Ok(true) => Ok(Mesh::of(vertices, triangles, tree)),
             Ok(false) => Err(TreeError::DoesNotFit),
             Err(refusal) => Err(TreeError::Refused(refusal)),
         }
@@ -242,12 +245,7 @@ impl Mesh {
             },
             &mut marks,
         )?;
-        Ok(Mesh {
-            vertices,
-            triangles,
-            tree,
-            scratch: Scratch::new(),
-        })
+        Ok(Mesh::of(vertices, triangles, tree))
     }
 
     /// The mesh and its tree, to read.
@@ -288,14 +286,19 @@ impl Mesh {
         )
     }
 
-    /// The first point of a ray along an axis in a closed triangle of a mesh on whole millimetres, decided in whole
-    /// numbers, with the mesh's own work areas: a none is certain, and a ray down a side, through a corner or along a
-    /// face is a hit. It answers what [`PlainMesh::cast_exact`](crate::PlainMesh::cast_exact) answers: that the two agree
-    /// is proved.
+    /// The first point of a ray in a closed triangle of the mesh, decided in whole numbers, with the mesh's own work areas:
+    /// a none is certain, and a ray down a side, through a corner or along a face is a hit. It answers what
+    /// [`PlainMesh::cast_exact`](crate::PlainMesh::cast_exact) answers: that the two agree is proved for a mesh without a
+    /// NaN. A mesh is asked for one when it is made; one that has it is cast at without its tree.
     ///
-    /// The origin is whole from -4,096 to 4,096, the direction one of the six axis directions, near and maximum whole
-    /// from 0 to 16,384, else 12, as where a triangle whose box touches the segment's has a corner that is not whole from
-    /// -4,096 to 4,096. A ray that [`cast`](Mesh::cast) refuses with 1 is refused so here, before 12.
+    /// Coordinates are read on a grid of 2^-15 mm (the nearest whole number of units, ties to even), a direction's
+    /// component as the nearest multiple of 2^-30; the segment is origin + s · direction / 2^30 for s from near to the
+    /// maximum, both included; a triangle is the closed hull of its three grid corners and counts if these do not lie on
+    /// one line. None exactly where no point of the segment lies in such a triangle of the mesh; else a hit at the least
+    /// depth over all triangles, its distance the f64 nearest to it, the lowest index where several round to it.
+    ///
+    /// Refuses with 1, and with 12 where the origin or a corner of a triangle of the mesh is not a number from -8,192 to
+    /// 8,192, or near or the maximum is above 32,768.
     ///
     /// ```
     /// use probe_rays::{Cast, Mesh, Ray, Refusal};
@@ -308,9 +311,11 @@ impl Mesh {
     /// let Cast::Hit(hit) = part.cast_exact(&down) else { panic!() };
     /// assert_eq!((hit.distance, hit.triangle), (1.0, 0));
     ///
-    /// // half a millimetre beside the grid
-    /// let beside = Ray::new([0.5, 30.0, 1.0], [0.0, 0.0, -1.0], 2.0);
-    /// assert_eq!(part.cast_exact(&beside), Cast::Refused(Refusal::NotWhole));
+    /// // aslant through the square's corner, and from too far away
+    /// let aslant = Ray::new([31.5, 31.5, 0.5], [-(1.0_f64 / 3.0).sqrt(); 3], 2.0);
+    /// assert!(matches!(part.cast_exact(&aslant), Cast::Hit(_)));
+    /// let far = Ray::new([1.0, 30.0, 8192.5], [0.0, 0.0, -1.0], 9000.0);
+    /// assert_eq!(part.cast_exact(&far), Cast::Refused(Refusal::OutOfRange));
     /// # Ok::<(), Refusal>(())
     /// ```
     pub fn cast_exact(&mut self, ray: &Ray) -> Cast<MeshHit> {
@@ -322,11 +327,17 @@ impl Mesh {
 
     /// The same with work areas of the caller's, so that threads may share the mesh.
     pub fn cast_exact_with(&self, ray: &Ray, scratch: &mut Scratch) -> Cast<MeshHit> {
+        if !self.has_numbers {
+            return lent::ray_mesh_exact_plain(
+                ray,
+                self.vertices.as_flattened(),
+                self.triangles.as_flattened(),
+            );
+        }
         self.cast_exact_at(ray, &self.vertices, scratch)
     }
 
-    /// The same at other vertices, as [`cast_at`](Mesh::cast_at) has them; the vertices of the triangles cast at are to be
-    /// whole there.
+    /// The same at other vertices, as [`cast_at`](Mesh::cast_at) has them: a none is not certain there.
     pub fn cast_exact_at(
         &self,
         ray: &Ray,
@@ -340,15 +351,8 @@ impl Mesh {
             self.triangles.as_flattened(),
             pose.as_flattened(),
             &self.tree.as_lent(),
-            &mut scratch.list,
             &mut scratch.stack,
         )
-    }
-
-    /// Whether every vertex is whole from -4,096 to 4,096: [`cast_exact`](Mesh::cast_exact) refuses with 12 for the ray
-    /// alone then.
-    pub fn is_whole(&self) -> bool {
-        are_whole(&self.vertices)
     }
 
     /// Every triangle that a ray hits, with the mesh's own work areas: each once, in order of depth, of equally near

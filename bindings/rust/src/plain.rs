@@ -55,13 +55,17 @@ impl PlainMesh {
         )
     }
 
-    /// The first point of a ray along an axis in a closed triangle of a mesh on whole millimetres, decided in whole
-    /// numbers: a none is certain, and a ray down a side, through a corner or along a face is a hit. [`Mesh::cast_exact`]
-    /// answers the same through a tree.
+    /// The first point of a ray in a closed triangle of the mesh, decided in whole numbers: a none is certain, and a ray
+    /// down a side, through a corner or along a face is a hit. [`Mesh::cast_exact`] answers the same through a tree.
     ///
-    /// The origin is whole from -4,096 to 4,096, the direction one of the six axis directions, near and maximum whole
-    /// from 0 to 16,384, else 12; then 2 and 5 as [`PlainMesh::cast`] has them, and 12 where a triangle whose box touches
-    /// the segment's has a corner that is not whole from -4,096 to 4,096.
+    /// Coordinates are read on a grid of 2^-15 mm (the nearest whole number of units, ties to even), a direction's
+    /// component as the nearest multiple of 2^-30; the segment is origin + s · direction / 2^30 for s from near to the
+    /// maximum, both included; a triangle is the closed hull of its three grid corners and counts if these do not lie on
+    /// one line. None exactly where no point of the segment lies in such a triangle of the mesh; else a hit at the least
+    /// depth over all triangles, its distance the f64 nearest to it, the lowest index where several round to it.
+    ///
+    /// Refuses with 1, 12 (the origin is not within 8,192, near or the maximum is above 32,768), 2 and 5 as
+    /// [`PlainMesh::cast`] has them, and 12 where a corner of a triangle is not a number from -8,192 to 8,192.
     ///
     /// ```
     /// use probe_rays::{Cast, PlainMesh, Ray, Refusal};
@@ -74,12 +78,14 @@ impl PlainMesh {
     /// let Cast::Hit(hit) = part.cast_exact(&down) else { panic!() };
     /// assert_eq!((hit.distance, hit.triangle), (1.0, 0));
     ///
-    /// // along the square's outline, and half a millimetre beside the grid
+    /// // along the square's outline, aslant through its corner, and from too far away
     /// let along = Ray::new([-5.0, 0.0, 0.0], [1.0, 0.0, 0.0], 10.0);
     /// let Cast::Hit(hit) = part.cast_exact(&along) else { panic!() };
     /// assert_eq!(hit.distance, 5.0);
-    /// let beside = Ray::new([0.5, 30.0, 1.0], [0.0, 0.0, -1.0], 2.0);
-    /// assert_eq!(part.cast_exact(&beside), Cast::Refused(Refusal::NotWhole));
+    /// let aslant = Ray::new([31.5, 31.5, 0.5], [-(1.0_f64 / 3.0).sqrt(); 3], 2.0);
+    /// assert!(matches!(part.cast_exact(&aslant), Cast::Hit(_)));
+    /// let far = Ray::new([1.0, 30.0, 8192.5], [0.0, 0.0, -1.0], 9000.0);
+    /// assert_eq!(part.cast_exact(&far), Cast::Refused(Refusal::OutOfRange));
     /// ```
     pub fn cast_exact(&self, ray: &Ray) -> Cast<MeshHit> {
         lent::ray_mesh_exact_plain(
@@ -87,20 +93,6 @@ impl PlainMesh {
             self.vertices.as_flattened(),
             self.triangles.as_flattened(),
         )
-    }
-
-    /// Whether every vertex is whole from -4,096 to 4,096: [`PlainMesh::cast_exact`] refuses with 12 for the ray alone then.
-    ///
-    /// ```
-    /// use probe_rays::PlainMesh;
-    ///
-    /// let corners = |x| [[-0.0, 0.0, 0.0], [x, 0.0, 0.0], [0.0, -4096.0, 0.0]];
-    /// assert!([31.0, 4096.0].iter().all(|&x| PlainMesh::new(corners(x), [[0, 1, 2]]).is_whole()));
-    /// let others = [0.5, 4097.0, f64::INFINITY, f64::NAN];
-    /// assert!(!others.iter().any(|&x| PlainMesh::new(corners(x), [[0, 1, 2]]).is_whole()));
-    /// ```
-    pub fn is_whole(&self) -> bool {
-        are_whole(&self.vertices)
     }
 
     /// The same mesh with a tree, as [`Mesh::build`] builds it.
@@ -117,10 +109,4 @@ impl PlainMesh {
     pub fn triangles(&self) -> &[[u32; 3]] {
         &self.triangles
     }
-}
-
-/// Whether every coordinate is whole from -4,096 to 4,096.
-pub(crate) fn are_whole(vertices: &[[f64; 3]]) -> bool {
-    let whole = |part: &f64| part.abs() <= 4096.0 && part.fract() == 0.0;
-    vertices.as_flattened().iter().all(whole)
 }

@@ -1,4 +1,8 @@
 //! A ray.
+use std::ops::RangeInclusive;
+
+/// The squares whose roots are not more than 1e-12 from 1.
+const UNIT_SQUARES: RangeInclusive<f64> = 0.999_999_999_998..=1.000_000_000_002;
 
 /// A ray: where it starts, its direction, of length 1, how far it reaches, and from where on a surface is hit.
 #[derive(Clone, Copy, Debug, PartialEq)]
@@ -66,6 +70,50 @@ impl Ray {
             direction
         };
         Ray::new(origin, direction, max_distance)
+    }
+
+    /// Which test of refusal 1 the ray fails, in words; nothing where it is admitted.
+    ///
+    /// ```
+    /// use probe_rays::Ray;
+    ///
+    /// let still = Ray::toward([0.0; 3], [0.0; 3], 10.0);
+    /// assert_eq!(still.fault(), Some("the direction is zero"));
+    /// assert_eq!(Ray::new([0.0; 3], [0.0, 0.0, 1.0], f64::INFINITY).fault(), Some("the maximum is infinite"));
+    /// assert_eq!(Ray::new([0.0; 3], [0.0, 0.0, 1.0], 10.0).fault(), None);
+    /// ```
+    pub fn fault(&self) -> Option<&'static str> {
+        let any = |parts: &[f64], test: fn(f64) -> bool| parts.iter().any(|&part| test(part));
+        let [x, y, z] = self.direction;
+        let square = x * x + y * y + z * z;
+        let (most, near) = (self.max_distance, self.near_distance);
+        let tests = [
+            (any(&self.origin, f64::is_nan), "the origin has a NaN"),
+            (
+                any(&self.origin, f64::is_infinite),
+                "the origin is infinite",
+            ),
+            (any(&self.direction, f64::is_nan), "the direction has a NaN"),
+            (
+                any(&self.direction, f64::is_infinite),
+                "the direction is infinite",
+            ),
+            (self.direction == [0.0; 3], "the direction is zero"),
+            (
+                !UNIT_SQUARES.contains(&square),
+                "the direction's length is not 1",
+            ),
+            (most.is_nan(), "the maximum is NaN"),
+            (most == f64::INFINITY, "the maximum is infinite"),
+            (most < 0.0, "the maximum is below 0"),
+            (near.is_nan(), "the near distance is NaN"),
+            (near < 0.0, "the near distance is below 0"),
+            (near > most, "the near distance is above the maximum"),
+        ];
+        tests
+            .iter()
+            .find(|(failed, _)| *failed)
+            .map(|&(_, words)| words)
     }
 
     /// The point at a distance along the ray.

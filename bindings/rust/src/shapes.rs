@@ -102,7 +102,7 @@ pub fn ray_height_field(ray: &Ray, field: &HeightField<'_>) -> Cast {
 }
 
 /// Casts a ray at the zero surface of a distance grid. The normal of a hit points to where the distances grow, and
-/// is not turned towards the ray. Refuses with 1, 2, 5, 6 or 8.
+/// is not turned towards the ray. A hit may lie one float past the maximum. Refuses with 1, 2, 5, 6 or 8.
 ///
 /// ```
 /// use probe_rays::{ray_level_set, Cast, LevelSet, Ray};

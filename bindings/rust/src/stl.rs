@@ -45,26 +45,42 @@ pub fn facets(bytes: &[u8]) -> Result<Vec<Corners>, StlError> {
     read(bytes).map_err(StlError)
 }
 
+/// No binary file has more facets: a count above is that of another file. The letters of a text are counts above.
+const MOST_FACETS: usize = 100_000_000;
+
 /// A binary file may begin with 'solid', so the length decides: 84 bytes and 50 a facet. In an ASCII file the four
-/// bytes of the count are letters, and so a count that no length fits.
+/// bytes of the count are letters, and so a count that no length fits, and no byte is 0. A mark of UTF-8 before the text
+/// is passed over.
 fn read(bytes: &[u8]) -> Result<Vec<Corners>, String> {
     let count = bytes.get(80..84).map(|four| number(four) as usize);
     if count.is_some_and(|count| bytes.len() == 84 + 50 * count) {
         return binary(&bytes[84..]);
     }
-    if bytes
+    let text = bytes.strip_prefix(b"\xef\xbb\xbf").unwrap_or(bytes);
+    let is_solid = text
         .trim_ascii_start()
         .get(..5)
-        .is_some_and(|word| word.eq_ignore_ascii_case(b"solid"))
-    {
-        return ascii(&String::from_utf8_lossy(bytes));
+        .is_some_and(|word| word.eq_ignore_ascii_case(b"solid"));
+    if is_solid && !text.contains(&0) {
+        return ascii(&String::from_utf8_lossy(text));
     }
     Err(match count {
+        Some(count) if count <= MOST_FACETS && bytes.len() < 84 + 50 * count => format!(
+            "cut short: a binary file of {count} facets has {} bytes, not {}",
+            84 + 50 * count,
+            bytes.len()
+        ),
+        Some(count) if is_solid => format!(
+            "no STL file: it begins with 'solid' and is no text, and a binary file of {count} facets has {} bytes, not {}",
+            84 + 50 * count,
+            bytes.len()
+        ),
         Some(count) => format!(
             "no STL file: it does not begin with 'solid', and a binary file of {count} facets has {} bytes, not {}",
             84 + 50 * count,
             bytes.len()
         ),
+        None if is_solid => format!("cut short: a binary file has 84 bytes before its facets, and this {}", bytes.len()),
         None => format!("no STL file: {} bytes that do not begin with 'solid'", bytes.len()),
     })
 }

@@ -166,7 +166,7 @@ extern "C" {
         index_length: usize,
     ) -> u32;
 
-    /// Casts a ray along an axis at a mesh on whole millimetres, without a tree.
+    /// Casts a ray at a mesh on a grid of 2^-15 mm, without a tree: a none is certain.
     pub fn probe_ray_mesh_exact_plain(
         origin_x: f64,
         origin_y: f64,
@@ -186,7 +186,7 @@ extern "C" {
         index_length: usize,
     ) -> u32;
 
-    /// Casts a ray along an axis at a mesh on whole millimetres, through its tree.
+    /// Casts a ray at a mesh on a grid of 2^-15 mm, through its tree.
     pub fn probe_ray_mesh_exact(
         origin_x: f64,
         origin_y: f64,
@@ -211,8 +211,6 @@ extern "C" {
         node_words_length: usize,
         order: *const u32,
         order_length: usize,
-        list: *mut u32,
-        list_length: usize,
         stack: *mut u32,
         stack_length: usize,
         hit: *mut f64,
@@ -367,6 +365,14 @@ extern "C" {
         order_length: usize,
         marks: *mut u32,
         marks_length: usize,
+    ) -> u32;
+
+    /// Whether every corner of every triangle of a mesh is three numbers.
+    pub fn probe_mesh_has_numbers(
+        vertices: *const f64,
+        vertices_length: usize,
+        triangles: *const u32,
+        triangles_length: usize,
     ) -> u32;
 
     /// Casts a ray with a near distance at a plane.
@@ -616,17 +622,17 @@ pub struct Part {
 }
 
 /// The version of these calls: it changes when one of them does.
-pub const VERSION: u32 = 2;
+pub const VERSION: u32 = 3;
 
 /// A hit: its values are written.
 pub const HIT: u32 = 256;
-/// No surface within the maximum distance.
+/// No hit from near to the maximum, by the cast's definition.
 pub const NONE: u32 = 257;
 /// The tree fits the mesh.
 pub const YES: u32 = 258;
 /// The tree does not fit the mesh.
 pub const NO: u32 = 259;
-/// The build wrote a tree, or the query its list.
+/// The results are written: a tree, a list, a record.
 pub const DONE: u32 = 260;
 /// The ray is clear of every grid within the ranges.
 pub const CLEAR: u32 = 261;
@@ -656,4 +662,4 @@ pub const REFUSED_LIMIT_REACHED: u32 = 10;
 /// A float of a record is NaN, or no f32 is exactly that number.
 pub const REFUSED_NOT_HELD: u32 = 11;
 /// Refusal 12.
-pub const REFUSED_NOT_WHOLE: u32 = 12;
+pub const REFUSED_OUT_OF_RANGE: u32 = 12;

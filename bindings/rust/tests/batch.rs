@@ -1,5 +1,5 @@
 //! Many rays over threads: each answer is the ray's own, in the order of the rays, whatever the threads.
-use probe_rays::{Batch, Cast, Mesh, MeshHit, Ray, Refusal, HAIR};
+use probe_rays::{Batch, Cast, Mesh, MeshHit, Ray, Refusal};
 use std::sync::atomic::{AtomicUsize, Ordering};
 
 /// A floor of 20 by 20 squares of 1 mm, each at a height of its own: the square of column x and row y at x + 20 y.
@@ -57,7 +57,7 @@ fn each_answer_in_its_place() {
         let rays = rays(count);
         let all: Vec<Cast<MeshHit>> = rays.iter().map(expected).collect();
         assert_eq!(mesh.cast_many(&rays), all, "{count}");
-        assert_eq!(mesh.cast_careful_many(&rays, HAIR), all, "{count}");
+        assert_eq!(mesh.cast_exact_many(&rays), all, "{count}");
         for threads in [0, 1, 2, 3, 64] {
             let batch = Batch::new().threads(threads).progress("casting");
             let casts = batch.run(&rays, |ray, scratch| mesh.cast_with(ray, scratch));

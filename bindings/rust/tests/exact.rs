@@ -1,6 +1,6 @@
-//! The cast on whole millimetres beside a judge that decides every triangle in fractions, by its plane and its sides in
-//! space: random boards, rays at sides and corners, and rays along faces; and the same cast through a tree. tests/exact.sh
-//! has a million boards.
+//! The exact cast beside a judge that decides every triangle in fractions, by its plane and its sides in space: random boards on
+//! whole millimetres, rays at sides and corners, and rays along faces; rays out of a cube in every direction; what lies off the
+//! grid and out of range; and the same cast through a tree. tests/exact.sh has a million boards, in any direction.
 mod judge;
 
 use judge::{dot, first_depth, nearest, normal, Depth, Point};
@@ -58,7 +58,7 @@ fn as_a_judge_in_fractions_has_it() {
 
         let mut expected: Option<(f64, u32, Depth, bool)> = None;
         for (index, t) in triangles.iter().enumerate() {
-            if let Some(depth) = first_depth(origin, direction, near, far, *t) {
+            if let Some(depth) = first_depth(origin, direction, (near, 1), (far, 1), *t) {
                 let distance = nearest(depth);
                 let flat = dot(normal(*t), direction) == 0;
                 if expected.map_or(true, |least| distance < least.0) {
@@ -95,9 +95,8 @@ fn as_a_judge_in_fractions_has_it() {
     assert!(seen.iter().all(|&count| count > 500), "{seen:?}");
 }
 
-#[test]
-fn every_ray_into_a_closed_board_hits() {
-    // a cube of 8, and each way in from outside over every place of its face, the outline and the diagonals too
+/// A cube of 8.
+fn cube() -> PlainMesh {
     let corner = |k: u32| [0, 1, 2].map(|axis| if k >> axis & 1 == 1 { 8.0 } else { 0.0 });
     let vertices: Vec<[f64; 3]> = (0..8).map(corner).collect();
     let faces = [
@@ -112,7 +111,13 @@ fn every_ray_into_a_closed_board_hits() {
         .iter()
         .flat_map(|f| [[f[0], f[1], f[2]], [f[0], f[2], f[3]]])
         .collect();
-    let cube = PlainMesh::new(vertices, triangles);
+    PlainMesh::new(vertices, triangles)
+}
+
+#[test]
+fn every_ray_into_a_closed_board_hits() {
+    // each way in from outside over every place of a face, the outline and the diagonals too
+    let cube = cube();
     let with_tree = cube.clone().build().unwrap();
     let scratch = &mut Scratch::new();
     for axis in 0..3 {
@@ -189,18 +194,22 @@ fn refusals_and_moved_vertices_through_a_tree() {
     let down = |x: f64, far: f64| Ray::new([x, 30.0, 1.0], [0.0, 0.0, -1.0], far);
     // 12 after 1, and before 4 and 2
     assert_eq!(
-        part.cast_exact_with(&down(0.5, -1.0), scratch),
+        part.cast_exact_with(&down(8193.0, -1.0), scratch),
         Cast::Refused(Refusal::InvalidInput)
     );
     assert_eq!(
-        part.cast_exact_at(&down(0.5, 2.0), &square[..3], scratch),
-        Cast::Refused(Refusal::NotWhole)
+        part.cast_exact_at(&down(8193.0, 2.0), &square[..3], scratch),
+        Cast::Refused(Refusal::OutOfRange)
+    );
+    assert_eq!(
+        part.cast_exact_with(&down(1.0, 32768.5), scratch),
+        Cast::Refused(Refusal::OutOfRange)
     );
     assert_eq!(
         part.cast_exact_at(&down(1.0, 2.0), &square[..3], scratch),
         Cast::Refused(Refusal::WrongPose)
     );
-    // moved down by 2, past the segment; by 1, at its end; by half a millimetre, not whole
+    // moved down by 2, past the segment; by 1, at its end; up by half a millimetre; out of range
     let moved = |z: f64| square.map(|[x, y, _]| [x, y, z]);
     assert_eq!(
         part.cast_exact_at(&down(1.0, 2.0), &moved(-2.0), scratch),
@@ -210,8 +219,74 @@ fn refusals_and_moved_vertices_through_a_tree() {
         panic!()
     };
     assert_eq!((hit.distance, hit.triangle), (2.0, 0));
+    let Cast::Hit(hit) = part.cast_exact_at(&down(1.0, 2.0), &moved(0.5), scratch) else {
+        panic!()
+    };
+    assert_eq!((hit.distance, hit.triangle), (0.5, 0));
     assert_eq!(
-        part.cast_exact_at(&down(1.0, 2.0), &moved(0.5), scratch),
-        Cast::Refused(Refusal::NotWhole)
+        part.cast_exact_at(&down(1.0, 2.0), &moved(-8192.5), scratch),
+        Cast::Refused(Refusal::OutOfRange)
     );
+}
+
+/// From a place in a cube toward each place of a raster of its surface, and in directions of chance.
+#[test]
+fn every_ray_out_of_a_closed_board_hits() {
+    let cube = cube();
+    let with_tree = cube.clone().build().unwrap();
+    let random = &mut Random(0x2545_f491_4f6c_dd1d);
+    let scratch = &mut Scratch::new();
+    let mut missed = 0;
+    for number in 0..20_000_u32 {
+        let origin = [0; 3].map(|_: i32| 0.001 * (1 + random.below(7_999)) as f64);
+        // a place of the surface, on its raster of whole millimetres: outlines, diagonals and corners too
+        let mut toward = [0; 3].map(|_: i32| random.below(9) as f64);
+        toward[random.below(3) as usize] = 8.0 * random.below(2) as f64;
+        if number % 4 == 0 {
+            toward = [0; 3].map(|_: i32| random.below(1_000_000) as f64 - 500_000.0);
+        }
+        let ray = Ray::toward(origin, [0, 1, 2].map(|k| toward[k] - origin[k]), 100.0);
+        let answer = cube.cast_exact(&ray);
+        assert_eq!(with_tree.cast_exact_with(&ray, scratch), answer);
+        let Cast::Hit(hit) = answer else {
+            panic!("from {origin:?} toward {toward:?}")
+        };
+        let place = [0, 1, 2].map(|k| origin[k] + hit.distance * ray.direction[k]);
+        let off = |x: f64| x.abs().min((x - 8.0).abs());
+        let least = place.map(off).into_iter().fold(f64::INFINITY, f64::min);
+        assert!(least < 1e-4, "{place:?} lies on the surface");
+        missed += u32::from(cube.cast(&ray) == Cast::None);
+    }
+    // the rounded cast passes between two triangles now and then
+    assert!(missed < 2_000, "{missed}");
+}
+
+/// A corner that is NaN in a box that is valid: the mesh is cast at without its tree, which need not meet it.
+#[test]
+fn a_nan_is_found_without_the_tree() {
+    let corner = |x: f64, y: f64, z: f64| [x, y, z];
+    let vertices = [
+        corner(0.0, 0.0, 0.0),
+        corner(9.0, 0.0, 0.0),
+        corner(0.0, 9.0, 0.0),
+        corner(500.0, f64::NAN, 0.0),
+        corner(509.0, 0.0, 0.0),
+        corner(500.0, 9.0, 0.0),
+    ];
+    let plain = PlainMesh::new(vertices, [[0, 1, 2], [3, 4, 5]]);
+    let mut mesh = plain.clone().build().unwrap();
+    let down = Ray::new([1.0, 1.0, 1.0], [0.0, 0.0, -1.0], 2.0);
+    let refused = Cast::Refused(Refusal::OutOfRange);
+    assert_eq!(
+        (plain.cast_exact(&down), mesh.cast_exact(&down)),
+        (refused, refused)
+    );
+    assert!(!probe_rays::lent::mesh_has_numbers(
+        vertices.as_flattened(),
+        &[0, 1, 2, 3, 4, 5]
+    ));
+    assert!(probe_rays::lent::mesh_has_numbers(
+        vertices.as_flattened(),
+        &[0, 1, 2]
+    ));
 }

@@ -1,4 +1,4 @@
--- The float just below a finite number is below it, and no float lies between. Assumes nothing.
+-- The float just below a finite number is below it, no float lies between, and it is an f64 where the number is. Assumes nothing.
 use mathlib.Core.Path.{_≡_, refl, sym, ap, _∙_, subst}
 use mathlib.Core.Logic.{_⊎_, inl, inr}
 use mathlib.Core.Bool.{Bool, true, false, not, true≢false, false≢true}
@@ -8,7 +8,8 @@ use native.Mathlib.Omega.{arith}
 use lib.Dec.{T, ltb}
 use lib.IntN.{ℤ}
 use lib.Ieee.{Float, nan, inf, fin, binary64, up, down, ofBits, toBits, nanBits, fits, isNan, neg, lt, le}
-use lib.Ieee.Bits.{ofBits-toBits, nanBits-above}
+use lib.Ieee.Bits.{ofBits-toBits, ofBits-fits, nanBits-above}
+use lib.Ieee.Fits.{cond-fits, neg-fits}
 use lib.Ieee.Exact.{HasValue}
 use borrow.Author.Tests.{ltb-true, ltb-false, lt-ltb, le-ltb}
 use Rattle.arithmetic.specs.Basic.{isFinite, absolute}
@@ -280,3 +281,9 @@ module _ (x : Float) (f : T (fits binary64 x)) (p : isFinite x ≡ true) where
       go : (b : Bool) → lt none x ≡ b → le (fin false n d) (justBelow x) ≡ true
       go true h = below-own (fin false n d) g (unfold isFinite in refl) (unfold absolute in refl) h k
       go false h = below-other (fin false n d) g (unfold isFinite in refl) h k
+
+pub just-below-fits : (x : Float) → T (fits binary64 x) → T (fits binary64 (justBelow x))
+unfolding justBelow
+just-below-fits x f =
+    cond-fits binary64 (lt (ofBits binary64 0) x) _ _ (ofBits-fits binary64 _)
+    (cond-fits binary64 (isFinite x) _ _ (neg-fits binary64 _ (ofBits-fits binary64 _)) f)

@@ -2,10 +2,12 @@
 pub mod BelowLaws
 pub mod Bounds
 pub mod Casts
+pub mod Clamps
 pub mod Differences
 pub mod DistanceFromOne
 pub mod Exactness
 pub mod ExtremesOrder
+pub mod ExtremesLimits
 pub mod Neighbours
 pub mod Numbers
 pub mod Order
@@ -31,6 +33,7 @@ pub mod ScalingLaws
 pub mod SignBit
 pub mod SignedOrder
 pub mod Signs
+pub mod Sizes
 pub mod Steps
 pub mod TotalOrder
 pub mod ValueOrder

@@ -16,7 +16,7 @@ use borrow.Author.Tests.{ltb-false, leb-true, le-leb, lt-leb}
 use Rattle.arithmetic.specs.Basic.{negative}
 use Rattle.arithmetic.specs.Ordering.{totalOrder}
 use Rattle.arithmetic.proofs.Order.{lt-nan-false, nan-lt-false, le-left-number, le-right-number, le-of-lt, le-of-not-lt}
-use Rattle.arithmetic.proofs.Order.{not-lt-of-le, le-transitive, lt-of-lt-le, lt-of-le-lt, le-reflexive, is-nan}
+use Rattle.arithmetic.proofs.Order.{not-lt-of-le, le-transitive, lt-asymmetric, lt-of-lt-le, lt-of-le-lt, le-reflexive, is-nan}
 
 -- ---- equal numbers of one sign have one bit pattern
 toBits-is : (f : Format) (s : Bool) (m : ℕ) (e : ℤ)
@@ -105,6 +105,19 @@ nan-before-nan (fin s m e) h = absurd (false≢true (simp (nan-lt-false (fin s m
 pub lesser-before : (x y : Float) → lt x y ≡ true → totalOrder x y ≡ true
 unfolding totalOrder
 lesser-before x y h = simp h
+
+pub greater-not-before : (x y : Float) → lt y x ≡ true → totalOrder x y ≡ false
+unfolding totalOrder
+greater-not-before x y h = simp (lt-asymmetric y x h, h)
+
+-- a NaN stands before no number
+pub nan-not-before : (x y : Float) → isNan x ≡ true → isNan y ≡ false → totalOrder x y ≡ false
+unfolding totalOrder
+nan-not-before x y h k =
+    let e = is-nan x h in
+    let low : lt x y ≡ false = ap (λ (z : Float). lt z y) e ∙ nan-lt-false y in
+    let high : lt y x ≡ false = ap (lt y) e ∙ lt-nan-false y in
+    rw (low, high, k, h)
 
 -- at most, and equal only with the signs in order
 pub at-most-before : (x y : Float) → le x y ≡ true → (negative x || not (negative y)) ≡ true → totalOrder x y ≡ true

@@ -1,8 +1,8 @@
 -- Rounding to a whole number by a rule that leaves whole numbers alone: what the tests of the code tell of it, that the result is exact and
--- an f64, and that a cast of the floor is the cast of the number. Assumes nothing.
+-- an f64, that a cast of the floor is the cast of the number, and that a rounded number above zero is cast to one or more. Assumes nothing.
 use mathlib.Core.Path.{_≡_, refl, sym, ap, _∙_, subst}
 use mathlib.Core.Bool.{Bool, true, false, false≢true}
-use Prim.Native.Nat.{ℕ, suc, _+_, _-_, _*_, _/_, _^_, _≤_, _<_, zero-le}
+use Prim.Native.Nat.{ℕ, zero, suc, _+_, _-_, _*_, _/_, _^_, _≤_, _<_, zero-le}
 use native.Mathlib.Nat.{le-trans, le-of-eq, zero-lt-suc, mul-one, zero-mul, mul-left-comm, mul-le-mul-right, mul-div-cancel}
 use native.Mathlib.Nat.{div-lt-iff-lt-mul, add-div-right, pow-suc, mul-div-mul-left}
 use native.Mathlib.Omega.{arith}
@@ -178,3 +178,19 @@ cast-of-floor (fin false m e) f = cast-of-value (floorOf (fin false m e)) false 
     toUnsigned in refl
 cast-of-floor (fin true m e) f = cast-of-value (floorOf (fin true m e)) true ((m * up e + (down e - 1)) / down e) (floorOf-value true m e f)
     ∙ unfold toUnsigned in refl
+
+positive-cast : (y : Float) (s : Bool) (n : ℕ) → HasValue y s n 1 → lt none y ≡ true → 0 < wholeOf y
+unfolding lt
+positive-cast nan s n v h = absurd v
+positive-cast (inf t) s n v h = absurd v
+positive-cast (fin true m e) s n v h = absurd (false≢true h)
+positive-cast (fin false m e) true n v h = absurd (false≢true (v .0))
+positive-cast (fin false m e) false zero v h = let g = ltb-true (0 * down e) (m * up e * 1) h in absurd (omega (arith, v .1))
+positive-cast (fin false m e) false (suc n) v h = let q = cast-of-value (fin false m e) false (suc n) v in omega arith
+
+-- rounded above zero is one or more
+pub rounded-positive : (x : Float) → T (fits binary64 x) → lt none (roundOf x) ≡ true → 0 < wholeOf (roundOf x)
+rounded-positive nan f h = absurd (false≢true (unfold roundOf wholeBy lt in h))
+rounded-positive (inf true) f h = absurd (false≢true (unfold roundOf wholeBy lt in h))
+rounded-positive (inf false) f h = unfold roundOf wholeBy toUnsigned in omega arith
+rounded-positive (fin s m e) f h = positive-cast (roundOf (fin s m e)) s (tiesAway s (m * up e) (down e)) (roundOf-value s m e f) h

@@ -98,6 +98,7 @@ pub record Going (hand : List ℕ) (ended : Bool) (number size : ℕ) (out : Lis
   pub fits : s .filled ≤ length out
   pub kept : length out ≡ size
   pub counted : s .over ≡ false → s .next ≤ number + s .used
+  pub begun : s .over ≡ false → s .used ≡ 0 → s .filled ≡ 0
   pub output : (more : List ℕ) → MayCome ended more
       → outputFrom number (hand ++ more) ≡ take (s .filled) out ++ outputAfter (s .over) (s .next) (drop (s .used) hand ++ more)
 
@@ -108,7 +109,14 @@ pub going-start : (hand : List ℕ) (ended : Bool) (number : ℕ) (out : List �
     → Going hand ended number (length out) out record { used = 0; filled = 0; next = number; over = false }
 unfolding outputAfter
 going-start hand ended number out =
-    record { within = omega arith; fits = omega arith; kept = refl; counted = λ h. omega arith; output = λ more m. refl }
+    record {
+      within = omega arith;
+      fits = omega arith;
+      kept = refl;
+      counted = λ h. omega arith;
+      begun = λ h e. refl;
+      output = λ more m. refl;
+    }
 
 not-over : (number : ℕ) (bytes : List ℕ) → outputAfter false number bytes ≡ outputFrom number bytes
 unfolding outputAfter
@@ -167,6 +175,7 @@ module _ (hand : List ℕ) (ended : Bool) (number size : ℕ) (out last : List �
       g .counted
           (open-still .untold),
     );
+    begun = λ o e. absurd (omega (arith, t .used, fair .grows (sym (t .over) ∙ o) .0));
     output = output-next;
   }
 
@@ -185,5 +194,6 @@ pub going-done : (hand : List ℕ) (ended : Bool) (number size : ℕ) (out : Lis
 going-done hand ended number size out s g = record {
   within = g .within;
   fits = omega (arith, g .fits, g .kept, length-take-le (s .filled) out (g .fits));
+  begun = λ o e. ap (λ (k : ℕ). take k out) (g .begun o e);
   output = g .output;
 }

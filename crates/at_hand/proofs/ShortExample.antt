@@ -11,14 +11,13 @@ use Rattle.vectors.specs.Vector.{finiteVec, negOf, dotOf, checkedDot, lengthOf}
 use Rattle.geometry.specs.Segment.{unitLength, rayAdmitted}
 use Rattle.casts.specs.Surface.{outOfRange, facing}
 use Rattle.casts.specs.Plane.{planeAdmitted, planeAt, planeCast, rayPlane}
-use Rattle.float_forms.specs.declared.forms.Converted.the-variants.{Written, Refused}
 use Rattle.float_forms.specs.Bytes.{wordOf, numbersOf, numbersBytes, numberOf, numberBytes, patternOf, patternBytes, wordsOf}
 use Rattle.float_forms.specs.Bytes as bytes
 use Rattle.record_forms.specs.Records.{manyCounts, manyNumbers, manyIndices, bodyLength, countsOf, saidOf, fieldsBytes, recordBytes}
 use Rattle.record_forms.specs.Records as records
 use Rattle.float_forms.specs.Holding.{every, held}
 use Rattle.record_forms.specs.Writing.{everySaid}
-use Rattle.conversion.specs.Convert.{converted, widened, toShort, toLong}
+use Rattle.conversion.specs.Convert.{written, refused, converted, widened, toShort, toLong}
 use Rattle.record_bytes.specs.Bytes.{wordAt, bitsAt, floatAt, vectorAt}
 use Rattle.record_bytes.specs.Fields.{isVersion, nearOf, shapePlace, rayOf, planeOf}
 use Rattle.record_bytes.specs.Parse.{filled, wellFormed, shapeOf, parse}
@@ -44,27 +43,27 @@ unfolding shortRecord nanRecord exampleOutput outputOf linesFrom nextOf longBody
 short-example = refl
 
 -- to version 3 and back, with six places more, just room, and one place less; and a NaN
-pub to-short-example : toShort longRecord (areaOf 60) ≡ record { answer = Written 54; area = shortRecord ++ areaOf 6 }
+pub to-short-example : toShort longRecord (areaOf 60) ≡ record { answer = written 54; area = shortRecord ++ areaOf 6 }
 unfolding shortRecord longRecord framed bodyBytes shapeBytes kindByte nearBytes rayBytes vectorBytes floatBytes bitsBytes wordBytes
     converted every everySaid held records.wellFormed records.framed records.filled manyCounts manyNumbers manyIndices bodyLength countsOf
     saidOf fieldsBytes recordBytes wordOf numbersOf numbersBytes numberOf numberBytes patternOf patternBytes wordsOf bytes.wordsBytes
     bytes.wordBytes size odd isNan fits ofFields ofBits toBits
 to-short-example = refl
 
-pub to-long-example : toLong shortRecord (areaOf 102) ≡ record { answer = Written 102; area = longRecord }
+pub to-long-example : toLong shortRecord (areaOf 102) ≡ record { answer = written 102; area = longRecord }
 unfolding shortRecord longRecord framed bodyBytes shapeBytes kindByte nearBytes rayBytes vectorBytes floatBytes bitsBytes wordBytes
     converted every everySaid held records.wellFormed records.framed records.filled manyCounts manyNumbers manyIndices bodyLength countsOf
     saidOf fieldsBytes recordBytes wordOf numbersOf numbersBytes numberOf numberBytes patternOf patternBytes wordsOf bytes.wordsBytes
     bytes.wordBytes size odd isNan fits ofFields ofBits toBits
 to-long-example = refl
 
-pub no-room-example : toLong nanRecord (areaOf 101) ≡ record { answer = Refused 3; area = areaOf 101 }
+pub no-room-example : toLong nanRecord (areaOf 101) ≡ record { answer = refused 3; area = areaOf 101 }
 unfolding nanRecord converted every everySaid held records.wellFormed records.framed records.filled manyCounts manyNumbers manyIndices
     bodyLength countsOf saidOf fieldsBytes recordBytes wordOf numbersOf numbersBytes numberOf numberBytes patternOf patternBytes wordsOf
     bytes.wordsBytes bytes.wordBytes size odd isNan fits ofFields ofBits toBits
 no-room-example = refl
 
-pub nan-example : toLong nanRecord (areaOf 102) ≡ record { answer = Refused 11; area = areaOf 102 }
+pub nan-example : toLong nanRecord (areaOf 102) ≡ record { answer = refused 11; area = areaOf 102 }
 unfolding nanRecord converted every everySaid held records.wellFormed records.framed records.filled manyCounts manyNumbers manyIndices
     bodyLength countsOf saidOf fieldsBytes recordBytes wordOf numbersOf numbersBytes numberOf numberBytes patternOf patternBytes wordsOf
     bytes.wordsBytes bytes.wordBytes size odd isNan fits ofFields ofBits toBits

@@ -1,13 +1,12 @@
 -- The output, record by record; and what comes later changes no record at hand. Assumes nothing.
-use Prim.Native.Nat.{ℕ, zero, suc, _+_, _-_, _<_, _≤_}
-use mathlib.Core.Path.{_≡_, refl, sym, ap, subst, _∙_}
+use Prim.Native.Nat.{ℕ, zero, suc, _+_, _-_, _≤_}
+use mathlib.Core.Path.{_≡_, refl, sym, ap, _∙_}
 use mathlib.Core.Bool.{Bool, true, false, cond}
-use mathlib.Core.List.{List, [], _∷_, _++_, append-assoc, append-nil}
+use mathlib.Core.List.{List, [], _++_, append-nil}
 use native.Mathlib.Omega.{arith}
 use borrow.Author.Tests.{eq-eqb}
-use lib.Dec.{eqb}
-use lib.ListN.{length, take, drop, length-drop, length-append}
-use lib.Seq.{take-append-le, drop-append-le, drop-drop}
+use lib.ListN.{length, drop, length-drop}
+use lib.Seq.{take-append-le, drop-append-le}
 use Rattle.record_bytes.specs.Parse.{wellFormed}
 use Rattle.records.specs.Lines.{lineOf, badLine}
 use Rattle.record_bytes.specs.Stream.{nextOf, longBody, bodyOf}
@@ -15,7 +14,7 @@ use Rattle.records.specs.Output.{linesFrom, outputOf}
 use Rattle.record_bytes.specs.declared.stream.Found.{Found}
 use Rattle.record_bytes.specs.declared.stream.Found.the-variants.{Record, Cut, End}
 use Rattle.record_bytes.proofs.Frames.{next-within, next-stays}
-use Rattle.at_hand.specs.AtHand.{outputFrom, outputAfter, MayCome, Answered, Runs, stops, goes, takes, joined}
+use Rattle.at_hand.specs.AtHand.{outputFrom, MayCome}
 
 -- ---- as many turns as there are bytes are enough
 
@@ -129,24 +128,3 @@ module _ (number : ℕ) (hand more : List ℕ) (ended : Bool) (n : Enough ended 
       let within : (4 ≤ end) × (end ≤ length hand) = next-within hand end e in
       let body : bodyOf end (hand ++ more) ≡ bodyOf end hand = body-kept hand more end (within .0) (within .1) in
       output-bad number (hand ++ more) end (next-kept hand more ended n m ∙ e) (ap wellFormed body ∙ w)
-
--- ---- all of a run
-
-come : (ended : Bool) (reads : List (List ℕ)) → (ended ≡ true → reads ≡ []) → MayCome ended (joined reads)
-unfolding joined
-come ended reads h e = ap joined (h e)
-
--- what a run writes is the output for all that was at hand and was read
-pub run-output : {number : ℕ} {hand : List ℕ} {reads : List (List ℕ)} {out : List ℕ} → Runs number hand reads out
-    → out ≡ outputFrom number (hand ++ joined reads)
-unfolding joined outputAfter
-run-output (stops {number} {hand} {reads} {ended} {room} {used} {next} {lines} h a) =
-    sym (a .output (joined reads) (come ended reads h) ∙ append-nil lines)
-run-output (goes {number} {hand} {reads} {ended} {room} {used} {next} {lines} {out} h a r) =
-    ap (λ (z : List ℕ). lines ++ z) (run-output r) ∙ sym (a .output (joined reads) (come ended reads h))
-run-output (takes {number} {hand} {more} {reads} {out} r) =
-    run-output r ∙ ap (outputFrom number) (append-assoc hand more (joined reads))
-
--- document 01's 'Whole output'
-pub whole-output : {reads : List (List ℕ)} {out : List ℕ} → Runs 1 [] reads out → out ≡ outputOf (joined reads)
-whole-output {reads} r = run-output r ∙ output-is (joined reads)

@@ -12,12 +12,11 @@ use Rattle.geometry.specs.declared.ray.Ray.{Ray}
 use Rattle.tree.specs.Mesh.{thirds}
 use Rattle.float_forms.specs.declared.forms.Form.{Form}
 use Rattle.float_forms.specs.declared.forms.Form.the-variants.{Long, Short}
-use Rattle.float_forms.specs.declared.forms.Converted.the-variants.{Written, Refused}
 use Rattle.float_forms.specs.Bytes.{IsBytes, numbersBytes, numberBytes, patternBytes}
 use Rattle.float_forms.specs.Bytes as bytes
 use Rattle.record_forms.specs.Records.{Said, manyCounts, manyNumbers, manyIndices, bodyLength, saidOf, isKind, fieldsBytes, recordBytes}
 use Rattle.record_forms.specs.Records as records
-use Rattle.conversion.specs.Convert.{withoutNan, saidHeld, Outcome, converted, widened, toShort, toLong}
+use Rattle.conversion.specs.Convert.{withoutNan, saidHeld, written, Outcome, converted, widened, toShort, toLong}
 use Rattle.record_forms.specs.Writing.{saidFits, turned}
 use Rattle.float_forms.proofs.RunLaws.{AllWords, none, more}
 use Rattle.record_forms.proofs.Parts.{formed, well-formed}
@@ -43,7 +42,7 @@ module _ (l : List ℕ) where
   unfolding longBody
   by-version version e = ap (λ (v : ℕ). drop 4 (cond (eqb v 3) (widened l) l)) e
 
-  long-stays : T (records.wellFormed Long l) → longBody l ≡ drop 4 l
+  pub long-stays : T (records.wellFormed Long l) → longBody l ≡ drop 4 l
   long-stays w = by-version 2 (formed Long l w .versioned)
 
   pub short-widens : T (records.wellFormed Short l) → longBody l ≡ drop 4 (widened l)
@@ -58,7 +57,7 @@ same-line-widened number l b w =
     ap (lineOf number) (long-stays (widened l) (widened-well-formed l b w) ∙ sym (short-widens l w))
 
 -- what the converter wrote stands at the front of the area
-written-front : (p q : Form) (l area : List ℕ) (n : ℕ) → converted p q l area .answer ≡ Written n
+written-front : (p q : Form) (l area : List ℕ) (n : ℕ) → converted p q l area .answer ≡ written n
     → take n (converted p q l area .area) ≡ turned p q l
 written-front p q l area n e =
     let s = succeeded p q l area n e in
@@ -67,7 +66,7 @@ written-front p q l area n e =
     ap (λ (o : Outcome). take n (o .area)) done ∙ take-at new (drop (length new) area) n (sym (s .counted))
 
 -- where to_short succeeds, the short record's line is the long one's
-pub same-line-short : (number : ℕ) (l area : List ℕ) (n : ℕ) → IsBytes l → toShort l area .answer ≡ Written n
+pub same-line-short : (number : ℕ) (l area : List ℕ) (n : ℕ) → IsBytes l → toShort l area .answer ≡ written n
     → recordLine number (take n (toShort l area .area)) ≡ recordLine number l
 same-line-short number l area n b e =
     let s = succeeded Long Short l area n e in
@@ -79,7 +78,7 @@ same-line-short number l area n b e =
     ∙ ap (lineOf number) (short-widens short formed-short ∙ (ap (drop 4) back ∙ sym (long-stays l (s .wellFormed))))
 
 -- where to_long succeeds, the long record's line is the short one's
-pub same-line-long : (number : ℕ) (l area : List ℕ) (n : ℕ) → IsBytes l → toLong l area .answer ≡ Written n
+pub same-line-long : (number : ℕ) (l area : List ℕ) (n : ℕ) → IsBytes l → toLong l area .answer ≡ written n
     → recordLine number (take n (toLong l area .area)) ≡ recordLine number l
 same-line-long number l area n b e =
     let s = succeeded Short Long l area n e in

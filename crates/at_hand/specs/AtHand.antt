@@ -58,10 +58,11 @@ pub record Turned (t : Turn) (before after : AtHand) (out last : List ℕ) : Typ
   pub over : after .over ≡ t .last
 
 -- The bytes at hand, from a record number on, are answered: whatever comes, the output for all is the lines followed by the output for what
--- is left.
+-- is left. No line is made of nothing: where no byte is used and the run goes on, there is none.
 pub record Answered (hand : List ℕ) (ended : Bool) (number room : ℕ) (lines : List ℕ) (used next : ℕ) (over : Bool) : Type 0 where
   pub within : used ≤ length hand
   pub fits : length lines ≤ room
+  pub begun : over ≡ false → used ≡ 0 → lines ≡ []
   pub output : (more : List ℕ) → MayCome ended more
       → outputFrom number (hand ++ more) ≡ lines ++ outputAfter over next (drop used hand ++ more)
 
@@ -69,21 +70,3 @@ pub record Answered (hand : List ℕ) (ended : Bool) (number room : ℕ) (lines 
 unfoldable pub goesOn : AtHand → Bool → ℕ → ℕ → Bool
 goesOn s ended length room =
     not (s .over) && (leb (s .filled + longestLine) room && (ended || leb (s .used + longestRecord) length))
-
--- What `main` does, read by read: `reads` are what its reads give, from now on, the last of them before the end of the input.
-pub data Runs : ℕ → List ℕ → List (List ℕ) → List ℕ → Type 0 where
-  -- the run is over: nothing more is read
-  stops : {number : ℕ} {hand : List ℕ} {reads : List (List ℕ)} {ended : Bool} {room used next : ℕ} {lines : List ℕ}
-      → (ended ≡ true → reads ≡ []) → Answered hand ended number room lines used next true → Runs number hand reads lines
-  -- the area is written, and what is left is answered
-  goes : {number : ℕ} {hand : List ℕ} {reads : List (List ℕ)} {ended : Bool} {room used next : ℕ} {lines out : List ℕ}
-      → (ended ≡ true → reads ≡ []) → Answered hand ended number room lines used next false → Runs next (drop used hand) reads out
-      → Runs number hand reads (lines ++ out)
-  -- more is read
-  takes : {number : ℕ} {hand more : List ℕ} {reads : List (List ℕ)} {out : List ℕ}
-      → Runs number (hand ++ more) reads out → Runs number hand (more ∷ reads) out
-
--- all that is read
-unfoldable pub joined : List (List ℕ) → List ℕ
-joined [] = []
-joined (bytes ∷ reads) = bytes ++ joined reads

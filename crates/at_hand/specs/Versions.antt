@@ -1,5 +1,7 @@
 -- Records of version 3 beside those of version 2. Definitions only. Assumes nothing.
 use Prim.Native.Nat.{ℕ}
+use mathlib.Core.Path.{_≡_}
+use mathlib.Core.Bool.{true}
 use mathlib.Core.List.{List, [], _∷_, _++_}
 use lib.Ieee.{Float, binary64, ofBits}
 use lib.ListN.{length, replicate}
@@ -7,15 +9,27 @@ use Rattle.vectors.specs.Numbers.{zeroᶠ, oneᶠ}
 use Rattle.vectors.specs.declared.vec3.Vec3.{Vec3}
 use Rattle.geometry.specs.declared.ray.Ray.{Ray}
 use Rattle.tree.specs.Mesh.{thirds}
-use Rattle.record_forms.specs.Records.{Said}
-use Rattle.record_bytes.specs.Parse.{Shape, plane, triangle, mesh, heights, distances}
+use Rattle.float_forms.specs.declared.forms.Form.{Form}
+use Rattle.float_forms.specs.Forms.{versionOf}
+use Rattle.record_forms.specs.Records.{Said, saidOf}
+use Rattle.record_bytes.specs.Bytes.{byteAt}
+use Rattle.record_bytes.specs.Parse.{Shape, plane, triangle, mesh, heights, distances, says, wellFormed, parse}
 use Rattle.record_bytes.specs.Encode.{kindByte, bodyBytes, framed}
 use Rattle.records.specs.Lines.{lineOf}
-use Rattle.record_bytes.specs.Stream.{longBody}
+use Rattle.record_bytes.specs.Stream.{nextOf, longBody}
+use Rattle.record_bytes.specs.declared.stream.Found.the-variants.{Record}
 
 -- the line of a whole record, its length bytes included: "A user's record must cast to the same bits from either version."
 abbrev pub recordLine : ℕ → List ℕ → List ℕ
 recordLine number bytes = lineOf number (longBody bytes)
+
+-- "exactly one record of the version it converts from, length bytes included, else malformed": what `probe` asks of one record. It is the
+-- stream's next record and all of it, has the form's version byte, and its body is well formed. The converter asks the same
+-- (`well-formed-is-record`, `record-is-well-formed`, proofs/Malformed.antt).
+pub record OneRecord (form : Form) (bytes : List ℕ) : Type 0 where
+  pub whole : nextOf bytes ≡ Record (length bytes)
+  pub versioned : byteAt bytes 4 ≡ versionOf form
+  pub body : wellFormed (longBody bytes) ≡ true
 
 -- ---- what a ray and a shape say, in the converter's order
 
@@ -23,7 +37,7 @@ recordLine number bytes = lineOf number (longBody bytes)
 abbrev vectorThen : Vec3 → List Float → List Float
 vectorThen v rest = v .x ∷ (v .y ∷ (v .z ∷ rest))
 
-abbrev rayNumbers : Ray → List Float
+abbrev pub rayNumbers : Ray → List Float
 rayNumbers r = vectorThen (r .origin) (vectorThen (r .direction) (r .«max_distance» ∷ (r .near ∷ [])))
 
 unfoldable pub shapeCounts : Shape → List ℕ
@@ -55,6 +69,13 @@ saidFor r s = record {
   numbers = shapeNumbers s;
   indices = shapeIndices s;
 }
+
+-- what `probe` reads of a record is what the converter reads of it (`same-fields`, proofs/ReadFields.antt)
+pub record SameFields (form : Form) (bytes : List ℕ) : Type 0 where
+  pub ray : Ray
+  pub shape : Shape
+  pub parsed : parse (longBody bytes) ≡ says ray shape
+  pub said : saidFor ray shape ≡ saidOf form bytes
 
 -- ---- an example: document 01's first record, with floats of 8 bytes and of 4
 

@@ -2,3 +2,4 @@
 pub mod TestLaws
 pub mod PassedTests
 pub mod TestsTold
+pub mod Examples

@@ -37,7 +37,7 @@ vertices =
     o ∷ (o ∷ (o ∷ (i ∷ (o ∷ (o ∷ (o ∷ (i ∷ (o ∷ (ten ∷ (o ∷ (o ∷
     (eleven ∷ (o ∷ (o ∷ (ten ∷ (i ∷ (o ∷ (o ∷ (o ∷ (lower ∷ (i ∷ (o ∷ (lower ∷ (o ∷ (i ∷ (lower ∷ []))))))))))))))))))))))))))
 
-abbrev areas : Areas
+abbrev pub areas : Areas
 areas = record {
   vertices = vertices;
   triangles = 0 ∷ (1 ∷ (2 ∷ (3 ∷ (4 ∷ (5 ∷ (6 ∷ (7 ∷ (8 ∷ []))))))));
@@ -63,11 +63,11 @@ partAt origin order = record {
   order = order;
 }
 
-abbrev here : Part
+abbrev pub here : Part
 here = partAt (record { x = o; y = o; z = o }) (span₀ 3)
 
 -- a quarter nearer to the ray's origin
-abbrev nearer : Part
+abbrev pub nearer : Part
 nearer = partAt (record { x = o; y = o; z = quarter }) (span₀ 3)
 
 -- an origin from which the difference is not finite
@@ -84,7 +84,7 @@ past = partAt (record { x = o; y = o; z = o }) (record { start = 1; length = 3 }
 abbrev three : Float
 three = ofBits binary64 0x4008_0000_0000_0000
 
-abbrev ray : Ray
+abbrev pub ray : Ray
 ray = record {
   origin = record { x = quarter; y = quarter; z = i };
   direction = record { x = o; y = o; z = lower };
@@ -93,10 +93,10 @@ ray = record {
   near = o;
 }
 
-abbrev cast : ℕ → List Part → Answer
+abbrev pub cast : ℕ → List Part → Answer
 cast limit parts = castCabinet ray areas 3 4 limit parts
 
-abbrev up : Vec3
+abbrev pub up : Vec3
 up = record { x = o; y = o; z = i }
 
 -- the node whose box does not touch costs one too: three nodes a part
@@ -118,3 +118,8 @@ unfolding castCabinet allParts castParts castPart afterPart foundNext shapeFits 
     absOf maxOf minOf scaleOf negOf subOf addOf finiteVec component rootOf rootRound wholeRoot rootDigits maximumOf minimumOf absolute
     isFinite ofBits ofFields isNan ne le eq lt div mul sub add sum neg round units odd size climb span
 cabinets-answered = refl
+
+-- "The ray's origin less the part's origin": from a part's own origin it is +0 on each axis
+pub from-own-origin : movedRay ray (ray .origin) .origin ≡ record { x = o; y = o; z = o }
+unfolding movedRay subOf ofBits ofFields sub add sum neg round units odd size climb span
+from-own-origin = refl

@@ -11,3 +11,4 @@ pub mod LastAnswer
 pub mod Passes
 pub mod CabinetExamples
 pub mod NearestParts
+pub mod PartAnswers

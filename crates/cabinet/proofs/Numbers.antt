@@ -1,9 +1,10 @@
--- No part's own cast refuses with 10, so that 10 is answered exactly where the limit is less than the need. Assumes nothing.
+-- A part's own cast refuses with a number above the tests' and below the limit's, so that 10 is answered exactly where the limit is less
+-- than the need. Assumes nothing.
 use Prim.Native.Nat.{ℕ}
 use mathlib.Core.Path.{_≡_, refl, sym, ap, _∙_}
-use mathlib.Core.Bool.{Bool, true, false, not, cond}
+use mathlib.Core.Bool.{Bool, true, false, _&&_, cond}
 use mathlib.Core.List.{List, [], _∷_}
-use lib.Dec.{eqb}
+use lib.Dec.{ltb}
 use lib.Ieee.{Float, lt, le, isNan}
 use lib.ListN.{length}
 use Rattle.vectors.specs.Numbers.{_+ᶠ_, _*ᶠ_, _/ᶠ_, zeroᶠ, oneᶠ}
@@ -16,7 +17,7 @@ use Rattle.vectors.specs.declared.vec3.Checked.the-variants.{Value, Overflow}
 use Rattle.vectors.specs.declared.vec3.Normalized.{Normalized}
 use Rattle.vectors.specs.declared.vec3.Normalized.the-variants.{Unit as UnitOf, Degenerate}
 use Rattle.geometry.specs.declared.ray.Ray.{Ray}
-use Rattle.casts.specs.Answer.{Answer, hit, none, refused, withValue, withNormal, noNormal, outOfBounds, overflow}
+use Rattle.casts.specs.Answer.{Answer, hit, none, refused, withValue, withNormal, noRoom, noNormal, outOfBounds, overflow}
 use Rattle.casts.specs.Surface.{outOfRange, facing}
 use Rattle.triangle_cast.specs.Triangle.{flat, triangleNormal, triangleAbove, triangleAt, triangleOf}
 use Rattle.nearest_hit.specs.Nearest.{Indexed, hitAt, noHit, stopped, nextOf, foldFrom}
@@ -33,12 +34,12 @@ use Rattle.cabinet.specs.PartCast.{Costed, costing, limitReached, movedR
 use Rattle.cabinet.specs.Cabinet.{isRefused, foundNext, afterPart, ownPart, ownParts}
 use Rattle.cabinet.proofs.Limits.{after-refused, after-begun}
 
-abbrev other : ℕ → Bool
-other number = not (eqb number limitReached)
+abbrev pub ofPart : ℕ → Bool
+ofPart number = ltb noRoom number && ltb number limitReached
 
 -- ---- a triangle's answer
 abbrev plain : Answer → Bool
-plain (refused number) = other number
+plain (refused number) = ofPart number
 plain none = true
 plain (hit normal distance) = true
 
@@ -90,7 +91,7 @@ answer-plain r vertices triangles i =
 
 -- ---- a mesh's
 abbrev plainMesh : Indexed → Bool
-plainMesh (stopped number) = other number
+plainMesh (stopped number) = ofPart number
 plainMesh noHit = true
 plainMesh (hitAt normal distance index) = true
 
@@ -142,7 +143,7 @@ own-plain r origin m t = go (finiteVec (subOf (r .origin) origin))
 
 -- ---- the cabinet's
 abbrev pub plainFound : Found → Bool
-plainFound (Refused number) = other number
+plainFound (Refused number) = ofPart number
 plainFound Nothing = true
 plainFound (Hit part index normal distance) = true
 

@@ -1,26 +1,29 @@
 -- What is promised of the limit holds. Assumes nothing.
 use Prim.Native.Nat.{ℕ, _+_, _≤_, _<_}
 use mathlib.Core.Path.{_≡_, refl, sym, ap, _∙_}
-use mathlib.Core.Bool.{Bool, true, false, not, cond, true≢false}
+use mathlib.Core.Bool.{Bool, true, false, _&&_, cond, true≢false}
 use mathlib.Core.List.{List}
 use native.Mathlib.Omega.{arith}
-use borrow.Author.Tests.{leb-true, leb-false}
-use lib.Dec.{leb, eqb}
+use borrow.Author.Tests.{leb-true, leb-false, le-leb, ltb-true}
+use lib.Dec.{leb, ltb}
 use lib.Ieee.{Float}
 use Rattle.vectors.specs.declared.vec3.Vec3.{Vec3}
+use Rattle.geometry.specs.Segment.{rayAdmitted}
 use Rattle.geometry.specs.declared.ray.Ray.{Ray}
+use Rattle.casts.specs.Answer.{invalidInput, badShape, noRoom}
+use Rattle.lists.proofs.JoinedTests.{and-both, and-first, and-second}
 use Rattle.cabinet.specs.declared.part.Part.{Part}
 use Rattle.cabinet.specs.declared.part.Found.{Found}
 use Rattle.cabinet.specs.declared.part.Found.the-variants.{Nothing, Hit, Refused}
 use Rattle.cabinet.specs.declared.part.Progress.{Progress}
-use Rattle.cabinet.specs.Parts.{Areas}
+use Rattle.cabinet.specs.Parts.{Areas, shapeFits, roomFits}
 use Rattle.cabinet.specs.PartCast.{limitReached}
 use Rattle.cabinet.specs.Cabinet.{Answer, hitIn, noneAfter, refused, refusedAfter, answerWith, answerOf, beginning, castParts}
-use Rattle.cabinet.specs.Cabinet.{ownParts, castCabinet}
-use Rattle.cabinet.specs.Promises.{spentOf, nearestPart, nodesOf, AllChecked, alone, Passes, needed, answerAt, LimitPromises}
+use Rattle.cabinet.specs.Cabinet.{ownParts, allParts, castCabinet}
+use Rattle.cabinet.specs.Promises.{spentOf, nodesOf, AllChecked, Passes, needed, answerAt, LimitPromises}
 use Rattle.cabinet.specs.Promises.{LimitsHold}
 use Rattle.cabinet.proofs.Limits.{Limited, parts-limited}
-use Rattle.cabinet.proofs.Numbers.{plainFound, parts-plain}
+use Rattle.cabinet.proofs.Numbers.{ofPart, plainFound, parts-plain}
 use Rattle.cabinet.proofs.Alone.{own-nearest, own-parts-few}
 
 -- a hit or a none
@@ -37,7 +40,7 @@ answer-spent (Refused number) spent = refl
 
 -- whether an answer is no refusal with 10
 abbrev notTen : Answer → Bool
-notTen (refusedAfter number spent) = not (eqb number limitReached)
+notTen (refusedAfter number spent) = ofPart number
 notTen (refused number) = true
 notTen (noneAfter spent) = true
 notTen (hitIn part triangle normal distance spent) = true
@@ -46,6 +49,21 @@ answer-plain : (f : Found) (spent : ℕ) → notTen (answerWith f spent) ≡ pla
 answer-plain Nothing spent = refl
 answer-plain (Hit part index normal distance) spent = refl
 answer-plain (Refused number) spent = refl
+
+-- refusals 1, 2 and 3 come before the first part, and from it on a number above them that is at most the limit's
+abbrev pub toldApart : Answer → Bool
+toldApart (refused number) = leb number noRoom
+toldApart (refusedAfter number spent) = ltb noRoom number && leb number limitReached
+toldApart (noneAfter spent) = true
+toldApart (hitIn part triangle normal distance spent) = true
+
+found-apart : (f : Found) (spent : ℕ) → plainFound f ≡ true → toldApart (answerWith f spent) ≡ true
+found-apart Nothing spent e = refl
+found-apart (Hit part index normal distance) spent e = refl
+found-apart (Refused number) spent e =
+    let above = and-first (ltb noRoom number) (ltb number limitReached) e in
+    let below = ltb-true number limitReached (and-second (ltb noRoom number) (ltb number limitReached) e) in
+    and-both (ltb noRoom number) (leb number limitReached) above (le-leb number limitReached (omega (arith, below)))
 
 module _ (r : Ray) (a : Areas) (list stack : ℕ) (parts : List Part) (p : Passes r a list stack parts) where
   passed : (limit : ℕ) → answerAt r a list stack parts limit ≡ answerOf (castParts r a limit beginning parts)
@@ -88,6 +106,15 @@ module _ (r : Ray) (a : Areas) (list stack : ℕ) (parts : List Part) (p : Passe
           absurd (true≢false (sym p' ∙ sym (answer-plain (ownParts r a beginning parts .found) (ownParts r a beginning parts .spent)) ∙
           ap notTen own))
 
+  apart-past : (limit : ℕ) → toldApart (answerOf (castParts r a limit beginning parts)) ≡ true
+  apart-past limit = go (leb (needed r a list stack parts) limit) refl
+    where
+      go : (b : Bool) → leb (needed r a list stack parts) limit ≡ b → toldApart (answerOf (castParts r a limit beginning parts)) ≡ true
+      go true e =
+          ap (λ (s : Progress). toldApart (answerOf s)) (bound limit .suffices (leb-true (needed r a list stack parts) limit e))
+          ∙ found-apart (ownParts r a beginning parts .found) (needed r a list stack parts) (parts-plain r a beginning parts refl)
+      go false e = ap toldApart (bound limit .used-up (leb-false (needed r a list stack parts) limit e))
+
   few : AllChecked a parts → needed r a list stack parts ≤ nodesOf parts
   few c = omega (arith, own-parts-few r a list stack beginning parts c)
 
@@ -108,13 +135,28 @@ module _ (r : Ray) (a : Areas) (list stack : ℕ) (parts : List Part) (p : Passe
         λ (limit more part triangle : ℕ) (normal : Vec3) (distance : Float) (spent : ℕ) (l : limit ≤ more) e. settled-stays limit more
         l (ap isSettled e) ∙ e;
     none-stays = λ (limit more spent : ℕ) (l : limit ≤ more) e. settled-stays limit more l (ap isSettled e) ∙ e;
-    needs-few = few;
     each-alone =
-        λ (limit : ℕ) (c : AllChecked a parts) (l : nodesOf parts ≤ limit).
-        enough limit (omega (arith, few c))
+        λ (limit : ℕ) (l : needed r a list stack parts ≤ limit).
+        enough limit l
         ∙ ap (λ (f : Found). answerWith f (needed r a list stack parts)) (own-nearest r a list stack (p .ray) beginning parts
         (p .shapes) (p .rooms));
+    needs-few = few;
   }
 
 pub limits-hold : LimitsHold
 limits-hold = promises
+
+pub told-apart : (r : Ray) (a : Areas) (list stack limit : ℕ) (parts : List Part)
+    → toldApart (castCabinet r a list stack limit parts) ≡ true
+unfolding castCabinet
+told-apart r a list stack limit parts = go (rayAdmitted r) refl (allParts (shapeFits a) parts) refl (allParts (roomFits a list stack) parts)
+    refl
+  where
+    go : (b : Bool) → rayAdmitted r ≡ b → (c : Bool) → allParts (shapeFits a) parts ≡ c → (d : Bool)
+        → allParts (roomFits a list stack) parts ≡ d
+        → toldApart (cond b (cond c (cond d (answerOf (castParts r a limit beginning parts)) (refused noRoom)) (refused badShape))
+        (refused invalidInput)) ≡ true
+    go true e true f true g = apart-past r a list stack parts (record { ray = e; shapes = f; rooms = g }) limit
+    go true e true f false g = refl
+    go true e false f d g = refl
+    go false e c f d g = refl

@@ -78,10 +78,10 @@ module _ (r : Ray) (a : Areas) (list stack : ℕ) where
       pub hit-stays : (limit more part triangle : ℕ) (normal : Vec3) (distance : Float) (spent : ℕ) → limit ≤ more
           → answerAt limit ≡ hitIn part triangle normal distance spent → answerAt more ≡ hitIn part triangle normal distance spent
       pub none-stays : (limit more spent : ℕ) → limit ≤ more → answerAt limit ≡ noneAfter spent → answerAt more ≡ noneAfter spent
-      -- "For checked trees and a limit that suffices, the result is that of casting at each part alone": the node counts suffice
+      -- "For checked trees and a limit that suffices, the result is that of casting at each part alone": so it is for any trees, and
+      -- for checked ones the node counts suffice
+      pub each-alone : (limit : ℕ) → needed ≤ limit → answerAt limit ≡ answerWith (nearestPart alone Nothing 0 parts) needed
       pub needs-few : AllChecked a parts → needed ≤ nodesOf parts
-      pub each-alone : (limit : ℕ) → AllChecked a parts → nodesOf parts ≤ limit
-          → answerAt limit ≡ answerWith (nearestPart alone Nothing 0 parts) needed
 
 -- past refusals 1, 2 and 3
 abbrev pub LimitsHold : Type 0

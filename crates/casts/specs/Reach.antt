@@ -1,5 +1,4 @@
--- Inner contracts only: an answer without its normal: what decides which of many triangles is the nearest. Definitions only. Assumes
--- nothing.
+-- An answer without its normal: what decides which of many triangles is the nearest. Definitions only. Assumes nothing.
 use Rattle.casts.specs.Answer.{Answer, hit, none, refused}
 use Rattle.casts.specs.declared.answer.Reach.{Reach}
 use Rattle.casts.specs.declared.answer.Reach.the-variants.{At, Miss, Refused}

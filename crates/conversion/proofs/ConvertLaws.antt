@@ -9,7 +9,6 @@ use lib.Dec.{ltb}
 use lib.ListN.{length, drop}
 use lib.Seq.{sets, sets-eq}
 use Rattle.float_forms.specs.declared.forms.Form.{Form}
-use Rattle.float_forms.specs.declared.forms.Converted.the-variants.{Written, Refused}
 use Rattle.record_forms.specs.declared.shape.Plan.{Plan}
 use Rattle.record_forms.specs.declared.shape.Planned.the-variants.{Is, Malformed}
 use Rattle.float_forms.specs.Forms.{sizeOf}
@@ -17,7 +16,7 @@ use Rattle.float_forms.specs.Bytes.{numbersOf}
 use Rattle.record_forms.specs.Records.{bodyLength, saidOf, wellFormed}
 use Rattle.float_forms.specs.Holding.{every, held}
 use Rattle.record_forms.specs.Writing.{everySaid, turned}
-use Rattle.conversion.specs.Convert.{saidHeld, Outcome, converted}
+use Rattle.conversion.specs.Convert.{saidHeld, written, refused, Outcome, converted}
 use Rattle.record_forms.specs.Plans.{planOf, planned, Known, sizeFor}
 use Rattle.record_forms.proofs.Lengths.{turned-length}
 use Rattle.record_forms.proofs.WritingLaws.{Sizes, sizes}
@@ -43,20 +42,20 @@ size-is p q l plan s = rw (s .countsAre, s .numbersAre, s .indicesAre) (sym (tur
 
 -- ---- the answers
 
-pub malformed : (p q : Form) (l area : List ℕ) → planned p l ≡ Malformed → record { answer = Refused 2; area = area } ≡ converted p q l area
+pub malformed : (p q : Form) (l area : List ℕ) → planned p l ≡ Malformed → record { answer = refused 2; area = area } ≡ converted p q l area
 unfolding planned converted
 malformed p q l area e = go (wellFormed p l) e
   where
-    go : (b : Bool) → cond b (Is (planOf p l)) Malformed ≡ Malformed → _≡_ {A = Outcome} record { answer = Refused 2; area = area }
+    go : (b : Bool) → cond b (Is (planOf p l)) Malformed ≡ Malformed → _≡_ {A = Outcome} record { answer = refused 2; area = area }
         (cond b
-        (cond (ltb (length area) (length (turned p q l))) record { answer = Refused 3; area = area }
+        (cond (ltb (length area) (length (turned p q l))) record { answer = refused 3; area = area }
         (cond (saidHeld q (saidOf p l)) record {
-          answer = Written (length (turned p q l));
+          answer = written (length (turned p q l));
           area = turned p q l ++ drop (length (turned p q
               l)) area;
         }
-        record { answer = Refused 11; area = area }))
-        record { answer = Refused 2; area = area })
+        record { answer = refused 11; area = area }))
+        record { answer = refused 2; area = area })
     go true e = absurd (let z : _≡_ {A = ℕ} 0 1 = cc in omega arith)
     go false e = refl
 
@@ -73,14 +72,14 @@ module _ (p q : Form) (l area : List ℕ) (plan : Plan) (k : Known p l plan) whe
   size-known = size-is p q l plan (sizes p l plan k)
 
   pub no-room : (body : ℕ) → body ≡ sizeFor q plan → length area < 4 + body
-      → record { answer = Refused 3; area = area } ≡ converted p q l area
+      → record { answer = refused 3; area = area } ≡ converted p q l area
   unfolding converted
   no-room body e h =
       let short : length area < length (turned p q l) = omega (arith, e, h, size-known) in
       rw (k .wellFormed, lt-ltb (length area) (length (turned p q l)) short)
 
   pub unheld : (body : ℕ) → body ≡ sizeFor q plan → 4 + body ≤ length area → saidHeld q (saidOf p l) ≡ false
-      → record { answer = Refused 11; area = area } ≡ converted p q l area
+      → record { answer = refused 11; area = area } ≡ converted p q l area
   unfolding converted
   unheld body e h f =
       let room : length (turned p q l) ≤ length area = omega (arith, e, h, size-known) in
@@ -88,7 +87,7 @@ module _ (p q : Form) (l area : List ℕ) (plan : Plan) (k : Known p l plan) whe
 
   pub done : (body : ℕ) (after : List ℕ) → body ≡ sizeFor q plan → 4 + body ≤ length area → saidHeld q (saidOf p l) ≡ true
       → after ≡ sets area 0 (turned p q l)
-      → record { answer = Written (4 + body); area = after } ≡ converted p q l area
+      → record { answer = written (4 + body); area = after } ≡ converted p q l area
   unfolding converted
   done body after e h f g =
       let room : length (turned p q l) ≤ length area = omega (arith, e, h, size-known) in

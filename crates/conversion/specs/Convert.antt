@@ -20,20 +20,30 @@ withoutNan = everySaid isNumber
 abbrev pub saidHeld : Form → Said → Bool
 saidHeld form = everySaid (held form)
 
+-- an answer in document 02's words: "the length written", or a refusal number
+pub data Answer : Type 0 where
+  written : ℕ → Answer
+  refused : ℕ → Answer
+
+-- what each case of the code's answer says
+abbrev pub says : Converted → Answer
+says (Written length) = written length
+says (Refused number) = refused number
+
 -- the answer, and the output area as the call returns
 pub record Outcome : Type 0 where
-  pub answer : Converted
+  pub answer : Answer
   pub area : List ℕ
 
 -- "number 11 .. follows 2 .., and 3 for a short output area, and the output area is then unchanged"
 unfoldable pub converted : Form → Form → List ℕ → List ℕ → Outcome
 converted p q bytes area =
     cond (wellFormed p bytes)
-    (cond (ltb (length area) (length (turned p q bytes))) record { answer = Refused 3; area = area }
+    (cond (ltb (length area) (length (turned p q bytes))) record { answer = refused 3; area = area }
     (cond (saidHeld q (saidOf p bytes))
-    record { answer = Written (length (turned p q bytes)); area = turned p q bytes ++ drop (length (turned p q bytes)) area }
-    record { answer = Refused 11; area = area }))
-    record { answer = Refused 2; area = area }
+    record { answer = written (length (turned p q bytes)); area = turned p q bytes ++ drop (length (turned p q bytes)) area }
+    record { answer = refused 11; area = area }))
+    record { answer = refused 2; area = area }
 
 -- what `probe` reads: a record of version 3 as one of version 2, a NaN as a NaN; nothing if it is malformed
 unfoldable pub widened : List ℕ → List ℕ

@@ -9,15 +9,13 @@ use lib.Dec.{T, ltb}
 use lib.Ieee.Bits.{is-true}
 use lib.ListN.{length, drop}
 use Rattle.float_forms.specs.declared.forms.Form.{Form}
-use Rattle.float_forms.specs.declared.forms.Converted.{Converted}
-use Rattle.float_forms.specs.declared.forms.Converted.the-variants.{Written, Refused}
 use Rattle.record_forms.specs.Records.{saidOf, wellFormed}
-use Rattle.conversion.specs.Convert.{saidHeld, Outcome, converted}
+use Rattle.conversion.specs.Convert.{saidHeld, written, refused, Outcome, converted}
 use Rattle.record_forms.specs.Writing.{turned}
 
 -- the whole record at the front of the area, and the rest of the area as it was
 abbrev pub success : List ℕ → List ℕ → Outcome
-success new area = record { answer = Written (length new); area = new ++ drop (length new) area }
+success new area = record { answer = written (length new); area = new ++ drop (length new) area }
 
 pub record Success (p q : Form) (bytes area : List ℕ) (n : ℕ) : Type 0 where
   pub wellFormed : T (wellFormed p bytes)
@@ -27,8 +25,8 @@ pub record Success (p q : Form) (bytes area : List ℕ) (n : ℕ) : Type 0 where
 
 abbrev choice : Bool → Bool → Bool → List ℕ → List ℕ → Outcome
 choice a b c new area =
-    cond a (cond b record { answer = Refused 3; area = area } (cond c (success new area) record { answer = Refused 11; area = area }))
-    record { answer = Refused 2; area = area }
+    cond a (cond b record { answer = refused 3; area = area } (cond c (success new area) record { answer = refused 11; area = area }))
+    record { answer = refused 2; area = area }
 
 record Chosen (a b c : Bool) (m n : ℕ) : Type 0 where
   first : T a
@@ -36,17 +34,17 @@ record Chosen (a b c : Bool) (m n : ℕ) : Type 0 where
   third : T c
   fourth : n ≡ m
 
-never : (k n : ℕ) → Refused k ≡ Written n → ⊥
+never : (k n : ℕ) → refused k ≡ written n → ⊥
 never k n e = let z : _≡_ {A = ℕ} 0 1 = cc in omega arith
 
-chosen : (a b c : Bool) (new area : List ℕ) (n : ℕ) → choice a b c new area .answer ≡ Written n → Chosen a b c (length new) n
+chosen : (a b c : Bool) (new area : List ℕ) (n : ℕ) → choice a b c new area .answer ≡ written n → Chosen a b c (length new) n
 chosen true true c new area n e = absurd (never 3 n e)
 chosen true false true new area n e = record { first = tt; second = refl; third = tt; fourth = cc }
 chosen true false false new area n e = absurd (never 11 n e)
 chosen false b c new area n e = absurd (never 2 n e)
 
--- what an answer Written says
-pub succeeded : (p q : Form) (bytes area : List ℕ) (n : ℕ) → converted p q bytes area .answer ≡ Written n → Success p q bytes area n
+-- what an answer `written` says
+pub succeeded : (p q : Form) (bytes area : List ℕ) (n : ℕ) → converted p q bytes area .answer ≡ written n → Success p q bytes area n
 unfolding converted
 succeeded p q bytes area n e =
     let new = turned p q bytes in

@@ -8,11 +8,10 @@ use lib.ListN.{length, take, drop}
 use lib.Seq.{take-at}
 use Rattle.float_forms.specs.declared.forms.Form.{Form}
 use Rattle.float_forms.specs.declared.forms.Form.the-variants.{Long, Short}
-use Rattle.float_forms.specs.declared.forms.Converted.the-variants.{Written}
 use Rattle.float_forms.specs.Forms.{sizeOf}
 use Rattle.float_forms.specs.Bytes.{IsBytes}
 use Rattle.record_forms.specs.Records.{manyCounts, manyIndices, kindOf, countsOf, indicesPlace, saidOf, wellFormed, recordBytes}
-use Rattle.conversion.specs.Convert.{withoutNan, saidHeld, Outcome, converted, widened, toLong}
+use Rattle.conversion.specs.Convert.{withoutNan, saidHeld, written, Outcome, converted, widened, toLong}
 use Rattle.record_forms.specs.Writing.{saidFits, turned}
 use Rattle.float_forms.proofs.Numbers.{drop-bytes}
 use Rattle.float_forms.proofs.RunLaws.{words-below}
@@ -64,7 +63,7 @@ module _ (p q : Form) (l : List ℕ) (b : IsBytes l) (w : T (wellFormed p l)) (h
   back-is = ap (recordBytes p) same-said ∙ same-bytes p l b (formed p l w) (without-nan q (saidOf p l) h)
 
 -- "coming back gives the same bytes where going to 3 succeeds" (p is Long, q Short), and the other way round
-pub comes-back : (p q : Form) (l area again : List ℕ) (n : ℕ) → IsBytes l → converted p q l area .answer ≡ Written n
+pub comes-back : (p q : Form) (l area again : List ℕ) (n : ℕ) → IsBytes l → converted p q l area .answer ≡ written n
     → length l ≤ length again
     → converted q p (take n (converted p q l area .area)) again ≡ success l again
 comes-back p q l area again n b e r =

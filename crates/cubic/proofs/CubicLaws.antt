@@ -8,8 +8,7 @@ use lib.Ieee.{Float, ofBits, lt, le, ne, neg}
 use Rattle.arithmetic.specs.Basic.{absolute}
 use Rattle.arithmetic.specs.Extremes.{maximumOf}
 use Rattle.arithmetic.specs.Ordering.{totalOrder}
-use Rattle.arithmetic.proofs.Order.{lt-asymmetric}
-use Rattle.arithmetic.proofs.TotalOrder.{lesser-before}
+use Rattle.arithmetic.proofs.TotalOrder.{lesser-before, greater-not-before}
 use Rattle.vectors.specs.Numbers.{_-ᶠ_, _*ᶠ_, _/ᶠ_, zeroᶠ, oneᶠ, epsilon}
 use Rattle.cubic.specs.Polynomial.{twoᶠ, threeᶠ, fourᶠ}
 use Rattle.cubic.specs.Turns.{listed, betweenEnds, keptPoint, keptPoints, vertex, turningBy, turningPoints, extrema, AllBetween}
@@ -103,8 +102,8 @@ unfolding betweenEnds
 zero-before u h = lesser-before zeroᶠ u (and-first (lt zeroᶠ u) (lt u oneᶠ) h)
 
 one-not-before : (u : Float) → betweenEnds u ≡ true → totalOrder oneᶠ u ≡ false
-unfolding betweenEnds totalOrder
-one-not-before u h = let k = and-second (lt zeroᶠ u) (lt u oneᶠ) h in simp (lt-asymmetric u oneᶠ k, k)
+unfolding betweenEnds
+one-not-before u h = greater-not-before oneᶠ u (and-second (lt zeroᶠ u) (lt u oneᶠ) h)
 
 points-none : points [] ≡ zeroᶠ ∷ oneᶠ ∷ []
 unfolding points sorted insert ofBits

@@ -2,3 +2,4 @@
 pub mod CubicLaws
 pub mod ValueLaws
 pub mod UnitLaws
+pub mod Examples

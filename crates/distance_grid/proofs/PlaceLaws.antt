@@ -5,10 +5,12 @@ use Prim.Native.Nat.{ℕ, _+_, _-_, _^_, _≤_, _<_}
 use lib.Dec.{T, ltb, lit<}
 use borrow.Author.Tests.{ltb-true, ltb-false}
 use native.Mathlib.Omega.{arith}
-use lib.Ieee.{Float, nan, inf, fin, binary64, ofBits, ofInt, round, fits, neg, sub, lt, le, isNan}
+use lib.Ieee.{Float, binary64, ofBits, ofInt, round, fits, neg, sub, lt, le, isNan}
 use Rattle.arithmetic.specs.Basic.{isFinite, clampTo}
 use Rattle.arithmetic.proofs.Exactness.{ofInt-is, ofInt-value}
-use Rattle.arithmetic.proofs.Order.{le-of-lt, le-of-not-lt, not-lt-of-le, le-transitive}
+use Rattle.arithmetic.proofs.Order.{le-of-lt, not-lt-of-le, le-transitive}
+use Rattle.arithmetic.proofs.Clamps.{clamp-one, clamp-above-low, clamp-below-high, clamp-inside}
+use Rattle.arithmetic.proofs.SumOrder.{neg-finite}
 use Rattle.arithmetic.proofs.QuotientOrder.{between-finite}
 use Rattle.arithmetic.proofs.RoundedOrder.{plain-mono}
 use Rattle.vectors.specs.Numbers.{_-ᶠ_, _/ᶠ_, zeroᶠ, oneᶠ}
@@ -27,7 +29,7 @@ use Rattle.distance_grid.specs.declared.places.Located.{Located}
 use Rattle.distance_grid.specs.declared.places.Located.the-variants.{At, Refused}
 use Rattle.distance_grid.proofs.CellLaws.{upTo-least}
 use Rattle.distance_grid.proofs.NearLaws.{near-is-cell}
-use Rattle.arithmetic.proofs.RoundedNumbers.{chosen-number, round-number}
+use Rattle.arithmetic.proofs.RoundedNumbers.{round-number}
 use Rattle.arithmetic.proofs.Numbers.{finite-number}
 use Rattle.cubic.proofs.ValueLaws.{sum-finite-number, value-finite}
 
@@ -60,47 +62,21 @@ in-box-stays g p h =
         (subst (λ (u : Float). p ≡ record { x = u; y = p .y; z = p .z }) e refl))
 
 -- ---- what is clamped from 0 to 1 is a fraction, unless it is NaN
-zero-is-fraction : isFraction zeroᶠ ≡ true
-unfolding isFraction ofBits le
-zero-is-fraction = refl
-
-one-is-fraction : isFraction oneᶠ ≡ true
-unfolding isFraction ofBits le
-one-is-fraction = refl
-
 zero-number : isNan zeroᶠ ≡ false
 unfolding ofBits isNan
 zero-number = refl
 
-one-number : isNan oneᶠ ≡ false
-unfolding ofBits isNan
-one-number = refl
-
-one-not-below : lt oneᶠ zeroᶠ ≡ false
-unfolding ofBits lt
-one-not-below = refl
+zero-below-one : le zeroᶠ oneᶠ ≡ true
+unfolding ofBits le
+zero-below-one = refl
 
 clamp-is-fraction : (x : Float) → isNan x ≡ false → isFraction (clampTo x zeroᶠ oneᶠ) ≡ true
-unfolding clampTo
-clamp-is-fraction x n = go (lt x zeroᶠ) refl
-  where
-    inside : (b : Bool) → lt oneᶠ x ≡ b → lt x zeroᶠ ≡ false → isFraction (cond b oneᶠ x) ≡ true
-    inside true p q = one-is-fraction
-    inside false p q = unfold isFraction in simp (le-of-not-lt zeroᶠ x zero-number n q, le-of-not-lt x oneᶠ n one-number p)
-
-    go : (b : Bool) → lt x zeroᶠ ≡ b → isFraction (cond (lt oneᶠ (cond b zeroᶠ x)) oneᶠ (cond b zeroᶠ x)) ≡ true
-    go true p = ap (λ (b : Bool). isFraction (cond b oneᶠ zeroᶠ)) one-not-below ∙ zero-is-fraction
-    go false p = inside (lt oneᶠ x) refl p
+unfolding isFraction
+clamp-is-fraction x n = simp (clamp-above-low x zeroᶠ oneᶠ n zero-below-one, clamp-below-high x zeroᶠ oneᶠ n zero-below-one)
 
 -- ---- the rest that is left in a cell is no NaN
 whole-number : (n : ℕ) → isNan (whole n) ≡ false
 whole-number n = ap isNan (ofInt-is binary64 n) ∙ round-number binary64 false n 1
-
-neg-finite : (x : Float) → isFinite (neg x) ≡ isFinite x
-unfolding isFinite neg
-neg-finite nan = refl
-neg-finite (inf s) = refl
-neg-finite (fin s m e) = refl
 
 whole-finite : (n : ℕ) → n ≤ 2 ^ 53 → isFinite (whole n) ≡ true
 whole-finite n l = value-finite (whole n) false n 1 (ofInt-value n l)
@@ -110,10 +86,7 @@ unfolding sub
 rest-number x n p l = sum-finite-number x (neg (whole n)) p (neg-finite (whole n) ∙ whole-finite n l)
 
 clamp-number : (x : Float) (n : ℕ) → isNan x ≡ false → isNan (clampTo x zeroᶠ (whole n)) ≡ false
-unfolding clampTo
-clamp-number x n p =
-    let y = cond (lt x zeroᶠ) zeroᶠ x in
-    chosen-number (lt (whole n) y) (whole n) y (whole-number n) (chosen-number (lt x zeroᶠ) zeroᶠ x zero-number p)
+clamp-number x n p = clamp-one x zeroᶠ (whole n) (λ (z : Float). isNan z ≡ false) p zero-number (whole-number n)
 
 -- ---- a guess that holds is the place
 wholes-ordered : (a b : ℕ) → a ≤ b → le (whole a) (whole b) ≡ true
@@ -125,11 +98,6 @@ wholes-ordered a b l =
 zero-whole : zeroᶠ ≡ whole 0
 unfolding ofBits ofInt
 zero-whole = refl
-
--- what lies between is not moved
-clamp-inside : (x low high : Float) → lt x low ≡ false → lt high x ≡ false → x ≡ clampTo x low high
-unfolding clampTo
-clamp-inside x low high p q = sym (simp (p, q))
 
 cell-kept : (near last : ℕ) → near ≤ last → near ≡ upTo last near
 unfolding upTo

@@ -1,50 +1,44 @@
 -- Outside the open cases of M-112 the exact cast and the mesh cast agree in none and in the depth. Assumes nothing.
 use Prim.Native.Nat.{ℕ, _+_, _*_, _≤_, _<_}
 use mathlib.Core.Path.{_≡_, refl, sym, ap, _∙_, subst}
-use mathlib.Core.Bool.{Bool, true, false, true≢false}
+use mathlib.Core.Bool.{Bool, true, false}
+use mathlib.Core.Logic.{inl, inr}
 use native.Mathlib.Nat.{mul-le-mul-right, le-of-mul-le-mul-right}
 use native.Mathlib.Omega.{arith}
-use lib.Dec.{ltb, le→leb, lt→ltb}
+use lib.Dec.{ltb, le→leb, lt→ltb, lit<}
 use borrow.Author.Tests.{leb-true, le-leb, ltb-true, ltb-false}
-use lib.IntN.{ℤ, pos, negsuc, natAbs, _+ℤ_, _*ℤ_}
-use lib.Signed.{leZ, leZ-yes, ltZ-yes, _≤ℤ_, _<ℤ_}
+use lib.IntN.{ℤ, pos, negsuc, natAbs, _+ℤ_}
+use lib.Signed.{leZ-yes, ltZ-yes, _≤ℤ_, _<ℤ_}
 use lib.Ieee.{Float, nan, inf, fin, up, down}
 use Rattle.vectors.specs.declared.vec3.Vec3.{Vec3}
+use Rattle.geometry.specs.Box.{cornersBox, touches}
 use Rattle.geometry.specs.declared.ray.Ray.{Ray}
 use Rattle.nearest_hit.specs.Nearest.{Indexed, hitAt, noHit, stopped}
 use Rattle.nearest_hit.proofs.IndexedCases.{hit-not-none}
-use Rattle.geometry.specs.Segment.{rayAdmitted}
-use Rattle.tree.specs.Layout.{Tree}
-use Rattle.tree.specs.Mesh.{Mesh, lengthsAdmitted}
-use lib.ListN.{length}
-use Rattle.mesh.specs.MeshCast.{roomFor, rayMesh}
-use Rattle.mesh.specs.Demand3.{PassesCheck, Candidate}
+use Rattle.tree.specs.Mesh.{Mesh, cornersOf, triangleBox, triangleCount}
 use Rattle.tree_check.proofs.Answers.{yes-passes}
-use Rattle.mesh.proofs.Demand3.{listed-candidate}
+use Rattle.mesh.specs.MeshCast.{rayMesh}
+use Rattle.mesh.specs.Demand3.{Candidate}
 use Rattle.mesh_plain.proofs.Agreement.{triangles-fit}
 use Rattle.exact_depth.proofs.Integers.{pp}
-use Rattle.exact_triangle.specs.declared.line.Line.{Line}
-use Rattle.exact_triangle.specs.declared.line.Ruled.{Ruled}
-use Rattle.exact_triangle.specs.declared.line.Ruled.the-variants.{On, Off}
-use Rattle.exact_triangle.specs.declared.cast.Board.{Board}
-use Rattle.exact_triangle.specs.declared.cast.Board.the-variants.{At}
-use Rattle.exact_triangle.specs.Line.{lineOf}
-use Rattle.exact_triangle.proofs.LineLaws.{near-positive}
-use Rattle.exact_triangle.proofs.Distances.{surface-positive}
-use Rattle.mesh_exact.specs.ExactCast.{trianglesFit, rayMeshExactPlain}
-use Rattle.mesh_exact.specs.Certain.{Met}
-use Rattle.mesh_exact.proofs.Certainty.{met-listed, certain}
-use Rattle.whole_numbers.specs.Board.{Drawing, Parallel, Crossing, Within}
+use Rattle.any_direction.specs.Line.{Line}
+use Rattle.any_direction.specs.Grid.{units, gridLine}
+use Rattle.any_direction.specs.Box.{certainBox}
+use Rattle.any_direction.proofs.Touching.{met-touches}
+use Rattle.mesh_grid.specs.GridCast.{rayMeshExactPlain}
+use Rattle.mesh_grid.specs.Certain.{Met}
+use Rattle.mesh_grid.proofs.Ranges.{vector-finite}
+use Rattle.mesh_grid.proofs.Certainty.{certain}
+use Rattle.whole_numbers.specs.Board.{Crossing, Within}
 use Rattle.whole_numbers.specs.Board as Board112
-use Rattle.whole_numbers.specs.Boards.{Plan, drawingOf, Missed, outside, behind, beyond, AtMost, MeshExact}
+use Rattle.whole_numbers.specs.Boards.{Plan, drawingOf, Boards, Missed, outside, behind, beyond, AtMost, MeshExact}
 use Rattle.whole_numbers.specs.Boards as Boards112
-use Rattle.whole_numbers.proofs.WholeMeshes.{ray-admitted, meshes-exact}
-use Rattle.exact_agreement.specs.Refusals.{Refusal, not-admitted, no-line, bad-lengths, no-box, not-whole}
-use Rattle.exact_agreement.specs.Agreement.{Closed, NoOpenCase, SameDepth, Agree}
-use Rattle.exact_agreement.proofs.Readings.{planOf, OfKind, WholeCandidates}
-use Rattle.exact_agreement.proofs.Points.{drawingAt, lies-crossing, crossing-lies, has-area}
-use Rattle.exact_agreement.proofs.Refusing.{refuses-only}
-use Rattle.exact_agreement.proofs.Plans.{far-whole, Whole, candidate-whole, drawn-boards}
+use Rattle.whole_numbers.proofs.WholeMeshes.{meshes-exact}
+use Rattle.exact_agreement.specs.Agreement.{Closed, NoOpenCase, WholeCorners, OthersApart, SameDepth, Agree, BoardsAgree}
+use Rattle.exact_agreement.proofs.Points.{lies-crossing, crossing-lies, has-area}
+use Rattle.exact_agreement.proofs.Readings.{surface-drawn, surface-read, area-read}
+use Rattle.exact_agreement.proofs.Ranges.{point-within, not-refused}
+use Rattle.exact_agreement.proofs.Touching.{whole-touches}
 
 -- ---- both bounds of a rounded depth: x is within 2^-51 of t' / D', and t / D is not above that, and bounds x from above
 not-below : (K x d t' D' t D : ℕ) → 0 < D' → (K + 1) * (t' * d) ≤ (K + 1) * (x * D') + t' * d → t * D' ≤ t' * D
@@ -82,9 +76,6 @@ not-both : (answer : Indexed) (normal : Vec3) (distance : Float) (index : ℕ) �
 not-both answer n d i h e = hit-not-none n d i (sym h ∙ e)
 
 -- ---- signs
-met-natural : (t : ℤ) → t ≡ pos (pp t) → t ≡ pos (natAbs t)
-met-natural t e = e ∙ ap pos (sym (ap natAbs e))
-
 not-negative : (u : ℤ) → (u <ℤ pos 0 → ⊥) → u ≡ pos (pp u)
 not-negative (pos n) f = refl
 not-negative (negsuc n) f = absurd (f (ltZ-yes tt))
@@ -106,41 +97,66 @@ strict n N h f = go (ltb n N) refl
     go true e = ltb-true n N e
     go false e = absurd (f (let w = ltb-false n N e in omega (arith, h, w)))
 
-module _ (r : Ray) (m : Mesh) (l : Line) (on : lineOf r ≡ On l) (kind : OfKind l) (all : WholeCandidates r m)
-    (closed : NoOpenCase r m (planOf l m)) where
-  abbrev plan : Plan
-  plan = planOf l m
+module _ (r : Ray) (m : Mesh) (p : Plan) (boards : Boards r m p) (others : OthersApart r m p) (closed : NoOpenCase r m p)
+    (runs : (number : ℕ) → rayMeshExactPlain r m ≡ stopped number → ⊥) where
+  abbrev line : Line
+  line = gridLine r
+
+  abbrev exact : Indexed
+  exact = rayMeshExactPlain r m
 
   abbrev F : ℕ
-  F = natAbs (l .reach .far)
+  F = p .maximum
 
-  -- the drawing of one triangle, by its corners
-  abbrev drawing : Board → Drawing
-  drawing = drawingAt l F
+  -- ---- a point of the segment in a triangle of the mesh is one of a candidate's
+  touches-box : (i D : ℕ) (t : ℤ) → Met line m i D t
+      → touches (triangleBox (m .vertices) (m .triangles) i) (certainBox (gridLine r)) ≡ true
+  unfolding cornersOf cornersBox triangleBox
+  touches-box i D t q =
+      let inner = certain r m .within runs in
+      met-touches r (inner .ray) (cornersOf (m .vertices) (m .triangles) i)
+      (vector-finite _ (inner .corners i 0 (q .triangle) (lit< tt))) (vector-finite _ (inner .corners i 1 (q .triangle) (lit< tt)))
+      (vector-finite _ (inner .corners i 2 (q .triangle) (lit< tt))) D t (q .point)
 
-  -- ---- a point of the segment in a triangle is one that M-112 promises to be hit
+  candidate-of : (i D : ℕ) (t : ℤ) → Met line m i D t → Candidate r m i
+  candidate-of i D t q = elim (others .whole-or-apart i (q .triangle)) [
+    | inl w ↦ record { triangle = q .triangle; near = whole-touches r m p boards i w D t (q .point) }
+    | inr f ↦ f (touches-box i D t q)
+  ]
+
+  whole-of : (i : ℕ) → Candidate r m i → WholeCorners m p i
+  whole-of i c = record { corners = boards .corners i c }
+
+  -- .. and one that M-112 promises to be hit
   record Promised (i D : ℕ) (t : ℤ) : Type 0 where
     candidate : Candidate r m i
     u : ℤ
     v : ℤ
-    met : Boards112.Met (drawingOf plan i) D u v t
+    met : Boards112.Met (drawingOf p i) D u v t
 
-  promised : (i D n : ℕ) → Met m l i D (pos n) → Promised i D (pos n)
+  within-sum : (i j k D : ℕ) → i + j + k ≡ D → j * units + k * units ≤ D * units
+  within-sum i j k D e =
+      let h : (j + k) * units ≤ D * units = mul-le-mul-right units (omega (arith, e)) in
+      omega (arith, h)
+
+  regroup : (f D : ℕ) → units * f * D ≡ f * (D * units)
+  regroup f D = omega arith
+
+  promised : (i D n : ℕ) → Met line m i D (pos n) → Promised i (D * units) (pos n)
   promised i D n q =
-      let s = q .point in
-      let j = s .lies .j in
-      let k = s .lies .k in
-      let c : Candidate r m i = listed-candidate r m i (met-listed r m l on i D (pos n) q) in
-      let x : Crossing (drawingOf plan i) D (pos j) (pos k) (pos n) =
-      subst (λ (z : Board). Crossing (drawing z) D (pos j) (pos k) (pos n)) (sym (q .corners))
-      (lies-crossing l F (q .a) (q .b) (q .c) D (pos n) (s .positive) (s .lies)) in
-      let whole = s .lies .total in
-      let inner : Closed D (pos j) (pos k) =
-      record { first = not-below-zero j; second = not-below-zero k; sum = leZ-yes (le→leb (j + k) D (omega (arith, whole))) } in
-      let most : n ≤ F * D =
-      leb-true n (F * D) (ap (λ (z : ℤ). leZ (pos n) (z *ℤ pos D)) (sym (far-whole r l on)) ∙ s .most) in
-      let apart = closed .opposite i c D (pos j) (pos k) (pos n) x inner in
-      let before = closed .at-maximum i c D (pos j) (pos k) (pos n) x inner in
+      let c = candidate-of i D (pos n) q in
+      let s = surface-drawn r m p boards i (whole-of i c) D (pos n) (q .point) in
+      let j = s .lies .j * units in
+      let k = s .lies .k * units in
+      let D' = D * units in
+      let x : Crossing (drawingOf p i) D' (pos j) (pos k) (pos n) =
+      lies-crossing (drawingOf p i) D (pos n) (s .positive) (s .lies) in
+      let whole : j + k ≤ D' = within-sum (s .lies .i) (s .lies .j) (s .lies .k) D (s .lies .total) in
+      let inner : Closed D' (pos j) (pos k) =
+      record { first = not-below-zero j; second = not-below-zero k; sum = leZ-yes (le→leb (j + k) D' whole) } in
+      let most : n ≤ F * D' = subst (λ (z : ℕ). n ≤ z) (regroup F D) (leb-true n (units * F * D) (s .most)) in
+      let apart = closed .opposite i c D' (pos j) (pos k) (pos n) x inner in
+      let before = closed .at-maximum i c D' (pos j) (pos k) (pos n) x inner in
       record {
         candidate = c;
         u = pos j;
@@ -151,17 +167,23 @@ module _ (r : Ray) (m : Mesh) (l : Line) (on : lineOf r ≡ On l) (kind : OfKind
           inside = record {
             first = not-below-zero j;
             second = not-below-zero k;
-            sum = ltZ-yes (lt→ltb (j + k) D (strict (j + k) D (omega (arith, whole)) (λ e. apart (ap pos e))));
+            sum = ltZ-yes (lt→ltb (j + k) D' (strict (j + k) D' whole (λ e. apart (ap pos e))));
           };
           from-zero = not-below-zero n;
-          below-maximum = ltZ-yes (lt→ltb n (F * D) (strict n (F * D) most (λ e. before (ap pos e))));
+          below-maximum = ltZ-yes (lt→ltb n (F * D') (strict n (F * D') most (λ e. before (ap pos e))));
         };
       }
 
   -- ---- and a crossing that M-112 does not promise to be missed is such a point
-  crossing-met : (i : ℕ) → Candidate r m i → (w : Whole m i) → (D : ℕ) (u v t : ℤ) → Crossing (drawingOf plan i) D u v t
-      → (Missed (drawingOf plan i) → ⊥) → Met m l i D t
-  crossing-met i c w D u v t x f =
+  record Deep (i D : ℕ) (t : ℤ) : Type 0 where
+    whole : t ≡ pos (pp t)
+    positive : 0 < D
+    met : Met line m i D (pos (units * pp t))
+
+  crossing-met : (i : ℕ) → Candidate r m i → (D : ℕ) (u v t : ℤ) → Crossing (drawingOf p i) D u v t
+      → (Missed (drawingOf p i) → ⊥) → Deep i D t
+  crossing-met i c D u v t x f =
+      let g = drawingOf p i in
       let u' = not-negative u (λ h. f (outside D u v t x (Board112.first h))) in
       let v' = not-negative v (λ h. f (outside D u v t x (Board112.second h))) in
       let t' = not-negative t (λ h. f (behind D u v t x h)) in
@@ -170,103 +192,95 @@ module _ (r : Ray) (m : Mesh) (l : Line) (on : lineOf r ≡ On l) (kind : OfKind
       (λ h. f (outside D u v t x (Board112.sum (subst (λ (z : ℤ). pos D <ℤ z) (sym (λ s. u' s +ℤ v' s)) h)))) in
       let most : pp t ≤ F * D =
       not-above (pp t) (F * D) (λ h. f (beyond D u v t x (subst (λ (z : ℤ). pos (F * D) <ℤ z) (sym t') h))) in
-      let x' : Crossing (drawing (At (w .a) (w .b) (w .c))) D (pos (pp u)) (pos (pp v)) t =
-      subst (λ (z : Board). Crossing (drawing z) D (pos (pp u)) (pos (pp v)) t) (w .board)
-      (subst (λ (z : ℤ). Crossing (drawingOf plan i) D (pos (pp u)) z t) v'
-      (subst (λ (z : ℤ). Crossing (drawingOf plan i) D z v t) u' x)) in
+      let most' : pp t * units ≤ F * D * units = mul-le-mul-right units most in
+      let x' : Crossing g D (pos (pp u)) (pos (pp v)) (pos (pp t)) =
+      subst (λ (z : ℤ). Crossing g D (pos (pp u)) (pos (pp v)) z) t'
+      (subst (λ (z : ℤ). Crossing g D (pos (pp u)) z t) v' (subst (λ (z : ℤ). Crossing g D z v t) u' x)) in
       record {
-        triangle = c .triangle;
-        a = w .a;
-        b = w .b;
-        c = w .c;
-        corners = w .board;
-        area =
-            has-area l F (w .a) (w .b) (w .c)
-            (λ h. closed .parallel i c (subst (λ (z : Board). Parallel (drawing z)) (sym (w .board)) h));
-        point = record {
-          positive = x .divisor;
-          lies = crossing-lies l F (w .a) (w .b) (w .c) D t (pp u) (pp v) sum x';
-          least =
-              (λ s. leZ (kind .near s *ℤ pos D) (t' s)) ∙ le-leb (0 * D) (pp t) (omega arith);
-          most =
-              (λ s. leZ (t' s) (far-whole r l on s *ℤ pos D)) ∙ le-leb (pp t) (F * D) most;
+        whole = t';
+        positive = x .divisor;
+        met = record {
+          triangle = c .triangle;
+          area = area-read r m p boards i (whole-of i c) (has-area g (closed .parallel i c));
+          point = surface-read r m p boards i (whole-of i c) D (pos (units * pp t)) (record {
+            positive = x .divisor;
+            lies = crossing-lies g D (pos (pp t)) (pp u) (pp v) sum x';
+            least = le-leb (0 * D) (units * pp t) (omega arith);
+            most = le-leb (units * pp t) (units * F * D) (omega (arith, most'));
+          });
         };
       }
 
   -- ---- the two answers
-  module _ (rounded : Indexed) (told : MeshExact r m plan rounded)
-      (runs : (number : ℕ) → rayMeshExactPlain r m ≡ stopped number → ⊥) where
-    abbrev exact : Indexed
-    exact = rayMeshExactPlain r m
-
+  module _ (rounded : Indexed) (told : MeshExact r m p rounded) where
     struck-promised : (normal : Vec3) (distance : Float) (index : ℕ) → exact ≡ hitAt normal distance index → rounded ≡ noHit → ⊥
     struck-promised n d i h e =
-        let s = certain r m .struck l on n d i h in
-        let p = promised i (s .D) (s .t) (s .met) in
-        let w = told .hits i (p .candidate) (s .D) (p .u) (p .v) (pos (s .t)) (p .met) in
+        let s = certain r m .struck n d i h in
+        let q = promised i (s .D) (s .t) (s .met) in
+        let w = told .hits i (q .candidate) (s .D * units) (q .u) (q .v) (pos (s .t)) (q .met) in
         not-both rounded (w .0) (w .1) (w .2) (w .3) e
 
-    hit-met : (normal : Vec3) (distance : Float) (index : ℕ) → rounded ≡ hitAt normal distance index
-        → (D : ℕ) × (t : ℤ) × Met m l index D t × Within distance (natAbs t) D
+    record HitMet (distance : Float) (index : ℕ) : Type 0 where
+      D : ℕ
+      n : ℕ
+      positive : 0 < D
+      met : Met line m index D (pos (units * n))
+      near : Within distance n D
+
+    hit-met : (normal : Vec3) (distance : Float) (index : ℕ) → rounded ≡ hitAt normal distance index → HitMet distance index
     hit-met n d i h =
         let c = told .candidate n d i h in
         let x = told .crosses n d i h in
-        let w = candidate-whole r m all i c in (
-          x .0,
-          x .3,
-          crossing-met i c w (x .0) (x .1) (x .2) (x .3) (x .4) (told .not-missed n d i h),
-          told .near n d i h (x .0) (x .1) (x .2) (x .3) (x .4),
-        )
+        let q = crossing-met i c (x .0) (x .1) (x .2) (x .3) (x .4) (told .not-missed n d i h) in
+        record {
+          D = x .0;
+          n = pp (x .3);
+          positive = q .positive;
+          met = q .met;
+          near =
+              subst (λ (z : ℕ). Within d z (x .0)) (ap natAbs (q .whole)) (told .near n d i h (x .0) (x .1) (x .2) (x .3) (x .4));
+        }
+
+    -- the least depth is at most that of the mesh cast's triangle
+    below-hit : (t D n D' : ℕ) → t * D' ≤ units * n * D → t * D' ≤ n * (D * units)
+    below-hit t D n D' h = omega (arith, h)
 
     same-depth : (normal : Vec3) (distance : Float) (index : ℕ) → rounded ≡ hitAt normal distance index
-        → (normal' : Vec3) (distance' : Float) (index' : ℕ) → exact ≡ hitAt normal' distance' index' → SameDepth m l distance distance'
+        → (normal' : Vec3) (distance' : Float) (index' : ℕ) → exact ≡ hitAt normal' distance' index' → SameDepth r m distance distance'
     same-depth n d i h n' d' i' h' =
-        let e = certain r m .least l on n' d' i' h' in
-        let p = promised (e .index) (e .D) (e .t) (e .met) in
+        let e = certain r m .least n' d' i' h' in
+        let s = promised (e .index) (e .D) (e .t) (e .met) in
         let q = hit-met n d i h in
-        let positive = surface-positive l _ _ _ (q .0) (q .1) (near-positive r l on) (q .2 .point) in
-        let whole : q .1 ≡ pos (natAbs (q .1)) = met-natural (q .1) positive in
-        let least : e .t * q .0 ≤ natAbs (q .1) * e .D =
-        leb-true (e .t * q .0) (natAbs (q .1) * e .D)
-        (ap (λ (z : ℤ). leZ (pos (e .t) *ℤ pos (q .0)) (z *ℤ pos (e .D))) (sym whole) ∙ e .least i (q .0) (q .1) (q .2)) in
+        let least = leb-true (e .t * q .D) (units * q .n * e .D) (e .least i (q .D) (pos (units * q .n)) (q .met)) in
         record {
           least = e;
           close =
-              close d (natAbs (q .1)) (q .0) (e .t) (e .D) (q .2 .point .positive) (q .3)
-              (told .least-depth n d i h (e .index) (p .candidate) (e .D) (p .u) (p .v) (pos (e .t)) (p .met)) least;
+              close d (q .n) (q .D) (e .t) (e .D * units) (q .positive) (q .near)
+              (told .least-depth n d i h (e .index) (s .candidate) (e .D * units) (s .u) (s .v) (pos (e .t)) (s .met))
+              (below-hit (e .t) (e .D) (q .n) (q .D) least);
         }
 
-    agree : Agree m l rounded exact
+    agree : Agree r m rounded exact
     agree = record {
       answers = told .answers;
       exact-answers = runs;
       none = λ e. is-none exact runs (λ n d i h. struck-promised n d i h e);
-      none-only = λ e. is-none rounded (told .answers) (λ n d i h. certain r m .none l on e i _ _ (hit-met n d i h .2));
+      none-only = λ e. is-none rounded (told .answers) (λ n d i h. certain r m .none e i _ _ (hit-met n d i h .met));
       depth = same-depth;
     }
 
 -- ---- of any tree that passes the check
-abbrev isOn : Ruled → Bool
-isOn (On l) = true
-isOn Off = false
-
-answers-all : (r : Ray) (m : Mesh) → rayAdmitted r ≡ true → (l : Line) → lineOf r ≡ On l
-    → lengthsAdmitted (length (m .vertices)) (length (m .triangles)) ≡ true → trianglesFit m ≡ true → WholeCandidates r m
-    → (number : ℕ) → Refusal r m number → ⊥
-answers-all r m ok l on lengths fit all number (not-admitted h) = true≢false (sym ok ∙ h)
-answers-all r m ok l on lengths fit all number (no-line p h) = true≢false (ap isOn (sym on ∙ h))
-answers-all r m ok l on lengths fit all number (bad-lengths h) = true≢false (sym lengths ∙ h)
-answers-all r m ok l on lengths fit all number (no-box h) = true≢false (sym fit ∙ h)
-answers-all r m ok l on lengths fit all number (not-whole i k h) = all i k h
-
-pub casts-agree : (r : Ray) (m : Mesh) (t : Tree) (list stack : ℕ)
-    → lengthsAdmitted (length (m .vertices)) (length (m .triangles)) ≡ true → PassesCheck m t → roomFor m t list stack ≡ true
-    → (l : Line) → lineOf r ≡ On l → OfKind l → WholeCandidates r m → NoOpenCase r m (planOf l m)
-    → Agree m l (rayMesh r m (m .vertices) t list stack) (rayMeshExactPlain r m)
-casts-agree r m t list stack lengths passes room l on kind all closed =
-    let boards = drawn-boards r m all l on kind in
+pub boards-agree : BoardsAgree
+boards-agree r m t list stack p lengths passes room boards others closed =
     let fit = triangles-fit m t (yes-passes m t (passes .marks) (passes .says-yes)) in
-    agree r m l on kind all closed (rayMesh r m (m .vertices) t list stack)
-    (meshes-exact r m t list stack (planOf l m) lengths passes room boards)
-    (λ number h.
-    answers-all r m (ray-admitted r m (planOf l m) boards) l on lengths fit all number (refuses-only r m number h))
+    agree r m p boards others closed
+    (λ number h. not-refused r m p boards others lengths fit number (certain r m .refused number h))
+    (rayMesh r m (m .vertices) t list stack)
+    (meshes-exact r m t list stack p lengths passes room boards)
+
+-- ---- a mesh with whole corners alone meets what is asked of the others
+pub whole-mesh : (r : Ray) (m : Mesh) (p : Plan) → ((i : ℕ) → i < triangleCount m → WholeCorners m p i) → OthersApart r m p
+whole-mesh r m p w = record {
+  in-range = λ i k h l. point-within _ (p .corner i k) (w i h .corners k l);
+  whole-or-apart = λ i h. inl (w i h);
+}

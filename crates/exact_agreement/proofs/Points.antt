@@ -1,139 +1,85 @@
--- Points of the segment in a triangle, as the exact cast and as M-112 has them. Assumes nothing.
-use Prim.Native.Nat.{ℕ, _+_, _-_, _≤_, _<_}
-use mathlib.Core.Path.{_≡_, refl, sym, ap, _∙_}
+-- A drawing on the grid: a point of the segment in its closed triangle there is a crossing in millimetres, and back. Assumes nothing.
+use Prim.Native.Nat.{ℕ, _+_, _-_, _*_, _≤_, _<_}
+use mathlib.Core.Path.{_≡_, ap, _∙_}
+use native.Mathlib.Nat.{mul-pos}
 use native.Mathlib.Omega.{arith}
-use lib.IntN.{ℤ, pos, negsuc, _+ℤ_, _-ℤ_, _*ℤ_, *ℤ-zero}
-use Rattle.exact_depth.specs.FirstPoint.{seenTurn}
-use Rattle.exact_depth.specs.Meeting.{mix}
-use Rattle.exact_depth.proofs.Polynomials.{own, own-pos, rep-mul, equal}
-use Rattle.exact_triangle.specs.declared.whole.Point.{Point}
-use Rattle.exact_triangle.specs.declared.line.Axis.{Axis}
-use Rattle.exact_triangle.specs.declared.line.Axis.the-variants.{East, West, North, South, Upward, Downward}
-use Rattle.exact_triangle.specs.declared.line.Line.{Line}
-use Rattle.exact_triangle.specs.declared.cast.Board.{Board}
-use Rattle.exact_triangle.specs.declared.cast.Board.the-variants.{At}
-use Rattle.exact_triangle.specs.Exact.{facing, spotOf}
-use Rattle.exact_triangle.specs.Surface.{along, Lies, Apart}
-use Rattle.whole_numbers.specs.Points.{crossP, dotP}
+use lib.Dec.{lit<}
+use lib.IntN.{ℤ, pos, _+ℤ_, _*ℤ_, *ℤ-zero}
+use Rattle.exact_depth.specs.declared.spots.Point.{Point}
+use Rattle.any_direction.specs.Line.{parts, Line}
+use Rattle.any_direction.specs.Grid.{units}
+use Rattle.any_direction.specs.Surface.{Lies, Apart}
+use Rattle.whole_numbers.specs.Points.{crossP}
 use Rattle.whole_numbers.specs.Points as Points
-use Rattle.whole_numbers.specs.Board.{Drawing, Parallel, Crossing, firstEdge, secondEdge}
-use Rattle.whole_numbers.specs.Board as Drawn
-use Rattle.exact_agreement.proofs.Readings.{drawn, heading, drawnCorner}
-use Rattle.exact_agreement.proofs.Crossings.{crossed, met, turns-seen}
+use Rattle.whole_numbers.specs.Board.{Drawing, Parallel, Crossing, along, firstEdge, secondEdge}
+use Rattle.exact_agreement.proofs.Crossings.{to-millimetres, to-units, turn-zero}
 
--- the line and one triangle, drawn
-abbrev pub drawingAt : Line → ℕ → Board → Drawing
-drawingAt l maximum board = record {
-  o = drawn (l .origin);
-  direction = heading (l .axis);
-  maximum = maximum;
-  a = drawnCorner board 0;
-  b = drawnCorner board 1;
-  c = drawnCorner board 2;
-}
+-- k times a point
+abbrev pub times : ℕ → Points.Point → Point
+times k p = record { x = pos k *ℤ p .x; y = pos k *ℤ p .y; z = pos k *ℤ p .z }
 
-same-way : (axis : Axis) → Drawn.along (heading axis) ≡ drawn (along axis)
-same-way East = refl
-same-way West = refl
-same-way North = refl
-same-way South = refl
-same-way Upward = refl
-same-way Downward = refl
+-- the drawing's segment and its corners, in units of the grid
+abbrev pub lineOn : Drawing → Line
+lineOn g = record { origin = times units (g .o); direction = times parts (along (g .direction)); near = 0; far = units * g .maximum }
 
-module _ (l : Line) (F : ℕ) (a b c : Point) where
-  abbrev g : Drawing
-  g = drawingAt l F (At a b c)
+abbrev pub LiesOn : Drawing → ℕ → ℤ → Type 0
+LiesOn g = Lies (lineOn g) (times units (g .a)) (times units (g .b)) (times units (g .c))
 
-  abbrev way : Points.Point
-  way = Drawn.along (heading (l .axis))
+module _ (g : Drawing) (D : ℕ) (t : ℤ) where
+  abbrev o : Points.Point
+  o = g .o
 
-  -- ---- from the corners' weights to the crossing, and back
-  module _ (D : ℕ) (t : ℤ) where
-    -- on one component f
-    module _ (f : Points.Point → ℤ) (i j k : ℕ) (total : i + j + k ≡ D) where
-      abbrev A : ℤ
-      A = f (drawn a)
+  abbrev a : Points.Point
+  a = g .a
 
-      abbrev B : ℤ
-      B = f (drawn b)
+  abbrev b : Points.Point
+  b = g .b
 
-      abbrev C : ℤ
-      C = f (drawn c)
+  abbrev c : Points.Point
+  c = g .c
 
-      abbrev O : ℤ
-      O = f (drawn (l .origin))
+  abbrev d : Points.Point
+  d = along (g .direction)
 
-      abbrev δ : ℤ
-      δ = f (drawn (along (l .axis)))
+  pub lies-crossing : 0 < D → (s : LiesOn g D t) → Crossing g (D * units) (pos (s .j * units)) (pos (s .k * units)) t
+  lies-crossing p s =
+      let x = to-millimetres (s .i) (s .j) (s .k) D (s .total) (a .x) (b .x) (c .x) (o .x) t (d .x) (s .x) in
+      let y = to-millimetres (s .i) (s .j) (s .k) D (s .total) (a .y) (b .y) (c .y) (o .y) t (d .y) (s .y) in
+      let z = to-millimetres (s .i) (s .j) (s .k) D (s .total) (a .z) (b .z) (c .z) (o .z) t (d .z) (s .z) in
+      record { divisor = mul-pos p (lit< {m = 0} {n = units} tt); meets = λ n. record { x = x n; y = y n; z = z n } }
 
-      forth : mix i j k (A -ℤ O) (B -ℤ O) (C -ℤ O) ≡ t *ℤ δ
-          → pos D *ℤ (O -ℤ A) +ℤ t *ℤ f way ≡ pos j *ℤ (B -ℤ A) +ℤ pos k *ℤ (C -ℤ A)
-      forth h =
-          (λ s. pos (sym total s) *ℤ (O -ℤ A) +ℤ t *ℤ ap f (same-way (l .axis)) s) ∙ crossed i j k A B C O (t *ℤ δ) h
+  pub crossing-lies : (j k : ℕ) → j + k ≤ D → Crossing g D (pos j) (pos k) t → LiesOn g D (pos units *ℤ t)
+  crossing-lies j k n q =
+      let i = D - (j + k) in
+      let total : i + j + k ≡ D = omega (arith, n) in
+      let m = q .meets in
+      record {
+        i = i;
+        j = j;
+        k = k;
+        total = total;
+        x = to-units i j k D total (a .x) (b .x) (c .x) (o .x) t (d .x) (ap (λ (p : Points.Point). p .x) m);
+        y = to-units i j k D total (a .y) (b .y) (c .y) (o .y) t (d .y) (ap (λ (p : Points.Point). p .y) m);
+        z = to-units i j k D total (a .z) (b .z) (c .z) (o .z) t (d .z) (ap (λ (p : Points.Point). p .z) m);
+      }
 
-      back : pos D *ℤ (O -ℤ A) +ℤ t *ℤ f way ≡ pos j *ℤ (B -ℤ A) +ℤ pos k *ℤ (C -ℤ A)
-          → mix i j k (A -ℤ O) (B -ℤ O) (C -ℤ O) ≡ t *ℤ δ
-      back h =
-          met i j k A B C O (t *ℤ δ)
-          ((λ s. pos (total s) *ℤ (O -ℤ A) +ℤ t *ℤ sym (ap f (same-way (l .axis))) s) ∙ h)
-
-    pub lies-crossing : 0 < D → (s : Lies (l .axis) (l .origin) a b c D t) → Crossing g D (pos (s .j)) (pos (s .k)) t
-    lies-crossing p s =
-        let x = forth (λ (q : Points.Point). q .x) (s .i) (s .j) (s .k) (s .total) (s .x) in
-        let y = forth (λ (q : Points.Point). q .y) (s .i) (s .j) (s .k) (s .total) (s .y) in
-        let z = forth (λ (q : Points.Point). q .z) (s .i) (s .j) (s .k) (s .total) (s .z) in
-        record { divisor = p; meets = λ n. record { x = x n; y = y n; z = z n } }
-
-    pub crossing-lies : (j k : ℕ) → j + k ≤ D → Crossing g D (pos j) (pos k) t → Lies (l .axis) (l .origin) a b c D t
-    crossing-lies j k n q =
-        let i = D - (j + k) in
-        let total : i + j + k ≡ D = omega (arith, n) in
-        record {
-          i = i;
-          j = j;
-          k = k;
-          total = total;
-          x = back (λ (p : Points.Point). p .x) i j k total (ap (λ (p : Points.Point). p .x) (q .meets));
-          y = back (λ (p : Points.Point). p .y) i j k total (ap (λ (p : Points.Point). p .y) (q .meets));
-          z = back (λ (p : Points.Point). p .z) i j k total (ap (λ (p : Points.Point). p .z) (q .meets));
-        }
-
-  -- ---- a triangle that the line is not parallel to has area
+-- ---- a triangle that the line is not parallel to has area on the grid
+module _ (g : Drawing) where
   abbrev normal : Points.Point
   normal = crossP (firstEdge g) (secondEdge g)
-
-  none-times : (x : ℤ) → pos 0 *ℤ x ≡ pos 0
-  none-times x = equal (rep-mul (own-pos 0) (own x)) (own-pos 0) (omega arith)
 
   times-none : (d x : ℤ) → x ≡ pos 0 → d *ℤ x ≡ pos 0
   times-none d x e = ap (λ (z : ℤ). d *ℤ z) e ∙ *ℤ-zero d
 
-  -- along one axis only one component counts
-  first-counts : (d : ℤ) → normal .x ≡ pos 0 → d *ℤ normal .x +ℤ pos 0 *ℤ normal .y +ℤ pos 0 *ℤ normal .z ≡ pos 0
-  first-counts d e = λ s. times-none d (normal .x) e s +ℤ none-times (normal .y) s +ℤ none-times (normal .z) s
+  level : normal .x ≡ pos 0 → normal .y ≡ pos 0 → normal .z ≡ pos 0 → Parallel g
+  level x y z =
+      let d = along (g .direction) in
+      λ s. times-none (d .x) (normal .x) x s +ℤ times-none (d .y) (normal .y) y s +ℤ times-none (d .z) (normal .z) z s
 
-  second-counts : (d : ℤ) → normal .y ≡ pos 0 → pos 0 *ℤ normal .x +ℤ d *ℤ normal .y +ℤ pos 0 *ℤ normal .z ≡ pos 0
-  second-counts d e = λ s. none-times (normal .x) s +ℤ times-none d (normal .y) e s +ℤ none-times (normal .z) s
-
-  third-counts : (d : ℤ) → normal .z ≡ pos 0 → pos 0 *ℤ normal .x +ℤ pos 0 *ℤ normal .y +ℤ d *ℤ normal .z ≡ pos 0
-  third-counts d e = λ s. none-times (normal .x) s +ℤ none-times (normal .y) s +ℤ times-none d (normal .z) e s
-
-  abbrev o : Point
-  o = l .origin
-
-  abbrev seen : Axis → ℤ
-  seen axis =
-      seenTurn (spotOf axis o b) (spotOf axis o c) +ℤ seenTurn (spotOf axis o c) (spotOf axis o a)
-      +ℤ seenTurn (spotOf axis o a) (spotOf axis o b)
-
-  level : (axis : Axis) → seen axis ≡ pos 0 → dotP (Drawn.along (heading axis)) normal ≡ pos 0
-  unfolding spotOf facing
-  level East h = first-counts (pos 1) (sym (turns-seen (a .y) (b .y) (c .y) (o .y) (a .z) (b .z) (c .z) (o .z)) ∙ h)
-  level West h = first-counts (negsuc 0) (sym (turns-seen (a .y) (b .y) (c .y) (o .y) (a .z) (b .z) (c .z) (o .z)) ∙ h)
-  level North h = second-counts (pos 1) (sym (turns-seen (a .z) (b .z) (c .z) (o .z) (a .x) (b .x) (c .x) (o .x)) ∙ h)
-  level South h = second-counts (negsuc 0) (sym (turns-seen (a .z) (b .z) (c .z) (o .z) (a .x) (b .x) (c .x) (o .x)) ∙ h)
-  level Upward h = third-counts (pos 1) (sym (turns-seen (a .x) (b .x) (c .x) (o .x) (a .y) (b .y) (c .y) (o .y)) ∙ h)
-  level Downward h = third-counts (negsuc 0) (sym (turns-seen (a .x) (b .x) (c .x) (o .x) (a .y) (b .y) (c .y) (o .y)) ∙ h)
-
-  pub has-area : (Parallel g → ⊥) → Apart l a b c
-  has-area f h h' h'' = f (level (l .axis) h)
+  pub has-area : (Parallel g → ⊥) → Apart (times units (g .a)) (times units (g .b)) (times units (g .c))
+  has-area f h =
+      let a = g .a in
+      let b = g .b in
+      let c = g .c in
+      f (level (turn-zero (a .y) (b .y) (c .y) (a .z) (b .z) (c .z) (h .x)) (turn-zero (a .z) (b .z) (c .z) (a .x) (b .x) (c .x) (h .y))
+      (turn-zero (a .x) (b .x) (c .x) (a .y) (b .y) (c .y) (h .z)))

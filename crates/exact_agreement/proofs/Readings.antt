@@ -1,51 +1,81 @@
--- What the exact cast reads, as M-112 draws it. Assumes nothing.
-use Prim.Native.Nat.{ℕ, zero, suc, _≤_}
-use mathlib.Core.Path.{_≡_}
-use lib.IntN.{pos, natAbs}
+-- What is drawn on whole millimetres is read on the grid without error. Assumes nothing.
+use Prim.Native.Nat.{ℕ, _^_, _≤_, _<_}
+use mathlib.Core.Path.{_≡_, sym, ap, subst}
+use lib.Dec.{lit≤}
+use lib.IntN.{ℤ, pos, natAbs}
+use Rattle.vectors.specs.declared.vec3.Vec3.{Vec3}
 use Rattle.geometry.specs.declared.ray.Ray.{Ray}
-use Rattle.tree.specs.Mesh.{Mesh, cornersOf}
-use Rattle.mesh.specs.Demand3.{Candidate}
-use Rattle.exact_triangle.specs.declared.whole.Point.{Point}
-use Rattle.exact_triangle.specs.declared.line.Axis.{Axis}
-use Rattle.exact_triangle.specs.declared.line.Axis.the-variants.{East, West, North, South, Upward, Downward}
-use Rattle.exact_triangle.specs.declared.line.Line.{Line}
-use Rattle.exact_triangle.specs.declared.cast.Board.{Board}
-use Rattle.exact_triangle.specs.declared.cast.Board.the-variants.{At, Off}
-use Rattle.exact_triangle.specs.Exact.{boardOf}
+use Rattle.tree.specs.Mesh.{Mesh}
+use Rattle.exact_depth.specs.declared.spots.Point.{Point}
+use Rattle.any_direction.specs.Line.{parts, Line}
+use Rattle.any_direction.specs.Grid.{units, pointTo, gridLine}
+use Rattle.any_direction.specs.Surface.{Surface, Apart}
+use Rattle.any_direction.proofs.Readings.{reads}
+use Rattle.mesh_grid.specs.Certain.{cornerOn}
 use Rattle.whole_numbers.specs.Points as Points
-use Rattle.whole_numbers.specs.Board as Drawn
-use Rattle.whole_numbers.specs.Boards.{Plan}
+use Rattle.whole_numbers.specs.Board.{Drawing, DrawnAt, along}
+use Rattle.whole_numbers.specs.Boards.{Plan, drawingOf, Boards}
+use Rattle.whole_numbers.proofs.Drawings.{drawn}
+use Rattle.exact_agreement.specs.Agreement.{WholeCorners}
+use Rattle.exact_agreement.proofs.Points.{times, lineOn}
 
-abbrev pub drawn : Point → Points.Point
-drawn p = record { x = p .x; y = p .y; z = p .z }
+drawn-read : (k B : ℕ) (v : Vec3) (p : Points.Point) → B ≤ 2 ^ 53 → DrawnAt B v p → pointTo k v ≡ times k p
+drawn-read k B v p l d =
+    let x = reads k (v .x) (p .x) (drawn B (v .x) (p .x) l (d .first) .value) in
+    let y = reads k (v .y) (p .y) (drawn B (v .y) (p .y) l (d .second) .value) in
+    let z = reads k (v .z) (p .z) (drawn B (v .z) (p .z) l (d .third) .value) in
+    λ s. record { x = x s; y = y s; z = z s }
 
-abbrev pub heading : Axis → Drawn.Axis
-heading East = Drawn.east
-heading West = Drawn.west
-heading North = Drawn.north
-heading South = Drawn.south
-heading Upward = Drawn.upward
-heading Downward = Drawn.downward
+-- a line and a triangle on the grid
+record Placed : Type 0 where
+  line : Line
+  a : Point
+  b : Point
+  c : Point
 
-abbrev pub drawnCorner : Board → ℕ → Points.Point
-drawnCorner (At a b c) zero = drawn a
-drawnCorner (At a b c) (suc zero) = drawn b
-drawnCorner (At a b c) (suc (suc k)) = drawn c
-drawnCorner Off k = record { x = pos 0; y = pos 0; z = pos 0 }
+module _ (r : Ray) (m : Mesh) (p : Plan) (boards : Boards r m p) where
+  line-read : (i : ℕ) → gridLine r ≡ lineOn (drawingOf p i)
+  unfolding gridLine
+  line-read i =
+      let o = drawn-read units 4096 (r .origin) (p .o) (lit≤ tt) (boards .origin) in
+      let d = drawn-read parts 1 (r .direction) (along (p .direction)) (lit≤ tt) (boards .direction) in
+      let n = ap natAbs (reads units (r .near) (pos 0) (drawn 0 (r .near) (pos 0) (lit≤ tt) (boards .near) .value)) in
+      let far = r .«max_distance» in
+      let f = ap natAbs (reads units far (pos (p .maximum)) (drawn 16384 far (pos (p .maximum)) (lit≤ tt) (boards .maximum) .value)) in
+      λ s. record { origin = o s; direction = d s; near = n s; far = f s }
 
-abbrev pub planOf : Line → Mesh → Plan
-planOf l m = record {
-  o = drawn (l .origin);
-  direction = heading (l .axis);
-  maximum = natAbs (l .reach .far);
-  corner = λ (i : ℕ). drawnCorner (boardOf (cornersOf (m .vertices) (m .triangles) i));
-}
+  module _ (i : ℕ) (drawing : WholeCorners m p i) where
+    abbrev g : Drawing
+    g = drawingOf p i
 
--- 'rays of M-112's kind': near 0, and the maximum from 1
-pub record OfKind (l : Line) : Type 0 where
-  pub near : l .reach .near ≡ pos 0
-  pub maximum : 1 ≤ natAbs (l .reach .far)
+    corner-read : (k : ℕ) → k < 3 → cornerOn m i k ≡ times units (p .corner i k)
+    corner-read k h = drawn-read units 4096 _ (p .corner i k) (lit≤ tt) (drawing .corners k h)
 
--- the candidates' corners are whole
-abbrev pub WholeCandidates : Ray → Mesh → Type 0
-WholeCandidates r m = (i : ℕ) → Candidate r m i → boardOf (cornersOf (m .vertices) (m .triangles) i) ≡ Off → ⊥
+    abbrev read : Placed
+    read = record { line = gridLine r; a = cornerOn m i 0; b = cornerOn m i 1; c = cornerOn m i 2 }
+
+    abbrev placed : Placed
+    placed = record { line = lineOn g; a = times units (g .a); b = times units (g .b); c = times units (g .c) }
+
+    same : read ≡ placed
+    same =
+        let l = line-read i in
+        let a = corner-read 0 (lit≤ tt) in
+        let b = corner-read 1 (lit≤ tt) in
+        let c = corner-read 2 (lit≤ tt) in
+        λ s. record { line = l s; a = a s; b = b s; c = c s }
+
+    abbrev SurfaceOf : ℕ → ℤ → Placed → Type 0
+    SurfaceOf D t q = Surface (q .line) (q .a) (q .b) (q .c) D t
+
+    pub surface-drawn : (D : ℕ) (t : ℤ) → Surface (gridLine r) (cornerOn m i 0) (cornerOn m i 1) (cornerOn m i 2) D t
+        → Surface (lineOn g) (times units (g .a)) (times units (g .b)) (times units (g .c)) D t
+    surface-drawn D t s = subst (SurfaceOf D t) same s
+
+    pub surface-read : (D : ℕ) (t : ℤ) → Surface (lineOn g) (times units (g .a)) (times units (g .b)) (times units (g .c)) D t
+        → Surface (gridLine r) (cornerOn m i 0) (cornerOn m i 1) (cornerOn m i 2) D t
+    surface-read D t s = subst (SurfaceOf D t) (sym same) s
+
+    pub area-read : Apart (times units (g .a)) (times units (g .b)) (times units (g .c))
+        → Apart (cornerOn m i 0) (cornerOn m i 1) (cornerOn m i 2)
+    area-read f = subst (λ (q : Placed). Apart (q .a) (q .b) (q .c)) (sym same) f

@@ -1,3 +1,2 @@
 -- The exact cast beside the mesh cast. Definitions only. Assumes nothing.
-pub mod Refusals
 pub mod Agreement

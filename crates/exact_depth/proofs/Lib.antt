@@ -2,7 +2,6 @@
 pub mod Integers
 pub mod Polynomials
 pub mod Reading
-pub mod SizeLaws
 pub mod Order
 pub mod Weights
 pub mod Firsts
@@ -11,5 +10,4 @@ pub mod Later
 pub mod Planes
 pub mod Beside
 pub mod FirstPoints
-pub mod DepthSizes
 pub mod Standing

@@ -1,10 +1,7 @@
-// The first point of a segment that lies in a closed triangle, decided in whole numbers, as the segment's line sees the triangle.
+// The first point of a segment that lies in a closed triangle, over whole numbers, as the segment's line sees the triangle: specs/ and
+// proofs/. No code.
 
-// The steps of the arithmetic.
-pub mod numbers;
-// A triangle as the line sees it, and a depth on the line.
+// A point, a triangle as the line sees it, and a depth on the line.
 pub mod spots;
 // A plane that the line lies in.
-mod plane;
-// The public call.
-pub mod depth;
+pub mod plane;

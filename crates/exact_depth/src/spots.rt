@@ -1,7 +1,9 @@
-ghost use mathlib.Core.Path.{_≡_};
-ghost use lib.IntN.{natAbs};
-ghost use Rattle.exact_depth.specs.Sizes.{Small, Held};
-ghost use Rattle.exact_depth.specs.FirstPoint.{kept};
+// A point of the grid.
+pub struct Point {
+    pub x: i64,
+    pub y: i64,
+    pub z: i64,
+}
 
 // A corner as the line sees it: how far to the side, how far up, and how deep, from the ray's origin.
 pub struct Spot {
@@ -19,20 +21,4 @@ pub struct Fraction {
 pub enum Depth {
     At(Fraction),
     Miss,
-}
-
-// A depth from near to far, both included. Callers show that the numbers are small.
-pub fn kept(at: Fraction, near: i64, far: i64) -> Depth
-    requires { ⌜ Held (at .t) × (Small (at .w) × (Small near × Small far)) ⌝ }
-    ensures { λ r. ⌜ r ≡ kept at near far ⌝ }
-{
-    let least = near * at.w;
-    if at.t < least {
-        return Depth::Miss;
-    }
-    let most = far * at.w;
-    if at.t > most {
-        return Depth::Miss;
-    }
-    Depth::At(at)
 }

@@ -8,14 +8,14 @@ use borrow.Author.Tests.{le-leb, lt-leb, leb-true}
 use lib.Dec.{leb}
 use lib.ListN.{length}
 use lib.Seq.{sets, getD-set-same}
-use Rattle.casts.specs.Answer.{badShape, noRoom, outOfBounds}
+use Rattle.casts.specs.Answer.{badShape, noRoom}
 use Rattle.tree.specs.Layout.{wordAt}
-use Rattle.board_tests.specs.Merge.{Answer, nodes, refused, Board, Areas, Outcome, shapesAdmitted, areasFit, treesPass}
-use Rattle.board_tests.specs.Merge.{mergedCount, mergedOver, testsPass, mergeOf}
+use Rattle.board_tests.specs.Merge.{Answer, nodes, refused, Board, Areas, Outcome, shapesAdmitted, testsPass, mergeOf}
 use Rattle.board_glue.specs.Promises.{Glued}
 use Rattle.board_glue.proofs.MergePasses.{merged-trees-pass}
 use Rattle.board_glue.proofs.MergeCasts.{merged-casts-glue}
 use Rattle.results.specs.Results.{Counted, doneCode}
+use Rattle.exports.proofs.Codes.{refusals-below-codes}
 use Rattle.exports.specs.Boards.{toldMerged, MergeTold, mergeRefused, mergeTold}
 
 -- the node count as its place holds it
@@ -24,35 +24,6 @@ count-told [] count there = absurd (omega arith)
 count-told (x ∷ place) count there = refl
 
 module _ (a b : Board) (old : Areas) (marks : ℕ) where
-  -- a refusal of the merge is no code of a call
-  refusal-below : (number : ℕ) → mergeOf a b old marks .answer ≡ refused number → number < 256
-  unfolding mergeOf
-  refusal-below number = go (shapesAdmitted a b) (areasFit a b old marks) (treesPass a b)
-    where
-      named : (m : ℕ) → m < 256 → refused m ≡ refused number → number < 256
-      named m small e =
-          let same : m ≡ number = cc in
-          omega arith
-
-      counted : (m : ℕ) → nodes m ≡ refused number → number < 256
-      counted m e =
-          let z : _≡_ {A = ℕ} 0 1 = cc in
-          absurd (omega arith)
-
-      go : (shape room trees : Bool)
-          → cond {A = Outcome} shape
-          (cond {A = Outcome} room
-          (cond {A = Outcome} trees
-          (record { answer = nodes (mergedCount a b); after = mergedOver a b old })
-          (record { answer = refused outOfBounds; after = old }))
-          (record { answer = refused noRoom; after = old }))
-          (record { answer = refused badShape; after = old }) .answer
-          ≡ refused number → number < 256
-      go true true true e = counted (mergedCount a b) e
-      go true true false e = named outOfBounds (omega arith) e
-      go true false trees e = named noRoom (omega arith) e
-      go false room trees e = named badShape (omega arith) e
-
   module _ (place : List ℕ) where
     -- done: the result passes the check, and casts on it are glued
     glued-where-done : 1 ≤ length place → (x : Answer) → mergeOf a b old marks .answer ≡ x → toldMerged x place .number ≡ doneCode
@@ -61,7 +32,7 @@ module _ (a b : Board) (old : Areas) (marks : ℕ) where
     glued-where-done there (nodes count) e h =
         subst (λ (k : ℕ). Glued a b k (mergeOf a b old marks .after)) (sym (count-told place count there))
         (record { passes = λ m long. merged-trees-pass a b old marks count m e long; casts = merged-casts-glue a b old marks count e })
-    glued-where-done there (refused number) e h = absurd (omega (arith, refusal-below number e))
+    glued-where-done there (refused number) e h = absurd (omega (arith, refusals-below-codes .merge a b old marks number e))
 
     abbrev Told : MergeTold → Type 0
     Told told =

@@ -10,13 +10,11 @@ use lib.ListN.{length}
 use lib.Seq.{sets}
 use Rattle.casts.specs.Answer.{badShape, noRoom}
 use Rattle.float_forms.specs.declared.forms.Form.{Form}
-use Rattle.float_forms.specs.declared.forms.Converted.{Converted}
-use Rattle.float_forms.specs.declared.forms.Converted.the-variants.{Written, Refused}
 use Rattle.record_forms.specs.declared.shape.Plan.{Plan}
 use Rattle.record_forms.specs.declared.shape.Planned.{Planned}
 use Rattle.record_forms.specs.declared.shape.Planned.the-variants.{Is, Malformed}
 use Rattle.record_forms.specs.Records.{wellFormed}
-use Rattle.conversion.specs.Convert.{Outcome, converted}
+use Rattle.conversion.specs.Convert.{Answer, Outcome, converted}
 use Rattle.record_forms.specs.Plans.{planOf, planned}
 use Rattle.results.specs.Results.{Counted, doneCode}
 use Rattle.exports.specs.Conversions.{toldConverted, withoutPlace, ConvertTold, convertTold}
@@ -51,11 +49,11 @@ module _ (p q : Form) (l area place : List ℕ) where
   unfolding convertTold
   no-place number h e = rw (lt-leb 1 (length place) h, e)
 
-  pub has-place : (answer : Converted) (after : List ℕ) (told : Counted) → 1 ≤ length place
+  pub has-place : (answer : Answer) (after : List ℕ) (told : Counted) → 1 ≤ length place
       → record { answer = answer; area = after } ≡ converted p q l area → told ≡ toldConverted answer place
       → record { told = told; area = after } ≡ convertTold p q l area place
   unfolding convertTold
   has-place answer after told h e t =
       let x : answer ≡ converted p q l area .answer = ap (λ (o : Outcome). o .answer) e in
       let y : after ≡ converted p q l area .area = ap (λ (o : Outcome). o .area) e in
-      rw (le-leb 1 (length place) h) (told-of (t ∙ ap (λ (z : Converted). toldConverted z place) x) y)
+      rw (le-leb 1 (length place) h) (told-of (t ∙ ap (λ (z : Answer). toldConverted z place) x) y)

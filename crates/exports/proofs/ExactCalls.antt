@@ -1,58 +1,147 @@
--- What the call of the mesh cast on whole millimetres tells. Assumes nothing.
-use Prim.Native.Nat.{ℕ, _<_, _≤_}
-use mathlib.Core.Path.{_≡_, refl, sym, ap, _∙_}
-use mathlib.Core.Bool.{Bool, true, false, cond}
+-- What the calls of the exact cast tell, without a tree and through one; that what is read back from the one without a tree is certain; and
+-- that with every tree that passes the check the call through a tree promises the same. Assumes nothing.
+use Prim.Native.Nat.{ℕ, _*_}
+use mathlib.Core.Path.{_≡_, refl, sym, ap, subst, _∙_}
+use mathlib.Core.Bool.{Bool, true, false, _&&_, cond, true≢false}
 use mathlib.Core.List.{List}
-use borrow.Author.Tests.{le-leb, lt-leb}
+use native.Mathlib.Omega.{arith}
+use lib.Dec.{leb}
 use lib.Ieee.{Float}
 use lib.ListN.{length}
 use Rattle.geometry.specs.Segment.{rayAdmitted}
 use Rattle.geometry.specs.declared.ray.Ray.{Ray}
 use Rattle.casts.specs.Answer.{invalidInput, badShape, noRoom}
-use Rattle.nearest_hit.specs.Nearest.{Indexed}
-use Rattle.tree.specs.Mesh.{Mesh, lengthsAdmitted}
-use Rattle.exact_triangle.specs.declared.line.Line.{Line}
-use Rattle.exact_triangle.specs.declared.line.Ruled.the-variants.{On, Off}
-use Rattle.exact_triangle.specs.Line.{lineOf}
-use Rattle.exact_triangle.specs.Exact.{notWhole}
-use Rattle.mesh_exact.specs.ExactCast.{exactCast}
-use Rattle.results.specs.Results.{ToldIndexed, toldIndexed, resultsFit}
+use Rattle.nearest_hit.specs.Nearest.{Indexed, stopped}
+use Rattle.tree.specs.Layout.{Tree}
+use Rattle.tree.specs.Mesh.{Mesh, thirds, lengthsAdmitted}
+use Rattle.tree_check.proofs.Answers.{yes-passes}
+use Rattle.any_direction.specs.Grid.{gridAdmitted}
+use Rattle.grid_triangle.specs.Reach.{outOfRange}
+use Rattle.mesh.specs.MeshCast.{shapeAdmitted}
+use Rattle.mesh.specs.Demand3.{PassesCheck}
+use Rattle.mesh_plain.proofs.Agreement.{yes-lengths}
+use Rattle.mesh_grid.specs.GridCast.{overTriangles, rayMeshExactPlain}
+use Rattle.mesh_grid.specs.Certain.{CertainMesh}
+use Rattle.mesh_grid.proofs.Certainty.{certain}
+use Rattle.first_cast.specs.Numbers.{NoNaN, hasNumbers}
+use Rattle.first_cast.specs.ExactMesh.{roomFor, exactThrough, rayMeshExact}
+use Rattle.first_cast.proofs.Agreement.{shape-admitted, agrees}
+use Rattle.results.specs.Results.{ToldIndexed, toldIndexed, resultsFit, withRoom, yesCode, noCode}
 use Rattle.exports.specs.Plain.{toldNumber}
-use Rattle.exports.specs.ExactResults.{exactTold}
-use Rattle.exports.proofs.Kept.{results-fit}
+use Rattle.exports.specs.Reading.{answerRead}
+use Rattle.exports.specs.ExactResults.{exactTold, treeTold, shortExact, ExactPlainCall, ToldAsPlain, NumbersCall}
+use Rattle.exports.proofs.Kept.{room-there}
+use Rattle.exports.proofs.Codes.{refusals-below-codes}
+use Rattle.exports.proofs.Reading.{answer-read}
 
-module _ (r : Ray) (m : Mesh) (hit : List Float) (index : List ℕ) where
-  pub exact-invalid : rayAdmitted r ≡ false → toldNumber invalidInput hit index ≡ exactTold r m hit index
-  unfolding exactTold
-  exact-invalid h = simp h
+-- ---- the number where a result slice is too short, test by test
+module _ (r : Ray) (shape : Bool) where
+  pub short-invalid : rayAdmitted r ≡ false → invalidInput ≡ shortExact r shape
+  short-invalid h = simp h
 
   module _ (v : rayAdmitted r ≡ true) where
-    pub exact-off : lineOf r ≡ Off → toldNumber notWhole hit index ≡ exactTold r m hit index
+    pub short-off : gridAdmitted r ≡ false → outOfRange ≡ shortExact r shape
+    short-off h = simp (v, h)
+
+    module _ (g : gridAdmitted r ≡ true) where
+      pub short-bad : shape ≡ false → badShape ≡ shortExact r shape
+      short-bad h = simp (v, g, h)
+
+      pub short-room : shape ≡ true → noRoom ≡ shortExact r shape
+      short-room h = simp (v, g, h)
+
+module _ (hit : List Float) (index : List ℕ) where
+  -- the tests of 1, 12 and 2 go before the result slices
+  untold-short : (p q s fits : Bool) (rest : Indexed) (number : ℕ) → fits ≡ false
+      → number ≡ cond p (cond q (cond s noRoom badShape) outOfRange) invalidInput
+      → toldNumber number hit index
+      ≡ withRoom (p && (q && s)) fits
+      (toldIndexed (cond p (cond q (cond s rest (stopped badShape)) (stopped outOfRange)) (stopped invalidInput)) hit index)
+      (toldNumber noRoom hit index)
+  unfolding toldIndexed
+  untold-short true true true fits rest number f e = simp (f, e)
+  untold-short true true false fits rest number f e = simp e
+  untold-short true false s fits rest number f e = simp e
+  untold-short false q s fits rest number f e = simp e
+
+  -- ---- without a tree
+  module _ (r : Ray) (m : Mesh) where
+    pub plain-short : (number : ℕ) (shape : Bool) → resultsFit hit index ≡ false
+        → shape ≡ lengthsAdmitted (length (m .vertices)) (length (m .triangles)) → number ≡ shortExact r shape
+        → toldNumber number hit index ≡ exactTold r m hit index
+    unfolding exactTold rayMeshExactPlain
+    plain-short number shape short s e =
+        untold-short (rayAdmitted r) (gridAdmitted r) (lengthsAdmitted (length (m .vertices)) (length (m .triangles)))
+        (resultsFit hit index) (overTriangles r m) number short (e ∙ ap (λ (b : Bool). shortExact r b) s)
+
+    fitting : resultsFit hit index ≡ true → exactTold r m hit index ≡ toldIndexed (rayMeshExactPlain r m) hit index
     unfolding exactTold
-    exact-off h = simp (v, h)
+    fitting fits =
+        room-there (rayAdmitted r && (gridAdmitted r && lengthsAdmitted (length (m .vertices)) (length (m .triangles))))
+        (resultsFit hit index) _ _ fits
 
-    module _ (l : Line) (on : lineOf r ≡ On l) where
-      pub exact-bad : lengthsAdmitted (length (m .vertices)) (length (m .triangles)) ≡ false
-          → toldNumber badShape hit index ≡ exactTold r m hit index
-      unfolding exactTold
-      exact-bad h = simp (v, on, h)
+    pub plain-told : (told : ToldIndexed) (answer : Indexed) → resultsFit hit index ≡ true → answer ≡ rayMeshExactPlain r m
+        → told ≡ toldIndexed answer hit index → told ≡ exactTold r m hit index
+    plain-told told answer fits e f = f ∙ ap (λ (a : Indexed). toldIndexed a hit index) e ∙ sym (fitting fits)
 
-      module _ (s : lengthsAdmitted (length (m .vertices)) (length (m .triangles)) ≡ true) where
-        pub exact-short-hit : length hit < 4 → toldNumber noRoom hit index ≡ exactTold r m hit index
-        unfolding exactTold resultsFit
-        exact-short-hit h = simp (v, on, s, lt-leb 4 (length hit) h)
+    -- both clauses of the call's contract, from the first
+    pub exact-certain : (told : ToldIndexed) → told ≡ exactTold r m hit index → ExactPlainCall r m hit index told
+    exact-certain told e = (
+      e,
+      λ fits.
+          let read = answer-read hit index fits (rayMeshExactPlain r m) (refusals-below-codes .exact-plain r m) in
+          subst (CertainMesh r m) (sym (ap answerRead (e ∙ fitting fits) ∙ read)) (certain r m),
+    )
 
-        pub exact-short-index : 4 ≤ length hit → length index < 1 → toldNumber noRoom hit index ≡ exactTold r m hit index
-        unfolding exactTold resultsFit
-        exact-short-index h k = simp (v, on, s, le-leb 4 (length hit) h, lt-leb 1 (length index) k)
+  -- ---- through a tree
+  module _ (r : Ray) (m : Mesh) (pose : List Float) (t : Tree) (stack : ℕ) where
+    -- the test of 2 as the code makes it
+    abbrev admitted : Bool
+    admitted =
+        lengthsAdmitted (length (m .vertices)) (length (m .triangles))
+        && (lengthsAdmitted (length pose) (length (m .triangles)) && leb (t .nodeCount) (2 * thirds (length (m .triangles))))
 
-        pub exact-passed : 4 ≤ length hit → 1 ≤ length index → (told : ToldIndexed) (answer : Indexed)
-            → told ≡ toldIndexed answer hit index → answer ≡ exactCast r l m → told ≡ exactTold r m hit index
-        unfolding exactTold
-        exact-passed h k told answer e a =
-            e ∙ ap (λ (b : Indexed). toldIndexed b hit index) a ∙ simp (v, on, s, results-fit hit index h k)
+    pub tree-short : (number : ℕ) (shape : Bool) → resultsFit hit index ≡ false → shape ≡ admitted → number ≡ shortExact r shape
+        → toldNumber number hit index ≡ treeTold r m pose t stack hit index
+    unfolding treeTold rayMeshExact shapeAdmitted
+    tree-short number shape short s e =
+        untold-short (rayAdmitted r) (gridAdmitted r) admitted (resultsFit hit index) _ number short
+        (e ∙ ap (λ (b : Bool). shortExact r b) s)
 
--- for the ray that the call's numbers make
-pub exact-for : (made r : Ray) → made ≡ r → (m : Mesh) (hit : List Float) (index : List ℕ) (told : ToldIndexed)
-    → told ≡ exactTold made m hit index → told ≡ exactTold r m hit index
-exact-for made r e m hit index told h = h ∙ ap (λ (s : Ray). exactTold s m hit index) e
+    pub tree-told : (told : ToldIndexed) (answer : Indexed) → resultsFit hit index ≡ true → answer ≡ rayMeshExact r m pose t stack
+        → told ≡ toldIndexed answer hit index → told ≡ treeTold r m pose t stack hit index
+    unfolding treeTold
+    tree-told told answer fits e f =
+        f ∙ ap (λ (a : Indexed). toldIndexed a hit index) e
+        ∙ sym (room-there (rayAdmitted r && (gridAdmitted r && shapeAdmitted m pose t)) (resultsFit hit index) _ _ fits)
+
+  -- with a tree that passes the check, for a mesh without a NaN
+  tree-as-plain : (r : Ray) (m : Mesh) (t : Tree) (stack : ℕ) → PassesCheck m t → NoNaN m → roomFor m t stack ≡ true
+      → treeTold r m (m .vertices) t stack hit index ≡ exactTold r m hit index
+  unfolding treeTold exactTold
+  tree-as-plain r m t stack p numbers room =
+      let lengths = yes-lengths m t (p .marks) (p .says-yes) in
+      let shape = shape-admitted r m t (yes-passes m t (p .marks) (p .says-yes)) lengths in
+      simp (shape, lengths, agrees r m t stack p numbers room)
+
+  -- the three clauses of the call's contract: what is told, what is kept, and the agreement
+  pub with-agreement : (r : Ray) (m : Mesh) (pose : List Float) (t : Tree) (stack : ℕ) (told : ToldIndexed) (Kept : Type 0)
+      → told ≡ treeTold r m pose t stack hit index → Kept
+      → (told ≡ treeTold r m pose t stack hit index)
+      × (Kept × (pose ≡ m .vertices → ToldAsPlain r m t stack hit index told))
+  with-agreement r m pose t stack told Kept e k = (
+    e,
+    (
+      k,
+      λ own p numbers room.
+          exact-certain r m told
+          (e ∙ ap (λ (vs : List Float). treeTold r m vs t stack hit index) own ∙ tree-as-plain r m t stack p numbers room),
+    ),
+  )
+
+-- ---- a mesh without a NaN
+pub numbers-yes : (m : Mesh) (b : Bool) → b ≡ hasNumbers m → (b ≡ true → NoNaN m) → b ≡ true → NumbersCall m yesCode
+numbers-yes m b e means taken = (simp (sym e ∙ taken), λ _. means taken)
+
+pub numbers-no : (m : Mesh) (b : Bool) → b ≡ hasNumbers m → b ≡ false → NumbersCall m noCode
+numbers-no m b e left = (simp (sym e ∙ left), λ (same : noCode ≡ yesCode). absurd (omega (arith, same)))

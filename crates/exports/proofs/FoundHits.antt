@@ -18,9 +18,9 @@ use Rattle.mesh.specs.MeshCast.{shapeAdmitted}
 use Rattle.hit_area.specs.HitArea.{HitArea, Outcome}
 use Rattle.mesh_hits.specs.Listing.{rayMeshAll}
 use Rattle.mesh_hits.specs.Promise.{KeepsPromises}
-use Rattle.mesh_hits.proofs.RefusalNumbers.{refusals-small}
 use Rattle.results.specs.Results.{Counted, doneCode, shortOf, toldFound}
 use Rattle.exports.specs.AllHits.{ListingTold, withoutPlace, allTold, foundTold}
+use Rattle.exports.proofs.Codes.{refusals-below-codes}
 
 module _ (r : Ray) (m : Mesh) (pose : List Float) (t : Tree) (list stack : ℕ) (area : HitArea) (place : List ℕ) where
   pub short-told : (number : ℕ) → length place < 1 → number ≡ shortOf (rayAdmitted r) (shapeAdmitted m pose t)
@@ -42,7 +42,7 @@ module _ (r : Ray) (m : Mesh) (pose : List Float) (t : Tree) (list stack : ℕ) 
     unfolding foundTold toldFound
     told-back (count k) h = ap count (getD-set-same place 0 k 0 there)
     told-back (refused number) h =
-        let small = refusals-small r m pose t list stack area number (sym (ap (λ (z : Outcome). z .answer) is) ∙ h) in
+        let small = refusals-below-codes .listing r m pose t list stack area number (sym (ap (λ (z : Outcome). z .answer) is) ∙ h) in
         simp (ne-eqb number doneCode (λ same. omega arith))
 
     pub told-promises : KeepsPromises r m pose t list stack o

@@ -1,18 +1,22 @@
--- What the call of the cast at heights known only within ranges tells, from what the cast ensures. Assumes nothing.
+-- What the call of the cast at heights known only within ranges tells, from what the cast ensures, and that it says the answer back.
+-- Assumes nothing.
 use Prim.Native.Nat.{ℕ, _≤_}
-use mathlib.Core.Path.{_≡_, ap, _∙_, subst}
+use mathlib.Core.Path.{_≡_, refl, sym, ap, _∙_, subst}
 use mathlib.Core.List.{List}
+use native.Mathlib.Omega.{arith}
+use borrow.Author.Tests.{le-leb, ne-eqb}
 use lib.Ieee.{Float}
 use lib.ListN.{length}
-use borrow.Author.Tests.{le-leb}
+use lib.Seq.{getD-set-same}
 use Rattle.geometry.specs.declared.ray.Ray.{Ray}
 use Rattle.height_field.specs.declared.field.Field.{Field}
-use Rattle.height_ranges.specs.declared.answer.Clearance.{Clearance}
+use Rattle.height_ranges.specs.Answer.{Answer, clear, possible, refused}
 use Rattle.height_ranges.specs.RangesCast.{rayHeightRanges}
 use Rattle.height_ranges.specs.Promise.{MeetsPromise}
-use Rattle.exports.specs.Ranges.{ToldCell, toldCell, answeredCell, KeepsPromise}
+use Rattle.height_ranges.proofs.Promise.{refusals-to-nine}
+use Rattle.exports.specs.Ranges.{clearCode, possibleCode, ToldCell, toldCell, answeredCell, readCell, KeepsPromise}
 
-with-room : (answer : Clearance) (place : List ℕ) → 1 ≤ length place → answeredCell answer place ≡ toldCell answer place
+with-room : (answer : Answer) (place : List ℕ) → 1 ≤ length place → answeredCell answer place ≡ toldCell answer place
 unfolding answeredCell
 with-room answer place fits = simp (le-leb 1 (length place) fits)
 
@@ -21,10 +25,22 @@ module _ (f : Field) (lows highs : List Float) (place : List ℕ) (told : ToldCe
   abbrev pub Both : Ray → Type 0
   Both r = (told ≡ answeredCell (rayHeightRanges r f lows highs) place) × KeepsPromise r f lows highs place told
 
-  pub tells : (made r : Ray) (answer : Clearance) → made ≡ r → answer ≡ rayHeightRanges made f lows highs
+  -- a cell stands at its place, and no refusal has the code of an answer
+  read-back : (r : Ray) (answer : Answer) → answer ≡ rayHeightRanges r f lows highs → 1 ≤ length place
+      → readCell (toldCell answer place) ≡ answer
+  unfolding readCell toldCell
+  read-back r clear is fits = refl
+  read-back r (possible cell) is fits = ap possible (getD-set-same place 0 cell 0 fits)
+  read-back r (refused number) is fits =
+      let few = refusals-to-nine r f lows highs number (sym is) in
+      simp (ne-eqb number clearCode (λ same. omega arith), ne-eqb number possibleCode (λ same. omega arith))
+
+  pub tells : (made r : Ray) (answer : Answer) → made ≡ r → answer ≡ rayHeightRanges made f lows highs
       → MeetsPromise made f lows highs answer → told ≡ answeredCell answer place → Both r
   tells made r answer same is promised says =
       subst Both same (
-        says ∙ ap (λ (a : Clearance). answeredCell a place) is,
-        record { answer = answer; promised = promised; said = λ fits. says ∙ with-room answer place fits },
+        says ∙ ap (λ (a : Answer). answeredCell a place) is,
+        λ fits.
+            subst (MeetsPromise made f lows highs) (sym (ap readCell (says ∙ with-room answer place fits) ∙ read-back made answer is fits))
+            promised,
       )

@@ -7,15 +7,13 @@ use lib.ListN.{length}
 use lib.Seq.{sets}
 use Rattle.casts.specs.Answer.{badShape, noRoom}
 use Rattle.float_forms.specs.declared.forms.Form.{Form}
-use Rattle.float_forms.specs.declared.forms.Converted.{Converted}
-use Rattle.float_forms.specs.declared.forms.Converted.the-variants.{Written, Refused}
 use Rattle.record_forms.specs.Records.{wellFormed}
-use Rattle.conversion.specs.Convert.{converted}
+use Rattle.conversion.specs.Convert.{Answer, written, refused, converted}
 use Rattle.results.specs.Results.{Counted, doneCode}
 
-unfoldable pub toldConverted : Converted → List ℕ → Counted
-toldConverted (Written count) place = record { number = doneCode; count = sets place 0 (count ∷ []) }
-toldConverted (Refused number) place = record { number = number; count = place }
+unfoldable pub toldConverted : Answer → List ℕ → Counted
+toldConverted (written count) place = record { number = doneCode; count = sets place 0 (count ∷ []) }
+toldConverted (refused number) place = record { number = number; count = place }
 
 -- "2 before 3", where the length has no place
 unfoldable pub withoutPlace : Form → List ℕ → ℕ

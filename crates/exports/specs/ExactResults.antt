@@ -1,4 +1,4 @@
--- What the calls of the mesh cast on whole millimetres tell and write, without a tree and through one. Definitions only. Assumes nothing.
+-- What the calls of the exact cast tell and write, without a tree and through one. Definitions only. Assumes nothing.
 use Prim.Native.Nat.{ℕ}
 use mathlib.Core.Path.{_≡_}
 use mathlib.Core.Bool.{Bool, true, cond, _&&_}
@@ -10,38 +10,43 @@ use Rattle.geometry.specs.declared.ray.Ray.{Ray}
 use Rattle.casts.specs.Answer.{invalidInput, badShape, noRoom}
 use Rattle.tree.specs.Layout.{Tree}
 use Rattle.tree.specs.Mesh.{Mesh, lengthsAdmitted}
-use Rattle.exact_triangle.specs.declared.line.Line.{Line}
-use Rattle.exact_triangle.specs.Line.{lineOf, withLine}
-use Rattle.exact_triangle.specs.Exact.{notWhole}
-use Rattle.mesh.specs.MeshCast.{shapeAdmitted, roomFor}
+use Rattle.any_direction.specs.Grid.{gridAdmitted}
+use Rattle.grid_triangle.specs.Reach.{outOfRange}
+use Rattle.mesh.specs.MeshCast.{shapeAdmitted}
 use Rattle.mesh.specs.Demand3.{PassesCheck}
-use Rattle.mesh_exact.specs.ExactCast.{exactCast}
-use Rattle.tree_exact.specs.ExactMesh.{isRuled, rayMeshExact}
-use Rattle.results.specs.Results.{ToldIndexed, toldIndexed, resultsFit, withRoom}
+use Rattle.mesh_grid.specs.GridCast.{rayMeshExactPlain}
+use Rattle.first_cast.specs.Numbers.{NoNaN, hasNumbers}
+use Rattle.first_cast.specs.ExactMesh.{roomFor, rayMeshExact}
+use Rattle.results.specs.Results.{ToldIndexed, toldIndexed, resultsFit, withRoom, yesCode, noCode}
 use Rattle.exports.specs.Plain.{toldNumber}
+use Rattle.exports.specs.Reading.{CertainRead}
 
--- Refusals as the mesh cast's in their order, and 12 .. (after 1), the result slices' 3 after 2; then the cast
+-- the result slices' 3 comes after 1, 12 of the ray and 2
 unfoldable pub exactTold : Ray → Mesh → List Float → List ℕ → ToldIndexed
 exactTold r m hit index =
-    cond (rayAdmitted r)
-    (withLine (lineOf r) (toldNumber notWhole hit index)
-    (λ (l : Line).
-    cond (lengthsAdmitted (length (m .vertices)) (length (m .triangles)))
-    (cond (resultsFit hit index) (toldIndexed (exactCast r l m) hit index) (toldNumber noRoom hit index))
-    (toldNumber badShape hit index)))
-    (toldNumber invalidInput hit index)
-
--- through a tree, where a result slice is too short: 1, 12 and 2 go before 3
-abbrev pub shortExact : Ray → Bool → ℕ
-shortExact r shape = cond (rayAdmitted r) (cond (isRuled r) (cond shape noRoom badShape) notWhole) invalidInput
-
--- the lengths of the list and the stack stand before the result slices
-unfoldable pub treeTold : Ray → Mesh → List Float → Tree → ℕ → ℕ → List Float → List ℕ → ToldIndexed
-treeTold r m pose t list stack hit index =
-    withRoom (rayAdmitted r && (isRuled r && shapeAdmitted m pose t)) (resultsFit hit index)
-    (toldIndexed (rayMeshExact r m pose t list stack) hit index)
+    withRoom (rayAdmitted r && (gridAdmitted r && lengthsAdmitted (length (m .vertices)) (length (m .triangles)))) (resultsFit hit index)
+    (toldIndexed (rayMeshExactPlain r m) hit index)
     (toldNumber noRoom hit index)
 
--- through any tree that passes the check the answer is the same as without one
-abbrev pub ToldAsPlain : Ray → Mesh → Tree → ℕ → ℕ → List Float → List ℕ → ToldIndexed → Type 0
-ToldAsPlain r m t list stack hit index told = PassesCheck m t → roomFor m t list stack ≡ true → told ≡ exactTold r m hit index
+-- through a tree; the length of the stack stands before the result slices
+unfoldable pub treeTold : Ray → Mesh → List Float → Tree → ℕ → List Float → List ℕ → ToldIndexed
+treeTold r m pose t stack hit index =
+    withRoom (rayAdmitted r && (gridAdmitted r && shapeAdmitted m pose t)) (resultsFit hit index)
+    (toldIndexed (rayMeshExact r m pose t stack) hit index)
+    (toldNumber noRoom hit index)
+
+-- the number where a result slice is too short
+abbrev pub shortExact : Ray → Bool → ℕ
+shortExact r shape = cond (rayAdmitted r) (cond (gridAdmitted r) (cond shape noRoom badShape) outOfRange) invalidInput
+
+-- what the call without a tree promises: its answer, and that what is read back is certain
+abbrev pub ExactPlainCall : Ray → Mesh → List Float → List ℕ → ToldIndexed → Type 0
+ExactPlainCall r m hit index told = (told ≡ exactTold r m hit index) × CertainRead r m hit index told
+
+-- through any tree that passes the check, for a mesh without a NaN, the same holds
+abbrev pub ToldAsPlain : Ray → Mesh → Tree → ℕ → List Float → List ℕ → ToldIndexed → Type 0
+ToldAsPlain r m t stack hit index told = PassesCheck m t → NoNaN m → roomFor m t stack ≡ true → ExactPlainCall r m hit index told
+
+-- whether a mesh is without a NaN: a yes says so
+abbrev pub NumbersCall : Mesh → ℕ → Type 0
+NumbersCall m number = (number ≡ cond (hasNumbers m) yesCode noCode) × (number ≡ yesCode → NoNaN m)

@@ -1,6 +1,7 @@
 -- What the calls for other languages answer and write. Definitions only. Assumes nothing.
 pub mod Plain
-pub mod Demands
+pub mod Codes
+pub mod Reading
 pub mod Ranges
 pub mod CabinetResults
 pub mod AllHits

@@ -6,13 +6,11 @@ use casts::answer;
 use geometry::ray::Ray;
 use vectors::vec3::Vec3;
 ghost use mathlib.Core.Path.{_≡_};
-ghost use mathlib.Core.Bool.{false};
 ghost use lib.ListN.{length};
-ghost use Rattle.cabinet.specs.Cabinet.{castCabinet, testsPass, withResults};
-ghost use Rattle.cabinet.specs.Promises.{Passes, LimitPromises};
+ghost use Rattle.cabinet.specs.Cabinet.{withResults};
 ghost use Rattle.cabinet.specs.Steps.{areas, begun, lastAnswer};
 ghost use Rattle.results.specs.Results.{rayFrom};
-ghost use Rattle.exports.specs.CabinetResults.{cabinetFits, cabinetTold, toldCabinet};
+ghost use Rattle.exports.specs.CabinetResults.{cabinetFits, cabinetTold, toldCabinet, CabinetCall};
 
 // Whether the result slices, by their lengths, hold an answer.
 fn results_fit(hit: usize, index: usize, part: usize, spent: usize) -> bool
@@ -121,7 +119,7 @@ fn put_cabinet(
 
 // The cast at a cabinet of many parts under one limit of nodes. The list and the stack are work areas: unchanged until 1, 2 and 3 have let
 // the call pass, and then they may hold anything.
-// The third clause is what is promised of the limit.
+// What `CabinetCall` says last is what is promised of the limit, and of the parts by the number and the slices.
 #[no_mangle]
 pub extern "C" fn probe_ray_cabinet(
     origin_x: f64,
@@ -147,25 +145,13 @@ pub extern "C" fn probe_ray_cabinet(
     part: &mut [usize],
     spent: &mut [usize],
 ) -> u32
-    ensures { λ r. ⌜ (cabinetTold r (now (hit .exit)) (now (index .exit)) (now (part .exit)) (now (spent .exit))
-        ≡ toldCabinet (withResults (cabinetFits (length (now (hit .entry))) (length (now (index .entry))) (length (now (part .entry)))
-        (length (now (spent .entry)))) (castCabinet
+    ensures { λ r. ⌜ CabinetCall
         (rayFrom «origin_x» «origin_y» «origin_z» «direction_x» «direction_y» «direction_z» «max_distance» «near_distance»)
         (areas (now (vertices .entry)) (now (triangles .entry)) (now («node_boxes» .entry)) (now («triangle_boxes» .entry))
-        (now («node_words» .entry)) (now (order .entry))) (length (now (list .entry))) (length (now (stack .entry))) limit
-        (now (parts .entry)))) (now (hit .entry)) (now (index .entry)) (now (part .entry)) (now (spent .entry)))
-        × (testsPass (rayFrom «origin_x» «origin_y» «origin_z» «direction_x» «direction_y» «direction_z» «max_distance» «near_distance»)
-        (areas (now (vertices .entry)) (now (triangles .entry)) (now («node_boxes» .entry)) (now («triangle_boxes» .entry))
-        (now («node_words» .entry)) (now (order .entry))) (length (now (list .entry))) (length (now (stack .entry)))
-        (cabinetFits (length (now (hit .entry))) (length (now (index .entry))) (length (now (part .entry))) (length (now (spent .entry))))
-        (now (parts .entry)) ≡ false → (now (list .exit) ≡ now (list .entry)) × (now (stack .exit) ≡ now (stack .entry)))
-        × (Passes (rayFrom «origin_x» «origin_y» «origin_z» «direction_x» «direction_y» «direction_z» «max_distance» «near_distance»)
-        (areas (now (vertices .entry)) (now (triangles .entry)) (now («node_boxes» .entry)) (now («triangle_boxes» .entry))
-        (now («node_words» .entry)) (now (order .entry))) (length (now (list .entry))) (length (now (stack .entry))) (now (parts .entry))
-        → LimitPromises (rayFrom «origin_x» «origin_y» «origin_z» «direction_x» «direction_y» «direction_z» «max_distance» «near_distance»)
-        (areas (now (vertices .entry)) (now (triangles .entry)) (now («node_boxes» .entry)) (now («triangle_boxes» .entry))
-        (now («node_words» .entry)) (now (order .entry))) (length (now (list .entry))) (length (now (stack .entry)))
-        (now (parts .entry))) ⌝ }
+        (now («node_words» .entry)) (now (order .entry))) limit (now (parts .entry))
+        (now (list .entry)) (now (list .exit)) (now (stack .entry)) (now (stack .exit))
+        (now (hit .entry)) (now (index .entry)) (now (part .entry)) (now (spent .entry))
+        (cabinetTold r (now (hit .exit)) (now (index .exit)) (now (part .exit)) (now (spent .exit))) ⌝ }
 {
     let start = begin(
         origin_x,

@@ -7,6 +7,7 @@ use record_forms::shape::Planned;
 ghost use mathlib.Core.Path.{_≡_};
 ghost use Prim.Native.Nat.{_≤_};
 ghost use lib.ListN.{length};
+ghost use Rattle.conversion.specs.Convert.{says};
 ghost use Rattle.exports.specs.Conversions.{withoutPlace, toldConverted, convertTold};
 
 // The number where the place of the length is missing: 2 goes before 3.
@@ -23,7 +24,7 @@ fn without_place(form: Form, bytes: &[u8]) -> u32
 // The converter's answer as its number, the length written. Callers show that its place is there.
 fn put_converted(converted: Converted, written: &mut [usize]) -> u32
     requires { ⌜ 1 ≤ length (now written) ⌝ }
-    ensures { λ r. ⌜ record { number = r; count = now (written .exit) } ≡ toldConverted converted (now (written .entry)) ⌝ }
+    ensures { λ r. ⌜ record { number = r; count = now (written .exit) } ≡ toldConverted (says converted) (now (written .entry)) ⌝ }
 {
     match converted {
         Converted::Written(count) => {

@@ -1,25 +1,38 @@
 use casts::answer;
-use exact_triangle::cast as triangle;
-use exact_triangle::line;
-use exact_triangle::line::Ruled;
+use first_cast::cast as tree_cast;
+use first_cast::numbers;
 use geometry::ray::Ray;
+use grid_triangle::cast as triangle;
+use grid_triangle::sight;
 use mesh::cast as mesh_cast;
-use mesh_exact::cast;
+use mesh_grid::cast;
 use tree::mesh as triangle_mesh;
-use tree_exact::cast as tree_cast;
 use vectors::vec3::Vec3;
 ghost use mathlib.Core.Path.{_≡_};
-ghost use mathlib.Core.Bool.{_&&_};
-ghost use Prim.Native.Nat.{_*_};
-ghost use lib.Dec.{leb};
-ghost use lib.ListN.{length};
-ghost use Rattle.tree.specs.Mesh.{thirds, lengthsAdmitted, mesh};
+ghost use Rattle.tree.specs.Mesh.{mesh};
 ghost use Rattle.tree.specs.Layout.{treeOf};
 ghost use Rattle.results.specs.Results.{rayFrom};
-ghost use Rattle.exports.specs.ExactResults.{exactTold, shortExact};
+ghost use Rattle.exports.specs.ExactResults.{shortExact, ExactPlainCall, NumbersCall};
 ghost use Rattle.exports.specs.Calls.{ExactCall};
 
-// The cast of an axis ray at a mesh on whole millimetres, without a tree, and without a work area.
+// The number where a result slice is too short: 1, 12 of the ray and 2, whose test is handed over, go before 3.
+fn short_exact(ray: Ray, shape: bool) -> u32
+    ensures { λ r. ⌜ r ≡ shortExact ray shape ⌝ }
+{
+    if !ray.validate() {
+        return answer::INVALID_INPUT;
+    }
+    if !sight::admitted(ray) {
+        return triangle::OUT_OF_RANGE;
+    }
+    if !shape {
+        return answer::BAD_SHAPE;
+    }
+    answer::NO_ROOM
+}
+
+// The exact cast at a mesh, without a tree and without a work area: the first point of the segment in a triangle, on a grid of 2^-15 mm.
+// Where the result slices are long enough, what is read back from the number and the slices is certain of the whole mesh.
 #[no_mangle]
 pub extern "C" fn probe_ray_mesh_exact_plain(
     origin_x: f64,
@@ -35,62 +48,46 @@ pub extern "C" fn probe_ray_mesh_exact_plain(
     hit: &mut [f64],
     index: &mut [u32],
 ) -> u32
-    ensures { λ r. ⌜ record { number = r; hit = now (hit .exit); index = now (index .exit) }
-        ≡ exactTold (rayFrom «origin_x» «origin_y» «origin_z» «direction_x» «direction_y» «direction_z» «max_distance» «near_distance»)
-        (mesh (now (vertices .entry)) (now (triangles .entry))) (now (hit .entry)) (now (index .entry)) ⌝ }
+    ensures { λ r. ⌜ ExactPlainCall (rayFrom «origin_x» «origin_y» «origin_z» «direction_x» «direction_y» «direction_z» «max_distance»
+        «near_distance»)
+        (mesh (now (vertices .entry)) (now (triangles .entry))) (now (hit .entry)) (now (index .entry))
+        (record { number = r; hit = now (hit .exit); index = now (index .exit) }) ⌝ }
 {
-    let ray = results::ray_from(
-        origin_x,
-        origin_y,
-        origin_z,
-        direction_x,
-        direction_y,
-        direction_z,
-        max_distance,
-        near_distance,
-    );
-    if !ray.validate() {
-        return answer::INVALID_INPUT;
-    }
-    let ruled = line::line_of(ray);
-    let Ruled::On(line) = ruled else {
-        return triangle::NOT_WHOLE;
+    let ray = Ray {
+        origin: Vec3 {
+            x: origin_x,
+            y: origin_y,
+            z: origin_z,
+        },
+        direction: Vec3 {
+            x: direction_x,
+            y: direction_y,
+            z: direction_z,
+        },
+        max_distance: max_distance,
+        near: near_distance,
     };
-    if !triangle_mesh::lengths_admitted(vertices.len(), triangles.len()) {
-        return answer::BAD_SHAPE;
-    }
     if hit.len() < 4 {
-        return answer::NO_ROOM;
+        return short_exact(
+            ray,
+            triangle_mesh::lengths_admitted(vertices.len(), triangles.len()),
+        );
     }
     if index.len() < 1 {
-        return answer::NO_ROOM;
+        return short_exact(
+            ray,
+            triangle_mesh::lengths_admitted(vertices.len(), triangles.len()),
+        );
     }
-    let found = cast::exact_cast(ray, line, vertices, triangles);
+    let found = cast::ray_mesh_exact_plain(ray, vertices, triangles);
     results::put_indexed(found, hit, index)
 }
 
-// The number where a result slice is too short: 1, 12 of the ray and 2 go before 3.
-fn short_exact(ray: Ray, vertices: usize, triangles: usize, pose: usize, nodes: usize) -> u32
-    ensures { λ r. ⌜ r ≡ shortExact ray (lengthsAdmitted vertices triangles
-        && (lengthsAdmitted pose triangles && leb nodes (2 * thirds triangles))) ⌝ }
-{
-    if !ray.validate() {
-        return answer::INVALID_INPUT;
-    }
-    let ruled = line::line_of(ray);
-    let Ruled::On(_) = ruled else {
-        return triangle::NOT_WHOLE;
-    };
-    if !mesh_cast::shape_admitted(vertices, triangles, pose, nodes) {
-        return answer::BAD_SHAPE;
-    }
-    answer::NO_ROOM
-}
-
-// The cast of an axis ray at a mesh on whole millimetres, through its tree.
-// The list and the stack are work areas: unchanged until the result slices and refusals 1, 12 of the ray and 2 to 4 have let the call pass,
-// and then they may hold anything.
-// The third clause: at the mesh's own vertices, with any tree that passes the check, it tells what the call without a tree tells.
+// The same through a tree, by a walk that passes over what the line cannot meet.
+// The stack is a work area: unchanged until the result slices and refusals 1, 12 of the ray and 2 to 4 have let the call pass, and then it
+// may hold anything.
+// The third clause: at the mesh's own vertices, with any tree that passes the check and no NaN at a corner of the mesh, the call promises
+// what the one without a tree promises.
 #[no_mangle]
 pub extern "C" fn probe_ray_mesh_exact(
     origin_x: f64,
@@ -109,7 +106,6 @@ pub extern "C" fn probe_ray_mesh_exact(
     triangle_boxes: &[f64],
     node_words: &[u32],
     order: &[u32],
-    list: &mut [u32],
     stack: &mut [u32],
     hit: &mut [f64],
     index: &mut [u32],
@@ -118,7 +114,7 @@ pub extern "C" fn probe_ray_mesh_exact(
         «near_distance»)
         (mesh (now (vertices .entry)) (now (triangles .entry))) (now (pose .entry))
         (treeOf nodes (now («node_boxes» .entry)) (now («triangle_boxes» .entry)) (now («node_words» .entry)) (now (order .entry)))
-        (now (list .entry)) (now (list .exit)) (now (stack .entry)) (now (stack .exit)) (now (hit .entry)) (now (index .entry))
+        (now (stack .entry)) (now (stack .exit)) (now (hit .entry)) (now (index .entry))
         (record { number = r; hit = now (hit .exit); index = now (index .exit) }) ⌝ }
 {
     let ray = Ray {
@@ -136,10 +132,16 @@ pub extern "C" fn probe_ray_mesh_exact(
         near: near_distance,
     };
     if hit.len() < 4 {
-        return short_exact(ray, vertices.len(), triangles.len(), pose.len(), nodes);
+        return short_exact(
+            ray,
+            mesh_cast::shape_admitted(vertices.len(), triangles.len(), pose.len(), nodes),
+        );
     }
     if index.len() < 1 {
-        return short_exact(ray, vertices.len(), triangles.len(), pose.len(), nodes);
+        return short_exact(
+            ray,
+            mesh_cast::shape_admitted(vertices.len(), triangles.len(), pose.len(), nodes),
+        );
     }
     let found = tree_cast::ray_mesh_exact(
         ray,
@@ -151,8 +153,18 @@ pub extern "C" fn probe_ray_mesh_exact(
         triangle_boxes,
         node_words,
         order,
-        list,
         stack,
     );
     results::put_indexed(found, hit, index)
+}
+
+// Whether every corner of every triangle is three numbers: 'yes' or 'no', as the tree check tells it. A mesh is asked once.
+#[no_mangle]
+pub extern "C" fn probe_mesh_has_numbers(vertices: &[f64], triangles: &[u32]) -> u32
+    ensures { λ r. ⌜ NumbersCall (mesh (now (vertices .entry)) (now (triangles .entry))) r ⌝ }
+{
+    if numbers::has_numbers(vertices, triangles) {
+        return results::YES;
+    }
+    results::NO
 }

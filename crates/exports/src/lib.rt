@@ -14,7 +14,7 @@ pub mod listings;
 pub mod meshes;
 // The mesh cast without a tree.
 pub mod plain;
-// The mesh cast on whole millimetres, without a tree and through one.
+// The exact cast at a mesh, without a tree and through one.
 pub mod exact;
 // The cast at heights known only within ranges.
 pub mod ranges;

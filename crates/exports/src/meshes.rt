@@ -87,7 +87,7 @@ fn told_mesh(
 
 // The mesh cast. The list and the stack are work areas: unchanged until the result slices and refusals 1 to 4 have let the call pass, and
 // then they may hold anything.
-// Demand 3 holds of what is told: `MeshCallMeetsDemand` (specs/Demands.antt).
+// Demand 3 holds of what is read back from the number and the slices: the third clause, `DemandRead` (specs/Reading.antt).
 #[no_mangle]
 pub extern "C" fn probe_ray_mesh(
     origin_x: f64,
@@ -199,7 +199,7 @@ pub extern "C" fn probe_ray_mesh_near(
 
 // Builds a mesh's tree into the result areas and writes its node count. The work area is unchanged after refusals 2 and 3; past their
 // tests nothing is promised of it.
-// What it writes without refusing passes the check: `BuildCallPasses` (specs/Demands.antt).
+// Where the number is `DONE`, the tree in the areas passes the check: the third clause, `BuiltRead` (specs/Reading.antt).
 #[no_mangle]
 pub extern "C" fn probe_build(
     vertices: &[f64],
@@ -300,6 +300,7 @@ pub extern "C" fn probe_query(
 }
 
 // Whether a tree, from whatever builder, fits the mesh. The marks are a work area, unchanged after a refusal.
+// Where the number is `YES`, the tree passes the check, as demand 3 asks it: the third clause.
 #[no_mangle]
 pub extern "C" fn probe_tree_check(
     vertices: &[f64],

@@ -3,6 +3,7 @@ use height_field::field::Field;
 use height_ranges::answer::Clearance;
 use height_ranges::cast;
 ghost use mathlib.Core.Path.{_≡_};
+ghost use Rattle.height_ranges.specs.Answer.{says};
 ghost use Rattle.height_ranges.specs.RangesCast.{rayHeightRanges};
 ghost use Rattle.results.specs.Results.{rayFrom, fieldOf};
 ghost use Rattle.exports.specs.Ranges.{shortNumber, answeredCell, KeepsPromise};
@@ -14,7 +15,7 @@ pub const POSSIBLE: u32 = 262;
 
 // The number where the cell has no place: 3, but 1 and 2 are found before.
 fn short_number(answer: Clearance) -> u32
-    ensures { λ r. ⌜ r ≡ shortNumber answer ⌝ }
+    ensures { λ r. ⌜ r ≡ shortNumber (says answer) ⌝ }
 {
     match answer {
         Clearance::Clear => {
@@ -34,7 +35,7 @@ fn short_number(answer: Clearance) -> u32
 
 // The answer as its number, the cell written where one may be touched.
 fn put_cell(answer: Clearance, cell: &mut [u32]) -> u32
-    ensures { λ r. ⌜ record { number = r; cell = now (cell .exit) } ≡ answeredCell answer (now (cell .entry)) ⌝ }
+    ensures { λ r. ⌜ record { number = r; cell = now (cell .exit) } ≡ answeredCell (says answer) (now (cell .entry)) ⌝ }
 {
     if cell.len() < 1 {
         return short_number(answer);
@@ -54,7 +55,7 @@ fn put_cell(answer: Clearance, cell: &mut [u32]) -> u32
 }
 
 // The cast at a height grid with a low and a high for each node; both stand row after row.
-// The second clause: what is told keeps the promise about every grid within the ranges.
+// The second clause: what the number and the cell say keeps the promise about every grid within the ranges.
 #[no_mangle]
 pub extern "C" fn probe_ray_height_ranges(
     origin_x: f64,

@@ -11,7 +11,7 @@ ghost use Rattle.results.specs.Results.{version, rayOf, planeOf, cornersOf, fie
 pub extern "C" fn probe_version() -> u32
     ensures { λ r. ⌜ r ≡ version ⌝ }
 {
-    2
+    3
 }
 
 // The cast at a plane.

@@ -6,12 +6,11 @@ use native.Mathlib.Omega.{arith}
 use lib.Dec.{T}
 use lib.Ieee.{Float, nan, inf, fin, binary64, up, down, ofBits, fits, isNan, neg, add, sub, mul, div, lt, le}
 use lib.Ieee.Exact.{HasValue}
-use lib.Ieee.Bits.{ofBits-fits}
-use lib.Ieee.Fits.{cond-fits, neg-fits, add-fits, mul-fits}
+use lib.Ieee.Fits.{add-fits, mul-fits}
 use borrow.Author.Tests.{le-ltb}
 use Rattle.arithmetic.specs.Basic.{isFinite, negative, clampTo}
 use Rattle.arithmetic.specs.Below.{justBelow}
-use Rattle.arithmetic.proofs.BelowLaws.{just-below-less, just-below-greatest}
+use Rattle.arithmetic.proofs.BelowLaws.{just-below-less, just-below-greatest, just-below-fits}
 use Rattle.arithmetic.proofs.Exactness.{ofInt-value}
 use Rattle.arithmetic.proofs.Numbers.{finite-number}
 use Rattle.arithmetic.proofs.Order.{le-of-lt, le-of-not-lt, le-reflexive, le-transitive, lt-of-lt-le, lt-of-le-lt, lt-irreflexive}
@@ -56,12 +55,6 @@ divided-finite (fin t m e) s (positive n d l) h = refl
 
 own-difference : (o : Float) → isFinite o ≡ true → o -ᶠ o ≡ nothing
 own-difference o h = less-itself o ∙ ap (λ (b : Bool). cond b nothing nan) h
-
-just-below-fits : (x : Float) → T (fits binary64 x) → T (fits binary64 (justBelow x))
-unfolding justBelow
-just-below-fits x f =
-    cond-fits binary64 (lt (ofBits binary64 0) x) _ _ (ofBits-fits binary64 _)
-    (cond-fits binary64 (isFinite x) _ _ (neg-fits binary64 _ (ofBits-fits binary64 _)) f)
 
 product-plain : (s w : Float) (k : ℕ) → Positive s → HasValue w false k 1 → negative (s *ᶠ w) ≡ false
 unfolding mul

@@ -20,7 +20,7 @@ use Rattle.height_field.specs.Cells.{spanOf, scaledRange, cellRange, run, range
 use Rattle.height_field.specs.Listing.{both, listAll, allFinite, cellFinite, featureBox, listCell, gridListing}
 use Rattle.lists.specs.Lists.{keep, every}
 use Rattle.height_field.specs.Cast.{spanFinite}
-use Rattle.height_ranges.specs.declared.answer.Clearance.the-variants.{Clear, Possible, Refused}
+use Rattle.height_ranges.specs.Answer.{clear, possible, refused}
 use Rattle.height_ranges.specs.Ranges.{rangesAdmitted, nodeAt, cellNodes, nodesOf, nodeInOrder, nearestHeights}
 use Rattle.height_ranges.specs.RangesCast.{answerListed, visitedAnswer, rangesCast, rayHeightRanges}
 
@@ -65,7 +65,7 @@ pub answers-agree :
     ∷ rayHeightRanges (down oneᶠ) grid (level zeroᶠ) (ending quarter two)
     ∷ rayHeightRanges (down (neg oneᶠ)) grid (level nan) (level nan)
     ∷ []
-    ≡ Possible 0 ∷ Clear ∷ Clear ∷ Refused 9 ∷ Refused 9 ∷ Refused 9 ∷ Clear ∷ Possible 1 ∷ Clear ∷ []
+    ≡ possible 0 ∷ clear ∷ clear ∷ refused 9 ∷ refused 9 ∷ refused 9 ∷ clear ∷ possible 1 ∷ clear ∷ []
 unfolding span climb size odd units round neg sum add sub mul div lt eq le ofInt toUnsigned isNan ofFields ofBits isFinite absolute clampTo
     minimumOf maximumOf rootDigits wholeRoot rootRound rootOf wholeBy floorOf finiteVec addOf subOf scaleOf minOf maxOf dotOf lengthOf
     validSide validBox touchSide touches cornersBox unitLength rayAdmitted segmentEnd segmentBox sideAdmitted spacingAdmitted fieldAdmitted

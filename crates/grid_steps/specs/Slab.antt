@@ -29,7 +29,8 @@ unfoldable pub slab : Interval → Float → Float → Float → Float → Inter
 slab (Within entry exit) origin direction low high = slabFrom entry exit origin direction low high
 slab Miss origin direction low high = Miss
 
--- the interval where the walk starts: it must not end before the ray's origin, nor start past its maximum
+-- the interval where the walk starts: it must not end before the ray's origin, nor start past its maximum. 0 does here what near would:
+-- the interval began at near, which is not below 0, and no cut lowers its entry
 unfoldable pub started : Interval → Float → Interval
 started (Within entry exit) furthest =
     cond (lt exit zeroᶠ) Miss (cond (lt furthest entry) Miss (Within (maximumOf entry zeroᶠ) exit))

@@ -16,14 +16,14 @@ use Rattle.height_field.specs.Cells.{visitedCells}
 use Rattle.height_field.specs.Listing.{listed, featureBox, gridListing}
 use Rattle.height_field.specs.Cast.{answerOf, castListed, heightCast, rayHeightField}
 use Rattle.height_field.proofs.Sizes.{admitted-sized}
-use Rattle.height_ranges.specs.declared.answer.Clearance.{Clearance}
-use Rattle.height_ranges.specs.declared.answer.Clearance.the-variants.{Clear, Possible, Refused}
+use Rattle.height_ranges.specs.Answer.{Answer, clear, possible, refused}
 use Rattle.height_ranges.specs.Ranges.{cellNodes, nodesOf, nodeInOrder, nearestHeights}
 use Rattle.height_ranges.specs.RangesCast.{answerListed, visitedAnswer}
 use Rattle.height_ranges.specs.Pass.{cellTouches, firstCell}
 use Rattle.height_ranges.specs.Promise.{Among, Visited, Tested, InOrder, Within, MayTouch, First}
 use Rattle.height_ranges.proofs.Members.{every-of, nodes-of-cell}
 use Rattle.height_ranges.proofs.NearestGrid.{Held, held-finite, nearest-held, nearest-length, lower-side, feature-nearest}
+use Rattle.height_ranges.proofs.Doubles.{Typed, nearest-fits}
 use Rattle.height_ranges.proofs.VisitedCells.{visited-in-grid, visited-ascend}
 use Rattle.height_ranges.proofs.FiniteCells.{cell-finite}
 use Rattle.height_ranges.proofs.FirstCells.{first-least, clear-fails, never-refused, least-first, fails-clear, Lists}
@@ -44,7 +44,7 @@ module _ (r : Ray) (f : Field) (lows highs : List Float) where
   abbrev touching : List Float → ℕ → Bool
   touching heights = cellTouches f heights (segmentBox r)
 
-  abbrev pub Answers : Clearance → Type 0
+  abbrev pub Answers : Answer → Type 0
   Answers answer = visitedAnswer f lows highs (segmentBox r) ≡ answer
 
   abbrev Grid : List Float → Type 0
@@ -52,6 +52,12 @@ module _ (r : Ray) (f : Field) (lows highs : List Float) where
 
   abbrev Untouched : ℕ → Type 0
   Untouched cell = Visited r f lows highs cell → MayTouch r f lows highs cell → ⊥
+
+  -- a triangle of a cell that touches on a grid
+  record Touch (heights : List Float) (cell : ℕ) : Type 0 where
+    triangle : ℕ
+    one : triangle < 2
+    touched : touches (featureBox f heights (cell * 2 + triangle)) box ≡ true
 
   module _ (t : Tested r f lows highs) (ordered : InOrder r f lows highs) where
     nearest-is-within : Grid nearest
@@ -84,21 +90,21 @@ module _ (r : Ray) (f : Field) (lows highs : List Float) where
         let l = lists nearest nearest-is-within in
         rw (every-of (nodeInOrder lows highs) (nodesOf f visited) ordered) (ap answerListed (l .listing) ∙ l .first)
 
-    -- some grid touches exactly if the nearest heights do
-    may-touches : (cell : ℕ) → Visited r f lows highs cell → MayTouch r f lows highs cell → touching nearest cell ≡ true
+    -- a triangle of a cell that touches on some grid within the ranges touches at the nearest heights
+    touches-nearest : (heights : List Float) → Grid heights → (cell : ℕ) → Visited r f lows highs cell → (triangle : ℕ) → triangle < 2
+        → touches (featureBox f heights (cell * 2 + triangle)) box ≡ true → touching nearest cell ≡ true
     unfolding cellTouches
-    may-touches cell v m = go (m .triangle) (m .one) (m .touching)
+    touches-nearest heights w cell v = go
       where
-        near : (feature : ℕ) → feature / 2 ≡ cell → touches (featureBox f (m .heights) feature) box ≡ true
+        near : (feature : ℕ) → feature / 2 ≡ cell → touches (featureBox f heights feature) box ≡ true
             → touches (featureBox f nearest feature) box ≡ true
-        near feature e = feature-nearest f lows highs (m .heights) box (box-valid r f lows highs t) cell feature e
-            (held (m .heights) (m .within) cell v)
+        near feature e = feature-nearest f lows highs heights box (box-valid r f lows highs t) cell feature e (held heights w cell v)
 
-        go : (k : ℕ) → k < 2 → touches (featureBox f (m .heights) (cell * 2 + k)) box ≡ true
+        go : (k : ℕ) → k < 2 → touches (featureBox f heights (cell * 2 + k)) box ≡ true
             → (touches (featureBox f nearest (cell * 2)) box || touches (featureBox f nearest (cell * 2 + 1)) box) ≡ true
         go zero h e =
             let z : cell * 2 + 0 ≡ cell * 2 = omega arith in
-            let d = near (cell * 2) (omega arith) (subst (λ (n : ℕ). touches (featureBox f (m .heights) n) box ≡ true) z e) in
+            let d = near (cell * 2) (omega arith) (subst (λ (n : ℕ). touches (featureBox f heights n) box ≡ true) z e) in
             ap (λ (b : Bool). b || touches (featureBox f nearest (cell * 2 + 1)) box) d
         go (suc zero) h e =
             let d = near (cell * 2 + 1) (omega arith) e in
@@ -106,59 +112,78 @@ module _ (r : Ray) (f : Field) (lows highs : List Float) where
             ∙ or-true (touches (featureBox f nearest (cell * 2)) box)
         go (suc (suc k)) h e = absurd (omega arith)
 
-    touches-may : (heights : List Float) → Grid heights → (cell : ℕ) → touching heights cell ≡ true → MayTouch r f lows highs cell
+    may-touches : (cell : ℕ) → Visited r f lows highs cell → MayTouch r f lows highs cell → touching nearest cell ≡ true
+    may-touches cell v m = touches-nearest (m .heights) (m .within) cell v (m .triangle) (m .one) (m .touching)
+
+    -- and a cell that touches has a triangle that does
+    one-touches : (heights : List Float) (cell : ℕ) → touching heights cell ≡ true → Touch heights cell
     unfolding cellTouches
-    touches-may heights w cell h = go (touches (featureBox f heights (cell * 2)) box) refl h
+    one-touches heights cell h = go (touches (featureBox f heights (cell * 2)) box) refl h
       where
         go : (b : Bool) → touches (featureBox f heights (cell * 2)) box ≡ b
-            → (b || touches (featureBox f heights (cell * 2 + 1)) box) ≡ true → MayTouch r f lows highs cell
+            → (b || touches (featureBox f heights (cell * 2 + 1)) box) ≡ true → Touch heights cell
         go true e h =
             let z : cell * 2 ≡ cell * 2 + 0 = omega arith in
             record {
-              heights = heights;
-              within = w;
               triangle = 0;
               one = omega arith;
-              touching = subst
-                  (λ (n : ℕ). touches (featureBox f heights n) box ≡ true) z e;
+              touched = subst (λ (n : ℕ). touches (featureBox f heights n) box ≡ true) z e;
             }
-        go false e h = record { heights = heights; within = w; triangle = 1; one = omega arith; touching = h }
+        go false e h = record { triangle = 1; one = omega arith; touched = h }
 
-    -- ---- the two answers
-    pub first-of : (cell : ℕ) → Answers (Possible cell) → First r f lows highs cell
-    first-of cell e =
-        let l = first-least (touching nearest) visited cell (visited-ascend f box) (sym in-order ∙ e) in
-        record {
-          visited = l .among;
-          may = touches-may nearest nearest-is-within cell (l .passes);
-          least = λ other v m. l .least other v (may-touches other v m);
-        }
-
-    pub of-first : (cell : ℕ) → First r f lows highs cell → Answers (Possible cell)
-    of-first cell p =
-        in-order ∙ least-first (touching nearest) visited cell (visited-ascend f box)
-        (record {
-          among = p .visited;
-          passes = may-touches cell (p .visited) (p .may);
-          least = λ other v h. p .least other v (touches-may nearest nearest-is-within other h);
-        })
-
-    pub none-may : Answers Clear → (cell : ℕ) → Untouched cell
+    pub none-may : Answers clear → (cell : ℕ) → Untouched cell
     none-may e cell v m = clear-fails (touching nearest) visited (sym in-order ∙ e) cell v (may-touches cell v m)
 
-    pub of-none : ((cell : ℕ) → Untouched cell) → Answers Clear
-    of-none h =
-        in-order ∙ fails-clear (touching nearest) visited (λ cell v k. h cell v (touches-may nearest nearest-is-within cell k))
-
-    pub no-refusal : (number : ℕ) → Answers (Refused number) → ⊥
+    pub no-refusal : (number : ℕ) → Answers (refused number) → ⊥
     no-refusal number e = never-refused (touching nearest) visited number (sym in-order ∙ e)
 
     -- nothing is listed on any grid within the ranges
-    pub height-cast-none : Answers Clear → (heights : List Float) → Grid heights → rayHeightField r f heights ≡ none
+    pub height-cast-none : Answers clear → (heights : List Float) → Grid heights → rayHeightField r f heights ≡ none
     unfolding rayHeightField heightCast gridListing castListed foldFrom withoutIndex
     height-cast-none e heights w =
         let l = lists heights w in
-        let clear = fails-clear (touching heights) visited (λ cell v k. none-may e cell v (touches-may heights w cell k)) in
-        let nothing = l .listing ∙ ap listed (clear-empty (l .features) (l .first ∙ clear)) in
+        let nothing = l .listing ∙ ap listed (clear-empty (l .features) (l .first ∙ fails-clear (touching heights) visited fails)) in
         rw (t .ray, (same-admitted r f lows highs t) heights (w .whole), t .end, (box-valid r f lows highs t), t .span)
         (ap (castListed (answerOf r f heights)) nothing)
+      where
+        fails : (cell : ℕ) → Visited r f lows highs cell → touching heights cell ≡ true → ⊥
+        fails cell v k =
+            let one = one-touches heights cell k in
+            clear-fails (touching nearest) visited (sym in-order ∙ e) cell v
+            (touches-nearest heights w cell v (one .triangle) (one .one) (one .touched))
+
+    -- ---- the two answers
+    module _ (typed : Typed r lows highs) where
+      nearest-may : (cell : ℕ) → touching nearest cell ≡ true → MayTouch r f lows highs cell
+      nearest-may cell h =
+          let one = one-touches nearest cell h in
+          record {
+            heights = nearest;
+            doubles = nearest-fits r lows highs typed;
+            within = nearest-is-within;
+            triangle = one .triangle;
+            one = one .one;
+            touching = one .touched;
+          }
+
+      pub first-of : (cell : ℕ) → Answers (possible cell) → First r f lows highs cell
+      first-of cell e =
+          let l = first-least (touching nearest) visited cell (visited-ascend f box) (sym in-order ∙ e) in
+          record {
+            visited = l .among;
+            may = nearest-may cell (l .passes);
+            least = λ other v m. l .least other v (may-touches other v m);
+          }
+
+      pub of-first : (cell : ℕ) → First r f lows highs cell → Answers (possible cell)
+      of-first cell p =
+          in-order ∙ least-first (touching nearest) visited cell (visited-ascend f box)
+          (record {
+            among = p .visited;
+            passes = may-touches cell (p .visited) (p .may);
+            least = λ other v h. p .least other v (nearest-may other h);
+          })
+
+      pub of-none : ((cell : ℕ) → Untouched cell) → Answers clear
+      of-none h =
+          in-order ∙ fails-clear (touching nearest) visited (λ cell v k. h cell v (nearest-may cell k))

@@ -17,7 +17,7 @@ use Rattle.height_field.specs.Grid.{vertexAt, cellRow, cellColumn, cornersAt, f
 use Rattle.height_field.specs.Listing.{featureBox}
 use Rattle.height_ranges.specs.Ranges.{nodeAt, cellNodes, nodeInOrder, nearestHeights}
 use Rattle.height_ranges.specs.Promise.{Among}
-use Rattle.height_ranges.proofs.Clamps.{clamp-above-low, clamp-below-high}
+use Rattle.arithmetic.proofs.Clamps.{clamp-above-low, clamp-below-high}
 use Rattle.height_ranges.proofs.OneGrid.{Nears, Ordered, side-ordered, clamp-nears, corners-near}
 
 -- ---- at a node

@@ -14,7 +14,7 @@ use Rattle.vectors.specs.Vector.{vector, minOf, maxOf}
 use Rattle.geometry.specs.Box.{validSide, touchSide, touches, cornersBox}
 use Rattle.geometry.specs.declared.aabb.Aabb.{Aabb}
 use Rattle.lists.proofs.JoinedTests.{and-both, and-first, and-second, and-three}
-use Rattle.height_ranges.proofs.Clamps.{clamp-finite, clamp-below, clamp-reaches}
+use Rattle.arithmetic.proofs.Clamps.{clamp-finite, clamp-below, clamp-reaches}
 
 -- ---- the least and the greatest of three
 

@@ -15,7 +15,7 @@ use Rattle.height_field.specs.Cells.{gridCells, visitedCells, visitedRange, cel
 use Rattle.height_field.specs.Listing.{listAll, gridListing}
 use Rattle.height_field.proofs.Ranges.{visited-cells, visited-stands}
 use Rattle.height_field.proofs.Sizes.{admitted-sized}
-use Rattle.height_ranges.specs.declared.answer.Clearance.the-variants.{Clear, Refused}
+use Rattle.height_ranges.specs.Answer.{clear, refused}
 use Rattle.height_ranges.specs.Ranges.{nodesOf, nodeInOrder, nearestHeights}
 use Rattle.lists.specs.Lists.{every}
 use Rattle.height_ranges.specs.RangesCast.{badRange, answerListed, visitedAnswer}
@@ -48,11 +48,11 @@ module _ (r : Ray) (f : Field) (lows highs : List Float) (t : Tested r f lows hi
 -- ---- by the ranges
 
 module _ (f : Field) (lows highs : List Float) (box : Aabb) where
-  none-visited : visitedCells f box ≡ [] → visitedAnswer f lows highs box ≡ Clear
+  none-visited : visitedCells f box ≡ [] → visitedAnswer f lows highs box ≡ clear
   unfolding visitedAnswer gridListing listAll nodesOf every answerListed
   none-visited e = rw e
 
-  pub outside : visitedRange f box ≡ NoCells → visitedAnswer f lows highs box ≡ Clear
+  pub outside : visitedRange f box ≡ NoCells → visitedAnswer f lows highs box ≡ clear
   unfolding cellsOf
   outside e = none-visited (visited-cells f box ∙ ap (cellsOf f) e)
 
@@ -69,7 +69,7 @@ module _ (f : Field) (lows highs : List Float) (box : Aabb) where
         ∙ rectangle-of-nodes (nodeInOrder lows highs) f first last left right (w .some-rows) (w .some-columns) (omega (arith, w))
 
     pub out-of-order : every (nodeInOrder lows highs) (gridNodes f (upTo first (last + 1)) (upTo left (right + 1))) ≡ false
-        → visitedAnswer f lows highs box ≡ Refused badRange
+        → visitedAnswer f lows highs box ≡ refused badRange
     unfolding visitedAnswer
     out-of-order h = rw (nodes-tell ∙ h)
 

@@ -3,7 +3,7 @@ use Prim.Native.Nat.{ℕ, _+_, _*_, _≤_, _<_}
 use mathlib.Core.Path.{_≡_}
 use mathlib.Core.Bool.{true, false}
 use mathlib.Core.List.{List, List·Memᴰ}
-use lib.Ieee.{Float, nan, le}
+use lib.Ieee.{Float, binary64, nan, le, fits}
 use lib.ListN.{length, getD}
 use Rattle.vectors.specs.Vector.{finiteVec}
 use Rattle.geometry.specs.Box.{touches}
@@ -14,8 +14,7 @@ use Rattle.height_field.specs.declared.field.Field.{Field}
 use Rattle.height_field.specs.Cells.{visitedCells}
 use Rattle.height_field.specs.Listing.{featureBox}
 use Rattle.height_field.specs.Cast.{spanFinite, rayHeightField}
-use Rattle.height_ranges.specs.declared.answer.Clearance.{Clearance}
-use Rattle.height_ranges.specs.declared.answer.Clearance.the-variants.{Clear, Possible, Refused}
+use Rattle.height_ranges.specs.Answer.{Answer, clear, possible, refused}
 use Rattle.height_ranges.specs.Ranges.{rangesAdmitted, nodesOf, nodeInOrder}
 use Rattle.height_ranges.specs.RangesCast.{badRange}
 
@@ -54,9 +53,10 @@ module _ (r : Ray) (f : Field) (lows highs : List Float) where
     pub above : (node : ℕ) → Counts node → le (getD lows node nan) (getD heights node nan) ≡ true
     pub below : (node : ℕ) → Counts node → le (getD heights node nan) (getD highs node nan) ≡ true
 
-  -- some such grid "has a triangle of" the cell "whose box touches the segment's box"
+  -- some such grid, of f64 as every grid that a caller can lend, "has a triangle of" the cell "whose box touches the segment's box"
   pub record MayTouch (cell : ℕ) : Type 0 where
     pub heights : List Float
+    pub doubles : (node : ℕ) → fits binary64 (getD heights node nan) ≡ true
     pub within : Within heights
     pub triangle : ℕ
     pub one : triangle < 2
@@ -68,18 +68,18 @@ module _ (r : Ray) (f : Field) (lows highs : List Float) where
     pub may : MayTouch cell
     pub least : (other : ℕ) → Visited other → MayTouch other → cell ≤ other
 
-  pub record MeetsPromise (answer : Clearance) : Type 0 where
+  pub record MeetsPromise (answer : Answer) : Type 0 where
     -- "Possible means exactly that some grid .. has a triangle of a visited cell whose box touches the segment's box":
     -- the cell is then the first
-    pub possible-if : (cell : ℕ) → Tested → InOrder → First cell → answer ≡ Possible cell
-    pub possible-only-if : (cell : ℕ) → answer ≡ Possible cell → Tested × (InOrder × First cell)
+    pub possible-if : (cell : ℕ) → Tested → InOrder → First cell → answer ≡ possible cell
+    pub possible-only-if : (cell : ℕ) → answer ≡ possible cell → Tested × (InOrder × First cell)
     -- clear exactly if there is none
-    pub clear-if : Tested → InOrder → ((cell : ℕ) → Visited cell → MayTouch cell → ⊥) → answer ≡ Clear
-    pub clear-only-if : answer ≡ Clear → Tested × (InOrder × ((cell : ℕ) → Visited cell → MayTouch cell → ⊥))
+    pub clear-if : Tested → InOrder → ((cell : ℕ) → Visited cell → MayTouch cell → ⊥) → answer ≡ clear
+    pub clear-only-if : answer ≡ clear → Tested × (InOrder × ((cell : ℕ) → Visited cell → MayTouch cell → ⊥))
     -- "number 9 for a range of a visited cell that is out of order or not finite"
-    pub nine-if : Tested → OutOfOrder → answer ≡ Refused badRange
-    pub nine-only-if : answer ≡ Refused badRange → Tested × OutOfOrder
+    pub nine-if : Tested → OutOfOrder → answer ≡ refused badRange
+    pub nine-only-if : answer ≡ refused badRange → Tested × OutOfOrder
     -- "the listing's later refusals" never occur: after the tests and with all ranges in order no number is refused
-    pub never-later : (number : ℕ) → Tested → InOrder → answer ≡ Refused number → ⊥
+    pub never-later : (number : ℕ) → Tested → InOrder → answer ≡ refused number → ⊥
     -- "Where clear, the height cast on every such grid is none"
-    pub none-where-clear : answer ≡ Clear → (heights : List Float) → Within heights → rayHeightField r f heights ≡ none
+    pub none-where-clear : answer ≡ clear → (heights : List Float) → Within heights → rayHeightField r f heights ≡ none

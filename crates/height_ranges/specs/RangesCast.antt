@@ -12,8 +12,7 @@ use Rattle.height_field.specs.declared.field.Field.{Field}
 use Rattle.height_field.specs.Cells.{visitedCells}
 use Rattle.height_field.specs.Listing.{Listing, listed, unlisted, gridListing}
 use Rattle.height_field.specs.Cast.{spanFinite}
-use Rattle.height_ranges.specs.declared.answer.Clearance.{Clearance}
-use Rattle.height_ranges.specs.declared.answer.Clearance.the-variants.{Clear, Possible, Refused}
+use Rattle.height_ranges.specs.Answer.{Answer, clear, possible, refused}
 use Rattle.height_ranges.specs.Ranges.{rangesAdmitted, nodesOf, nodeInOrder, nearestHeights}
 use Rattle.lists.specs.Lists.{every}
 
@@ -22,24 +21,24 @@ abbrev pub badRange : ℕ
 badRange = 9
 
 -- "the listing's later refusals, which precede both answers", or the cell of the first listed triangle, or clear
-unfoldable pub answerListed : Listing → Clearance
-answerListed (listed []) = Clear
-answerListed (listed (feature ∷ rest)) = Possible (feature / 2)
-answerListed (unlisted number) = Refused number
+unfoldable pub answerListed : Listing → Answer
+answerListed (listed []) = clear
+answerListed (listed (feature ∷ rest)) = possible (feature / 2)
+answerListed (unlisted number) = refused number
 
 -- 9 "comes as soon as the visited cells are known"; then the listing of the heights nearest to the box's lower side, which touch if any do
-unfoldable pub visitedAnswer : Field → List Float → List Float → Aabb → Clearance
+unfoldable pub visitedAnswer : Field → List Float → List Float → Aabb → Answer
 visitedAnswer f lows highs box =
     cond (every (nodeInOrder lows highs) (nodesOf f (visitedCells f box)))
     (answerListed (gridListing f (nearestHeights (box .min .z) lows highs) box))
-    (Refused badRange)
+    (refused badRange)
 
 -- the height cast's order: the segment's refusals, the span (6), then the visited cells
-unfoldable pub rangesCast : Ray → Field → List Float → List Float → Clearance
+unfoldable pub rangesCast : Ray → Field → List Float → List Float → Answer
 rangesCast ray f lows highs =
-    withSegmentBox Refused ray (λ (box : Aabb). cond (spanFinite f) (visitedAnswer f lows highs box) (Refused overflow))
+    withSegmentBox refused ray (λ (box : Aabb). cond (spanFinite f) (visitedAnswer f lows highs box) (refused overflow))
 
 -- refusal 1 before 2, then the cast
-unfoldable pub rayHeightRanges : Ray → Field → List Float → List Float → Clearance
+unfoldable pub rayHeightRanges : Ray → Field → List Float → List Float → Answer
 rayHeightRanges ray f lows highs =
-    cond (rayAdmitted ray) (cond (rangesAdmitted f lows highs) (rangesCast ray f lows highs) (Refused badShape)) (Refused invalidInput)
+    cond (rayAdmitted ray) (cond (rangesAdmitted f lows highs) (rangesCast ray f lows highs) (refused badShape)) (refused invalidInput)

@@ -13,6 +13,7 @@ use height_field::visited::Visited;
 ghost use mathlib.Core.Path.{_≡_};
 ghost use mathlib.Core.Bool.{true};
 ghost use Rattle.geometry.specs.Segment.{rayAdmitted, segmentBox};
+ghost use Rattle.height_ranges.specs.Answer.{says};
 ghost use Rattle.height_ranges.specs.Ranges.{rangesAdmitted};
 ghost use Rattle.height_ranges.specs.RangesCast.{visitedAnswer, rangesCast, rayHeightRanges};
 ghost use Rattle.height_ranges.specs.Promise.{Tested, MeetsPromise};
@@ -30,7 +31,7 @@ fn ranges_admitted(field: Field, lows: &[f64], highs: &[f64]) -> bool
 // The ranges of all visited cells first, then the first cell that touches. Callers show that the tests before them pass.
 fn visited_answer(ray: Ray, bounds: Aabb, field: Field, lows: &[f64], highs: &[f64]) -> Clearance
     requires { ⌜ Tested ray field (now lows) (now highs) ⌝ ∗ ⌜ bounds ≡ segmentBox ray ⌝ }
-    ensures { λ r. ⌜ r ≡ visitedAnswer field (now (lows .entry)) (now (highs .entry)) bounds ⌝ }
+    ensures { λ r. ⌜ says r ≡ visitedAnswer field (now (lows .entry)) (now (highs .entry)) bounds ⌝ }
 {
     let cells = visited::visited_cells(bounds, field, lows);
     let Visited::Cells {
@@ -52,7 +53,7 @@ fn visited_answer(ray: Ray, bounds: Aabb, field: Field, lows: &[f64], highs: &[f
 // The cast in the height cast's order. Callers show that the ray and the grid are admitted.
 fn ranges_cast(ray: Ray, field: Field, lows: &[f64], highs: &[f64]) -> Clearance
     requires { ⌜ rayAdmitted ray ≡ true ⌝ ∗ ⌜ rangesAdmitted field (now lows) (now highs) ≡ true ⌝ }
-    ensures { λ r. ⌜ r ≡ rangesCast ray field (now (lows .entry)) (now (highs .entry)) ⌝ }
+    ensures { λ r. ⌜ says r ≡ rangesCast ray field (now (lows .entry)) (now (highs .entry)) ⌝ }
 {
     let end = ray.segment_end();
     if !end.is_finite() {
@@ -68,8 +69,8 @@ fn ranges_cast(ray: Ray, field: Field, lows: &[f64], highs: &[f64]) -> Clearance
 
 // The cast of any ray at any height grid with a low and a high for each node.
 pub fn ray_height_ranges(ray: Ray, field: Field, lows: &[f64], highs: &[f64]) -> Clearance
-    ensures { λ r. ⌜ r ≡ rayHeightRanges ray field (now (lows .entry)) (now (highs .entry)) ⌝ }
-    ensures { λ r. ⌜ MeetsPromise ray field (now (lows .entry)) (now (highs .entry)) r ⌝ }
+    ensures { λ r. ⌜ says r ≡ rayHeightRanges ray field (now (lows .entry)) (now (highs .entry)) ⌝ }
+    ensures { λ r. ⌜ MeetsPromise ray field (now (lows .entry)) (now (highs .entry)) (says r) ⌝ }
 {
     if !ray.validate() {
         return Clearance::Refused(refusals::INVALID_INPUT);

@@ -1,23 +1,27 @@
 -- Demand 3 and the builder's sentence at the exported calls: the mesh cast through a tree that our builder did not write, and the build of
 -- five triangles. Assumes nothing.
 use Prim.Native.Nat.{ℕ}
-use mathlib.Core.Path.{_≡_, refl}
+use mathlib.Core.Path.{_≡_, refl, ap, _∙_}
 use mathlib.Core.List.{List, [], _∷_}
 use native.Mathlib.Omega.{arith}
 use lib.Ieee.{Float, binary64, ofBits}
-use lib.ListN.{replicate}
-use lib.Seq.{sets}
+use lib.ListN.{length, replicate}
+use lib.Dec.{leb}
 use Rattle.vectors.specs.Numbers.{zeroᶠ}
 use Rattle.geometry.specs.declared.ray.Ray.{Ray}
-use Rattle.tree.specs.Mesh.{Mesh, mesh}
-use Rattle.tree.specs.Layout.{Areas, areas, treeIn}
+use Rattle.tree.specs.Mesh.{Mesh, mesh, lengthsAdmitted}
+use Rattle.tree.specs.Layout.{Areas, areas, treeIn, wordAt}
+use Rattle.casts.specs.Answer.{noRoom}
 use Rattle.tree_build.proofs.Examples.{corners, times, answered, k11-five}
-use Rattle.tree_check.specs.Verdict.{checkOf}
+use Rattle.tree_build.specs.Build.{Answer, buildOf}
+use Rattle.tree_check.specs.Verdict.{yes, checkOf}
 use Rattle.tree_query.proofs.QueryExamples.{o, i, quarter, ten, eleven, lower, oddTree}
+use Rattle.mesh.specs.Demand3.{MeetsDemand}
 use Rattle.mesh.proofs.CastExamples.{odd-admitted}
-use Rattle.results.specs.Results.{resultsFit, answeredMesh, buildTold, toldVerdict, doneCode, yesCode}
-use Rattle.exports.specs.Demands.{TellsDemand}
-use Rattle.exports.proofs.Demands.{mesh-call-meets-demand, build-call-passes}
+use Rattle.results.specs.Results.{BuildTold, resultsFit, answeredMesh, toldNodes, buildTold, doneCode}
+use Rattle.exports.specs.Reading.{answerRead}
+use Rattle.exports.proofs.Kept.{room-there}
+use Rattle.exports.proofs.Reading.{with-demand, built-read}
 
 -- ---- the mesh cast
 
@@ -45,10 +49,11 @@ area = replicate 4 zeroᶠ
 abbrev place : List ℕ
 place = 0 ∷ []
 
-pub odd-call-meets-demand : TellsDemand downward column area place
-    (answeredMesh downward column (column .vertices) oddTree 3 4 area place)
+pub odd-call-meets-demand :
+    MeetsDemand downward column (answerRead (answeredMesh downward column (column .vertices) oddTree 3 4 area place))
 unfolding resultsFit
-odd-call-meets-demand = mesh-call-meets-demand downward column oddTree 3 4 area place odd-admitted refl
+odd-call-meets-demand =
+    with-demand area place downward column (column .vertices) oddTree 3 4 _ Unit refl tt .1 .1 refl odd-admitted refl
 
 -- ---- the build
 abbrev five : Mesh
@@ -57,8 +62,18 @@ five = mesh corners (times 5)
 abbrev lent : Areas
 lent = areas (replicate 60 zeroᶠ) (replicate 30 zeroᶠ) (replicate 30 0) (replicate 5 0)
 
--- it is told as done, with three nodes, and the check's call says yes to the tree that it left in the areas
-pub five-call-passes : (buildTold five lent 5 place .told ≡ record { number = doneCode; count = sets place 0 (3 ∷ []) })
-    × (toldVerdict (checkOf five (treeIn 3 (buildTold five lent 5 place .after)) 15) ≡ yesCode)
-unfolding answered times
-five-call-passes = build-call-passes five lent 5 3 15 place k11-five refl (omega arith)
+-- its number is 'done', and the check says yes to the tree that stands in the areas, with the node count that is read back
+pub five-call-done : buildTold five lent 5 place .told .number ≡ doneCode
+unfolding buildTold toldNodes answered times
+five-call-done =
+    let o = buildOf five lent 5 in
+    let told : BuildTold = record { told = toldNodes (o .answer) place; after = o .after } in
+    let short : BuildTold = record { told = record { number = noRoom; count = place }; after = lent } in
+    let admitted = lengthsAdmitted (length (five .vertices)) (length (five .triangles)) in
+    ap (λ (b : BuildTold). b .told .number) (room-there admitted (leb 1 (length place)) told short refl)
+    ∙ ap (λ (a : Answer). toldNodes a place .number) k11-five
+
+pub five-call-passes :
+    checkOf five (treeIn (wordAt (buildTold five lent 5 place .told .count) 0) (buildTold five lent 5 place .after)) 15 ≡ yes
+unfolding times
+five-call-passes = built-read five lent 5 place (omega arith) _ refl five-call-done 15 (omega arith)

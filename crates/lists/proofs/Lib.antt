@@ -17,3 +17,4 @@ pub mod InOrder
 pub mod Sorted
 pub mod Apart
 pub mod Splitting
+pub mod DepthLaws

@@ -1,24 +1,25 @@
 -- The mesh cast's hit is among the hits of its list, and they are none exactly where the cast answers none. Assumes nothing.
-use Prim.Native.Nat.{ℕ, zero, suc, _<_}
-use mathlib.Core.Path.{_≡_, refl, sym, ap, subst, _∙_}
+use Prim.Native.Nat.{ℕ, _<_}
+use mathlib.Core.Path.{_≡_, refl, sym, ap, _∙_}
 use mathlib.Core.Logic.{_⊎_, inl, inr}
 use mathlib.Core.Bool.{Bool, true, false, cond}
 use mathlib.Core.List.{List, [], _∷_, List·Memᴰ, List·Memᴰ·head, List·Memᴰ·tail}
 use native.Mathlib.Omega.{arith}
 use lib.Ieee.{Float, lt}
+use lib.ListN.{length}
 use Rattle.vectors.specs.declared.vec3.Vec3.{Vec3}
 use Rattle.casts.specs.Answer.{Answer, hit, none, refused}
 use Rattle.nearest_hit.specs.Nearest.{Indexed, hitAt, noHit, stopped, nextOf, foldFrom, nearestOf}
-use Rattle.casts.proofs.AnswerLists.{none-not-hit}
 use Rattle.nearest_hit.proofs.IndexedCases.{hit-not-stopped, hit-not-none}
-use Rattle.nearest_hit.proofs.NearestRefusals.{refusal-stops, none-of-nones, nones-of-none}
+use Rattle.nearest_hit.proofs.NearestRefusals.{refusal-stops, none-of-nones}
 use Rattle.tree.specs.Layout.{wordAt}
 use Rattle.lists.proofs.CountLaws.{member-of-count, count-of-member}
-use Rattle.hit_area.specs.HitArea.{HitArea, isHit}
+use Rattle.hit_area.specs.HitArea.{HitArea, Outcome, isHit}
 use Rattle.hit_listing.specs.HitListing.{listingOf}
 use Rattle.mesh_hits.specs.Promise.{IsListed, FitsCast}
 use Rattle.hit_listing.proofs.PlaceLaws.{at-counted, Place, place-of}
-use Rattle.mesh_hits.proofs.CountedHits.{places, Counted, listed-of-hit, all-hit, index-at, place-at, hit-at}
+use Rattle.mesh_hits.proofs.CountedHits.{same-count, written-counts, listing-empty, places, Counted, listed-of-hit, all-hit}
+use Rattle.mesh_hits.proofs.CountedHits.{index-at, place-at}
 
 -- ---- the fold's hit is one of its list
 module _ (answer : ℕ → Answer) (normal : Vec3) (distance : Float) (i : ℕ) where
@@ -84,16 +85,11 @@ module _ (answer : ℕ → Answer) (area : HitArea) (l : List ℕ) (k : ℕ) (c 
       let e = listed-of-hit answer area l k (wordAt ts j) (all-hit answer area l k (wordAt ts j) here) in
       member-of-count (wordAt ts j) l (omega (arith, here, e))
 
-  empty-if : nearestOf answer l ≡ noHit → k ≡ 0
-  empty-if h = go k refl
-    where
-      go : (j : ℕ) → k ≡ j → k ≡ 0
-      go zero e = e
-      go (suc j) e =
-          let some : 0 < k = omega arith in
-          let i = hit-at answer area l k c 0 some in
-          absurd (none-not-hit (answer (wordAt ts 0)) (i .normal) (i .distance)
-          (nones-of-none answer l h (wordAt ts 0) (of-list 0 some)) (i .is))
+  pub empty-if : nearestOf answer l ≡ noHit → k ≡ 0
+  empty-if h =
+      sym (c .long)
+      ∙ same-count 0 (length ts) (sym (written-counts answer area ts) ∙ sym (ap (λ (o : Outcome). o .answer) (c .is))
+      ∙ listing-empty answer area l h)
 
   empty-only-if : k ≡ 0 → nearestOf answer l ≡ noHit
   empty-only-if e = none-of-nones answer l (λ (x : ℕ) (m : List·Memᴰ x l). go x m (answer x) refl)
@@ -105,7 +101,7 @@ module _ (answer : ℕ → Answer) (area : HitArea) (l : List ℕ) (k : ℕ) (c 
       go x m (refused number) f = let s = refusal-stops answer noHit l x number m f in absurd (c .goes (s .0) (s .1))
 
   pub fits-cast : FitsCast (nearestOf answer l) k (listingOf answer area l .area)
-  fits-cast = record { empty-if = empty-if; empty-only-if = empty-only-if; among = among }
+  fits-cast = record { empty-only-if = empty-only-if; among = among }
     where
       among : (normal : Vec3) (distance : Float) (i : ℕ) → nearestOf answer l ≡ hitAt normal distance i
           → IsListed k (listingOf answer area l .area) normal distance i

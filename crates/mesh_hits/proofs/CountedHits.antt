@@ -3,17 +3,19 @@
 use Prim.Native.Nat.{ℕ, _+_, _*_, _<_}
 use mathlib.Core.Path.{_≡_, refl, sym, ap, subst, _∙_}
 use mathlib.Core.Bool.{Bool, true, false, cond}
-use mathlib.Core.List.{List, _++_}
+use mathlib.Core.List.{List, [], _∷_, _++_, List·Memᴰ, List·Memᴰ·head, List·Memᴰ·tail}
 use native.Mathlib.Omega.{arith}
+use borrow.Author.Tests.{le-leb}
 use lib.Dec.{leb}
 use lib.Ieee.{Float}
 use lib.ListN.{length, take, drop, List·getD-append}
 use lib.Seq.{take-at}
 use Rattle.vectors.specs.declared.vec3.Vec3.{Vec3}
-use Rattle.casts.specs.Answer.{Answer, hit, noRoom}
+use Rattle.casts.specs.Answer.{Answer, hit, none, noRoom}
 use Rattle.nearest_hit.specs.Nearest.{Indexed, hitAt, noHit, stopped, nearestOf}
 use Rattle.nearest_hit.proofs.IndexedCases.{stopped-not-none, hit-not-stopped}
-use Rattle.lists.specs.Lists.{count}
+use Rattle.nearest_hit.proofs.NearestRefusals.{nones-of-none}
+use Rattle.lists.specs.Lists.{count, keep, sortBy}
 use Rattle.tree.specs.Layout.{wordAt, vectorAt, numberAt}
 use Rattle.lists.proofs.CountLaws.{count-keep}
 use Rattle.tree_query.specs.Query.{count as countOf, refused as refusedWith}
@@ -26,17 +28,43 @@ use Rattle.hit_listing.proofs.PlaceLaws.{at-counted, IsHitOf, hit-of, AllHit, N
 pub refused-not-count : (k number : ℕ) → refusedWith number ≡ countOf k → ⊥
 refused-not-count k number h = let z : _≡_ {A = ℕ} 0 1 = cc in omega arith
 
-same-count : (k j : ℕ) → countOf j ≡ countOf k → j ≡ k
+pub same-count : (k j : ℕ) → countOf j ≡ countOf k → j ≡ k
 same-count k j h = cc
 
 pub written-counts : (answer : ℕ → Answer) (area : HitArea) (ts : List ℕ) → written answer area ts .answer ≡ countOf (length ts)
 unfolding written
 written-counts answer area ts = refl
 
-pub stopped-refuses : (number : ℕ) (area : HitArea) (rest : Outcome)
+stopped-refuses : (number : ℕ) (area : HitArea) (rest : Outcome)
     → afterRefusals (stopped number) area rest .answer ≡ refusedWith number
 unfolding afterRefusals
 stopped-refuses number area rest = refl
+
+pub listing-stops : (answer : ℕ → Answer) (area : HitArea) (number : ℕ) (l : List ℕ) → nearestOf answer l ≡ stopped number
+    → listingOf answer area l .answer ≡ refusedWith number
+unfolding listingOf
+listing-stops answer area number l h =
+    let rest : Outcome = fitted answer area (inOrder answer (hitsOf answer l)) in
+    ap (λ (z : Indexed). afterRefusals z area rest .answer) h ∙ stopped-refuses number area rest
+
+-- ---- no hits: where the fold finds none the listing is a count of 0, however short the area
+no-hits : (answer : ℕ → Answer) (l : List ℕ) → ((x : ℕ) → List·Memᴰ x l → answer x ≡ none) → hitsOf answer l ≡ []
+unfolding keep isHit
+no-hits answer [] h = refl
+no-hits answer (x ∷ l) h =
+    simp (ap isHit (h x (List·Memᴰ·head refl)), no-hits answer l (λ (y : ℕ) m. h y (List·Memᴰ·tail m)))
+
+empty-fits : (answer : ℕ → Answer) (area : HitArea) → fitted answer area [] .answer ≡ countOf 0
+unfolding fitted written
+empty-fits answer area = simp (le-leb 0 (placesOf (length (area .indices)) (length (area .numbers))) (omega arith))
+
+pub listing-empty : (answer : ℕ → Answer) (area : HitArea) (l : List ℕ) → nearestOf answer l ≡ noHit
+    → listingOf answer area l .answer ≡ countOf 0
+unfolding listingOf afterRefusals
+listing-empty answer area l h =
+    ap (λ (z : Indexed). afterRefusals z area (fitted answer area (inOrder answer (hitsOf answer l))) .answer) h
+    ∙ ap (λ (ts : List ℕ). fitted answer area (inOrder answer ts) .answer) (no-hits answer l (nones-of-none answer l h))
+    ∙ unfold sortBy in empty-fits answer area
 
 -- ---- the hits of a list, in order
 module _ (answer : ℕ → Answer) (area : HitArea) (l : List ℕ) (k : ℕ) where

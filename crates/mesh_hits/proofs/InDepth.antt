@@ -25,7 +25,7 @@ use Rattle.mesh_hits.specs.Promise.{Ascends, firstOf}
 use Rattle.depth_order.proofs.OrderLaws.{ahead-total, ahead-transitive, ahead-antisymmetric, ahead-itself, ahead-level, ahead-nearer}
 use Rattle.hit_listing.proofs.PlaceLaws.{at-counted, Place, IsHitOf}
 use Rattle.mesh_hits.proofs.CountedHits.{places, Counted, index-at, place-at, hit-at}
-use Rattle.mesh_hits.proofs.CastAmong.{hit-is, placed, of-list, fits-cast}
+use Rattle.mesh_hits.proofs.CastAmong.{hit-is, placed, of-list, empty-if}
 
 -- ---- sorted lists and lists that do not fall
 module _ (depth : ℕ → Float) where
@@ -145,7 +145,7 @@ module _ (answer : ℕ → Answer) (area : HitArea) (l : List ℕ) (k : ℕ) (c 
 
     first-found : (z : Indexed) → nearestOf answer l ≡ z → nearestOf answer l ≡ firstOf after
     first-found (stopped number) e = absurd (c .goes number e)
-    first-found noHit e = let none = fits-cast answer area l k c .empty-if e in absurd (omega arith)
+    first-found noHit e = let none = empty-if answer area l k c e in absurd (omega arith)
     first-found (hitAt normal distance i) e = e ∙ first-place normal distance i e
 
     pub first-is-the-cast : nearestOf answer l ≡ firstOf after

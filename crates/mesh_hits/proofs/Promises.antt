@@ -15,29 +15,28 @@ use Rattle.vectors.specs.declared.vec3.Vec3.{Vec3}
 use Rattle.geometry.specs.declared.ray.Ray.{Ray}
 use Rattle.geometry.proofs.BoxLaws.{segment-box-valid}
 use Rattle.casts.specs.Answer.{Answer, invalidInput, badShape, noRoom, wrongPose, outOfBounds, overflow}
-use Rattle.nearest_hit.specs.Nearest.{Indexed, stopped, nearestOf}
+use Rattle.nearest_hit.specs.Nearest.{Indexed, noHit, stopped, nearestOf}
 use Rattle.lists.proofs.Members.{Rising}
-use Rattle.nearest_hit.proofs.IndexedCases.{same-number}
+use Rattle.nearest_hit.proofs.IndexedCases.{same-number, stopped-not-none}
 use Rattle.lists.specs.Lists.{count}
 use Rattle.tree.specs.Layout.{Tree, wordAt, numberAt, vectorAt}
 use Rattle.tree.specs.Mesh.{Mesh, thirds, triangleAnswer, candidates}
 use Rattle.lists.proofs.CountLaws.{member-of-count, count-range-inside}
 use Rattle.tree.proofs.Corners.{answers-are-numbers}
 use Rattle.tree_walk.specs.Walk.{Walking, walking, broken, walkOf}
-use Rattle.tree_query.specs.Query.{count as countOf, refused as refusedWith}
+use Rattle.tree_query.specs.Query.{Listing, count as countOf, refused as refusedWith}
 use Rattle.mesh.specs.MeshCast.{shapeAdmitted, roomFor, overWalk as castOverWalk, meshCast, rayMesh}
 use Rattle.mesh.specs.Demand3.{Admitted, Candidate, IsHit}
 use Rattle.mesh.proofs.Demand3.{candidates-count, listed-candidate, passes, shape-admitted, answers-same}
 use Rattle.mesh.proofs.WalkLists.{walk-lists-candidates}
-use Rattle.hit_area.specs.HitArea.{HitArea, Outcome, isHit, hitsOf, inOrder, refusedAt}
+use Rattle.hit_area.specs.HitArea.{HitArea, Outcome, isHit, refusedAt}
 use Rattle.mesh_hits.specs.Listing.{unchanged}
-use Rattle.hit_listing.specs.HitListing.{fitted}
-use Rattle.hit_listing.specs.HitListing.{afterRefusals, listingOf}
+use Rattle.hit_listing.specs.HitListing.{listingOf}
 use Rattle.mesh_hits.specs.Listing.{overWalk, meshListing, rayMeshAll}
 use Rattle.mesh_hits.specs.Promise.{ListsHits, FitsCast, Ascends, firstOf, KeepsPromises, Promised}
 use Rattle.hit_listing.proofs.PlaceLaws.{at-counted}
 use Rattle.mesh_hits.proofs.Listings.{ended-rises}
-use Rattle.mesh_hits.proofs.CountedHits.{refused-not-count, stopped-refuses, places, Counted, counted}
+use Rattle.mesh_hits.proofs.CountedHits.{refused-not-count, listing-stops, listing-empty, places, Counted, counted}
 use Rattle.mesh_hits.proofs.CountedHits.{listed-of-hit, all-hit, first-are, index-at, place-at, hit-at}
 use Rattle.mesh_hits.proofs.CastAmong.{fits-cast}
 use Rattle.mesh_hits.proofs.InDepth.{in-order, first-is-the-cast}
@@ -119,16 +118,36 @@ module _ (area : HitArea) where
       (unchanged wrongPose area)) (unchanged noRoom area)) (unchanged badShape area))
       (unchanged invalidInput area)
 
-  refuses-alike : (b₁ b₂ b₃ b₄ b₅ b₆ : Bool) (z : Indexed) (o : Outcome) (number : ℕ)
-      → (z ≡ stopped number → o .answer ≡ refusedWith number)
-      → cast b₁ b₂ b₃ b₄ b₅ b₆ z ≡ stopped number → listing b₁ b₂ b₃ b₄ b₅ b₆ o .answer ≡ refusedWith number
-  refuses-alike false b₂ b₃ b₄ b₅ b₆ z o number h e = ap refusedWith (same-number invalidInput number e)
-  refuses-alike true false b₃ b₄ b₅ b₆ z o number h e = ap refusedWith (same-number badShape number e)
-  refuses-alike true true false b₄ b₅ b₆ z o number h e = ap refusedWith (same-number noRoom number e)
-  refuses-alike true true true false b₅ b₆ z o number h e = ap refusedWith (same-number wrongPose number e)
-  refuses-alike true true true true false b₆ z o number h e = ap refusedWith (same-number overflow number e)
-  refuses-alike true true true true true false z o number h e = ap refusedWith (same-number outOfBounds number e)
-  refuses-alike true true true true true true z o number h e = h e
+  -- where the cast is w the listing's answer is v, if it is so at every refusal and past the tests
+  module _ (w : Indexed) (v : Listing) (stops : (number : ℕ) → stopped number ≡ w → refusedWith number ≡ v) where
+    answers-alike : (b₁ b₂ b₃ b₄ b₅ b₆ : Bool) (z : Indexed) (o : Outcome) → (z ≡ w → o .answer ≡ v)
+        → cast b₁ b₂ b₃ b₄ b₅ b₆ z ≡ w → listing b₁ b₂ b₃ b₄ b₅ b₆ o .answer ≡ v
+    answers-alike false b₂ b₃ b₄ b₅ b₆ z o h e = stops invalidInput e
+    answers-alike true false b₃ b₄ b₅ b₆ z o h e = stops badShape e
+    answers-alike true true false b₄ b₅ b₆ z o h e = stops noRoom e
+    answers-alike true true true false b₅ b₆ z o h e = stops wrongPose e
+    answers-alike true true true true false b₆ z o h e = stops overflow e
+    answers-alike true true true true true false z o h e = stops outOfBounds e
+    answers-alike true true true true true true z o h e = h e
+
+    -- the same of the mesh cast and its listing, from the walk's list
+    module _ (r : Ray) (m : Mesh) (pose : List Float) (t : Tree) (list stack : ℕ)
+        (walked : (l : List ℕ) → nearestOf (triangleAnswer r pose (m .triangles)) l ≡ w
+        → listingOf (triangleAnswer r pose (m .triangles)) area l .answer ≡ v) where
+      over-walk : (x : Walking) → castOverWalk r pose (m .triangles) x ≡ w
+          → overWalk (triangleAnswer r pose (m .triangles)) area x .answer ≡ v
+      unfolding castOverWalk overWalk
+      over-walk broken e = stops outOfBounds e
+      over-walk (walking s l) e = walked l e
+
+      answers-as-the-cast : rayMesh r m pose t list stack ≡ w → rayMeshAll r m pose t list stack area .answer ≡ v
+      unfolding rayMesh meshCast rayMeshAll meshListing
+      answers-as-the-cast =
+          answers-alike (rayAdmitted r) (shapeAdmitted m pose t) (roomFor m t list stack) (eqb (length pose) (length (m .vertices)))
+          (finiteVec (segmentEnd r)) (validBox (segmentBox r))
+          (castOverWalk r pose (m .triangles) (walkOf t (thirds (length (m .triangles))) (segmentBox r)))
+          (overWalk (triangleAnswer r pose (m .triangles)) area (walkOf t (thirds (length (m .triangles))) (segmentBox r)))
+          (over-walk (walkOf t (thirds (length (m .triangles))) (segmentBox r)))
 
   record Passed (b₁ b₂ b₃ b₄ b₅ b₆ : Bool) (z : Indexed) (o : Outcome) : Type 0 where
     cast-is : cast b₁ b₂ b₃ b₄ b₅ b₆ z ≡ z
@@ -144,30 +163,17 @@ module _ (area : HitArea) where
   counts-pass true true true true true false z o k h = absurd (refused-not-count k outOfBounds h)
   counts-pass true true true true true true z o k h = record { cast-is = refl; listing-is = refl }
 
-  -- over the walk's list
-  walk-refuses : (r : Ray) (pose : List Float) (triangles : List ℕ) (w : Walking) (number : ℕ)
-      → castOverWalk r pose triangles w ≡ stopped number
-      → overWalk (triangleAnswer r pose triangles) area w .answer ≡ refusedWith number
-  unfolding castOverWalk overWalk listingOf
-  walk-refuses r pose triangles broken number h = ap refusedWith (same-number outOfBounds number h)
-  walk-refuses r pose triangles (walking stack l) number h =
-      ap (λ (z : Indexed). afterRefusals z area
-      (fitted (triangleAnswer r pose triangles) area
-      (inOrder (triangleAnswer r pose triangles) (hitsOf (triangleAnswer r pose triangles) l))) .answer) h
-      ∙ stopped-refuses number area (fitted (triangleAnswer r pose triangles) area
-      (inOrder (triangleAnswer r pose triangles) (hitsOf (triangleAnswer r pose triangles) l)))
-
 refuses-as-the-cast : (r : Ray) (m : Mesh) (pose : List Float) (t : Tree) (list stack : ℕ) (area : HitArea) (number : ℕ)
     → rayMesh r m pose t list stack ≡ stopped number → rayMeshAll r m pose t list stack area .answer ≡ refusedWith number
-unfolding rayMesh meshCast rayMeshAll meshListing
-refuses-as-the-cast r m pose t list stack area number h =
-    refuses-alike area (rayAdmitted r) (shapeAdmitted m pose t) (roomFor m t list stack) (eqb (length pose) (length (m .vertices)))
-    (finiteVec (segmentEnd r)) (validBox (segmentBox r))
-    (castOverWalk r pose (m .triangles) (walkOf t (thirds (length (m .triangles))) (segmentBox r)))
-    (overWalk (triangleAnswer r pose (m .triangles)) area (walkOf t (thirds (length (m .triangles))) (segmentBox r)))
-    number
-    (walk-refuses area r pose (m .triangles) (walkOf t (thirds (length (m .triangles))) (segmentBox r)) number)
-    h
+refuses-as-the-cast r m pose t list stack area number =
+    answers-as-the-cast area (stopped number) (refusedWith number) (λ (k : ℕ) e. ap refusedWith (same-number k number e)) r m pose t list
+    stack (listing-stops (triangleAnswer r pose (m .triangles)) area number)
+
+empty-as-the-cast : (r : Ray) (m : Mesh) (pose : List Float) (t : Tree) (list stack : ℕ) (area : HitArea)
+    → rayMesh r m pose t list stack ≡ noHit → rayMeshAll r m pose t list stack area .answer ≡ countOf 0
+empty-as-the-cast r m pose t list stack area =
+    answers-as-the-cast area noHit (countOf 0) (λ (k : ℕ) e. absurd (stopped-not-none k e)) r m pose t list stack
+    (listing-empty (triangleAnswer r pose (m .triangles)) area)
 
 module _ (r : Ray) (m : Mesh) (pose : List Float) (t : Tree) (list stack : ℕ) (area : HitArea) where
   abbrev pub answers : ℕ → Answer
@@ -239,6 +245,7 @@ promised r m pose t list stack area = record {
   fits-cast = lists-as-the-cast r m pose t list stack area;
   in-order = rows-in-order r m pose t list stack area;
   first = first-of-rows r m pose t list stack area;
+  empty-if = empty-as-the-cast r m pose t list stack area;
   refuses = refuses-as-the-cast r m pose t list stack area;
 }
 

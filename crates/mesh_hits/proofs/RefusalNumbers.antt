@@ -38,8 +38,8 @@ use Rattle.mesh_hits.proofs.CountedHits.{refused-not-count, written-cou
 use Rattle.mesh_hits.proofs.Promises.{listing}
 
 -- ---- one triangle
-record Small (a : Answer) : Type 0 where
-  below : (number : ℕ) → a ≡ refused number → number < 256
+pub record Small (a : Answer) : Type 0 where
+  pub below : (number : ℕ) → a ≡ refused number → number < 256
 
 none-small : Small none
 none-small = record { below = λ (number : ℕ) (h : none ≡ refused number). absurd (none-not-refused none number refl h) }
@@ -54,7 +54,7 @@ either-small : (b : Bool) (x y : Answer) → Small x → Small y → Small (cond
 either-small true x y p q = p
 either-small false x y p q = q
 
-normal-small : (r : Ray) (a b : Vec3) (distance : Float) → Small (triangleNormal r a b distance)
+pub normal-small : (r : Ray) (a b : Vec3) (distance : Float) → Small (triangleNormal r a b distance)
 unfolding triangleNormal
 normal-small r a b distance = go (tryNormalize (crossOf a b))
   where
@@ -84,7 +84,7 @@ at-small r offset a b p determinant =
     either-small (le zeroᶠ u) (cond (le u oneᶠ) last none) none
     (either-small (le u oneᶠ) last none (above-small r offset a b inverse u) none-small) none-small
 
-triangle-small : (r : Ray) (v w u : Vec3) → Small (triangleOf r v w u)
+pub triangle-small : (r : Ray) (v w u : Vec3) → Small (triangleOf r v w u)
 unfolding triangleOf
 triangle-small r v w u = go (checkedDot (subOf w v) (crossOf (r .direction) (subOf u v)))
   where
@@ -97,7 +97,7 @@ triangle-small r v w u = go (checkedDot (subOf w v) (crossOf (r .direction) (sub
         (at-small r (subOf (r .origin) v) (subOf w v) (subOf u v) (crossOf (r .direction) (subOf u v)) d)
     go Overflow = refused-small overflow (omega arith)
 
-answer-small : (r : Ray) (pose : List Float) (triangles : List ℕ) (i : ℕ) → Small (triangleAnswer r pose triangles i)
+pub answer-small : (r : Ray) (pose : List Float) (triangles : List ℕ) (i : ℕ) → Small (triangleAnswer r pose triangles i)
 unfolding triangleAnswer
 answer-small r pose triangles i =
     let v = cornerAt pose triangles i 0 in

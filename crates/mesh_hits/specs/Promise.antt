@@ -41,8 +41,7 @@ pub record IsListed (k : ℕ) (area : HitArea) (normal : Vec3) (distance : Float
   pub stands : StandsAt area place normal distance index
 
 pub record FitsCast (cast : Indexed) (k : ℕ) (area : HitArea) : Type 0 where
-  -- "an empty listing exactly where that cast answers none"
-  pub empty-if : cast ≡ noHit → k ≡ 0
+  -- "an empty listing exactly where that cast answers none": only there; `empty-if` below is that it is one there
   pub empty-only-if : k ≡ 0 → cast ≡ noHit
   -- "the mesh cast's among them"
   pub among : (normal : Vec3) (distance : Float) (i : ℕ) → cast ≡ hitAt normal distance i → IsListed k area normal distance i
@@ -68,6 +67,8 @@ module _ (r : Ray) (m : Mesh) (pose : List Float) (t : Tree) (list stack : ℕ) 
     pub in-order : (k : ℕ) → o .answer ≡ countOf k → Ascends k (o .area)
     -- "The first entry is therefore the mesh cast's own hit."
     pub first : (k : ℕ) → o .answer ≡ countOf k → 0 < k → rayMesh r m pose t list stack ≡ firstOf (o .area)
+    -- "an empty listing .. where that cast answers none": a count of 0, and no refusal
+    pub empty-if : rayMesh r m pose t list stack ≡ noHit → o .answer ≡ countOf 0
     -- where the mesh cast refuses, so does the listing, with its number
     pub refuses : (number : ℕ) → rayMesh r m pose t list stack ≡ stopped number → o .answer ≡ refused number
 

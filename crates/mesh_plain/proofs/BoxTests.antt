@@ -1,13 +1,13 @@
 -- Finite numbers make boxes that hold, and a box of three corners touches where comparisons with the corners say so. Assumes nothing.
 use Prim.Native.Nat.{ℕ, _+_, _*_, _<_, _≤_}
-use mathlib.Core.Path.{_≡_, refl, sym, ap, _∙_}
-use mathlib.Core.Bool.{Bool, true, false, _&&_, _||_, cond, true≢false}
+use mathlib.Core.Path.{_≡_, sym, ap, _∙_}
+use mathlib.Core.Bool.{Bool, true, false, _&&_, _||_}
 use mathlib.Core.List.{List}
 use native.Mathlib.Omega.{arith}
-use lib.Ieee.{Float, lt, le, isNan}
+use lib.Ieee.{Float, le}
 use lib.ListN.{length}
 use Rattle.arithmetic.specs.Extremes.{minimumOf, maximumOf}
-use Rattle.arithmetic.proofs.Order.{le-of-lt, le-of-not-lt, le-transitive, le-left-number, le-right-number}
+use Rattle.arithmetic.proofs.ExtremesLimits.{minimum-at-most-one, maximum-at-least-one}
 use Rattle.geometry.specs.Box.{cornersBox, corner, touches, touchSide, validBox}
 use Rattle.vectors.specs.Vector.{finiteVec, minOf, maxOf}
 use Rattle.vectors.specs.declared.vec3.Vec3.{Vec3}
@@ -37,37 +37,6 @@ module _ (m : Mesh) (all : AllFinite (m .vertices)) where
   pub finite-hold : BoxesHold m
   finite-hold = record { each = λ (i : ℕ) below inside. finite-valid i inside }
 
--- ---- a minimum is at most a limit where one of the two is, and a maximum at least, whatever is NaN
-or-first : (a b : Bool) → (b ≡ true → a ≡ true) → a ≡ (a || b)
-or-first true b h = refl
-or-first false true h = h refl
-or-first false false h = refl
-
-or-second : (a b : Bool) → (a ≡ true → b ≡ true) → b ≡ (a || b)
-or-second true b h = h refl
-or-second false b h = refl
-
-module _ (x y t : Float) where
-  minimum-or : (less missing : Bool) → lt y x ≡ less → isNan x ≡ missing → le (cond less y (cond missing y x)) t ≡ (le x t || le y t)
-  minimum-or true missing h p = or-second (le x t) (le y t) (λ k. le-transitive y x t (le-of-lt y x h) k)
-  minimum-or false true h p = or-second (le x t) (le y t) (λ k. absurd (true≢false (sym p ∙ le-left-number x t k)))
-  minimum-or false false h p =
-      or-first (le x t) (le y t) (λ k. le-transitive x y t (le-of-not-lt x y p (le-left-number y t k) h) k)
-
-  pub least-or : le (minimumOf x y) t ≡ (le x t || le y t)
-  unfolding minimumOf
-  least-or = minimum-or (lt y x) (isNan x) refl refl
-
-  maximum-or : (more missing : Bool) → lt x y ≡ more → isNan x ≡ missing → le t (cond more y (cond missing y x)) ≡ (le t x || le t y)
-  maximum-or true missing h p = or-second (le t x) (le t y) (λ k. le-transitive t x y k (le-of-lt x y h))
-  maximum-or false true h p = or-second (le t x) (le t y) (λ k. absurd (true≢false (sym p ∙ le-right-number t x k)))
-  maximum-or false false h p =
-      or-first (le t x) (le t y) (λ k. le-transitive t y x k (le-of-not-lt y x (le-right-number t y k) p h))
-
-  pub most-or : le t (maximumOf x y) ≡ (le t x || le t y)
-  unfolding maximumOf
-  most-or = maximum-or (lt x y) (isNan x) refl refl
-
 -- ---- one axis, and all three
 side : (a b c from to : Float)
     → sideTouches a b c from to ≡ touchSide (minimumOf (minimumOf a b) c) (maximumOf (maximumOf a b) c) from to
@@ -75,9 +44,9 @@ unfolding touchSide
 side a b c from to =
     sym (
     ap (λ (z : Bool). z && le from (maximumOf (maximumOf a b) c))
-    (least-or (minimumOf a b) c to ∙ ap (λ (z : Bool). z || le c to) (least-or a b to))
+    (minimum-at-most-one (minimumOf a b) c to ∙ ap (λ (z : Bool). z || le c to) (minimum-at-most-one a b to))
     ∙ ap (λ (z : Bool). oneAtMost a b c to && z)
-    (most-or (maximumOf a b) c from ∙ ap (λ (z : Bool). z || le from c) (most-or a b from))
+    (maximum-at-least-one (maximumOf a b) c from ∙ ap (λ (z : Bool). z || le from c) (maximum-at-least-one a b from))
     )
 
 module _ (vs : List Vec3) (box : Aabb) where

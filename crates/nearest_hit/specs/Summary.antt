@@ -1,4 +1,4 @@
--- Inner contracts only: what of a list of triangles decides its nearest hit, whatever their order. Definitions only. Assumes nothing.
+-- What of a list of triangles decides its nearest hit, whatever their order. Definitions only. Assumes nothing.
 -- nobody yet, or the one that goes before all others that came
 pub use mathlib.Core.Option.{Option as Kept, none as nobody, some as kept}
 use Prim.Native.Nat.{ℕ}

@@ -51,8 +51,8 @@ pub fn vector_at(bytes: &[u8], place: usize) -> Vec3
     }
 }
 
-// So many floats from a place on, at the front of a work area, the rest of which stays as it was. Callers show that bytes and places are
-// there.
+// So many floats from a place on, at the front of a work area; the contract says nothing of the places behind them. Callers show that bytes
+// and places are there.
 pub fn floats_at(bytes: &[u8], place: usize, count: usize, work: &mut [f64])
     requires { ⌜ (place + 8 * count ≤ length (now bytes)) × (count ≤ length (now work)) ⌝ }
     ensures { λ r. ⌜ take count (now (work .exit)) ≡ floatsAt (now (bytes .entry)) place count ⌝ }

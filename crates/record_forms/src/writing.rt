@@ -27,7 +27,7 @@ fn write_head(q: Form, kind: u8, body: usize, out: &mut [u8])
     out[5] = kind;
 }
 
-// The ray's eight floats, and the counts. Callers show that both records are long enough and that the form q holds each float.
+// The ray's eight floats, and the counts. Callers show that both records are long enough and that each float is of q's format, as NaN is.
 fn write_ray(p: Form, q: Form, source: &[u8], counts: usize, out: &mut [u8])
     requires { ⌜ (counts ≤ 3) × (6 + sizeOf p * 8 + 4 * counts ≤ length (now source)) ⌝ }
     requires { ⌜ 6 + sizeOf q * 8 + 4 * counts ≤ length (now out) ⌝ }
@@ -42,7 +42,7 @@ fn write_ray(p: Form, q: Form, source: &[u8], counts: usize, out: &mut [u8])
     runs::put_words(source, from, counts, out, to);
 }
 
-// The shape's floats and its indices. Callers show that both records are long enough and that the form q holds each float.
+// The shape's floats and its indices. Callers show that both records are long enough and that each float is of q's format, as NaN is.
 fn write_shape(
     p: Form,
     q: Form,

@@ -29,7 +29,7 @@ use Rattle.mesh.specs.MeshCast.{shapeAdmitted, rayMesh}
 -- ---- what the numbers of a call mean
 
 abbrev pub version : ℕ
-version = 2
+version = 3
 
 -- a ray of eight numbers
 abbrev pub rayFrom : Float → Float → Float → Float → Float → Float → Float → Float → Ray

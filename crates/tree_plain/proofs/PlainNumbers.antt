@@ -14,7 +14,7 @@ use Rattle.arithmetic.specs.Basic.{negative}
 use Rattle.arithmetic.specs.Ordering.{totalOrder}
 use Rattle.arithmetic.proofs.Order.{not-lt-of-le, le-of-lt, le-left-number, le-right-number}
 use Rattle.arithmetic.proofs.Signs.{zero-exp}
-use Rattle.arithmetic.proofs.TotalOrder.{totalOrder-antisymmetric}
+use Rattle.arithmetic.proofs.TotalOrder.{at-most-before, totalOrder-antisymmetric}
 use Rattle.vectors.specs.Numbers.{zeroᶠ}
 use Rattle.lists.proofs.JoinedTests.{and-first, and-second}
 use Rattle.tree_plain.specs.Plain.{plain}
@@ -107,11 +107,9 @@ signs (fin true m e) (fin t n d) p q h = refl
 signs (fin false m e) (fin false n d) p q h = refl
 signs (fin false m e) (fin true n d) p q h = absurd (negative-below n d m e q h)
 
-before : (x y : Float) → plain x ≡ true → plain y ≡ true → le x y ≡ true → le y x ≡ true → totalOrder x y ≡ true
-unfolding totalOrder
-before x y p q h k =
-    rw (not-lt-of-le y x k, not-lt-of-le x y h, plain-number y q, plain-number x p) (signs x y p q (not-lt-of-le x y h))
+before : (x y : Float) → plain x ≡ true → plain y ≡ true → le x y ≡ true → totalOrder x y ≡ true
+before x y p q h = at-most-before x y h (signs x y p q (not-lt-of-le x y h))
 
 pub plain-same : (x y : Float) → plain x ≡ true → plain y ≡ true → le x y ≡ true → le y x ≡ true → x ≡ y
 plain-same x y p q h k =
-    totalOrder-antisymmetric x y (plain-fits x p) (plain-fits y q) (before x y p q h k) (before y x q p k h)
+    totalOrder-antisymmetric x y (plain-fits x p) (plain-fits y q) (before x y p q h) (before y x q p k)

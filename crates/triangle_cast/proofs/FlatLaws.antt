@@ -1,19 +1,19 @@
 -- The edges' scale by comparisons alone: the largest of 1 and of each component and its negative is as large as the definition's. Assumes
 -- nothing.
-use mathlib.Core.Path.{_≡_, refl, sym, ap, _∙_, subst}
-use mathlib.Core.Logic.{⊎-elim}
-use mathlib.Core.Bool.{Bool, true, false, cond, _&&_, _||_, Bool·beq, true≢false, false≢true}
+use mathlib.Core.Path.{_≡_, refl, sym, ap, _∙_}
+use mathlib.Core.Bool.{Bool, true, false, _||_, Bool·beq, false≢true}
 use Prim.Native.Nat.{ℕ, _*_, _^_}
 use borrow.Author.Tests.{eqb-true}
 use lib.Dec.{eqb}
 use lib.Pow.{pow-pos}
-use lib.Ieee.{Float, nan, inf, fin, binary64, ofBits, up, down, mul, neg, lt, le, eq, isNan}
+use lib.Ieee.{Float, nan, inf, fin, binary64, ofBits, up, down, neg, le, eq, isNan}
 use lib.Ieee.Fits.{down-pos}
 use lib.Ieee.Exact.{HasValue}
 use Rattle.arithmetic.specs.Basic.{absolute}
 use Rattle.arithmetic.specs.Extremes.{maximumOf}
-use Rattle.arithmetic.proofs.Order.{is-nan, lt-nan-false, le-right-number, le-of-not-lt, le-reflexive, le-transitive, eq-of-le-le}
-use Rattle.arithmetic.proofs.ExtremesOrder.{maximum-one, greater-first, maximum-above-first, maximum-above-second}
+use Rattle.arithmetic.proofs.Order.{le-right-number, le-transitive, eq-of-le-le}
+use Rattle.arithmetic.proofs.ExtremesLimits.{maximum-keeps, maximum-from-first, maximum-from-second}
+use Rattle.arithmetic.proofs.Sizes.{number-neg, number-size, size-neg, at-most-size, size-one}
 use Rattle.arithmetic.proofs.ValueOrder.{mul-values}
 use Rattle.arithmetic.proofs.Bounds.{FromOne, from-one}
 use Rattle.vectors.specs.Numbers.{_*ᶠ_, oneᶠ, epsilon}
@@ -23,76 +23,12 @@ use Rattle.lists.proofs.JoinedTests.{and-first}
 use Rattle.triangle_cast.specs.Size.{orSize, sizeFromOne}
 use Rattle.triangle_cast.specs.Triangle.{flat}
 
--- ---- a maximum is at least each operand that is a number, whatever the other is
-up-first : (x y : Float) → isNan x ≡ false → le x (maximumOf x y) ≡ true
-up-first x y p = go (isNan y) refl
-  where
-    go : (b : Bool) → isNan y ≡ b → le x (maximumOf x y) ≡ true
-    go true q =
-        ap (le x) (sym (greater-first x y (ap (lt x) (is-nan y q) ∙ lt-nan-false x) p))
-        ∙ le-reflexive x p
-    go false q = maximum-above-first x y p q
-
-of-nan : (x y : Float) → isNan x ≡ true → maximumOf x y ≡ y
-unfolding maximumOf
-of-nan x y p = ap (λ (b : Bool). cond (lt x y) y (cond b y x)) p ∙ go (lt x y)
-  where
-    go : (b : Bool) → cond b y y ≡ y
-    go true = refl
-    go false = refl
-
-up-second : (x y : Float) → isNan y ≡ false → le y (maximumOf x y) ≡ true
-up-second x y q = go (isNan x) refl
-  where
-    go : (b : Bool) → isNan x ≡ b → le y (maximumOf x y) ≡ true
-    go true p = ap (le y) (of-nan x y p) ∙ le-reflexive y q
-    go false p = maximum-above-second x y p q
-
 -- what is below an operand is below the maximum
 climb : (x m y : Float) → le x m ≡ true → le x (maximumOf m y) ≡ true
-climb x m y h = le-transitive x m (maximumOf m y) h (up-first m y (le-right-number x m h))
+climb x m y h = le-transitive x m (maximumOf m y) h (maximum-from-first m y (le-right-number x m h))
 
 climb-second : (x m y : Float) → le x m ≡ true → le x (maximumOf y m) ≡ true
-climb-second x m y h = le-transitive x m (maximumOf y m) h (up-second y m (le-right-number x m h))
-
-one-of : (P : Float → Type 0) (x y : Float) → P x → P y → P (maximumOf x y)
-one-of P x y p q = ⊎-elim (λ e. subst P (sym e) p) (λ e. subst P (sym e) q) (maximum-one x y)
-
--- ---- sizes
-number-neg : (x : Float) → isNan (neg x) ≡ isNan x
-unfolding isNan neg
-number-neg nan = refl
-number-neg (inf s) = refl
-number-neg (fin s m e) = refl
-
-number-size : (x : Float) → isNan (absolute x) ≡ isNan x
-unfolding isNan absolute
-number-size nan = refl
-number-size (inf s) = refl
-number-size (fin s m e) = refl
-
-size-neg : (x : Float) → absolute (neg x) ≡ absolute x
-unfolding absolute neg
-size-neg nan = refl
-size-neg (inf s) = refl
-size-neg (fin s m e) = refl
-
-at-most-size : (x : Float) → isNan x ≡ false → le x (absolute x) ≡ true
-unfolding absolute isNan lt le
-at-most-size nan p = absurd (true≢false p)
-at-most-size (inf false) p = refl
-at-most-size (inf true) p = refl
-at-most-size (fin false m e) p = le-reflexive (fin false m e) p
-at-most-size (fin true m e) p = le-of-not-lt (fin true m e) (fin false m e) p p refl
-
--- the size is the number or its negative
-size-one : (P : Float → Type 0) (x : Float) → P x → P (neg x) → P (absolute x)
-unfolding absolute neg
-size-one P nan p q = p
-size-one P (inf false) p q = p
-size-one P (inf true) p q = q
-size-one P (fin false m e) p q = p
-size-one P (fin true m e) p q = q
+climb-second x m y h = le-transitive x m (maximumOf y m) h (maximum-from-second y m (le-right-number x m h))
 
 -- ---- the two scales
 -- every number that is at most m, or no number
@@ -101,16 +37,16 @@ AtMost m x = isNan x ≡ false → le x m ≡ true
 
 module _ (m x : Float) (n : isNan m ≡ false) where
   or-above : le m (orSize m x) ≡ true
-  or-above = climb m (maximumOf m x) (neg x) (up-first m x n)
+  or-above = climb m (maximumOf m x) (neg x) (maximum-from-first m x n)
 
   or-size : AtMost (orSize m x) (absolute x)
   or-size =
       size-one (AtMost (orSize m x)) x
-      (λ p. climb x (maximumOf m x) (neg x) (up-second m x p))
-      (up-second (maximumOf m x) (neg x))
+      (λ p. climb x (maximumOf m x) (neg x) (maximum-from-second m x p))
+      (maximum-from-second (maximumOf m x) (neg x))
 
 or-one : (P : Float → Type 0) (m x : Float) → P m → P x → P (neg x) → P (orSize m x)
-or-one P m x p q r = one-of P (maximumOf m x) (neg x) (one-of P m x p q) r
+or-one P m x p q r = maximum-keeps P (maximumOf m x) (neg x) (maximum-keeps P m x p q) r
 
 one-number : isNan oneᶠ ≡ false
 unfolding isNan ofBits
@@ -165,21 +101,22 @@ module _ (v : Vec3) where
   largest-x : AtMost (maxElement (absOf v)) (absolute (v .x))
   unfolding maxElement absOf
   largest-x p = climb (absolute (v .x)) (maximumOf (absolute (v .x)) (absolute (v .y))) (absolute (v .z))
-      (up-first (absolute (v .x)) (absolute (v .y)) p)
+      (maximum-from-first (absolute (v .x)) (absolute (v .y)) p)
 
   largest-y : AtMost (maxElement (absOf v)) (absolute (v .y))
   unfolding maxElement absOf
   largest-y p = climb (absolute (v .y)) (maximumOf (absolute (v .x)) (absolute (v .y))) (absolute (v .z))
-      (up-second (absolute (v .x)) (absolute (v .y)) p)
+      (maximum-from-second (absolute (v .x)) (absolute (v .y)) p)
 
   largest-z : AtMost (maxElement (absOf v)) (absolute (v .z))
   unfolding maxElement absOf
-  largest-z = up-second (maximumOf (absolute (v .x)) (absolute (v .y))) (absolute (v .z))
+  largest-z = maximum-from-second (maximumOf (absolute (v .x)) (absolute (v .y))) (absolute (v .z))
 
   largest-one : (P : Float → Type 0) → P (absolute (v .x)) → P (absolute (v .y)) → P (absolute (v .z)) → P (maxElement (absOf v))
   unfolding maxElement absOf
   largest-one P x y z =
-      one-of P (maximumOf (absolute (v .x)) (absolute (v .y))) (absolute (v .z)) (one-of P (absolute (v .x)) (absolute (v .y)) x y) z
+      maximum-keeps P (maximumOf (absolute (v .x)) (absolute (v .y))) (absolute (v .z))
+      (maximum-keeps P (absolute (v .x)) (absolute (v .y)) x y) z
 
 -- below a bound of the size are the number and its negative
 both-below : (m x : Float) → AtMost m (absolute x) → (AtMost m x) × (AtMost m (neg x))
@@ -203,7 +140,7 @@ module _ (a b : Vec3) where
   ours-from-one = climb oneᶠ (sizeFromOne a) (sizeFromOne b) (from-one-up a)
 
   scale-from-one : le oneᶠ scale ≡ true
-  scale-from-one = up-second edges oneᶠ one-number
+  scale-from-one = maximum-from-second edges oneᶠ one-number
 
   -- within ours and within the scale are the same sizes
   in-ours-first : (x : Float) → AtMost (sizeFromOne a) x → AtMost ours x
@@ -220,8 +157,8 @@ module _ (a b : Vec3) where
 
   scale-in-ours : le scale ours ≡ true
   scale-in-ours =
-      one-of (AtMost ours) edges oneᶠ
-      (one-of (AtMost ours) (maxElement (absOf a)) (maxElement (absOf b))
+      maximum-keeps (AtMost ours) edges oneᶠ
+      (maximum-keeps (AtMost ours) (maxElement (absOf a)) (maxElement (absOf b))
       (largest-one a (AtMost ours)
       (in-ours-first (absolute (a .x)) (size-x a)) (in-ours-first (absolute (a .y)) (size-y a))
       (in-ours-first (absolute (a .z)) (size-z a)))
@@ -233,7 +170,7 @@ module _ (a b : Vec3) where
 
   ours-in-scale : le ours scale ≡ true
   ours-in-scale =
-      one-of (AtMost scale) (sizeFromOne a) (sizeFromOne b)
+      maximum-keeps (AtMost scale) (sizeFromOne a) (sizeFromOne b)
       (sizes-one a (AtMost scale) (λ p. scale-from-one) (both-below scale)
       (in-scale-first (absolute (a .x)) (largest-x a)) (in-scale-first (absolute (a .y)) (largest-y a))
       (in-scale-first (absolute (a .z)) (largest-z a)))

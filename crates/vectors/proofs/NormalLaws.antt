@@ -23,9 +23,9 @@ use Rattle.arithmetic.proofs.Bounds.{square-from-one, sum-from-one, sum-from-on
 use Rattle.arithmetic.proofs.ScalingLaws.{Sized, sized, scaled-within, scaled-below-two, absolute-scaled, largest-from-one-to-two}
 use Rattle.arithmetic.proofs.ScalingLaws.{digits-above, size-above-zero}
 use Rattle.arithmetic.proofs.SignBit.{absolute-fits}
-use Rattle.vectors.specs.Numbers.{_+ᶠ_, _*ᶠ_, _/ᶠ_, zeroᶠ, oneᶠ, minPositive}
+use Rattle.vectors.specs.Numbers.{_+ᶠ_, _*ᶠ_, _/ᶠ_, zeroᶠ, oneᶠ, minPositive, leastSquare, greatestSquare}
 use Rattle.vectors.specs.Vector.{finiteVec, zeroVec, normalizable, dotTells, scaledToOne, overLength, tryNormalize, dotOf, lengthOf}
-use Rattle.vectors.specs.Vector.{absOf, maxElement, each, vector}
+use Rattle.vectors.specs.Vector.{tellsLength, absOf, maxElement, each, vector}
 use Rattle.vectors.specs.declared.vec3.Vec3.{Vec3}
 use Rattle.vectors.specs.declared.vec3.Normalized.{Normalized}
 use Rattle.vectors.specs.declared.vec3.Normalized.the-variants.{Unit as UnitOf, Degenerate}
@@ -434,12 +434,6 @@ module _ (v : Vec3) where
   told-unit d u e p q o = ap UnitOf o ∙ sym (unchanged-where-told v (dot-tells d e p q))
 
 -- ---- as `tells_length` asks: 1e-300 is at least 2^-1022, and 1e300 finite
-abbrev leastSquare : Float
-leastSquare = ofBits binary64 0x01a5_6e1f_c2f8_f359
-
-abbrev greatestSquare : Float
-greatestSquare = ofBits binary64 0x7e37_e43c_8800_759c
-
 between-finite : (x : Float) → le leastSquare x ≡ true → le x greatestSquare ≡ true → isFinite x ≡ true
 unfolding isFinite le ofBits
 between-finite nan p q = absurd (false≢true q)
@@ -451,5 +445,9 @@ least-normal : le minPositive leastSquare ≡ true
 unfolding ofBits le
 least-normal = refl
 
-pub between-tells : (x : Float) → le leastSquare x ≡ true → le x greatestSquare ≡ true → (isFinite x ≡ true) × (lt x minPositive ≡ false)
-between-tells x p q = (between-finite x p q, not-lt-of-le minPositive x (le-transitive minPositive leastSquare x least-normal p))
+pub between-tells : (x : Float) (passed : Bool) → passed ≡ tellsLength x → passed ≡ true → (isFinite x ≡ true) × (lt x minPositive ≡ false)
+unfolding tellsLength
+between-tells x passed e h =
+    let above = and-first (le leastSquare x) (le x greatestSquare) (sym e ∙ h) in
+    let below = and-second (le leastSquare x) (le x greatestSquare) (sym e ∙ h) in
+    (between-finite x above below, not-lt-of-le minPositive x (le-transitive minPositive leastSquare x least-normal above))

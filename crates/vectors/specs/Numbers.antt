@@ -40,3 +40,10 @@ tolerance = ofBits binary64 0x3d71_9799_812d_ea11
 -- 2^-1022, the least dot that is normalised
 abbrev pub minPositive : Float
 minPositive = ofBits binary64 0x0010_0000_0000_0000
+
+-- 1e-300 and 1e300: a dot between them is far from what is scaled before it is normalised
+abbrev pub leastSquare : Float
+leastSquare = ofBits binary64 0x01a5_6e1f_c2f8_f359
+
+abbrev pub greatestSquare : Float
+greatestSquare = ofBits binary64 0x7e37_e43c_8800_759c

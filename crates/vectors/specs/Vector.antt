@@ -3,12 +3,12 @@ use Prim.Native.Nat.{ℕ}
 use mathlib.Core.Path.{_≡_}
 use mathlib.Core.Bool.{Bool, false, _&&_, not, cond}
 use lib.Dec.{eqb}
-use lib.Ieee.{Float, lt, eq, neg, isNan}
+use lib.Ieee.{Float, lt, le, eq, neg, isNan}
 use Rattle.arithmetic.specs.Extremes.{minimumOf, maximumOf}
 use Rattle.arithmetic.specs.Basic.{isFinite, absolute}
 use Rattle.arithmetic.specs.Root.{rootOf}
 use Rattle.arithmetic.specs.Scaling.{digitsOf, scaledBy}
-use Rattle.vectors.specs.Numbers.{_+ᶠ_, _-ᶠ_, _*ᶠ_, _/ᶠ_, zeroᶠ, minPositive}
+use Rattle.vectors.specs.Numbers.{_+ᶠ_, _-ᶠ_, _*ᶠ_, _/ᶠ_, zeroᶠ, minPositive, leastSquare, greatestSquare}
 use Rattle.vectors.specs.declared.vec3.Vec3.{Vec3}
 use Rattle.vectors.specs.declared.vec3.Checked.{Checked}
 use Rattle.vectors.specs.declared.vec3.Checked.the-variants.{Value, Overflow}
@@ -102,6 +102,10 @@ normalizable v = finiteVec v && not (zeroVec v)
 -- not "Where the dot is not finite or below 2^-1022"
 unfoldable pub dotTells : Vec3 → Bool
 dotTells v = isFinite (dotOf v v) && not (lt (dotOf v v) minPositive)
+
+-- the test that the code makes of a dot first; where it passes, the dot tells (`between-tells`)
+unfoldable pub tellsLength : Float → Bool
+tellsLength square = le leastSquare square && le square greatestSquare
 
 -- "the power of two that brings its largest absolute component to at least 1 and below 2, each component rounded once"
 unfoldable pub scaledToOne : Vec3 → Vec3

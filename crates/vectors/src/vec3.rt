@@ -3,12 +3,10 @@ use arithmetic::extremes;
 use arithmetic::scaling;
 use arithmetic::square_root;
 ghost use mathlib.Core.Path.{_≡_};
-ghost use mathlib.Core.Bool.{true, false, cond};
-ghost use lib.Ieee.{lt};
-ghost use Rattle.arithmetic.specs.Basic.{isFinite};
-ghost use Rattle.vectors.specs.Numbers.{minPositive};
+ghost use mathlib.Core.Bool.{true, cond};
 ghost use Rattle.vectors.specs.Vector.{component, finiteVec, hasNumbers, Numbers, addOf, subOf, scaleOf, minOf, maxOf, absOf};
-ghost use Rattle.vectors.specs.Vector.{maxElement, dotOf, checkedDot, crossOf, normalizable, scaledToOne, overLength, tryNormalize};
+ghost use Rattle.vectors.specs.Vector.{maxElement, dotOf, checkedDot, crossOf, normalizable, tellsLength, scaledToOne, overLength};
+ghost use Rattle.vectors.specs.Vector.{tryNormalize};
 ghost use Rattle.vectors.specs.declared.vec3.Normalized.the-variants.{Unit as UnitOf, Degenerate};
 
 // Laid out as C does: a part of a cabinet (crates/cabinet) has its origin in it.
@@ -36,10 +34,9 @@ const LEAST_SQUARE: f64 = 1.0e-300;
 
 const GREATEST_SQUARE: f64 = 1.0e300;
 
-// Whether a vector's dot with itself tells its length. Only a yes is promised to be right: after a no the callers take the way for any
-// vector.
+// Whether a vector's dot with itself lies between them, so that it tells the length. After a no the callers take the way for any vector.
 pub fn tells_length(square: f64) -> bool
-    ensures { λ r. ⌜ (r ≡ true → (isFinite square ≡ true) × (lt square minPositive ≡ false)) ⌝ }
+    ensures { λ r. ⌜ r ≡ tellsLength square ⌝ }
 {
     if square >= LEAST_SQUARE {
         return square <= GREATEST_SQUARE;

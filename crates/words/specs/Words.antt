@@ -8,6 +8,15 @@ use lib.ListN.{getD, length}
 use Rattle.words.specs.declared.reader.Word.{Word}
 use Rattle.words.specs.declared.reader.Word.the-variants.{Bits, Nothing}
 
+-- what each case of the code's answer says: the value, or nothing
+pub data Read : Type 0 where
+  value : ℕ → Read
+  nothing : Read
+
+abbrev pub says : Word → Read
+says (Bits bits) = value bits
+says Nothing = nothing
+
 abbrev pub byteAt : List ℕ → ℕ → ℕ
 byteAt bytes place = getD bytes place 0
 
@@ -19,5 +28,5 @@ valueAt bytes place =
     + byteAt bytes (place + 4) * 0x100_0000 + byteAt bytes (place + 5) * 0x1_0000
     + byteAt bytes (place + 6) * 0x100 + byteAt bytes (place + 7)
 
-unfoldable pub wordAt : List ℕ → ℕ → Word
-wordAt bytes place = cond (leb (place + 8) (length bytes)) (Bits (valueAt bytes place)) Nothing
+unfoldable pub wordAt : List ℕ → ℕ → Read
+wordAt bytes place = cond (leb (place + 8) (length bytes)) (value (valueAt bytes place)) nothing

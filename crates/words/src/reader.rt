@@ -1,7 +1,7 @@
 ghost use mathlib.Core.Path.{_≡_};
 ghost use Prim.Native.Nat.{_<_};
 ghost use lib.ListN.{length};
-ghost use Rattle.words.specs.Words.{byteAt, wordAt};
+ghost use Rattle.words.specs.Words.{says, byteAt, wordAt};
 
 // A word, or nothing where fewer than eight bytes are left.
 pub enum Word {
@@ -20,7 +20,7 @@ fn byte_at(bytes: &[u8], place: usize) -> u64
 // The word whose eight bytes begin at a place, the most significant first.
 // In pairs: the compiler takes this form, and not every other, as one load and one byte swap.
 pub fn word_at(bytes: &[u8], place: usize) -> Word
-    ensures { λ r. ⌜ r ≡ wordAt (now (bytes .entry)) place ⌝ }
+    ensures { λ r. ⌜ says r ≡ wordAt (now (bytes .entry)) place ⌝ }
 {
     if place > bytes.len() {
         return Word::Nothing;

@@ -30,8 +30,12 @@ fn main() {
     let mut log = Log::default();
     log.verbose = verbose;
     let (mut differing, mut cases) = (0, 0);
-    for number in numbers {
-        cabinets::compare(&mut log, seed, number);
+    for number in std::iter::once(None).chain(numbers.map(Some)) {
+        match number {
+            None if verbose => continue,
+            None => cabinets::compare_made(&mut log),
+            Some(number) => cabinets::compare(&mut log, seed, number),
+        }
         cases += 1;
         let differences = std::mem::take(&mut log.differences);
         if differences.is_empty() {
@@ -39,7 +43,14 @@ fn main() {
         }
         differing += 1;
         if differing <= PRINTED {
-            println!("case {number} of seed {seed} differs: cabinets --case {seed} {number}");
+            match number {
+                None => println!("the case that is made by hand differs"),
+                Some(number) => {
+                    println!(
+                        "case {number} of seed {seed} differs: cabinets --case {seed} {number}"
+                    )
+                }
+            }
             for difference in &differences {
                 println!("{}: {}", difference.context, difference.text);
                 if difference.input.len() <= 20_000 {

@@ -1,4 +1,4 @@
-//! Seeded boards on whole millimetres beside the judge in fractions and the model, and ways into closed boards, which all hit.
+//! Seeded boards beside the judge in fractions and the model, and ways into closed boards and out of them, which all hit.
 
 use differential::{boards, exact, log::Log, solids};
 use oracle::random::Random;
@@ -6,8 +6,9 @@ use std::process::exit;
 
 const USAGE: &str = "usage: exact SEED COUNT
        exact --case SEED NUMBER
-Runs COUNT cases, or one case with every answer printed: a board each, and for every 25th a closed board and ways into it.
-Exit status 1 on a difference, or where COUNT is 100000 or more and too little was met.";
+Runs COUNT cases, or one case with every answer printed: a board each, and for every 25th a closed board, ways into it and
+out of it.
+Exit status 1 on a difference, or where COUNT is 20000 or more and too little was met.";
 
 /// More are counted and not printed.
 const PRINTED: u64 = 3;
@@ -17,7 +18,7 @@ const BOARDS: u64 = 25;
 const WAYS: usize = 10;
 
 /// From so many boards on, each thing is to be met once in so many of them.
-const MANY: u64 = 100_000;
+const MANY: u64 = 20_000;
 const ONCE_IN: u64 = 200;
 
 fn number(word: &str) -> u64 {
@@ -36,14 +37,27 @@ fn case(log: &mut Log, seed: u64, number: u64) {
     if number % BOARDS > 0 {
         return;
     }
+    let (ray, vertices, indices) = solids::round(random);
+    log.context = solids::ROUND;
+    log.count(solids::ROUND);
+    exact::way(log, &ray, &vertices, &indices);
     let solid = solids::any(random);
     log.context = solid.name;
     for way in 0..WAYS {
-        let Some(board) = solid.way_in(random) else {
+        let out = random.once_in(2);
+        let found = if out {
+            solid.way_out(random)
+        } else {
+            solid.way_in(random)
+        };
+        let Some(board) = found else {
             continue;
         };
         log.count(solid.name);
-        exact::way_in(log, &board);
+        exact::way(log, &board.ray, &board.vertices, &board.indices());
+        if out {
+            continue;
+        }
         if way == 0 {
             exact::board(log, &board);
         }
@@ -56,6 +70,7 @@ fn seldom(log: &Log, count: u64) -> Vec<&'static str> {
         return Vec::new();
     }
     let asked = boards::MET.iter().chain(&solids::KINDS);
+    let asked = asked.chain(&[exact::MISSED, solids::ROUND]);
     asked
         .copied()
         .filter(|what| log.counted(what) < count / ONCE_IN)

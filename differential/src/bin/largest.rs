@@ -8,6 +8,7 @@ use differential::{
     log::Log,
     merge, panel,
     run::Mesh as Part,
+    shapes,
 };
 use oracle::{
     answer::{MOST_TRIANGLES, MOST_VERTICES, Ray},
@@ -276,6 +277,8 @@ fn main() {
         compare(&mut log, random, &mesh, count);
     }
     glue(&mut log, random, 64);
+    merge::at_the_limits(&mut log, random);
+    shapes::at_the_limits(&mut log);
     log.print();
     for found in log.differences.iter().take(10) {
         println!("{}, {}: {}", found.call, found.context, found.text);

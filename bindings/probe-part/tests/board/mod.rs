@@ -1,8 +1,14 @@
-//! Boards whose bores and pockets are known by construction, as facets. Nothing here uses the code under test.
+//! Boards whose bores and pockets are known by construction, as facets: closed, each edge in two facets, seen to the left
+//! around from outside. Nothing here uses the code under test.
 #![allow(dead_code)]
-use probe_rays::stl::Corners;
+mod triangles;
 
-type Place = [f64; 2];
+use probe_rays::stl::Corners;
+pub use triangles::Place;
+
+pub type Point = [f64; 3];
+
+pub const THROUGH: f64 = f64::INFINITY;
 
 /// A face of the board, by its own table: where a place of it, and a depth below it, lie.
 #[derive(Clone, Copy, Debug, PartialEq, Eq)]
@@ -36,7 +42,7 @@ impl Side {
         }
     }
 
-    fn at(self, size: [f64; 3], [u, v]: Place, depth: f64) -> [f64; 3] {
+    pub fn at(self, size: Point, [u, v]: Place, depth: f64) -> Point {
         let [x, y, z] = size;
         match self {
             Side::Top => [u, v, z - depth],
@@ -48,11 +54,31 @@ impl Side {
         }
     }
 
-    fn extent(self, [x, y, z]: [f64; 3]) -> Place {
+    /// Into the board.
+    pub fn axis(self) -> Point {
+        match self {
+            Side::Top => [0.0, 0.0, -1.0],
+            Side::Bottom => [0.0, 0.0, 1.0],
+            Side::Front => [0.0, 1.0, 0.0],
+            Side::Back => [0.0, -1.0, 0.0],
+            Side::Left => [1.0, 0.0, 0.0],
+            Side::Right => [-1.0, 0.0, 0.0],
+        }
+    }
+
+    fn extent(self, [x, y, z]: Point) -> Place {
         match self {
             Side::Top | Side::Bottom => [x, y],
             Side::Front | Side::Back => [x, z],
             Side::Left | Side::Right => [y, z],
+        }
+    }
+
+    pub fn thickness(self, [x, y, z]: Point) -> f64 {
+        match self {
+            Side::Top | Side::Bottom => z,
+            Side::Front | Side::Back => y,
+            Side::Left | Side::Right => x,
         }
     }
 
@@ -72,18 +98,22 @@ impl Side {
 #[derive(Clone, Debug)]
 pub struct Cut {
     pub side: Side,
-    /// Its outline, to the left around, seen with the face's first axis to the right and its second upwards.
+    /// Its outline.
     pub outline: Vec<Place>,
-    /// A middle that sees the whole outline.
+    /// Its middle.
     pub middle: Place,
     /// How deep; below 0 it stands out; infinite is through.
     pub depth: f64,
-    /// Further outlines of as many corners, each within the one before: at the floor before, and at its own depth.
+    /// Further cuts in its floor: their outlines, and their depths below the face.
     pub inner: Vec<(Vec<Place>, f64)>,
-    /// An outline of the floor that is smaller: the walls lean.
+    /// What is left standing in the first floor: the outline, and how deep below the face its top is.
+    pub islands: Vec<(Vec<Place>, f64)>,
+    /// An outline of the floor that is smaller, of as many corners: the walls lean.
     pub floor: Option<Vec<Place>>,
-    /// How deep the middle of the innermost floor is, if it is a tip.
+    /// How deep the middle of the floor is, if it is a tip.
     pub tip: Option<f64>,
+    /// How far the middle moves along the face for each millimetre of depth: a bore that leans.
+    pub lean: Place,
 }
 
 /// The corners of a circle's sides.
@@ -94,6 +124,15 @@ pub fn circle([x, y]: Place, diameter: f64, sides: usize) -> Vec<Place> {
         [x + diameter / 2.0 * cosine, y + diameter / 2.0 * sine]
     };
     (0..sides).map(corner).collect()
+}
+
+/// The corners of an ellipse's sides.
+pub fn ellipse([x, y]: Place, [width, height]: Place, sides: usize) -> Vec<Place> {
+    let stretched = |[u, v]: Place| [x + width / 2.0 * u, y + height / 2.0 * v];
+    circle([0.0, 0.0], 2.0, sides)
+        .into_iter()
+        .map(stretched)
+        .collect()
 }
 
 /// A rectangle whose corners are arcs, each of so many sides.
@@ -130,6 +169,40 @@ pub fn rectangle([x, y]: Place, [width, height]: Place) -> Vec<Place> {
     ]
 }
 
+/// A polygon turned about a middle, in degrees.
+pub fn turned(outline: &[Place], [x, y]: Place, degrees: f64) -> Vec<Place> {
+    let (sine, cosine) = degrees.to_radians().sin_cos();
+    let turn = |&[u, v]: &Place| {
+        [
+            x + cosine * (u - x) - sine * (v - y),
+            y + sine * (u - x) + cosine * (v - y),
+        ]
+    };
+    outline.iter().map(turn).collect()
+}
+
+/// A slot bent along an arc from one angle to another, in degrees, with round ends.
+pub fn arc([x, y]: Place, radius: f64, width: f64, [from, to]: Place, sides: usize) -> Vec<Place> {
+    let mut corners = Vec::new();
+    let at = |radius: f64, degrees: f64| {
+        let (sine, cosine) = degrees.to_radians().sin_cos();
+        [x + radius * cosine, y + radius * sine]
+    };
+    let share = |n: usize| n as f64 / sides as f64;
+    corners.extend((0..=sides).map(|n| at(radius + width / 2.0, from + (to - from) * share(n))));
+    let cap = |degrees: f64, half: f64| {
+        let [cx, cy] = at(radius, degrees);
+        (1..sides).map(move |n| {
+            let (sine, cosine) = (degrees + half + 180.0 * share(n)).to_radians().sin_cos();
+            [cx + width / 2.0 * cosine, cy + width / 2.0 * sine]
+        })
+    };
+    corners.extend(cap(to, 0.0));
+    corners.extend((0..=sides).map(|n| at(radius - width / 2.0, to + (from - to) * share(n))));
+    corners.extend(cap(from, 180.0));
+    corners
+}
+
 impl Cut {
     pub fn new(side: Side, outline: Vec<Place>, middle: Place, depth: f64) -> Cut {
         Cut {
@@ -138,8 +211,10 @@ impl Cut {
             middle,
             depth,
             inner: Vec::new(),
+            islands: Vec::new(),
             floor: None,
             tip: None,
+            lean: [0.0, 0.0],
         }
     }
 
@@ -155,167 +230,221 @@ impl Cut {
     }
 }
 
-fn box_of(outline: &[Place]) -> [Place; 2] {
-    let least = |side: usize| outline.iter().map(|p| p[side]).fold(f64::MAX, f64::min);
-    let most = |side: usize| outline.iter().map(|p| p[side]).fold(f64::MIN, f64::max);
-    [[least(0), least(1)], [most(0), most(1)]]
+/// A closed surface that is being built.
+#[derive(Default)]
+pub struct Solid {
+    pub facets: Vec<Corners>,
 }
 
-/// A board and its facets. Which way a facet is turned is of no matter to a cast.
-pub fn board(size: [f64; 3], cuts: &[Cut]) -> Vec<Corners> {
-    let mut facets = Vec::new();
-    for side in SIDES {
-        let on = |cut: &&Cut| {
-            cut.side == side || (cut.side.opposite() == side && last_depth(cut).is_infinite())
-        };
-        // what goes through is open on the other side as far as its innermost outline
-        let hole = |cut: &Cut| {
-            let outline = if cut.side == side {
-                &cut.outline
-            } else {
-                cut.inner
-                    .last()
-                    .map_or(&cut.outline, |(outline, _)| outline)
-            };
-            (outline.clone(), cut.middle)
-        };
-        let holes: Vec<(Vec<Place>, Place)> = cuts.iter().filter(on).map(hole).collect();
-        for triangle in plate([0.0, 0.0], side.extent(size), holes) {
-            facets.push(triangle.map(|place| side.at(size, place, 0.0)));
+impl Solid {
+    /// A flat polygon with holes, seen from a normal.
+    pub fn flat(&mut self, rings: &[Vec<Point>], normal: Point) {
+        let axis = (0..3)
+            .max_by(|&a, &b| normal[a].abs().total_cmp(&normal[b].abs()))
+            .unwrap();
+        let [first, second] = [(axis + 1) % 3, (axis + 2) % 3];
+        let points: Vec<Point> = rings.concat();
+        let places: Vec<Place> = points
+            .iter()
+            .map(|point| [point[first], point[second]])
+            .collect();
+        let mut start = 0;
+        let numbers: Vec<Vec<usize>> = rings
+            .iter()
+            .map(|ring| {
+                start += ring.len();
+                (start - ring.len()..start).collect()
+            })
+            .collect();
+        for [a, b, c] in triangles::triangles(&places, &numbers) {
+            let mut facet = [points[a], points[b], points[c]];
+            if normal[axis] < 0.0 {
+                facet.swap(1, 2);
+            }
+            self.facets.push(facet);
         }
     }
-    for cut in cuts {
-        walls(size, cut, &mut facets);
+
+    /// Walls between a polygon, to the left around where it is seen from above, and one below it: they face inwards.
+    pub fn walls(&mut self, upper: &[Point], lower: &[Point]) {
+        for n in 0..upper.len() {
+            let m = (n + 1) % upper.len();
+            self.facets.push([upper[n], upper[m], lower[n]]);
+            self.facets.push([upper[m], lower[m], lower[n]]);
+        }
     }
-    facets
 }
 
-fn last_depth(cut: &Cut) -> f64 {
-    cut.inner.last().map_or(cut.depth, |(_, depth)| *depth)
+fn signed(outline: &[Place]) -> f64 {
+    let next = outline.iter().cycle().skip(1);
+    outline
+        .iter()
+        .zip(next)
+        .map(|(a, b)| a[0] * b[1] - a[1] * b[0])
+        .sum()
+}
+
+/// A board with cuts, as facets.
+pub fn board(size: Point, cuts: &[Cut]) -> Vec<Corners> {
+    let mut solid = Solid::default();
+    for side in SIDES {
+        let [w, h] = side.extent(size);
+        let outline = vec![[0.0, 0.0], [w, 0.0], [w, h], [0.0, h]];
+        let place = |places: &[Place]| -> Vec<Point> {
+            places.iter().map(|&p| side.at(size, p, 0.0)).collect()
+        };
+        let mut rings = vec![place(&outline)];
+        for cut in cuts {
+            if cut.side == side {
+                rings.push(place(&cut.outline));
+                let tops = cut.islands.iter().filter(|island| island.1 == 0.0);
+                for island in tops {
+                    solid.flat(&[place(&island.0)], side.axis().map(|part| -part));
+                }
+            } else if cut.side.opposite() == side {
+                if cut.depth.is_infinite() {
+                    rings.push(place(&leaned(cut, &cut.outline, cut.side.thickness(size))));
+                }
+                let through = cut.inner.iter().filter(|(_, depth)| depth.is_infinite());
+                rings.extend(through.map(|(inner, _)| place(inner)));
+            }
+        }
+        solid.flat(&rings, side.axis().map(|part| -part));
+    }
+    for cut in cuts {
+        cut_walls(&mut solid, size, cut);
+    }
+    solid.facets
+}
+
+/// An outline at a depth.
+fn leaned(cut: &Cut, outline: &[Place], depth: f64) -> Vec<Place> {
+    outline
+        .iter()
+        .map(|[u, v]| [u + cut.lean[0] * depth, v + cut.lean[1] * depth])
+        .collect()
 }
 
 /// The walls and floors of a cut.
-fn walls(size: [f64; 3], cut: &Cut, facets: &mut Vec<Corners>) {
-    let thickness = match cut.side {
-        Side::Top | Side::Bottom => size[2],
-        Side::Front | Side::Back => size[1],
-        Side::Left | Side::Right => size[0],
-    };
-    let at = |place: Place, depth: f64| cut.side.at(size, place, depth.min(thickness));
-    let mut strip = |above: &[Place], high: f64, below: &[Place], low: f64| {
-        for n in 0..above.len() {
-            let m = (n + 1) % above.len();
-            facets.push([at(above[n], high), at(above[m], high), at(below[n], low)]);
-            facets.push([at(below[n], low), at(above[m], high), at(below[m], low)]);
+fn cut_walls(solid: &mut Solid, size: Point, cut: &Cut) {
+    let side = cut.side;
+    let thickness = side.thickness(size);
+    let normal = side.axis().map(|part| -part);
+    // seen from outside a face may have its axes mirrored
+    let mirrored = matches!(side, Side::Bottom | Side::Back | Side::Left);
+    let left = |outline: &[Place]| {
+        let mut outline = outline.to_vec();
+        if (signed(&outline) > 0.0) == mirrored {
+            outline.reverse();
         }
+        outline
     };
-    let bottom = cut.floor.as_ref().unwrap_or(&cut.outline);
-    strip(&cut.outline, 0.0, bottom, cut.depth);
-    let (mut outline, mut depth) = (bottom, cut.depth);
-    for (inner, deeper) in &cut.inner {
-        strip(outline, depth, inner, depth);
-        strip(inner, depth, inner, *deeper);
-        (outline, depth) = (inner, *deeper);
-    }
-    if depth.is_finite() {
-        for n in 0..outline.len() {
-            let m = (n + 1) % outline.len();
-            let middle = at(cut.middle, cut.tip.unwrap_or(depth));
-            facets.push([middle, at(outline[n], depth), at(outline[m], depth)]);
-        }
-    }
-}
-
-/// A rectangle with holes, as triangles: halved between holes until each rest has one hole at most.
-fn plate(low: Place, high: Place, holes: Vec<(Vec<Place>, Place)>) -> Vec<[Place; 3]> {
-    let corners = [low, [high[0], low[1]], high, [low[0], high[1]]];
-    if holes.is_empty() {
-        return vec![
-            [corners[0], corners[1], corners[2]],
-            [corners[0], corners[2], corners[3]],
-        ];
-    }
-    if let [(outline, middle)] = holes.as_slice() {
-        return around(corners, outline, *middle);
-    }
-    // a line between holes that leaves some on either side
-    for side in 0..2 {
-        let mut spans: Vec<(f64, f64)> = holes
+    let at = |outline: &[Place], depth: f64| -> Vec<Point> {
+        let depth = depth.min(thickness);
+        let places = leaned(cut, outline, depth);
+        places
             .iter()
-            .map(|(outline, _)| box_of(outline))
-            .map(|[least, most]| (least[side], most[side]))
-            .collect();
-        spans.sort_by(|a, b| a.0.total_cmp(&b.0));
-        let mut reach = f64::MIN;
-        for pair in 0..spans.len() - 1 {
-            reach = reach.max(spans[pair].1);
-            if reach < spans[pair + 1].0 {
-                let cut = (reach + spans[pair + 1].0) / 2.0;
-                let lower = |hole: &(Vec<Place>, Place)| hole.1[side] < cut;
-                let (one, other): (Vec<_>, Vec<_>) = holes.into_iter().partition(lower);
-                let (mut end, mut start) = (high, low);
-                (end[side], start[side]) = (cut, cut);
-                let mut triangles = plate(low, end, one);
-                triangles.extend(plate(start, high, other));
-                return triangles;
-            }
+            .map(|&place| side.at(size, place, depth))
+            .collect()
+    };
+    let outline = left(&cut.outline);
+    let floor = cut
+        .floor
+        .as_ref()
+        .map_or(outline.clone(), |floor| left(floor));
+    if cut.depth < 0.0 {
+        // what stands out has its walls turned outwards
+        let (mut foot, mut top) = (at(&outline, 0.0), at(&outline, cut.depth));
+        solid.flat(&[top.clone()], normal);
+        foot.reverse();
+        top.reverse();
+        solid.walls(&top, &foot);
+        return;
+    }
+    solid.walls(&at(&outline, 0.0), &at(&floor, cut.depth));
+    for (island, top) in &cut.islands {
+        let mut island = left(island);
+        if *top > 0.0 {
+            solid.flat(&[at(&island, *top)], normal);
+        }
+        island.reverse();
+        solid.walls(&at(&island, *top), &at(&island, cut.depth));
+    }
+    let nested = |(inner, _): &(Vec<Place>, f64)| inner.clone();
+    if let Some(tip) = cut.tip {
+        let middle = side.at(size, cut.middle, tip);
+        let around = at(&floor, cut.depth);
+        for n in 0..around.len() {
+            solid
+                .facets
+                .push([middle, around[n], around[(n + 1) % around.len()]]);
+        }
+    } else if cut.depth < thickness && (cut.floor.is_none() || cut.inner.is_empty()) {
+        let mut rings = vec![at(&floor, cut.depth)];
+        rings.extend(cut.islands.iter().map(|island| at(&island.0, cut.depth)));
+        rings.extend(
+            cut.inner
+                .iter()
+                .map(nested)
+                .map(|inner| at(&inner, cut.depth)),
+        );
+        solid.flat(&rings, normal);
+    }
+    for (inner, depth) in &cut.inner {
+        let inner = left(inner);
+        solid.walls(&at(&inner, cut.depth), &at(&inner, *depth));
+        if depth.is_finite() {
+            solid.flat(&[at(&inner, *depth)], normal);
         }
     }
-    panic!("no straight line parts these holes");
 }
 
-/// A rectangle about one hole: both are cut by lines from the hole's middle, through each corner of either.
-fn around(corners: [Place; 4], outline: &[Place], middle: Place) -> Vec<[Place; 3]> {
-    let angle = |place: Place| (place[1] - middle[1]).atan2(place[0] - middle[0]);
-    let mut lines: Vec<(f64, Place, Place)> = Vec::new();
-    for &place in outline {
-        lines.push((angle(place), place, seen(&corners, middle, place)));
+/// A prism: a polygon of x and y, to the left around, with holes, from z = 0 up.
+pub fn extruded(outline: &[Place], holes: &[Vec<Place>], height: f64) -> Vec<Corners> {
+    let mut solid = Solid::default();
+    let at = |outline: &[Place], z: f64| -> Vec<Point> {
+        outline.iter().map(|[x, y]| [*x, *y, z]).collect()
+    };
+    for (z, up) in [(height, 1.0), (0.0, -1.0)] {
+        let mut rings = vec![at(outline, z)];
+        rings.extend(holes.iter().map(|hole| at(hole, z)));
+        solid.flat(&rings, [0.0, 0.0, up]);
     }
-    for place in corners {
-        lines.push((angle(place), seen(outline, middle, place), place));
-    }
-    lines.sort_by(|a, b| a.0.total_cmp(&b.0));
-    let mut triangles = Vec::new();
-    for n in 0..lines.len() {
-        let ((_, a, p), (_, b, q)) = (lines[n], lines[(n + 1) % lines.len()]);
-        triangles.push([p, q, a]);
-        triangles.push([a, q, b]);
-    }
-    for [a, b, c] in &triangles {
-        let area = (b[0] - a[0]) * (c[1] - a[1]) - (b[1] - a[1]) * (c[0] - a[0]);
-        assert!(area > -1e-9, "a hole reaches past its rectangle");
-    }
-    triangles
-}
-
-/// Where the line from a middle through a place meets an outline. A rectangle's sides are met on them exactly.
-fn seen(outline: &[Place], middle: Place, place: Place) -> Place {
-    let [x, y] = [place[0] - middle[0], place[1] - middle[1]];
-    for n in 0..outline.len() {
-        let (a, b) = (outline[n], outline[(n + 1) % outline.len()]);
-        let across = |p: Place| x * (p[1] - middle[1]) - y * (p[0] - middle[0]);
-        let (from, to) = (across(a), across(b));
-        let share = from / (from - to);
-        if from <= 0.0 && to > 0.0 {
-            let mut met: Place = std::array::from_fn(|side| a[side] + share * (b[side] - a[side]));
-            for side in 0..2 {
-                if a[side] == b[side] {
-                    met[side] = a[side];
-                }
-            }
-            return met;
+    let mut around = outline.to_vec();
+    around.reverse();
+    solid.walls(&at(&around, height), &at(&around, 0.0));
+    for hole in holes {
+        let mut hole = hole.clone();
+        if signed(&hole) < 0.0 {
+            hole.reverse();
         }
+        solid.walls(&at(&hole, height), &at(&hole, 0.0));
     }
-    panic!("a middle within its outline sees it all around");
+    solid.facets
 }
 
-/// The facets moved.
-pub fn moved(facets: &[Corners], by: [f64; 3]) -> Vec<Corners> {
-    let point = |point: [f64; 3]| std::array::from_fn(|axis| point[axis] + by[axis]);
-    facets.iter().map(|facet| facet.map(point)).collect()
+/// Facets whose places are moved by a function; turned inside out where that mirrors.
+pub fn mapped(facets: &[Corners], place: impl Fn(Point) -> Point, mirrors: bool) -> Vec<Corners> {
+    let one = |facet: &Corners| {
+        let mut facet = facet.map(&place);
+        if mirrors {
+            facet.swap(1, 2);
+        }
+        facet
+    };
+    facets.iter().map(one).collect()
 }
 
-/// Each facet as four, so many times: the same surfaces of more triangles.
+/// Facets moved along a vector.
+pub fn moved(facets: &[Corners], by: Point) -> Vec<Corners> {
+    mapped(
+        facets,
+        |point| std::array::from_fn(|axis| point[axis] + by[axis]),
+        false,
+    )
+}
+
+/// Each facet in four, so many times.
 pub fn finer(facets: &[Corners], times: usize) -> Vec<Corners> {
     let mut facets = facets.to_vec();
     for _ in 0..times {
@@ -325,7 +454,7 @@ pub fn finer(facets: &[Corners], times: usize) -> Vec<Corners> {
 }
 
 fn quartered([a, b, c]: Corners) -> [Corners; 4] {
-    let middle = |p: [f64; 3], q: [f64; 3]| std::array::from_fn(|axis| (p[axis] + q[axis]) / 2.0);
+    let middle = |p: Point, q: Point| std::array::from_fn(|axis| (p[axis] + q[axis]) / 2.0);
     let [ab, bc, ca] = [middle(a, b), middle(b, c), middle(c, a)];
     [[a, ab, ca], [ab, b, bc], [ca, bc, c], [ab, bc, ca]]
 }
@@ -342,6 +471,15 @@ pub fn binary(facets: &[Corners]) -> Vec<u8> {
         bytes.extend([0; 2]);
     }
     bytes
+}
+
+/// The facets as a binary STL file keeps them: in single precision.
+pub fn single(facets: &[Corners]) -> Vec<Corners> {
+    mapped(
+        facets,
+        |point| point.map(|part| f64::from(part as f32)),
+        false,
+    )
 }
 
 /// Numbers that look like chance (splitmix64).

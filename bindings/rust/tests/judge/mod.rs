@@ -1,5 +1,7 @@
-//! A judge in fractions of whole numbers: where a line along an axis first lies in a closed triangle, by the triangle's
-//! plane and sides in space. The differential run (differential/src/boards.rs) has the same judge.
+//! A judge in fractions of whole numbers: where a line first lies in a closed triangle, by the triangle's plane and sides in
+//! space. The differential run (differential/src/boards.rs) has the same judge.
+
+use std::cmp::Ordering;
 
 pub type Point = [i128; 3];
 
@@ -61,13 +63,14 @@ pub fn beside(o: Point, d: Point, t: [Point; 3], side: usize) -> (i128, i128) {
     (dot(n, cross(edge, minus(o, p))), dot(n, cross(edge, d)))
 }
 
-/// The first depth from near to far at which the line is in the closed triangle; one without area has no surface.
-pub fn first_depth(o: Point, d: Point, near: i128, far: i128, t: [Point; 3]) -> Option<Depth> {
+/// The first depth from near to far, in lengths of d, at which the line is in the closed triangle; one without area has no
+/// surface.
+pub fn first_depth(o: Point, d: Point, near: Depth, far: Depth, t: [Point; 3]) -> Option<Depth> {
     let n = normal(t);
     if n == [0, 0, 0] {
         return None;
     }
-    let (mut low, mut high) = ((near, 1), (far, 1));
+    let (mut low, mut high) = (near, far);
     // in the plane: not above it, and not below it
     let (above, rise) = (dot(n, minus(o, t[0])), dot(n, d));
     let mut inside =
@@ -79,18 +82,44 @@ pub fn first_depth(o: Point, d: Point, near: i128, far: i128, t: [Point; 3]) -> 
     inside.then_some(low)
 }
 
-fn divisor(a: i128, b: i128) -> i128 {
-    if b == 0 {
-        a.abs()
-    } else {
-        divisor(b, a % b)
+/// Which of two fractions is less: by their whole parts, then by what is left of each, upside down.
+fn order(d: Depth, e: Depth) -> Ordering {
+    let (p, q) = (d.0.div_euclid(d.1), e.0.div_euclid(e.1));
+    let (r, s) = (d.0 - p * d.1, e.0 - q * e.1);
+    match (p.cmp(&q), r, s) {
+        (Ordering::Equal, 0, _) => 0.cmp(&s),
+        (Ordering::Equal, _, 0) => Ordering::Greater,
+        (Ordering::Equal, _, _) => order((e.1, s), (d.1, r)),
+        (told, _, _) => told,
     }
 }
 
-/// The float nearest to a depth: both numbers are exact once the fraction is reduced.
+/// A float above 0 and below 2^53, of at least 2^-70, as a fraction.
+fn as_fraction(x: f64) -> Depth {
+    let exponent = (x.to_bits() >> 52) as i32 - 1075;
+    let digits = x.to_bits() & ((1 << 52) - 1) | 1 << 52;
+    assert!((-122..=0).contains(&exponent), "{x}");
+    (i128::from(digits), 1 << -exponent)
+}
+
+/// The float nearest to a depth: of the floats about the quotient the last that is not above it, or the next, by which half
+/// it lies in; in the middle the even one.
 pub fn nearest(d: Depth) -> f64 {
-    let k = divisor(d.0, d.1).max(1);
-    let (over, under) = (d.0 / k, d.1 / k);
-    assert!(over.abs() < 1 << 53 && under < 1 << 53);
-    over as f64 / under as f64
+    if d.0 == 0 {
+        return 0.0;
+    }
+    let about = (d.0 as f64 / d.1 as f64).to_bits();
+    let below = (about - 3..=about + 3).rev().map(f64::from_bits);
+    let low = below
+        .into_iter()
+        .find(|&x| order(as_fraction(x), d).is_le());
+    let low = low.expect("the quotient is near");
+    let high = f64::from_bits(low.to_bits() + 1);
+    let (over, under) = as_fraction(low);
+    let last = low.to_bits() & 1;
+    match order((2 * over + 1, 2 * under), d) {
+        Ordering::Less => high,
+        Ordering::Equal if last == 1 => high,
+        _ => low,
+    }
 }

@@ -2,7 +2,7 @@
 use mathlib.Core.Path.{sym, ap, _∙_}
 use Rattle.arithmetic.proofs.Order.{ne-self-is-nan}
 use Rattle.vectors.specs.Vector.{dotOf, normalizable}
-use Rattle.vectors.proofs.NormalLaws.{told-direction}
+use Rattle.vectors.proofs.NormalLaws.{told-direction, between-tells}
 use Rattle.nearest_hit.specs.Nearest.{nextOf}
 use Rattle.crossed_hit.specs.Crossed.{saysNear, facedIndexed}
 use Rattle.nearest_hit.proofs.NextLaws.{next-none}
@@ -34,7 +34,7 @@ returns-3 : tie.Need-returns-3
 returns-3 c =
     let (v, f, e1, e2, k) : tie.Start × tie.After-is-flat × tie.Else1 × tie.Else2 × tie.After-cross = search in
     let (d, t, e3) : tie.After-dot × tie.After-tells-length × tie.Then3 = search in
-    let told = t .tells-length .ensures (e3 .if3 .taken) in
+    let told = between-tells _ _ (t .tells-length .ensures) (e3 .if3 .taken) in
     let directed = sym (told-direction (k .cross .result) (d .dot .result) (d .dot .ensures) (told .0) (told .1)) in
     let own = sym (ap normalizable (k .cross .ensures)) ∙ directed in
     let index = v .args .index in (

@@ -2,6 +2,7 @@
 use mathlib.Core.Path.{sym, ap, _∙_}
 use Rattle.arithmetic.specs.Root.{rootOf}
 use Rattle.vectors.specs.Vector.{overLength, lengthOf}
+use Rattle.vectors.proofs.NormalLaws.{between-tells}
 use Rattle.crossed_hit.proofs.CrossedLaws.{unit-told, unit-there, unit-by-length}
 use borrow.Author.Needs.{needs}
 use Rattle.crossed_hit.proofs.crossed.unit_of.Statement.{statement}
@@ -12,7 +13,7 @@ returns : tie.Need-returns
 unfolding overLength lengthOf
 returns c =
     let (s, t, e, k) : tie.Start × tie.After-tells-length × tie.Then1 × tie.After-root = search in
-    let told = t .tells-length .ensures (e .if1 .taken) in
+    let told = between-tells _ _ (t .tells-length .ensures) (e .if1 .taken) in
     simp (k .root .ensures, s .pre .told)
     (unit-by-length (s .args .cross) (s .pre .directs) (s .args .square) (s .pre .told) (told .0) (told .1))
 

@@ -48,8 +48,7 @@ use denote.Triple.Clauses.{ensured, lasts}
 use denote.Exit.{yes}
 use Rattle.cabinet.specs.declared.part.Part.{Part}
 use Rattle.cabinet.specs.declared.part.State.{State}
-use Rattle.cabinet.specs.Cabinet.{castCabinet, testsPass, withResults}
-use Rattle.cabinet.specs.Promises.{Passes, LimitPromises}
+use Rattle.cabinet.specs.Cabinet.{withResults}
 use Rattle.cabinet.specs.Steps.{areas, begun, passes, KeptByBoth, lastAnswer}
 use Rattle.cabinet.proofs.Promises.{limits-hold}
 use Rattle.cabinet_passes.proofs.Again.{LentAgain, lends-again, comes-back}
@@ -63,8 +62,9 @@ use Rattle.cabinet_passes.proofs.pass.cast_twice.Symbol as step-def
 use Rattle.cabinet_passes.proofs.pass.cast_twice.Symbol.{name as #step}
 use Rattle.cabinet_passes.proofs.pass.cast_twice.Met as step-thm
 use Rattle.results.specs.Results.{rayFrom}
-use Rattle.exports.specs.CabinetResults.{cabinetFits, cabinetTold, toldCabinet}
+use Rattle.exports.specs.CabinetResults.{cabinetFits, cabinetTold, toldCabinet, CabinetCall}
 use Rattle.exports.proofs.CabinetAnswers.{cabinet-answers, cabinet-keeps}
+use Rattle.exports.proofs.CabinetReads.{cabinet-reads}
 use Rattle.exports.proofs.cabinets.begin as first
 use Rattle.exports.proofs.cabinets.begin.Symbol as first-def
 use Rattle.exports.proofs.cabinets.begin.Symbol.{name as #first}
@@ -434,14 +434,8 @@ module _ {M : Type 1} (𝓤 : URA M) (H : Heap 𝓤) (A : Atoms 𝓤) (W : Given
   -- the call's contract, at the lists that the areas end with
   abbrev Told : ℕ → List ℕ → List ℕ → List Float → List ℕ → List ℕ → List ℕ → Type 0
   Told r zs0 zs1 zs2 zs3 zs4 zs5 =
-      (cabinetTold r zs2 zs3 zs4 zs5 ≡ toldCabinet (withResults (cabinetFits (length w2) (length w3) (length w4) (length w5))
-      (castCabinet (rayFrom d0 d1 d2 d3 d4 d5 d6 d7) (areas (now x0) (now x1) (now x2) (now x3) (now x4) (now x5)) (length w0)
-      (length w1) limit ys)) w2 w3 w4 w5)
-      × (testsPass (rayFrom d0 d1 d2 d3 d4 d5 d6 d7) (areas (now x0) (now x1) (now x2) (now x3) (now x4) (now x5)) (length w0)
-      (length w1) (cabinetFits (length w2) (length w3) (length w4) (length w5)) ys ≡ false → (zs0 ≡ w0) × (zs1 ≡ w1))
-      × (Passes (rayFrom d0 d1 d2 d3 d4 d5 d6 d7) (areas (now x0) (now x1) (now x2) (now x3) (now x4) (now x5)) (length w0)
-      (length w1) ys → LimitPromises (rayFrom d0 d1 d2 d3 d4 d5 d6 d7) (areas (now x0) (now x1) (now x2) (now x3) (now x4)
-      (now x5)) (length w0) (length w1) ys)
+      CabinetCall (rayFrom d0 d1 d2 d3 d4 d5 d6 d7) (areas (now x0) (now x1) (now x2) (now x3) (now x4) (now x5)) limit ys w0 zs0 w1 zs1
+      w2 w3 w4 w5 (cabinetTold r zs2 zs3 zs4 zs5)
 
   exits : (r : ℕ) (u : Val) (zs0 : List ℕ) (zs1 : List ℕ) (zs2 : List Float) (zs3 : List ℕ) (zs4 : List ℕ) (zs5 : List ℕ) → Told r zs0
       zs1 zs2 zs3 zs4 zs5 → length zs0 ≡ length w0 → length zs1 ≡ length w1 → length zs2 ≡ length w2 → length zs3 ≡ length w3 → length
@@ -1117,6 +1111,11 @@ module _ {M : Type 1} (𝓤 : URA M) (H : Heap 𝓤) (A : Atoms 𝓤) (W : Given
               (length w1) limit (cabinetFits (length w2) (length w3) (length w4) (length w5)) ys f from-begin w0 zs0 w1 zs1 kept,
           limits-hold (rayFrom d0 d1 d2 d3 d4 d5 d6 d7) (areas (now x0) (now x1) (now x2) (now x3) (now x4) (now x5)) (length w0)
               (length w1) ys,
+          cabinet-reads (rayFrom d0 d1 d2 d3 d4 d5 d6 d7) (areas (now x0) (now x1) (now x2) (now x3) (now x4) (now x5)) (length w0)
+              (length w1) limit ys w2 w3 w4 w5 (gn .0) _
+              (cabinet-answers (rayFrom d0 d1 d2 d3 d4 d5 d6 d7) (areas (now x0) (now x1) (now x2) (now x3) (now x4) (now x5)) (length w0)
+              (length w1) limit (cabinetFits (length w2) (length w3) (length w4) (length w5)) ys f s from-begin from-start w2 w3 w4 w5 _
+              e),
         )
         el0 el1 same2 same3 same4 same5 ir))))))))))))))))))
 

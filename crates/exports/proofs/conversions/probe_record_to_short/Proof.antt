@@ -18,7 +18,7 @@ returns-2 : tie.Need-returns-2
 returns-2 c =
     let (s, e, k, t) : tie.Start × tie.Else1 × tie.After-to-short × tie.After-put-converted = search in
     let a = s .args in
-    has-place Long Short (a .bytes .now) (a .out .now) (a .written .now) (k .to-short .result) _ _ (e .if1 .left) (k .to-short .ensures)
+    has-place Long Short (a .bytes .now) (a .out .now) (a .written .now) _ _ _ (e .if1 .left) (k .to-short .ensures)
     (t .put-converted .ensures)
 
 pub probe-record-to-short-spec : {M : Type 1} → statement M

@@ -1,90 +1,54 @@
 -- `exports::exact::probe_ray_mesh_exact_plain` meets its contract. Assumes nothing.
-use mathlib.Core.Bool.{true}
-use mathlib.Core.Path.{_≡_, sym, _∙_}
-use Rattle.geometry.specs.Segment.{rayAdmitted}
-use Rattle.exact_triangle.proofs.LineLaws.{line-told}
-use Rattle.exports.proofs.ExactCalls.{exact-for, exact-invalid, exact-off, exact-bad, exact-short-hit, exact-short-index}
-use Rattle.exports.proofs.ExactCalls.{exact-passed}
-use Rattle.lists.proofs.JoinedTests.{test-passed, test-failed}
+use Rattle.tree.specs.Mesh.{Mesh, mesh}
+use Rattle.exports.proofs.Kept.{results-fit, hit-short, index-short}
+use Rattle.exports.proofs.ExactCalls.{plain-short, plain-told, exact-certain}
 use borrow.Author.Needs.{needs}
 use Rattle.exports.proofs.exact.probe_ray_mesh_exact_plain.Statement.{statement}
 use Rattle.exports.proofs.exact.probe_ray_mesh_exact_plain.Tie as tie
 
--- 1
+abbrev own : tie.Start → Mesh
+own s = mesh (s .args .vertices .now) (s .args .triangles .now)
+
+-- the hit slice is too short
 returns : tie.Need-returns
 returns c =
-    let (f, v) : tie.After-ray-from × tie.After-validate = search in
-    exact-for _ _ (f .ray-from .ensures) _ _ _ _ (exact-invalid _ _ _ _ (test-failed (v .validate .ensures) (c .if1 .taken)))
+    let (s, e) : tie.Start × tie.Then1 = search in
+    let a = s .args in
+    exact-certain (a .hit .now) (a .index .now) _ (own s) _
+    (plain-short (a .hit .now) (a .index .now) _ (own s) _ _
+    (hit-short (a .hit .now) (a .index .now) (e .if1 .taken)) (c .before .lengths-admitted .ensures) (c .short-exact .ensures))
 
--- 12
+-- the index slice is
 returns-2 : tie.Need-returns-2
 returns-2 c =
-    let (f, v, e, l) : tie.After-ray-from × tie.After-validate × tie.Else1 × tie.After-line-of = search in
-    exact-for _ _ (f .ray-from .ensures) _ _ _ _
-    (exact-off _ _ _ _ (test-passed (v .validate .ensures) (e .if1 .left)) (sym (l .line-of .ensures) ∙ c .enum-told .given .1))
-
--- 2
-returns-3 : tie.Need-returns-3
-returns-3 c =
-    let (f, v, e, l, k) : tie.After-ray-from × tie.After-validate × tie.Else1 × tie.After-line-of × tie.After-ruled = search in
-    let t = c .before in
-    exact-for _ _ (f .ray-from .ensures) _ _ _ _
-    (exact-bad _ _ _ _ (test-passed (v .validate .ensures) (e .if1 .left)) _ (sym (l .line-of .ensures) ∙ k .ruled .given .1)
-    (test-failed (t .lengths-admitted .ensures) (c .if2 .taken)))
-
--- 3, the hit
-returns-4 : tie.Need-returns-4
-returns-4 c =
-    let (f, v, e, l, k, t, g) : tie.After-ray-from × tie.After-validate × tie.Else1 × tie.After-line-of × tie.After-ruled
-    × tie.After-lengths-admitted × tie.Else2 = search in
-    exact-for _ _ (f .ray-from .ensures) _ _ _ _
-    (exact-short-hit _ _ _ _ (test-passed (v .validate .ensures) (e .if1 .left)) _ (sym (l .line-of .ensures) ∙ k .ruled .given .1)
-    (test-passed (t .lengths-admitted .ensures) (g .if2 .left)) (c .if3 .taken))
-
--- 3, the index
-returns-5 : tie.Need-returns-5
-returns-5 c =
-    let (f, v, e, l, k, t, g, h) : tie.After-ray-from × tie.After-validate × tie.Else1 × tie.After-line-of × tie.After-ruled
-    × tie.After-lengths-admitted × tie.Else2 × tie.Else3 = search in
-    exact-for _ _ (f .ray-from .ensures) _ _ _ _
-    (exact-short-index _ _ _ _ (test-passed (v .validate .ensures) (e .if1 .left)) _ (sym (l .line-of .ensures) ∙ k .ruled .given .1)
-    (test-passed (t .lengths-admitted .ensures) (g .if2 .left)) (h .if3 .left) (c .if4 .taken))
-
-exact-cast-requires : tie.Need-exact-cast-requires
-exact-cast-requires c κs =
-    let (v, e, l, k, t, g) : tie.After-validate × tie.Else1 × tie.After-line-of × tie.After-ruled × tie.After-lengths-admitted × tie.Else2
-    = search in (
-      test-passed (v .validate .ensures) (e .if1 .left),
-      (line-told _ _ (sym (l .line-of .ensures) ∙ k .ruled .given .1), test-passed (t .lengths-admitted .ensures) (g .if2 .left)),
-    )
+    let (s, e1, e2) : tie.Start × tie.Else1 × tie.Then2 = search in
+    let a = s .args in
+    exact-certain (a .hit .now) (a .index .now) _ (own s) _
+    (plain-short (a .hit .now) (a .index .now) _ (own s) _ _
+    (index-short (a .hit .now) (a .index .now) (e1 .if1 .left) (e2 .if2 .taken)) (c .before .lengths-admitted2 .ensures)
+    (c .short-exact2 .ensures))
 
 -- the cast's answer, told
-returns-6 : tie.Need-returns-6
-returns-6 c =
-    let (f, v, e, l, k, t, g, h, j, p, q) : tie.After-ray-from × tie.After-validate × tie.Else1 × tie.After-line-of × tie.After-ruled
-    × tie.After-lengths-admitted × tie.Else2 × tie.Else3 × tie.Else4 × tie.After-exact-cast × tie.After-put-indexed = search in
-    exact-for _ _ (f .ray-from .ensures) _ _ _ _
-    (exact-passed _ _ _ _ (test-passed (v .validate .ensures) (e .if1 .left)) _ (sym (l .line-of .ensures) ∙ k .ruled .given .1)
-    (test-passed (t .lengths-admitted .ensures) (g .if2 .left)) (h .if3 .left) (j .if4 .left) _ _ (q .put-indexed .ensures)
-    (p .exact-cast .ensures))
+returns-3 : tie.Need-returns-3
+returns-3 c =
+    let (s, e1, e2, k, p) : tie.Start × tie.Else1 × tie.Else2 × tie.After-ray-mesh-exact-plain × tie.After-put-indexed = search in
+    let a = s .args in
+    let fits = results-fit (a .hit .now) (a .index .now) (e1 .if1 .left) (e2 .if2 .left) in
+    exact-certain (a .hit .now) (a .index .now) _ (own s) _
+    (plain-told (a .hit .now) (a .index .now) _ (own s) _ _ fits (k .ray-mesh-exact-plain .ensures .0) (p .put-indexed .ensures))
 
 pub probe-ray-mesh-exact-plain-spec : {M : Type 1} → statement M
 probe-ray-mesh-exact-plain-spec =
     tie.close
     (tie.spec
-    (search needs)  -- ray-from-requires
-    (search needs)  -- validate-requires
-    returns
-    (search needs)  -- line-of-requires
-    (search needs)  -- enum-known-ruled
-    (search needs)  -- enum-told
-    returns-2
     (search needs)  -- lengths-admitted-requires
-    returns-3
-    returns-4
-    returns-5
-    exact-cast-requires
+    (search needs)  -- short-exact-requires
+    returns
+    (search needs)  -- lengths-admitted-requires-2
+    (search needs)  -- short-exact-requires-2
+    returns-2
+    (search needs)  -- ray-mesh-exact-plain-requires
     (search needs)  -- put-indexed-requires
     (search needs)  -- same-length
     (search needs)  -- same-length-2
-    returns-6)
+    returns-3)

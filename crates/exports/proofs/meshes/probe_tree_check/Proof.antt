@@ -1,26 +1,23 @@
 -- `exports::meshes::probe_tree_check` meets its contract. Assumes nothing.
-use mathlib.Core.Path.{sym}
+use mathlib.Core.Path.{sym, ap, _∙_}
 use Rattle.results.specs.Results.{toldVerdict}
+use Rattle.exports.proofs.Reading.{yes-read}
 use borrow.Author.Needs.{needs}
 use Rattle.exports.proofs.meshes.probe_tree_check.Statement.{statement}
 use Rattle.exports.proofs.meshes.probe_tree_check.Tie as tie
 
-check-requires : tie.Need-check-requires
-check-requires c κs = search needs
-
-verdict-number-requires : tie.Need-verdict-number-requires
-verdict-number-requires c κs = search needs
-
-same-length : tie.Need-same-length
-same-length c = search needs
-
+-- the check's ruling as its number, and where that says yes the tree passes
 returns : tie.Need-returns
 returns c =
-    let k : tie.After-check = search in (
-      simp (c .verdict-number .ensures, k .check .ensures .0),
-      simp (sym (k .check .ensures .0)) (k .check .ensures .1),
-    )
+    let k : tie.After-check = search in
+    let told = c .verdict-number .ensures ∙ ap toldVerdict (k .check .ensures .0) in
+    (told, (simp (sym (k .check .ensures .0)) (k .check .ensures .1), yes-read _ _ _ _ told))
 
 pub probe-tree-check-spec : {M : Type 1} → statement M
 probe-tree-check-spec =
-    tie.close (tie.spec check-requires verdict-number-requires same-length returns)
+    tie.close
+    (tie.spec
+    (λ c κs. search needs)  -- check-requires
+    (λ c κs. search needs)  -- verdict-number-requires
+    (search needs)  -- same-length
+    returns)

@@ -12,6 +12,7 @@ use Rattle.tree.specs.Mesh.{Mesh, mesh}
 use Rattle.results.specs.Results.{resultsFit}
 use Rattle.exports.proofs.Kept.{results-fit, hit-short, index-short, second-failed}
 use Rattle.exports.proofs.MeshTold.{mesh-short, mesh-told}
+use Rattle.exports.proofs.Reading.{with-demand}
 use borrow.Author.Needs.{needs}
 use Rattle.exports.proofs.meshes.told_mesh.Statement.{statement}
 use Rattle.exports.proofs.meshes.told_mesh.Tie as tie
@@ -28,22 +29,22 @@ own s = mesh (s .args .vertices .now) (s .args .triangles .now)
 returns : tie.Need-returns
 returns c =
     let (s, f, e) : tie.Start × tie.After-ray-from × tie.Then1 = search in
-    let a = s .args in (
-      mesh-short (a .hit .now) (a .index .now) _ (own s) (a .pose .now) (tree s) _ _ _
-          (hit-short (a .hit .now) (a .index .now) (e .if1 .taken)) (rw (f .ray-from .ensures) at (c .short-cast .ensures)),
-      λ _. (refl, refl),
-    )
+    let a = s .args in
+    with-demand (a .hit .now) (a .index .now) _ (own s) (a .pose .now) (tree s) _ _ _ _
+    (mesh-short (a .hit .now) (a .index .now) _ (own s) (a .pose .now) (tree s) _ _ _
+    (hit-short (a .hit .now) (a .index .now) (e .if1 .taken)) (rw (f .ray-from .ensures) at (c .short-cast .ensures)))
+    (λ _. (refl, refl))
 
 -- the index slice is
 returns-2 : tie.Need-returns-2
 returns-2 c =
     let (s, f, e1, e2) : tie.Start × tie.After-ray-from × tie.Else1 × tie.Then2 = search in
     let a = s .args in
-    let few : length (a .index .now) < 1 = omega (arith, s .pre, e2 .if2 .taken) in (
-      mesh-short (a .hit .now) (a .index .now) _ (own s) (a .pose .now) (tree s) _ _ _
-          (index-short (a .hit .now) (a .index .now) (e1 .if1 .left) few) (rw (f .ray-from .ensures) at (c .short-cast2 .ensures)),
-      λ _. (refl, refl),
-    )
+    let few : length (a .index .now) < 1 = omega (arith, s .pre, e2 .if2 .taken) in
+    with-demand (a .hit .now) (a .index .now) _ (own s) (a .pose .now) (tree s) _ _ _ _
+    (mesh-short (a .hit .now) (a .index .now) _ (own s) (a .pose .now) (tree s) _ _ _
+    (index-short (a .hit .now) (a .index .now) (e1 .if1 .left) few) (rw (f .ray-from .ensures) at (c .short-cast2 .ensures)))
+    (λ _. (refl, refl))
 
 -- a part that is all of a slice
 whole-floats : (xs : List Float) → take (length xs - 0) xs ≡ xs
@@ -108,10 +109,10 @@ returns-3 c =
       whole-floats (a .triangle-boxes .now),
       whole-words (a .node-words .now),
       whole-words (a .order .now),
-    ) at (k .ray-mesh .ensures .1 .0) in (
-      mesh-told (a .hit .now) (a .index .now) _ (own s) (a .pose .now) (tree s) _ _ _ _ (fits e) told (p .put-indexed .ensures),
-      λ failed. kept (second-failed _ _ (fits e) failed),
-    )
+    ) at (k .ray-mesh .ensures .1 .0) in
+    with-demand (a .hit .now) (a .index .now) _ (own s) (a .pose .now) (tree s) _ _ _ _
+    (mesh-told (a .hit .now) (a .index .now) _ (own s) (a .pose .now) (tree s) _ _ _ _ (fits e) told (p .put-indexed .ensures))
+    (λ failed. kept (second-failed _ _ (fits e) failed))
 
 -- the lengths that the calls below keep
 same-length : tie.Need-same-length

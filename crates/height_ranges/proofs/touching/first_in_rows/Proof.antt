@@ -1,8 +1,9 @@
 -- `touching::first_in_rows` meets its contract. The loop's invariant: the rows that are left give what all of them give. Assumes nothing.
 use Prim.Native.Nat.{_+_, _-_}
-use mathlib.Core.Path.{_≡_, refl, sym, _∙_}
+use mathlib.Core.Path.{_≡_, refl, sym, ap, _∙_}
 use native.Mathlib.Omega.{arith}
 use Rattle.height_field.specs.Cells.{run, gridCells}
+use Rattle.height_ranges.specs.Answer.{says}
 use Rattle.height_ranges.specs.Ranges.{nearestHeights}
 use Rattle.height_ranges.specs.Pass.{cellTouches, firstCell}
 use Rattle.height_ranges.proofs.Turns.{cell-row-clear, cell-row-found, cell-row-refused, cell-rows-done}
@@ -42,7 +43,7 @@ loop-again c =
     let at = l .loop in
     sym (cell-row-clear (cellTouches (a .field) (nearestHeights (a .bounds .min .z) (a .lows .now) (a .highs .now)) (a .bounds))
     (a .field) (run (a .left) (a .right + 1 - a .left)) (at .row) (a .last) (t .loop-test .taken)
-    (sym (f .first-in-row .ensures) ∙ c .enum-told .given .1)) ∙ at .inv
+    (sym (f .first-in-row .ensures) ∙ ap says (c .enum-told .given .1))) ∙ at .inv
 
 -- one does
 returns : tie.Need-returns Inv-loop μ-loop
@@ -52,7 +53,7 @@ returns c =
     let at = l .loop in
     sym (cell-row-found (cellTouches (a .field) (nearestHeights (a .bounds .min .z) (a .lows .now) (a .highs .now)) (a .bounds))
     (a .field) (run (a .left) (a .right + 1 - a .left)) (at .row) (a .last) (t .loop-test .taken) _
-    (sym (f .first-in-row .ensures) ∙ c .before .found .given .1)) ∙ at .inv
+    (sym (f .first-in-row .ensures) ∙ ap says (c .before .found .given .1))) ∙ at .inv
 
 returns-2 : tie.Need-returns-2 Inv-loop μ-loop
 returns-2 c =
@@ -61,7 +62,7 @@ returns-2 c =
     let at = l .loop in
     sym (cell-row-refused (cellTouches (a .field) (nearestHeights (a .bounds .min .z) (a .lows .now) (a .highs .now)) (a .bounds))
     (a .field) (run (a .left) (a .right + 1 - a .left)) (at .row) (a .last) (t .loop-test .taken) _
-    (sym (f .first-in-row .ensures) ∙ c .before .found2 .given .1)) ∙ at .inv
+    (sym (f .first-in-row .ensures) ∙ ap says (c .before .found2 .given .1))) ∙ at .inv
 
 -- no row is left
 returns-3 : tie.Need-returns-3 Inv-loop μ-loop

@@ -1,4 +1,5 @@
 -- `record_bytes::bytes::float_at` meets its contract: its word is there, and is a NaN's pattern or a number's. Assumes nothing.
+use Rattle.words.specs.Words.{says}
 use Rattle.words.proofs.WordLaws.{bits-there, never-nothing}
 use Rattle.record_bytes.proofs.Patterns.{zero-over-zero, nan-pattern, number-pattern, value-is-bits}
 use Rattle.record_bytes.specs.Bytes.{bitsAt, floatAt}
@@ -14,7 +15,7 @@ use Rattle.record_bytes.proofs.bytes.float_at.Tie as tie
 returns : tie.Need-returns
 returns c =
     let told : tie.After-word-at = search in
-    let h : _≡_ {A = ℕ} 1 0 = never-nothing _ _ (omega arith) (sym (c .enum-told .given .1) ∙ told .word-at .ensures) in
+    let h : _≡_ {A = ℕ} 1 0 = never-nothing _ _ (omega arith) (ap says (sym (c .enum-told .given .1)) ∙ told .word-at .ensures) in
     absurd (omega arith)
 
 start : tie.After-word → tie.Start
@@ -25,7 +26,7 @@ pattern : (k : tie.After-word) → k .word .given .0 .0 ≡ bitsAt (start k .arg
 unfolding start
 pattern k =
     let told : tie.After-word-at = search in
-    bits-there _ _ _ (omega arith) (sym (k .word .given .1) ∙ told .word-at .ensures) ∙ value-is-bits _ _
+    bits-there _ _ _ (omega arith) (ap says (sym (k .word .given .1)) ∙ told .word-at .ensures) ∙ value-is-bits _ _
 
 returns-2 : tie.Need-returns-2
 unfolding floatAt start

@@ -1,6 +1,6 @@
 -- `vectors::vec3::Vec3::normalize` meets its contract: a dot that tells the length tells that there is one. Assumes nothing.
 use borrow.Author.Needs.{needs}
-use Rattle.vectors.proofs.NormalLaws.{told-unit}
+use Rattle.vectors.proofs.NormalLaws.{told-unit, between-tells}
 use Rattle.vectors.proofs.vec3.Vec3.normalize.Statement.{statement}
 use Rattle.vectors.proofs.vec3.Vec3.normalize.Tie as tie
 
@@ -14,7 +14,7 @@ returns : tie.Need-returns
 returns c =
     let (s, d, t) : tie.Start × tie.After-dot × tie.After-tells-length = search in
     let (e, u) : tie.Then1 × tie.After-over-length = search in
-    let told = t .tells-length .ensures (e .if1 .taken) in
+    let told = between-tells _ _ (t .tells-length .ensures) (e .if1 .taken) in
     told-unit (s .args .self) (d .dot .result) (u .over-length .result) (d .dot .ensures) (told .0) (told .1) (u .over-length .ensures)
 
 pub normalize-spec : {M : Type 1} → statement M

@@ -1,0 +1,2 @@
+-- What the calls with many rays answer. Definitions only. Assumes nothing.
+pub mod Many

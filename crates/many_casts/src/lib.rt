@@ -1,0 +1,8 @@
+// Many rays in one call: the mesh cast and the exact cast, each ray's answer at the ray's own places of the result slices.
+
+// A ray in the slice of rays, and the places of its answer.
+pub mod places;
+// The mesh cast.
+pub mod at_mesh;
+// The exact cast.
+pub mod at_exact;

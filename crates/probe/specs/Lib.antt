@@ -1,0 +1,2 @@
+-- What `probe` does between its reads and its writes. Definitions only. Assumes nothing.
+pub mod Runs
