@@ -11,8 +11,8 @@ Python tell it, are the same in all three, and begin with its name in the header
 
   crates/exports/src/*.rt       the calls, the version, and the codes
   crates/casts/src/answer.rt    the refusals, and that of the ranges in crates/height_ranges/src/answer.rt,
-                                of a limit in crates/cabinet_cast/src/cast.rt, of a float that is not held in
-                                crates/float_forms/src/forms.rt, and of what is out of range in crates/grid_triangle/src/cast.rt
+                                of a limit in crates/cabinet/src/cast.rt, of a float that is not held in
+                                crates/float_forms/src/forms.rt, and of what is out of range in crates/exact_triangle/src/cast.rt
   crates/cabinet/src/part.rt    the structs; crates/vectors/src/vec3.rt has the vector in them
   crates/tree/src/lib.rt        the table of areas
   include/probe_rays.h          for C and C++
@@ -31,8 +31,8 @@ REFUSALS = [
     "crates/casts/src/answer.rt",
     "crates/height_ranges/src/answer.rt",
     "crates/float_forms/src/forms.rt",
-    "crates/grid_triangle/src/cast.rt",
-    "crates/cabinet_cast/src/cast.rt",
+    "crates/exact_triangle/src/cast.rt",
+    "crates/cabinet/src/cast.rt",
 ]
 STRUCTS = ["crates/cabinet/src/part.rt", "crates/vectors/src/vec3.rt"]
 AREAS = "crates/tree/src/lib.rt"

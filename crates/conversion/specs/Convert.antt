@@ -8,9 +8,9 @@ use Rattle.float_forms.specs.declared.forms.Form.{Form}
 use Rattle.float_forms.specs.declared.forms.Form.the-variants.{Long, Short}
 use Rattle.float_forms.specs.declared.forms.Converted.{Converted}
 use Rattle.float_forms.specs.declared.forms.Converted.the-variants.{Written, Refused}
-use Rattle.record_forms.specs.Records.{Said, saidOf, wellFormed}
+use Rattle.conversion.specs.Records.{Said, saidOf, wellFormed}
 use Rattle.float_forms.specs.Holding.{isNumber, held}
-use Rattle.record_forms.specs.Writing.{everySaid, turned}
+use Rattle.conversion.specs.Writing.{everySaid, turned}
 
 -- no float is a NaN
 abbrev pub withoutNan : Said → Bool

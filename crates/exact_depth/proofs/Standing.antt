@@ -17,7 +17,7 @@ use Rattle.arithmetic.specs.Basic.{isFinite}
 use Rattle.arithmetic.proofs.Order.{le-of-not-lt}
 use Rattle.arithmetic.proofs.SignedOrder.{plus, less, below-not}
 use Rattle.arithmetic.proofs.WholeValues.{Is, signed}
-use Rattle.exact_depth.proofs.Integers.{pp, np, no-factor}
+use Rattle.wide_integers.proofs.Integers.{pp, np, no-factor}
 
 -- x is the whole number z
 abbrev pub Stands : Float → ℤ → Type 0

@@ -2,6 +2,13 @@
 // proofs/. No code.
 
 // A point, a triangle as the line sees it, and a depth on the line.
-pub mod spots;
+pub mod projection;
 // A plane that the line lies in.
 pub mod plane;
+
+// A depth on the line, and what of it lies on the segment.
+pub mod wide_projection;
+// A plane that the line lies in.
+mod wide_plane;
+// The public call.
+pub mod depth;

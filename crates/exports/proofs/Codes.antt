@@ -9,7 +9,7 @@ use Rattle.height_ranges.specs.Answer as Clearance
 use Rattle.tree_build.specs.Build as Build
 use Rattle.tree_query.specs.Query as Query
 use Rattle.tree_check.specs.Verdict as Verdict
-use Rattle.board_tests.specs.Merge as Merge
+use Rattle.merge.specs.Merge as Merge
 use Rattle.mesh_hits.proofs.RefusalNumbers.{refusals-small}
 use Rattle.cabinet.specs.Cabinet as Cabinet
 use Rattle.slice_casts.specs.Slices.{planeOfSlices, triangleOfSlices}

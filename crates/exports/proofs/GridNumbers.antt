@@ -37,11 +37,11 @@ use Rattle.distance_grid.specs.declared.places.Place.the-variants.{At as PlaceA
 use Rattle.distance_grid.specs.declared.places.Located.{Located}
 use Rattle.distance_grid.specs.declared.places.Located.the-variants.{At as LocatedAt, Refused as NotLocated}
 use Rattle.distance_grid.specs.Grid.{gridAdmitted, gridBox}
-use Rattle.distance_grid.specs.Places.{drawnPoint, locateAxis, withPlace, locateInside, locate}
-use Rattle.grid_samples.specs.declared.sampling.Sampled.{Sampled}
-use Rattle.grid_samples.specs.declared.sampling.Sampled.the-variants.{At as SampledAt, Refused as NotSampled}
-use Rattle.grid_samples.specs.Sampling.{gathered, sampleFaces, sampleCell, withLocated, sample}
-use Rattle.grid_samples.specs.Valued.{valueOf}
+use Rattle.distance_grid.specs.Places.{clampedPoint, locateAxis, withPlace, locateInside, locate}
+use Rattle.distance_grid.specs.declared.sampling.Sampled.{Sampled}
+use Rattle.distance_grid.specs.declared.sampling.Sampled.the-variants.{At as SampledAt, Refused as NotSampled}
+use Rattle.distance_grid.specs.Sampling.{gathered, sampleFaces, sampleCell, withLocated, sample}
+use Rattle.distance_grid.specs.Valued.{valueOf}
 use Rattle.grid_steps.specs.Slab.{rayAabbInterval}
 use Rattle.grid_steps.specs.Cells.{rayCellIndices, nextCellBoundary}
 use Rattle.grid_steps.specs.declared.interval.Interval.{Interval}
@@ -161,7 +161,7 @@ inside-small (PlaceAt x tx) (PlaceAt y ty) (PlaceAt z tz) = leaf locatedNumber (
 located-small : (g : Grid) (p : Vec3) → Small locatedNumber (locate g p)
 unfolding locate locateInside locatedNumber
 located-small g p =
-    let q = drawnPoint g p in
+    let q = clampedPoint g p in
     chosen (finiteVec p)
     (inside-small (locateAxis (q .x) (g .origin .x) (g .spacing .x) (g .sides .x))
     (locateAxis (q .y) (g .origin .y) (g .spacing .y) (g .sides .y)) (locateAxis (q .z) (g .origin .z) (g .spacing .z) (g .sides .z)))

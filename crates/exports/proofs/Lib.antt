@@ -9,7 +9,7 @@ pub mod Reading
 pub mod RangeCalls
 pub mod Counts
 pub mod PlainCalls
-pub mod MeshTold
+pub mod MeshReturned
 pub mod CabinetAnswers
 pub mod CabinetReads
 pub mod FoundHits

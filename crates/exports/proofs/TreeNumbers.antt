@@ -24,10 +24,10 @@ use Rattle.tree_build.specs.Build as Build
 use Rattle.tree_query.specs.Query as Query
 use Rattle.tree_check.specs.Check.{treePasses}
 use Rattle.tree_check.specs.Verdict as Verdict
-use Rattle.board_tests.specs.Merge as Merge
+use Rattle.merge.specs.Merge as Merge
 use Rattle.float_forms.specs.declared.forms.Form.{Form}
-use Rattle.record_forms.specs.Records.{saidOf, wellFormed}
-use Rattle.record_forms.specs.Writing.{turned}
+use Rattle.conversion.specs.Records.{saidOf, wellFormed}
+use Rattle.conversion.specs.Writing.{turned}
 use Rattle.conversion.specs.Convert.{saidHeld, Answer as Converted, written, refused as notConverted, Outcome, converted}
 use Rattle.tree_walk.specs.Looking.{Looked, looked, usedUp, walkWithin}
 use Rattle.cabinet.specs.declared.part.Part.{Part}

@@ -27,10 +27,10 @@ use Rattle.tree_query.specs.Query as Query
 use Rattle.tree_check.specs.Verdict as Verdict
 use Rattle.mesh.specs.MeshCast.{rayMesh}
 use Rattle.mesh_plain.specs.PlainCast.{rayMeshPlain}
-use Rattle.mesh_grid.specs.GridCast.{rayMeshExactPlain}
-use Rattle.first_cast.specs.ExactMesh.{rayMeshExact}
-use Rattle.board_tests.specs.Merge as Merge
-use Rattle.hit_area.specs.HitArea.{HitArea}
+use Rattle.mesh_exact.specs.GridCast.{rayMeshExactPlain}
+use Rattle.tree_exact.specs.ExactMesh.{rayMeshExact}
+use Rattle.merge.specs.Merge as Merge
+use Rattle.mesh_hits.specs.HitArea.{HitArea}
 use Rattle.mesh_hits.specs.Listing.{rayMeshAll}
 use Rattle.cabinet.specs.declared.part.Part.{Part}
 use Rattle.cabinet.specs.Parts.{Areas as CabinetAreas}

@@ -10,7 +10,7 @@ ghost use lib.ListN.{length};
 ghost use Rattle.cabinet.specs.Cabinet.{withResults};
 ghost use Rattle.cabinet.specs.Steps.{areas, begun, lastAnswer};
 ghost use Rattle.results.specs.Results.{rayFrom};
-ghost use Rattle.exports.specs.CabinetResults.{cabinetFits, cabinetTold, toldCabinet, CabinetCall};
+ghost use Rattle.exports.specs.CabinetResults.{cabinetFits, cabinetReturned, returnedCabinet, CabinetCall};
 
 // Whether the result slices, by their lengths, hold an answer.
 fn results_fit(hit: usize, index: usize, part: usize, spent: usize) -> bool
@@ -73,8 +73,8 @@ fn put_cabinet(
     part: &mut [usize],
     spent: &mut [usize],
 ) -> u32
-    ensures { λ r. ⌜ cabinetTold r (now (hit .exit)) (now (index .exit)) (now (part .exit)) (now (spent .exit))
-        ≡ toldCabinet (withResults (cabinetFits (length (now (hit .entry))) (length (now (index .entry))) (length (now (part .entry)))
+    ensures { λ r. ⌜ cabinetReturned r (now (hit .exit)) (now (index .exit)) (now (part .exit)) (now (spent .exit))
+        ≡ returnedCabinet (withResults (cabinetFits (length (now (hit .entry))) (length (now (index .entry))) (length (now (part .entry)))
         (length (now (spent .entry)))) (lastAnswer (end .at))) (now (hit .entry)) (now (index .entry)) (now (part .entry))
         (now (spent .entry)) ⌝ }
 {
@@ -151,7 +151,7 @@ pub extern "C" fn probe_ray_cabinet(
         (now («node_words» .entry)) (now (order .entry))) limit (now (parts .entry))
         (now (list .entry)) (now (list .exit)) (now (stack .entry)) (now (stack .exit))
         (now (hit .entry)) (now (index .entry)) (now (part .entry)) (now (spent .entry))
-        (cabinetTold r (now (hit .exit)) (now (index .exit)) (now (part .exit)) (now (spent .exit))) ⌝ }
+        (cabinetReturned r (now (hit .exit)) (now (index .exit)) (now (part .exit)) (now (spent .exit))) ⌝ }
 {
     let start = begin(
         origin_x,

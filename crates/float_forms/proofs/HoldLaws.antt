@@ -7,10 +7,10 @@ use lib.Dec.{T}
 use lib.Ieee.{Float, nan, top, binary32, binary64, isNan, fits, ne, toBits}
 use lib.Ieee.Bits.{is-true, toBits-lt}
 use lib.Ieee.Fits.{and-i}
-use Rattle.short_floats.specs.declared.Short.the-variants as shorts
-use Rattle.short_floats.specs.Short.{shortOf}
-use Rattle.short_floats.specs.Short as said
-use Rattle.short_floats.proofs.Shorts.{number, nan-number}
+use Rattle.float_forms.specs.declared.short.Short.the-variants as shorts
+use Rattle.float_forms.specs.Short.{shortOf}
+use Rattle.float_forms.specs.Short as said
+use Rattle.float_forms.proofs.Shorts.{number, nan-number}
 use Rattle.float_forms.specs.declared.forms.Form.{Form}
 use Rattle.float_forms.specs.declared.forms.Form.the-variants.{Long, Short}
 use Rattle.float_forms.specs.declared.holding.Pattern.{Pattern}
@@ -31,7 +31,7 @@ pub long-bits : (x : Float) → T (fits binary64 x) → ne x x ≡ false → Bit
 unfolding patternFor held
 long-bits x f h = rw (is-true (not (isNan x)) (number x h), is-true (fits binary64 x) f)
 
--- ---- in four: `short_floats::short_of` says the same
+-- ---- in four: `float_forms::short::short_of` says the same
 
 short-is : (x : Float) → patternFor Short x ≡ cond (said.held x) (Bits (toBits binary32 x)) Unheld
 unfolding patternFor held said.held

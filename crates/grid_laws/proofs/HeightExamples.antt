@@ -21,7 +21,7 @@ use Rattle.casts.specs.Surface.{outOfRange, facing}
 use Rattle.triangle_cast.specs.Triangle.{flat, triangleNormal, triangleAbove, triangleAt, triangleOf}
 use Rattle.nearest_hit.specs.Nearest.{nextOf, foldFrom, withoutIndex}
 use Rattle.height_field.specs.declared.field.Field.{Field}
-use Rattle.grids.specs.Spacing.{spacingAdmitted}
+use Rattle.geometry.specs.Spacing.{spacingAdmitted}
 use Rattle.height_field.specs.Grid.{sideAdmitted, fieldAdmitted, floatOf, vertexAt, cellAt, cellRow, cellColumn, cornersAt, featureCorners}
 use Rattle.height_field.specs.Cells.{spanOf, scaledRange, cellRange, run, rangeCells, gridCells, columnRange, rowRange, visitedCells}
 use Rattle.height_field.specs.Listing.{both, listAll, allFinite, cellFinite, featureBox, listCell, gridListing}

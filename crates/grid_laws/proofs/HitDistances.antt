@@ -36,7 +36,7 @@ use Rattle.cubic.specs.declared.roots.Root.the-variants.{At as RootAt, None as 
 use Rattle.distance_grid.specs.Grid.{gridAdmitted, gridBox}
 use Rattle.grid_steps.specs.Slab.{kept, cut, slabFrom, slab, started, rayAabbInterval}
 use Rattle.grid_steps.specs.Cells.{rayCellIndices, slack, Axis, boundaryDistance, boundaryBy, axisBoundary, nextCellBoundary}
-use Rattle.grid_samples.specs.Sampling.{sample}
+use Rattle.distance_grid.specs.Sampling.{sample}
 use Rattle.level_set.specs.Hits.{pointAt, along, withSample, hitWith, hitAlong, touchAt, samplesAlong}
 use Rattle.level_set.specs.Walk.{Turn, done, on, goesOn, rootTurn, cellBy, cellCast, goesTo, withSamples, withBoundary}
 use Rattle.level_set.specs.Walk.{withCells, walkStep, follow, cellLimit, walkFrom, withInterval, levelSetCast, rayLevelSet}
@@ -47,8 +47,8 @@ use Rattle.grid_steps.specs.declared.cells.Cells.{Cells}
 use Rattle.grid_steps.specs.declared.cells.Cells.the-variants.{At as CellsAt, Overflow as NoCells}
 use Rattle.grid_steps.specs.declared.cells.Boundary.{Boundary}
 use Rattle.grid_steps.specs.declared.cells.Boundary.the-variants.{At as BoundaryAt, Overflow as NoBoundary}
-use Rattle.grid_samples.specs.declared.sampling.Sampled.{Sampled}
-use Rattle.grid_samples.specs.declared.sampling.Sampled.the-variants.{At as SampledAt, Refused as SampleRefused}
+use Rattle.distance_grid.specs.declared.sampling.Sampled.{Sampled}
+use Rattle.distance_grid.specs.declared.sampling.Sampled.the-variants.{At as SampledAt, Refused as SampleRefused}
 use Rattle.level_set.specs.declared.hits.Samples.{Samples}
 use Rattle.level_set.specs.declared.hits.Samples.the-variants.{All, Refused as SamplesRefused}
 use Rattle.grid_laws.proofs.RootsBetween.{RootWithin, root-at, no-root, root-refused, first-root-within}

@@ -20,9 +20,9 @@ use Rattle.cubic.specs.declared.roots.Root.the-variants.{At as RootAt, None as 
 use Rattle.distance_grid.specs.Grid.{lastNode, lastCorner, gridAdmitted, gridBox}
 use Rattle.grid_steps.specs.Slab.{rayAabbInterval}
 use Rattle.grid_steps.specs.Cells.{rayCellIndices, nextCellBoundary}
-use Rattle.distance_grid.specs.Places.{drawnTo, drawn, drawnPoint, locateInside, locate}
-use Rattle.grid_samples.specs.Sampling.{withLocated, sampleCell, sample}
-use Rattle.grid_samples.specs.Valued.{valueOf}
+use Rattle.distance_grid.specs.Places.{clampedTo, clamped, clampedPoint, locateInside, locate}
+use Rattle.distance_grid.specs.Sampling.{withLocated, sampleCell, sample}
+use Rattle.distance_grid.specs.Valued.{valueOf}
 use Rattle.level_set.specs.Hits.{pointAt, along, withSample, hitWith, hitAlong, touchAt, valueAlong, third, twoThirds, samplesOf}
 use Rattle.level_set.specs.Hits.{samplesAlong}
 use Rattle.level_set.specs.Walk.{Turn, done, on, rootTurn, cellBy, cellCast, goesTo, withSamples, withBoundary, withCells}
@@ -38,10 +38,10 @@ use Rattle.grid_steps.specs.declared.cells.Boundary.{Boundary}
 use Rattle.grid_steps.specs.declared.cells.Boundary.the-variants.{At as BoundaryAt, Overflow as NoBoundary}
 use Rattle.distance_grid.specs.declared.places.Located.{Located}
 use Rattle.distance_grid.specs.declared.places.Located.the-variants.{Refused as NotLocated}
-use Rattle.grid_samples.specs.declared.sampling.Sampled.{Sampled}
-use Rattle.grid_samples.specs.declared.sampling.Sampled.the-variants.{Refused as SampleRefused}
-use Rattle.grid_samples.specs.declared.valued.Valued.{Valued}
-use Rattle.grid_samples.specs.declared.valued.Valued.the-variants.{At as ValuedAt, Refused as NoValue}
+use Rattle.distance_grid.specs.declared.sampling.Sampled.{Sampled}
+use Rattle.distance_grid.specs.declared.sampling.Sampled.the-variants.{Refused as SampleRefused}
+use Rattle.distance_grid.specs.declared.valued.Valued.{Valued}
+use Rattle.distance_grid.specs.declared.valued.Valued.the-variants.{At as ValuedAt, Refused as NoValue}
 use Rattle.level_set.specs.declared.hits.Samples.{Samples}
 use Rattle.level_set.specs.declared.hits.Samples.the-variants.{All, Refused as SamplesRefused}
 
@@ -82,8 +82,8 @@ or-second false b h = h
 or-second true b h = absurd (true≢false h)
 
 side-stays : (point origin spacing : Float) (side : ℕ) → outsideSide point origin (lastNode origin spacing side) ≡ false
-    → drawn point origin spacing side ≡ point
-unfolding outsideSide drawn drawnTo
+    → clamped point origin spacing side ≡ point
+unfolding outsideSide clamped clampedTo
 side-stays point origin spacing side h =
     simp (
       or-first (lt point origin) (lt (lastNode origin spacing side) point) h,
@@ -92,8 +92,8 @@ side-stays point origin spacing side h =
     )
 
 -- a point inside stays
-pub point-stays : (g : Grid) (p : Vec3) → outside p (g .origin) (lastCorner g) ≡ false → drawnPoint g p ≡ p
-unfolding outside lastCorner drawnPoint
+pub point-stays : (g : Grid) (p : Vec3) → outside p (g .origin) (lastCorner g) ≡ false → clampedPoint g p ≡ p
+unfolding outside lastCorner clampedPoint
 point-stays g p h =
     let first = outsideSide (p .x) (g .origin .x) (lastNode (g .origin .x) (g .spacing .x) (g .sides .x)) in
     let second = outsideSide (p .y) (g .origin .y) (lastNode (g .origin .y) (g .spacing .y) (g .sides .y)) in
@@ -109,7 +109,7 @@ unfolding locateRefusing locate
 located-unless g p = chosen (finiteVec p) (go (outside p (g .origin) (lastCorner g)) refl) (inr refl)
   where
     go : (b : Bool) → outside p (g .origin) (lastCorner g) ≡ b
-        → Unless (NotLocated outOfBounds) (cond b (NotLocated outOfBounds) (locateInside g p)) (locateInside g (drawnPoint g p))
+        → Unless (NotLocated outOfBounds) (cond b (NotLocated outOfBounds) (locateInside g p)) (locateInside g (clampedPoint g p))
     go true h = inl refl
     go false h = inr (ap (locateInside g) (sym (point-stays g p h)))
 

@@ -52,7 +52,7 @@ fn whole_cell(coordinate: f64, direction: f64) -> u64
     places::floor_cell(coordinate)
 }
 
-// The rule of `ray_cell_indices` on one axis. Callers show that the axis has at least two nodes.
+// The rule of `ray_cell_indices` on one axis.
 fn cell_on_axis(point: f64, direction: f64, origin: f64, spacing: f64, side: u32) -> Cell
     requires { ⌜ 2 ≤ side ⌝ }
     ensures { λ r. ⌜ r ≡ cellOnAxis point direction origin spacing side ⌝ }
@@ -64,7 +64,7 @@ fn cell_on_axis(point: f64, direction: f64, origin: f64, spacing: f64, side: u32
     Cell::At(places::up_to_last(whole_cell(coordinate, direction), side))
 }
 
-// The cell at a point of a ray. Callers show that the grid's sides are admitted.
+// The cell at a point of a ray.
 pub fn ray_cell_indices(grid: Grid, point: Vec3, direction: Vec3) -> Cells
     requires { ⌜ SidesStand (grid .sides) ⌝ }
     ensures { λ r. ⌜ r ≡ rayCellIndices grid point direction ⌝ }

@@ -13,7 +13,7 @@ use borrow.Author.Tests.{leb-true, eqb-true}
 use lib.Arith.{digits-lt}
 use Rattle.lists.proofs.JoinedTests.{and-first, and-second}
 use Rattle.height_field.specs.declared.field.Field.{Field}
-use Rattle.grids.specs.Spacing.{spacingAdmitted}
+use Rattle.geometry.specs.Spacing.{spacingAdmitted}
 use Rattle.height_field.specs.Grid.{sideAdmitted, fieldAdmitted, Sized, cellAt, cellRow, cellColumn}
 
 -- ---- admitted

@@ -28,7 +28,7 @@ fn ranges_admitted(field: Field, lows: &[f64], highs: &[f64]) -> bool
     highs.len() == field.rows * field.columns
 }
 
-// The ranges of all visited cells first, then the first cell that touches. Callers show that the tests before them pass.
+// The ranges of all visited cells first, then the first cell that touches.
 fn visited_answer(ray: Ray, bounds: Aabb, field: Field, lows: &[f64], highs: &[f64]) -> Clearance
     requires { ⌜ Tested ray field (now lows) (now highs) ⌝ ∗ ⌜ bounds ≡ segmentBox ray ⌝ }
     ensures { λ r. ⌜ says r ≡ visitedAnswer field (now (lows .entry)) (now (highs .entry)) bounds ⌝ }
@@ -50,7 +50,7 @@ fn visited_answer(ray: Ray, bounds: Aabb, field: Field, lows: &[f64], highs: &[f
     touching::first_in_rows(bounds, field, lows, highs, first, last, left, right)
 }
 
-// The cast in the height cast's order. Callers show that the ray and the grid are admitted.
+// The cast in the height cast's order.
 fn ranges_cast(ray: Ray, field: Field, lows: &[f64], highs: &[f64]) -> Clearance
     requires { ⌜ rayAdmitted ray ≡ true ⌝ ∗ ⌜ rangesAdmitted field (now lows) (now highs) ≡ true ⌝ }
     ensures { λ r. ⌜ says r ≡ rangesCast ray field (now (lows .entry)) (now (highs .entry)) ⌝ }

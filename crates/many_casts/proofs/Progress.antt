@@ -12,7 +12,7 @@ use Rattle.many_casts.specs.Many.{Places, answerAt, answersOf, meshAnswe
 
 pub record Answered (answer : Ray → Indexed) (rays : List Float) (count i : ℕ) (before after : Places)
     (list₀ list stack₀ stack : List ℕ) : Type 0 where
-  pub told : after ≡ answersOf answer rays i before
+  pub returned : after ≡ answersOf answer rays i before
   pub most : i ≤ count
   pub codes : length (after .codes) ≡ length (before .codes)
   pub hits : length (after .hits) ≡ length (before .hits)

@@ -1,7 +1,7 @@
 use crate::places;
 use casts::answer;
-use first_cast::cast as exact_cast;
 use mesh::cast;
+use tree_exact::cast as exact_cast;
 use tree_query::query;
 ghost use mathlib.Core.Path.{_≡_};
 ghost use mathlib.Core.Bool.{_&&_};
@@ -11,9 +11,9 @@ ghost use lib.ListN.{length};
 ghost use Rattle.tree.specs.Mesh.{mesh};
 ghost use Rattle.tree.specs.Layout.{treeOf};
 ghost use Rattle.tree_query.specs.Query.{treeFits};
-ghost use Rattle.many_casts.specs.Many.{rayAt, places, answerAt, answersOf, exactAnswer, toldMany, ManyExactCall};
+ghost use Rattle.many_casts.specs.Many.{rayAt, places, answerAt, answersOf, exactAnswer, returnedMany, ManyExactCall};
 
-// One ray's cast, its answer at its places. Callers show that the ray and the places are there.
+// One ray's cast, its answer at its places.
 fn cast_at(
     index: usize,
     rays: &[f64],
@@ -54,7 +54,7 @@ fn cast_at(
     places::put_at(found, index, codes, hits, indices);
 }
 
-// The first rays' casts. Callers show that the rays and the places are there.
+// The first rays' casts.
 fn cast_each(
     count: usize,
     rays: &[f64],
@@ -101,7 +101,7 @@ fn cast_each(
     }
 }
 
-// Whether the tree's areas and the stack are long enough. Callers show that the triangles are few, so that no product wraps.
+// Whether the tree's areas and the stack are long enough.
 fn room_fits(
     count: usize,
     nodes: usize,
@@ -143,7 +143,7 @@ pub fn ray_mesh_exact_many(
         (treeOf nodes (now («node_boxes» .entry)) (now («triangle_boxes» .entry)) (now («node_words» .entry)) (now (order .entry)))
         (now (stack .entry)) (now (stack .exit))
         (places (now (codes .entry)) (now (hits .entry)) (now (indices .entry)))
-        (toldMany r (places (now (codes .exit)) (now (hits .exit)) (now (indices .exit)))) ⌝ }
+        (returnedMany r (places (now (codes .exit)) (now (hits .exit)) (now (indices .exit)))) ⌝ }
 {
     if rays.len() % 8 != 0 {
         return answer::BAD_SHAPE;

@@ -7,9 +7,9 @@ ghost use Prim.Native.Nat.{_+_, _*_, _<_, _≤_};
 ghost use lib.ListN.{length};
 ghost use Rattle.tree.specs.Mesh.{mesh};
 ghost use Rattle.tree.specs.Layout.{treeOf};
-ghost use Rattle.many_casts.specs.Many.{rayAt, places, answerAt, answersOf, meshAnswer, toldMany, ManyCall};
+ghost use Rattle.many_casts.specs.Many.{rayAt, places, answerAt, answersOf, meshAnswer, returnedMany, ManyCall};
 
-// One ray's cast, its answer at its places. Callers show that the ray and the places are there.
+// One ray's cast, its answer at its places.
 fn cast_at(
     index: usize,
     rays: &[f64],
@@ -52,7 +52,7 @@ fn cast_at(
     places::put_at(found, index, codes, hits, indices);
 }
 
-// The first rays' casts. Callers show that the rays and the places are there.
+// The first rays' casts.
 fn cast_each(
     count: usize,
     rays: &[f64],
@@ -124,7 +124,7 @@ pub fn ray_mesh_many(
         (treeOf nodes (now («node_boxes» .entry)) (now («triangle_boxes» .entry)) (now («node_words» .entry)) (now (order .entry)))
         (now (list .entry)) (now (list .exit)) (now (stack .entry)) (now (stack .exit))
         (places (now (codes .entry)) (now (hits .entry)) (now (indices .entry)))
-        (toldMany r (places (now (codes .exit)) (now (hits .exit)) (now (indices .exit)))) ⌝ }
+        (returnedMany r (places (now (codes .exit)) (now (hits .exit)) (now (indices .exit)))) ⌝ }
 {
     if rays.len() % 8 != 0 {
         return answer::BAD_SHAPE;

@@ -19,10 +19,10 @@ use Rattle.lists.specs.Lists.{count, keep, sortBy}
 use Rattle.tree.specs.Layout.{wordAt, vectorAt, numberAt}
 use Rattle.lists.proofs.CountLaws.{count-keep}
 use Rattle.tree_query.specs.Query.{count as countOf, refused as refusedWith}
-use Rattle.hit_area.specs.HitArea.{HitArea, Outcome, isHit, hitsOf, inOrder, numbersOf, placesOf, refusedAt}
-use Rattle.hit_listing.specs.HitListing.{written, fitted, afterRefusals, listingOf}
-use Rattle.hit_listing.proofs.HitOrder.{in-order-count}
-use Rattle.hit_listing.proofs.PlaceLaws.{at-counted, IsHitOf, hit-of, AllHit, NumbersAt, stands-at}
+use Rattle.mesh_hits.specs.HitArea.{HitArea, Outcome, isHit, hitsOf, inOrder, numbersOf, placesOf, refusedAt}
+use Rattle.mesh_hits.specs.HitListing.{written, fitted, afterRefusals, listingOf}
+use Rattle.mesh_hits.proofs.HitOrder.{in-order-count}
+use Rattle.mesh_hits.proofs.PlaceLaws.{at-counted, IsHitOf, hit-of, AllHit, NumbersAt, stands-at}
 
 -- ---- a count is no refusal
 pub refused-not-count : (k number : ℕ) → refusedWith number ≡ countOf k → ⊥

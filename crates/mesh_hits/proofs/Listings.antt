@@ -26,9 +26,9 @@ use Rattle.tree_walk.specs.declared.step.Filled.{Filled}
 use Rattle.tree_walk.specs.declared.step.Filled.the-variants.{Count, Broken}
 use Rattle.tree_query.specs.Query.{walkFits}
 use Rattle.mesh.specs.MeshCast.{shapeAdmitted, roomFor}
-use Rattle.hit_area.specs.HitArea.{HitArea, Outcome, refusedAt}
+use Rattle.mesh_hits.specs.HitArea.{HitArea, Outcome, refusedAt}
 use Rattle.mesh_hits.specs.Listing.{unchanged, overWalk, meshListing, rayMeshAll}
-use Rattle.hit_listing.specs.HitListing.{listingOf}
+use Rattle.mesh_hits.specs.HitListing.{listingOf}
 
 -- the list of the walk does not fall
 pub ended-rises : (t : Tree) (n : ℕ) (box : Aabb) (w : Walking) (stack l : List ℕ) → ended t n box w ≡ walking stack l → Rising l

@@ -30,9 +30,9 @@ use Rattle.tree.specs.Mesh.{Mesh, thirds, cornersInside, cornerAt, triangleAnsw
 use Rattle.tree_walk.specs.Walk.{Walking, walking, broken, walkOf}
 use Rattle.tree_query.specs.Query.{Listing, count as countOf, refused as refusedWith}
 use Rattle.mesh.specs.MeshCast.{shapeAdmitted, roomFor}
-use Rattle.hit_area.specs.HitArea.{HitArea, Outcome, hitsOf, inOrder, placesOf, refusedAt}
-use Rattle.hit_listing.specs.HitListing.{written, fitted}
-use Rattle.hit_listing.specs.HitListing.{afterRefusals, listingOf}
+use Rattle.mesh_hits.specs.HitArea.{HitArea, Outcome, hitsOf, inOrder, placesOf, refusedAt}
+use Rattle.mesh_hits.specs.HitListing.{written, fitted}
+use Rattle.mesh_hits.specs.HitListing.{afterRefusals, listingOf}
 use Rattle.mesh_hits.specs.Listing.{overWalk, meshListing, rayMeshAll}
 use Rattle.mesh_hits.proofs.CountedHits.{refused-not-count, written-counts}
 use Rattle.mesh_hits.proofs.Promises.{listing}

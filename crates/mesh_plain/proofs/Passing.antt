@@ -15,7 +15,7 @@ use Rattle.geometry.specs.declared.ray.Ray.{Ray}
 use Rattle.casts.specs.Answer.{Answer, outOfBounds}
 use Rattle.triangle_cast.specs.Triangle.{triangleCast}
 use Rattle.nearest_hit.specs.Nearest.{Indexed, noHit, stopped, nextOf, foldFrom, nearestOf}
-use Rattle.crossed_hit.specs.Crossed.{facedIndexed}
+use Rattle.nearest_hit.specs.Deferred.{facedIndexed}
 use Rattle.lists.specs.Lists.{range, keep, every}
 use Rattle.tree.specs.Mesh.{Mesh, thirds, cornersInside, cornersOf, triangleBox, triangleAnswer, candidates}
 use Rattle.lists.proofs.JoinedTests.{and-first, and-second}

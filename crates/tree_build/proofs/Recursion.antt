@@ -21,7 +21,7 @@ use Rattle.tree_build.specs.Node.{RoomAt, Arranged, Written, Grown}
 use Rattle.tree_build.specs.declared.build.Built.{Built}
 use Rattle.tree_build.specs.declared.build.Built.the-variants.{Nodes, Refused}
 use Rattle.lists.proofs.Runs.{sets-append, sets-before}
-use Rattle.tree_plain.specs.Plain.{plainRange}
+use Rattle.tree_ranges.specs.Plain.{plainRange}
 use Rattle.tree_build.proofs.Alikeness.{grown-alike, hull-of-halves}
 use Rattle.tree_build.proofs.Readback.{hull-first, hull-last}
 use Rattle.tree_build.proofs.Shapes.{few-are-a-leaf, many-are-halved, sizeOf-shapeOf, nodes-halved, three-words-a-node}

@@ -13,9 +13,9 @@ use Rattle.tree.specs.Mesh.{Mesh}
 use Rattle.tree_check.specs.Check.{triangleCount, nodes, isLeaf, isBranch, childrenOf, placesOf, kindsKnown, childrenAbove}
 use Rattle.tree_check.specs.Check.{leavesInside, leavesFilled, cornersKnown, boxesSame, nodeEncloses, enclosed}
 use Rattle.tree_check.specs.Steps.{triangleSound, placeEnclosed, childrenEnclosed, nodeHolds, nodeFits}
-use Rattle.tree_words.specs.Sound.{leafSound, branchSound, nodeSound}
+use Rattle.tree_check.specs.Sound.{leafSound, branchSound, nodeSound}
 use Rattle.lists.proofs.EveryLaws.{every-agree, every-and}
-use Rattle.tree_words.proofs.Sound.{sound-at}
+use Rattle.tree_check.proofs.Sound.{sound-at}
 
 and-comm : (a b : Bool) → (a && b) ≡ (b && a)
 and-comm false false = refl

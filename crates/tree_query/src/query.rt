@@ -28,7 +28,7 @@ pub fn counts_admitted(count: usize, nodes: usize) -> bool
     nodes <= 2 * count
 }
 
-// Whether the areas of a tree are as long as its triangles ask. Callers show that they are few, so that no product wraps.
+// Whether the areas of a tree are as long as its triangles ask.
 pub fn tree_fits(
     count: usize,
     nodes: usize,
@@ -50,7 +50,7 @@ pub fn tree_fits(
     )
 }
 
-// The same of a tree's areas and those that the walk takes. Callers show that the triangles are few, so that no product wraps.
+// The same of a tree's areas and those that the walk takes.
 pub fn walk_fits(
     count: usize,
     nodes: usize,

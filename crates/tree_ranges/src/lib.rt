@@ -6,3 +6,6 @@
 pub mod hulls;
 // Boxes, centres, extents and keys.
 pub mod ranges;
+
+// The test of a range.
+pub mod plain;

@@ -23,8 +23,7 @@ ghost use Rattle.triangle_cast.specs.declared.parts.Crossing.the-variant
 ghost use Rattle.triangle_cast.specs.Size.{orSize, sizeFromOne};
 ghost use Rattle.triangle_cast.specs.Triangle.{flat, triangleNormal, hasNormal, triangleAt, triangleCast, rayTriangle};
 
-// The larger of a number and another's size, by two comparisons: neither asks for NaN, which leaves the number. Callers show that the
-// number is none.
+// The larger of a number and another's size, by two comparisons: neither asks for NaN, which leaves the number.
 fn at_least_size(number: f64, x: f64) -> f64
     requires { ⌜ isNan number ≡ false ⌝ }
     ensures { λ r. ⌜ (r ≡ orSize number x) × (isNan r ≡ false) ⌝ }

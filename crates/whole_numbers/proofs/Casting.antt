@@ -23,7 +23,7 @@ use Rattle.vectors.specs.declared.vec3.Normalized.{Normalized}
 use Rattle.casts.specs.Answer.{Answer, hit, none, withNormal, noNormal}
 use Rattle.casts.specs.Surface.{outOfRange, facing}
 use Rattle.triangle_cast.specs.Triangle.{flat, triangleNormal, triangleAbove, triangleAt, triangleOf, rayTriangle}
-use Rattle.exact_depth.proofs.Integers.{no-factor, pp, np, size-is, add-size, mul-size, neg-size}
+use Rattle.wide_integers.proofs.Integers.{no-factor, pp, np, size-is, add-size, mul-size, neg-size}
 use Rattle.exact_depth.proofs.Standing.{Stands}
 use Rattle.whole_numbers.proofs.Whole.{Whole, WholeVec}
 use Rattle.whole_numbers.specs.Points.{Point, subP, crossP, dotP}

@@ -5,11 +5,11 @@ use native.Mathlib.Nat.{mul-comm, zero-lt-suc}
 use native.Mathlib.Omega.{arith}
 use lib.IntN.{ℤ, pos, negsuc, negℤ, negℤ-negℤ, natAbs, _+ℤ_, _-ℤ_, _*ℤ_, +ℤ-idl, +ℤ-idr, +ℤ-invr, +ℤ-negℤ-cancel, -ℤ-+ℤ-cancel, *ℤ-zero}
 use lib.IntN.{zero-*ℤ}
-use Rattle.exact_depth.proofs.Integers.{pp, np, neg-pp, neg-np}
+use Rattle.wide_integers.proofs.Integers.{pp, np, neg-pp, neg-np}
 use Rattle.whole_numbers.specs.Points.{Point, subP, crossP, dotP}
 use Rattle.whole_numbers.specs.Board.{addP, scaleP}
 use Rattle.whole_numbers.proofs.Decisions.{turned}
-use Rattle.exact_depth.proofs.Polynomials.{ring, times-neg, times-comm, times-plus, plus-times}
+use Rattle.wide_integers.proofs.Polynomials.{ring, times-neg, times-comm, times-plus, plus-times}
 use Rattle.whole_numbers.proofs.Polynomials.{triple}
 
 -- ---- a dot is linear, and 0 with a cross of its own

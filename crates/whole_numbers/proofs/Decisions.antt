@@ -14,7 +14,7 @@ use borrow.Author.Tests.{lt-ltb, le-ltb}
 use Rattle.vectors.specs.Numbers.{_*ᶠ_, _/ᶠ_, zeroᶠ, oneᶠ}
 use Rattle.arithmetic.specs.Scaling.{unit}
 use Rattle.arithmetic.proofs.SignedOrder.{plus, less}
-use Rattle.exact_depth.proofs.Integers.{pp, np, no-factor, size-is, neg-pp, neg-np, neg-size}
+use Rattle.wide_integers.proofs.Integers.{pp, np, no-factor, size-is, neg-pp, neg-np, neg-size}
 use Rattle.exact_depth.proofs.Standing.{Stands}
 use Rattle.whole_numbers.proofs.Whole.{Whole}
 use Rattle.arithmetic.proofs.WholeValues.{Is}

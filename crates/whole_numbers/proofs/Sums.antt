@@ -18,7 +18,7 @@ use Rattle.arithmetic.proofs.Order.{not-lt-of-le}
 use Rattle.vectors.specs.Numbers.{_+ᶠ_, oneᶠ}
 use Rattle.arithmetic.specs.Scaling.{unit}
 use Rattle.arithmetic.proofs.SignedOrder.{plus, less}
-use Rattle.exact_depth.proofs.Integers.{no-factor, pp, np, size-is}
+use Rattle.wide_integers.proofs.Integers.{no-factor, pp, np, size-is}
 use Rattle.arithmetic.proofs.WholeValues.{exact-size}
 use Rattle.arithmetic.proofs.RoundingError.{round-near}
 use Rattle.arithmetic.proofs.ValueOrder.{lt-values}

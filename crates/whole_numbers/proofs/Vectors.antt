@@ -8,7 +8,7 @@ use lib.Ieee.{Float, binary64, add, sub, mul}
 use Rattle.vectors.specs.Numbers.{_+ᶠ_, _-ᶠ_, _*ᶠ_}
 use Rattle.vectors.specs.Vector.{subOf, crossOf, dotOf}
 use Rattle.vectors.specs.declared.vec3.Vec3.{Vec3}
-use Rattle.exact_depth.proofs.Integers.{pp, np, size-is, add-parts, sub-parts, mul-parts, add-size, sub-size, mul-size}
+use Rattle.wide_integers.proofs.Integers.{pp, np, size-is, add-parts, sub-parts, mul-parts, add-size, sub-size, mul-size}
 use Rattle.whole_numbers.proofs.Whole.{Whole, WholeVec}
 use Rattle.whole_numbers.specs.Points.{Point, subP, crossP, dotP}
 use Rattle.arithmetic.proofs.WholeValues.{same, add-is, sub-is, mul-is}

@@ -19,7 +19,7 @@ use Rattle.casts.specs.Answer.{Answer, hit, none, refused}
 use Rattle.triangle_cast.specs.Triangle.{triangleNormal, rayTriangle}
 use Rattle.arithmetic.specs.Scaling.{unit}
 use Rattle.arithmetic.proofs.SignedOrder.{less}
-use Rattle.exact_depth.proofs.Integers.{no-factor, pp, np, size-is, add-parts}
+use Rattle.wide_integers.proofs.Integers.{no-factor, pp, np, size-is, add-parts}
 use Rattle.whole_numbers.specs.Points.{Point, crossP, dotP}
 use Rattle.whole_numbers.specs.Board.{Drawing, Board, Parallel, Degenerate, Crossing, Inside, Outside, first, second, sum, Within}
 use Rattle.whole_numbers.specs.Board.{ExactOnWholeNumbers, firstEdge, secondEdge}

@@ -62,7 +62,7 @@ use Rattle.cabinet_passes.proofs.pass.cast_twice.Symbol as step-def
 use Rattle.cabinet_passes.proofs.pass.cast_twice.Symbol.{name as #step}
 use Rattle.cabinet_passes.proofs.pass.cast_twice.Met as step-thm
 use Rattle.results.specs.Results.{rayFrom}
-use Rattle.exports.specs.CabinetResults.{cabinetFits, cabinetTold, toldCabinet, CabinetCall}
+use Rattle.exports.specs.CabinetResults.{cabinetFits, cabinetReturned, returnedCabinet, CabinetCall}
 use Rattle.exports.proofs.CabinetAnswers.{cabinet-answers, cabinet-keeps}
 use Rattle.exports.proofs.CabinetReads.{cabinet-reads}
 use Rattle.exports.proofs.cabinets.begin as first
@@ -432,12 +432,12 @@ module _ {M : Type 1} (𝓤 : URA M) (H : Heap 𝓤) (A : Atoms 𝓤) (W : Given
   OwnW5 zs m = MutSlice (named 12) μ5 usize .own (z5 ω5 zs) (sliceVal (c5, o5) m ∷ [])
 
   -- the call's contract, at the lists that the areas end with
-  abbrev Told : ℕ → List ℕ → List ℕ → List Float → List ℕ → List ℕ → List ℕ → Type 0
-  Told r zs0 zs1 zs2 zs3 zs4 zs5 =
+  abbrev Returned : ℕ → List ℕ → List ℕ → List Float → List ℕ → List ℕ → List ℕ → Type 0
+  Returned r zs0 zs1 zs2 zs3 zs4 zs5 =
       CabinetCall (rayFrom d0 d1 d2 d3 d4 d5 d6 d7) (areas (now x0) (now x1) (now x2) (now x3) (now x4) (now x5)) limit ys w0 zs0 w1 zs1
-      w2 w3 w4 w5 (cabinetTold r zs2 zs3 zs4 zs5)
+      w2 w3 w4 w5 (cabinetReturned r zs2 zs3 zs4 zs5)
 
-  exits : (r : ℕ) (u : Val) (zs0 : List ℕ) (zs1 : List ℕ) (zs2 : List Float) (zs3 : List ℕ) (zs4 : List ℕ) (zs5 : List ℕ) → Told r zs0
+  exits : (r : ℕ) (u : Val) (zs0 : List ℕ) (zs1 : List ℕ) (zs2 : List Float) (zs3 : List ℕ) (zs4 : List ℕ) (zs5 : List ℕ) → Returned r zs0
       zs1 zs2 zs3 zs4 zs5 → length zs0 ≡ length w0 → length zs1 ≡ length w1 → length zs2 ≡ length w2 → length zs3 ≡ length w3 → length
       zs4 ≡ length w4 → length zs5 ≡ length w5 → Is u32 r (u ∷ [])
       → ent 𝓤 (⋆ 𝓤 H A (‵ (flft κ q) ∷ ‵ (flft κ0 q0) ∷ ‵ (flft κ1 q1) ∷ ‵ (flft κ2 q2) ∷ ‵ (flft κ3 q3) ∷ ‵ (flft κ4 q4) ∷ ‵
@@ -946,12 +946,12 @@ module _ {M : Type 1} (𝓤 : URA M) (H : Heap 𝓤) (A : Atoms 𝓤) (W : Given
         move ! (1 ∷ []) $
         use1 W (some (λ (ls : Unit {0} × (List Float × (List ℕ × (List ℕ × (List ℕ × Unit {0}))))). ‵
         (lasts last.ended (ν2 ∷ [], (ν3 ∷ [], (ν4 ∷ [], (ν5 ∷ [], tt)))) (given-last s δ2 δ3 δ4 δ5) ls) ⊛ raw
-        (fact 𝓤 (cabinetTold r (ls .1 .0) (ls .1 .1 .0) (ls .1 .1 .1 .0) (ls .1 .1 .1 .1 .0) ≡ toldCabinet
+        (fact 𝓤 (cabinetReturned r (ls .1 .0) (ls .1 .1 .0) (ls .1 .1 .1 .0) (ls .1 .1 .1 .1 .0) ≡ returnedCabinet
         (withResults (cabinetFits (length w2) (length w3) (length w4) (length w5)) (lastAnswer (s .at))) w2 w3 w4 w5)))) (id⊢ 𝓤 _)
         $ pick ! (λ ls.
         split ! $
         move ! (1 ∷ []) $
-        heard ! (cabinetTold r (ls .1 .0) (ls .1 .1 .0) (ls .1 .1 .1 .0) (ls .1 .1 .1 .1 .0) ≡ toldCabinet
+        heard ! (cabinetReturned r (ls .1 .0) (ls .1 .1 .0) (ls .1 .1 .1 .0) (ls .1 .1 .1 .1 .0) ≡ returnedCabinet
         (withResults (cabinetFits (length w2) (length w3) (length w4) (length w5)) (lastAnswer (s .at))) w2 w3 w4 w5) (λ e.
         fsplit ! $
         drop ! $

@@ -1,7 +1,7 @@
 -- `float_forms::holding::long_for` meets its contract. Assumes nothing.
 use mathlib.Core.Path.{sym, subst}
 use lib.Dec.{T}
-use Rattle.short_floats.proofs.Shorts.{number}
+use Rattle.float_forms.proofs.Shorts.{number}
 use Rattle.float_forms.specs.declared.forms.Form.the-variants.{Long}
 use Rattle.float_forms.proofs.HoldLaws.{nan-unheld, long-bits}
 use Rattle.float_forms.proofs.holding.long_for.Statement.{statement}

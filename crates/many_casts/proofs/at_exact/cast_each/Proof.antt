@@ -34,7 +34,16 @@ Within = tie.In-loop Inv-loop μ-loop
 
 loop-holds : tie.Need-loop-holds Inv-loop μ-loop
 unfolding answersOf
-loop-holds c = record { told = refl; most = omega arith; codes = refl; hits = refl; indices = refl; list-long = refl; stack-long = refl }
+loop-holds c = record {
+  returned = refl;
+  most = omega arith;
+  codes = refl;
+  hits = refl;
+  indices = refl;
+  list-long = refl;
+  stack-long =
+      refl;
+}
 
 cast-at-requires : tie.Need-cast-at-requires Inv-loop μ-loop
 cast-at-requires c κs =
@@ -51,7 +60,7 @@ loop-again c =
     let (s, l, w, k) : Start × At × Within × tie.After-cast-at Inv-loop μ-loop = search in
     let inv = l .loop .inv in
     let kept = k .cast-at .kept .1 .1 .1 .1 .1 .1 .1 .1 .1 .1 in record {
-      told = answers-next _ _ _ _ _ _ (inv .told)
+      returned = answers-next _ _ _ _ _ _ (inv .returned)
           (k .cast-at .ensures ∙ same-exact _ _ _ _ _ (inv .stack-long) _ _ _);
       most = omega (arith, w .loop-test .taken);
       codes = omega (arith, kept .1 .0, inv .codes);
@@ -79,7 +88,7 @@ returns c =
     let (s, l) : Start × At = search in
     let inv = l .loop .inv in
     let end : l .loop .i ≡ s .args .count = omega (arith, inv .most, c .loop-test .left) in
-    answers-all _ _ _ _ _ _ (inv .told) end
+    answers-all _ _ _ _ _ _ (inv .returned) end
 
 pub cast-each-spec : {M : Type 1} → statement M
 cast-each-spec =

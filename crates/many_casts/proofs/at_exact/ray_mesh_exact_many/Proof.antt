@@ -3,7 +3,7 @@ use mathlib.Core.Path.{refl}
 use native.Mathlib.Omega.{arith}
 use Rattle.lists.proofs.JoinedTests.{test-passed, test-failed}
 use Rattle.mesh.specs.MeshCast.{shapeAdmitted}
-use Rattle.first_cast.specs.ExactMesh.{roomFor}
+use Rattle.tree_exact.specs.ExactMesh.{roomFor}
 use Rattle.mesh.proofs.Casting.{triangles-few}
 use Rattle.many_casts.specs.Many.{placesFit}
 use Rattle.many_casts.proofs.Answers.{fits-inside}
