@@ -1,6 +1,6 @@
 -- Casts along (1, 1, 0), computed, beside the rounded cast's: a slanted triangle that is hit on the side opposite its first corner, the
 -- same with that side one unit of the grid off, a triangle along the ray, a corner, and a sliver that the grid flattens beside its
--- neighbour. Assumes nothing.
+-- neighbour; and a cast along (1, 1, -1) from inside a bore at the wall of an STL file. Assumes nothing.
 use Prim.Native.Nat.{ℕ}
 use mathlib.Core.Path.{_≡_, refl, ap}
 use mathlib.Core.List.{List, [], _∷_}
@@ -15,6 +15,7 @@ use Rattle.arithmetic.specs.Root.{rootDigits, wholeRoot, rootRound, rootOf}
 use Rattle.vectors.specs.Vector.{component, finiteVec, addOf, subOf, negOf, scaleOf, minOf, maxOf, absOf, maxElement}
 use Rattle.vectors.specs.Vector.{dotOf, checkedDot, crossOf, lengthOf}
 use Rattle.vectors.specs.Vector.{normalizable, zeroVec, dotTells, scaledToOne, overLength, tryNormalize}
+use Rattle.vectors.specs.declared.vec3.Vec3.{Vec3}
 use Rattle.geometry.specs.Box.{validSide, validBox, touchSide, touches}
 use Rattle.geometry.specs.Segment.{unitLength, rayAdmitted, segmentEnd, segmentBox}
 use Rattle.geometry.specs.declared.ray.Ray.{Ray}
@@ -101,6 +102,40 @@ slivered triangles = record {
   triangles = triangles;
 }
 
+-- One of the 20 flat faces of a bore of 5 mm through 19 mm about (384, 320), as an STL file has it: each corner is
+-- (384 + 5/2 cos k/20, 320 + 5/2 sin k/20) of a turn, k = 1 or 2, rounded to four bytes, and two triangles make the face.
+abbrev nineteen : Float
+nineteen = ofBits binary64 0x4033_0000_0000_0000
+
+abbrev firstCorner : Float → List Float → List Float
+firstCorner z rest = vertex (ofBits binary64 0x4078_260a_e000_0000) (ofBits binary64 0x4074_0c5c_6000_0000) z rest
+
+abbrev secondCorner : Float → List Float → List Float
+secondCorner z rest = vertex (ofBits binary64 0x4078_205c_6000_0000) (ofBits binary64 0x4074_1782_e000_0000) z rest
+
+abbrev boreWall : Mesh
+boreWall = record {
+  vertices = firstCorner o (secondCorner o (secondCorner nineteen (firstCorner nineteen [])));
+  triangles = 0 ∷ (1 ∷ (2 ∷ (0 ∷ (2 ∷ (3 ∷ [])))));
+}
+
+-- the root of a third
+abbrev thirdRoot : Float
+thirdRoot = ofBits binary64 0x3fe2_79a7_4590_331d
+
+-- from 15/8 (1, 1, -1) before the middle of the side that the two triangles share, up to 30 mm
+abbrev inBore : Ray
+inBore = record {
+  origin = record {
+    x = ofBits binary64 0x4078_0533_a000_0000;
+    y = ofBits binary64 0x4073_f3ef_a000_0000;
+    z = ofBits binary64 0x4026_c000_0000_0000;
+  };
+  direction = record { x = thirdRoot; y = thirdRoot; z = ofBits binary64 0xbfe2_79a7_4590_331d };
+  «max_distance» = ofBits binary64 0x403e_0000_0000_0000;
+  near = o;
+}
+
 -- 4 times the root of 2, and once, as the grid sees the direction
 abbrev far : Float
 far = ofBits binary64 0x4016_a09e_667e_7799
@@ -117,8 +152,19 @@ thirds = ofBits binary64 0x3fe5_5555_5555_5555
 abbrev lessThirds : Float
 lessThirds = ofBits binary64 0xbfe5_5555_5555_5555
 
+-- 15/8 times the root of 3, and the way from the wall to the bore's axis
+abbrev fromAxis : Float
+fromAxis = ofBits binary64 0x4009_fb13_39e9_8fc0
+
+abbrev inward : Vec3
+inward = record {
+  x = ofBits binary64 0xbfec_8310_54c8_d943;
+  y = ofBits binary64 0xbfdd_0e6c_1e9e_dafd;
+  z = ofBits binary64 0x8000_0000_0000_0000;
+}
+
 -- the exact casts: a hit on the side, none one unit off, a hit along the ray, one at the corner; the sliver's neighbour is hit, and the
--- sliver alone is not
+-- sliver alone is not; the bore's wall is hit on the side that its two triangles share
 abbrev casts : List Indexed
 casts =
     rayMeshExactPlain diagonal (slanted six)
@@ -126,7 +172,7 @@ casts =
     ∷ (rayMeshExactPlain diagonal along
     ∷ (rayMeshExactPlain diagonal atCorner
     ∷ (rayMeshExactPlain diagonal (slivered (3 ∷ (1 ∷ (2 ∷ one))))
-    ∷ (rayMeshExactPlain diagonal (slivered (3 ∷ (1 ∷ (2 ∷ [])))) ∷ [])))))
+    ∷ (rayMeshExactPlain diagonal (slivered (3 ∷ (1 ∷ (2 ∷ [])))) ∷ (rayMeshExactPlain inBore boreWall ∷ []))))))
 
 pub casts-answered : casts
     ≡ hitAt (record { x = lessThirds; y = third; z = thirds }) far 0
@@ -138,7 +184,8 @@ pub casts-answered : casts
       z = ofBits binary64 0xbfdf_0b68_48d2_af1c;
     }) far 0
     ∷ (hitAt (record { x = lessThirds; y = third; z = thirds }) far 1
-    ∷ (noHit ∷ [])))))
+    ∷ (noHit
+    ∷ (hitAt inward fromAxis 0 ∷ []))))))
 unfolding rayMeshExactPlain overTriangles exactAnswer trianglesFit triangleFits every range triangleBox cornerAt cornersOf cornersInside
     lengthsAdmitted vectorAt foldFrom nextOf facing gridTriangle gridNormal gridReach cornersReach cornersRead gridAdmitted gridLine
     nearestTo depthOf mainOf firstPoint byWeights crossing kept coplanar inPlane area alongPlane entry inside entering sideOf
@@ -147,11 +194,11 @@ unfolding rayMeshExactPlain overTriangles exactAnswer trianglesFit triangleFits 
     minimumOf absolute isFinite ofInt toSigned ofBits ofFields isNan ne le eq lt div mul sub add sum neg round units odd size climb span
 casts-answered = refl
 
--- the rounded cast passes the side and the triangle along the ray
+-- the rounded cast passes the side, the triangle along the ray and the bore's wall
 abbrev roundedCasts : List Indexed
-roundedCasts = rayMeshPlain diagonal (slanted six) ∷ (rayMeshPlain diagonal along ∷ [])
+roundedCasts = rayMeshPlain diagonal (slanted six) ∷ (rayMeshPlain diagonal along ∷ (rayMeshPlain inBore boreWall ∷ []))
 
-pub rounded-passes : roundedCasts ≡ noHit ∷ (noHit ∷ [])
+pub rounded-passes : roundedCasts ≡ noHit ∷ (noHit ∷ (noHit ∷ []))
 unfolding rayMeshPlain plainCast overRounded trianglesFit triangleFits every candidates keep range triangleBox cornerAt cornersInside
     lengthsAdmitted vectorAt foldFrom nextOf facing outOfRange segmentBox segmentEnd touches touchSide triangleAnswer
     triangleOf triangleAt triangleAbove triangleNormal flat rayAdmitted unitLength validBox validSide normalizable zeroVec dotTells
@@ -169,3 +216,7 @@ side-least =
 -- .. and with the side one unit off no point of the segment lies in it
 pub beside-clear : (j D : ℕ) (t : ℤ) → Met (gridLine diagonal) (slanted aboveSix) j D t → ⊥
 beside-clear = certain diagonal (slanted aboveSix) .none (ap (λ (xs : List Indexed). getD xs 1 noHit) casts-answered)
+
+-- the same of the bore's wall
+pub wall-least : LeastDepth (gridLine inBore) boreWall fromAxis
+wall-least = certain inBore boreWall .least inward fromAxis 0 (ap (λ (xs : List Indexed). getD xs 6 noHit) casts-answered)
