@@ -13,7 +13,7 @@ use Rattle.geometry.specs.Segment.{segmentEnd, segmentBox}
 use Rattle.vectors.specs.declared.vec3.Vec3.{Vec3}
 use Rattle.geometry.specs.declared.aabb.Aabb.{Aabb}
 use Rattle.geometry.specs.declared.ray.Ray.{Ray}
-use Rattle.casts.specs.Answer.{outOfBounds, overflow}
+use Rattle.casts.specs.Answer.{outOfBounds, overflow, limitReached}
 use Rattle.nearest_hit.specs.Nearest.{Indexed, stopped, nearestOf}
 use Rattle.lists.specs.Lists.{sorted, allBelow}
 use Rattle.tree.specs.Layout.{Tree}
@@ -25,7 +25,7 @@ use Rattle.tree_walk.specs.LookAreas.{lookedBy, GrownBy}
 use Rattle.tree_walk.specs.declared.within.Limited.{Limited}
 use Rattle.tree_walk.specs.declared.within.Limited.the-variants.{Count, Broken, UsedUp}
 use Rattle.mesh.specs.MeshCast.{overWalk}
-use Rattle.cabinet.specs.PartCast.{Costed, costing, limitReached, afterLook, castWithin, movedRay, castMoved}
+use Rattle.cabinet.specs.PartCast.{Costed, costing, afterLook, castWithin, movedRay, castMoved}
 
 module _ (limit : ℕ) (r : Ray) (m : Mesh) (t : Tree) where
   abbrev n : ℕ

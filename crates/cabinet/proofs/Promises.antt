@@ -10,14 +10,13 @@ use lib.Ieee.{Float}
 use Rattle.vectors.specs.declared.vec3.Vec3.{Vec3}
 use Rattle.geometry.specs.Segment.{rayAdmitted}
 use Rattle.geometry.specs.declared.ray.Ray.{Ray}
-use Rattle.casts.specs.Answer.{invalidInput, badShape, noRoom}
+use Rattle.casts.specs.Answer.{invalidInput, badShape, noRoom, limitReached}
 use Rattle.lists.proofs.JoinedTests.{and-both, and-first, and-second}
 use Rattle.cabinet.specs.declared.part.Part.{Part}
 use Rattle.cabinet.specs.declared.part.Found.{Found}
 use Rattle.cabinet.specs.declared.part.Found.the-variants.{Nothing, Hit, Refused}
 use Rattle.cabinet.specs.declared.part.Progress.{Progress}
 use Rattle.cabinet.specs.Parts.{Areas, shapeFits, roomFits}
-use Rattle.cabinet.specs.PartCast.{limitReached}
 use Rattle.cabinet.specs.Cabinet.{Answer, hitIn, noneAfter, refused, refusedAfter, answerWith, answerOf, beginning, castParts}
 use Rattle.cabinet.specs.Cabinet.{ownParts, allParts, castCabinet}
 use Rattle.cabinet.specs.Promises.{spentOf, nodesOf, AllChecked, Passes, needed, answerAt, LimitPromises}

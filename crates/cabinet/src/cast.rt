@@ -20,9 +20,6 @@ ghost use Rattle.cabinet.specs.Root.{leavesAtRoot};
 ghost use Rattle.cabinet.specs.PartCast.{castWithin, castMoved};
 ghost use Rattle.cabinet.specs.Steps.{saysCost};
 
-// The table's number for a limit that is used up.
-pub const LIMIT_REACHED: u32 = 10;
-
 // Whether a box leaves the tree at its first node: there is one, the limit lets it be taken, and its box does not touch.
 fn leaves_at_root(bounds: Aabb, nodes: usize, node_boxes: &[f64], limit: usize) -> bool
     requires { ⌜ 6 * nodes ≤ length (now «node_boxes») ⌝ }
@@ -102,7 +99,7 @@ fn cast_within(
         Limited::UsedUp(spent) => {
             return CastCost {
                 spent: spent,
-                cast: IndexedCast::Refused(LIMIT_REACHED),
+                cast: IndexedCast::Refused(answer::LIMIT_REACHED),
             };
         }
     }

@@ -1,10 +1,10 @@
 -- Where the values of a cell are at most 2^500 in size and the spacings lie from 2^-500 to 2^500, no step of a sample there refuses, so
 -- that its value needs no gradient. Assumes nothing.
 use mathlib.Core.Path.{_≡_, refl, sym, ap, subst, _∙_}
-use mathlib.Core.Bool.{true, false, cond, false≢true, _&&_}
+use mathlib.Core.Bool.{true, false, false≢true, _&&_}
 use Prim.Native.Nat.{ℕ, suc, _+_, _*_, _^_, _≤_}
 use native.Mathlib.Omega.{arith}
-use lib.Dec.{T, lit≤}
+use lib.Dec.{lit≤}
 use lib.IntN.{pos, negsuc}
 use lib.Ieee.{Float, nan, inf, fin, ofBits, up, down, neg, lt, le}
 use lib.Ieee.Fits.{down-pos}
@@ -15,6 +15,7 @@ use Rattle.vectors.specs.Vector.{finiteVec}
 use Rattle.vectors.specs.declared.vec3.Vec3.{Vec3}
 use Rattle.vectors.specs.declared.vec3.Checked.{Checked}
 use Rattle.vectors.specs.declared.vec3.Checked.the-variants.{Value}
+use Rattle.vectors.proofs.Constants.{one-is}
 use Rattle.distance_grid.specs.Faces.{lowX, highX, lowY, highY}
 use Rattle.distance_grid.specs.Steps.{checked, blend, lerp, checkedDifference, over, lerpFace, valueOn, slopeOn}
 use Rattle.distance_grid.specs.Sampling.{gathered, sampleFaces}
@@ -22,7 +23,6 @@ use Rattle.distance_grid.specs.Valued.{valueOf, across, cellValue, most,
 use Rattle.distance_grid.specs.Places.{isFraction, Fractions}
 use Rattle.distance_grid.specs.Valued.{fairSide, fairSpacing}
 use Rattle.distance_grid.specs.declared.faces.Face.{Face}
-use Rattle.distance_grid.specs.declared.valued.Valued.{Valued}
 use Rattle.distance_grid.specs.declared.valued.Valued.the-variants.{At as ValuedAt}
 use Rattle.lists.proofs.JoinedTests.{and-first, and-second}
 use Rattle.arithmetic.proofs.Bounds.{Within, within, Beyond, beyond, within-finite, wider, sum-within, difference-within, product-within}
@@ -60,10 +60,6 @@ small-within x h =
     between-within 500 x
     (subst (λ (y : Float). le x y ≡ true) most-is (and-first (le x most) (le (neg most) x) h))
     (subst (λ (y : Float). le y x ≡ true) minus-most-is (and-second (le x most) (le (neg most) x) h))
-
-one-is : oneᶠ ≡ fin false 1 (pos 0)
-unfolding ofBits
-one-is = refl
 
 minus-one-below : le (fin true 1 (pos 0)) zeroᶠ ≡ true
 unfolding ofBits le

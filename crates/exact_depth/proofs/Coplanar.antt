@@ -1,7 +1,7 @@
 -- The line lies in the triangle's plane: the answer is the first point there. Assumes nothing.
-use mathlib.Core.Path.{_≡_, refl, sym, ap, _∙_, subst}
+use mathlib.Core.Path.{_≡_, refl, sym, ap, _∙_}
 use mathlib.Core.Logic.{_⊎_, inl, inr}
-use mathlib.Core.Bool.{Bool, true, false, not, _&&_, cond, true≢false, false≢true}
+use mathlib.Core.Bool.{Bool, true, false, not, _&&_, cond, true≢false}
 use Prim.Native.Nat.{ℕ, zero, suc, _+_, _*_, _≤_, _<_}
 use native.Mathlib.Nat.{mul-pos, mul-le-mul-right, le-of-mul-le-mul-right, zero-lt-suc}
 use native.Mathlib.Omega.{arith}
@@ -19,8 +19,8 @@ use Rattle.exact_depth.specs.FirstPoint.{area, alongPlane, inPlane, copl
 use Rattle.exact_depth.specs.FirstPoint.{upPoint}
 use Rattle.exact_depth.specs.Meeting.{mix, Meets, On, HasArea, Reached, First}
 use Rattle.wide_integers.proofs.Integers.{pp, np, mul-size}
-use Rattle.wide_integers.proofs.Polynomials.{Rep, own, own-pos, rep-add, rep-mul, rep-sub, rep-neg, equal, equal-of-minus, ring}
-use Rattle.wide_integers.proofs.Order.{rep-le, le-rep, rep-lt, rep-nlt, nlt-rep, rep-same}
+use Rattle.wide_integers.proofs.Polynomials.{own, own-pos, rep-mul, equal, equal-of-minus, ring}
+use Rattle.wide_integers.proofs.Order.{rep-le, le-rep, rep-lt, rep-nlt, nlt-rep}
 use Rattle.exact_depth.proofs.Weights.{mix-parts}
 use Rattle.exact_depth.proofs.Firsts.{missed, met, not-less, positive-of}
 use Rattle.exact_depth.proofs.Entering.{rise, Passes}

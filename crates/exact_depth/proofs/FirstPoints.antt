@@ -2,20 +2,19 @@
 -- nothing.
 use mathlib.Core.Path.{_≡_, refl, sym, ap, _∙_}
 use mathlib.Core.Bool.{Bool, true, false, not, _&&_, cond, true≢false, false≢true}
-use Prim.Native.Nat.{ℕ, suc, _+_, _*_, _<_}
+use Prim.Native.Nat.{ℕ, suc, _*_, _<_}
 use native.Mathlib.Nat.{eq-of-mul-eq-mul-right, zero-lt-suc}
 use native.Mathlib.Omega.{arith}
 use lib.IntN.{ℤ, pos, negsuc, negℤ, _+ℤ_, _*ℤ_}
 use lib.Signed.{ltZ, leZ}
 use borrow.Author.Tests.{lt-ltb}
 use Rattle.exact_depth.specs.declared.projection.Projected.{Projected}
-use Rattle.exact_depth.specs.declared.projection.Depth.{Depth}
-use Rattle.exact_depth.specs.declared.projection.Depth.the-variants.{At, Miss}
+use Rattle.exact_depth.specs.declared.projection.Depth.the-variants.{Miss}
 use Rattle.wide_integers.specs.Determinant.{isZero}
 use Rattle.exact_depth.specs.FirstPoint.{seenDeterminant, crossing, coplanar, byWeights, firstPoint}
-use Rattle.exact_depth.specs.Meeting.{Meets, On, HasArea, First}
+use Rattle.exact_depth.specs.Meeting.{On, First}
 use Rattle.wide_integers.proofs.Integers.{pp, np}
-use Rattle.wide_integers.proofs.Polynomials.{own, rep-add, rep-mul, rep-neg, equal, neg-sum, own-pos}
+use Rattle.wide_integers.proofs.Polynomials.{own, rep-add, rep-mul, equal, neg-sum, own-pos}
 use Rattle.wide_integers.proofs.Order.{rep-le, rep-lt, rep-nlt, rep-same}
 use Rattle.exact_depth.proofs.Weights.{Weights, own-weights, negated}
 use Rattle.exact_depth.proofs.Firsts.{missed, positive-of}

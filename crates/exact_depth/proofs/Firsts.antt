@@ -1,10 +1,10 @@
 -- What an answer says of the points of the line: a miss has none, a depth is the least. Assumes nothing.
-use mathlib.Core.Path.{_≡_, refl, sym, ap, _∙_, subst}
+use mathlib.Core.Path.{_≡_, refl, ap, subst}
 use mathlib.Core.Bool.{Bool, true, false, true≢false, false≢true}
 use Prim.Native.Nat.{ℕ, _+_, _*_, _≤_, _<_}
 use native.Mathlib.Nat.{le-of-mul-le-mul-right, mul-le-mul-right}
 use native.Mathlib.Omega.{arith}
-use lib.IntN.{ℤ, pos, negsuc, _+ℤ_, _*ℤ_}
+use lib.IntN.{ℤ, pos, negsuc, _*ℤ_}
 use lib.Signed.{ltZ, leZ}
 use Rattle.exact_depth.specs.declared.projection.Projected.{Projected}
 use Rattle.exact_depth.specs.declared.projection.Fraction.{Fraction}
@@ -12,7 +12,7 @@ use Rattle.exact_depth.specs.declared.projection.Depth.{Depth}
 use Rattle.exact_depth.specs.declared.projection.Depth.the-variants.{At, Miss}
 use Rattle.exact_depth.specs.Meeting.{On, HasArea, Reached, First}
 use Rattle.wide_integers.proofs.Integers.{pp, np}
-use Rattle.wide_integers.proofs.Polynomials.{Rep, own, rep-mul, own-pos}
+use Rattle.wide_integers.proofs.Polynomials.{own, rep-mul, own-pos}
 use Rattle.wide_integers.proofs.Order.{rep-le, le-rep, rep-lt, rep-nlt, nlt-rep, rep-same}
 
 -- ---- the two answers

@@ -1,33 +1,31 @@
 -- The code's steps give exact_depth's numbers, and keep to their sizes. Assumes nothing.
-use mathlib.Core.Path.{_≡_, refl, sym, ap, _∙_, subst}
+use mathlib.Core.Path.{_≡_, sym, ap, _∙_, subst}
 use mathlib.Core.Bool.{Bool, true, false, cond}
-use Prim.Native.Nat.{ℕ}
 use lib.Dec.{lit≤, lit<}
 use lib.IntN.{ℤ, pos, negℤ, _+ℤ_, _-ℤ_, _*ℤ_, +ℤ-idl}
 use lib.Signed.{ltZ}
 use mir.Syntax.{w64}
 use mir.Val.{SFits}
-use mir.ValLaws.{toZ-ofZ}
 use Rattle.exact_depth.specs.declared.projection.Projected.{Projected}
 use Rattle.exact_depth.specs.declared.projection.Fraction.{Fraction}
 use Rattle.exact_depth.specs.declared.projection.Depth.{Depth}
-use Rattle.exact_depth.specs.declared.projection.Depth.the-variants.{At as Reached, Miss as Missed}
-use Rattle.wide_integers.specs.Sizes.{Sized, Held}
+use Rattle.exact_depth.specs.declared.projection.Depth.the-variants.{Miss as Missed}
+use Rattle.wide_integers.specs.Sizes.{Held}
 use Rattle.exact_depth.specs.declared.plane.Side.{Side}
 use Rattle.wide_integers.specs.Determinant.{determinant}
 use Rattle.exact_depth.specs.FirstPoint.{seenDeterminant, heightOf, sideOf, entering}
 use Rattle.wide_integers.proofs.Reading.{bits, Fit, fits, plain, widen, held-fit, product-size, sum-size, difference-size, negated-size}
+use Rattle.wide_integers.proofs.Reading.{bits-back}
 use Rattle.wide_integers.proofs.Polynomials.{times-comm}
 use Rattle.wide_integers.specs.declared.number.Wide.{Wide}
-use Rattle.wide_integers.specs.Value.{value, half, Middling, Weight, Held as Three}
+use Rattle.wide_integers.specs.Value.{value, Middling, Weight, Held as Three}
 use Rattle.wide_integers.proofs.OperationLaws.{held, middling, word-size}
-use Rattle.exact_depth.specs.declared.wide_projection.Deep.{Deep}
 use Rattle.exact_depth.specs.declared.wide_projection.Found.{Found}
-use Rattle.exact_depth.specs.declared.wide_projection.Found.the-variants.{At, Miss}
+use Rattle.exact_depth.specs.declared.wide_projection.Found.the-variants.{Miss}
 use Rattle.exact_depth.specs.declared.wide_plane.Corner.{Corner}
 use Rattle.exact_depth.specs.declared.wide_plane.Edge.{Edge}
 use Rattle.exact_depth.specs.declared.wide_plane.Moment.{Moment}
-use Rattle.exact_depth.specs.Answer.{answerOf, Narrow, Finds, pointOf, sideAs, momentOf}
+use Rattle.exact_depth.specs.Answer.{Finds, pointOf, sideAs, momentOf}
 use Rattle.exact_depth.specs.Sizes.{Close, Flat, Bounded, Shallow}
 
 -- ---- answers
@@ -38,12 +36,9 @@ pub missed : {d : Depth} → Missed ≡ d → Finds Miss d
 missed p = record { is = p; narrow = tt }
 
 -- ---- what the machine reads back
-pub back : {x : ℤ} → SFits w64 x → bits x ≡ x
-back {x} f = toZ-ofZ w64 x f
-
 module _ {a b c d : ℤ} (fa : SFits w64 a) (fb : SFits w64 b) (fc : SFits w64 c) (fd : SFits w64 d) where
   pub determinant-back : {x : ℤ} → x ≡ determinant (bits a) (bits b) (bits c) (bits d) → x ≡ determinant a b c d
-  determinant-back e = e ∙ (λ i. determinant (back fa i) (back fb i) (back fc i) (back fd i))
+  determinant-back e = e ∙ (λ i. determinant (bits-back fa i) (bits-back fb i) (bits-back fc i) (bits-back fd i))
 
   -- the first and the third up to 2^61
   pub determinant-weight : Held a → Held c → Weight (determinant a b c d)
@@ -52,7 +47,7 @@ module _ {a b c d : ℤ} (fa : SFits w64 a) (fb : SFits w64 b) (fc : SFits w64 c
 -- ---- the range
 module _ (t w n : ℤ) (f : SFits w64 n) {m : ℤ} (e : m ≡ w *ℤ bits n) where
   bound : n *ℤ w ≡ m
-  bound = times-comm n w ∙ ap (λ (z : ℤ). w *ℤ z) (sym (back f)) ∙ sym e
+  bound = times-comm n w ∙ ap (λ (z : ℤ). w *ℤ z) (sym (bits-back f)) ∙ sym e
 
   pub low-told : {r b : Bool} → r ≡ ltZ t m → r ≡ b → ltZ t (n *ℤ w) ≡ b
   low-told h k = ap (λ (z : ℤ). ltZ t z) bound ∙ sym h ∙ k
@@ -137,7 +132,7 @@ entering-shallow {m} {r} {s} h g e =
     record { t = k .t; w = k .w }
 
 pub start-shallow : {near : ℤ} {v : Wide} → SFits w64 near → value v ≡ bits near → Shallow (record { t = v; w = pos 1 })
-start-shallow f e = record { t = subst Weight (sym (e ∙ back f)) (word-weight f); w = record { size = lit≤ tt } }
+start-shallow f e = record { t = subst Weight (sym (e ∙ bits-back f)) (word-weight f); w = record { size = lit≤ tt } }
 
 module _ {w z : ℤ} (h : Fit w) (e : z ≡ bits w) where
   pub word-told : z ≡ w

@@ -1,20 +1,20 @@
 -- In a plane that the line lies in: which depths are in the triangle, and which is the first of them. Assumes nothing.
-use mathlib.Core.Path.{_≡_, refl, sym, ap, _∙_, subst}
-use mathlib.Core.Bool.{Bool, true, false, not, _&&_, cond, true≢false, false≢true}
-use Prim.Native.Nat.{ℕ, suc, _+_, _*_, _≤_, _<_}
+use mathlib.Core.Path.{_≡_, refl, sym, ap, _∙_}
+use mathlib.Core.Bool.{true, false}
+use Prim.Native.Nat.{ℕ, _+_, _*_, _<_}
 use native.Mathlib.Nat.{mul-comm, zero-lt-suc, eq-of-mul-eq-mul-right}
 use native.Mathlib.Omega.{arith}
-use lib.IntN.{ℤ, pos, negℤ, _+ℤ_, _-ℤ_, _*ℤ_, zero-*ℤ, +ℤ-idr, +ℤ-invr}
+use lib.IntN.{ℤ, pos, _+ℤ_, _-ℤ_, _*ℤ_, zero-*ℤ, +ℤ-idr, +ℤ-invr}
 use lib.Signed.{ltZ, leZ}
 use Rattle.exact_depth.specs.declared.projection.Fraction.{Fraction}
 use Rattle.exact_depth.specs.declared.plane.PlanePoint.{PlanePoint}
 use Rattle.wide_integers.specs.Determinant.{determinant}
-use Rattle.exact_depth.specs.FirstPoint.{sideOf, entering, entry, area}
+use Rattle.exact_depth.specs.FirstPoint.{entering, area}
 use Rattle.exact_depth.specs.Meeting.{mix}
 use Rattle.wide_integers.proofs.Integers.{pp, np}
-use Rattle.wide_integers.proofs.Polynomials.{Rep, own, own-pos, rep-add, rep-mul, rep-sub, equal, equal-of-minus, ring, times-assoc}
+use Rattle.wide_integers.proofs.Polynomials.{own, own-pos, rep-add, rep-mul, rep-sub, equal, equal-of-minus, ring, times-assoc}
 use Rattle.wide_integers.proofs.Order.{rep-le, le-rep, rep-same}
-use Rattle.exact_depth.proofs.Weights.{Weights, own-weights, mix-parts, spread}
+use Rattle.exact_depth.proofs.Weights.{Weights, own-weights, mix-parts}
 use Rattle.exact_depth.proofs.Firsts.{whole-of, nonneg-of}
 use Rattle.exact_depth.proofs.Entering.{rise, Passes, Put, put, for-good, before-trans}
 
@@ -213,10 +213,6 @@ module _ (a b c : PlanePoint) (S : ℕ) (turned : area a b c ≡ pos S) where
 
     abbrev pub f₃ : Fraction
     f₃ = entering f₂ (record { level = L₃; fall = F₃ })
-
-    pub entry-is : entry a b c near ≡ f₃
-    unfolding entry sideOf
-    entry-is = refl
 
     pub put₁ : Put L₁ F₁ f₀ 1 f₁
     put₁ = put L₁ F₁ f₀ 1 (zero-lt-suc 0) refl

@@ -5,7 +5,6 @@ use crate::wide_projection::Deep;
 use crate::wide_projection::Found;
 use wide_integers::number;
 use wide_integers::number::Wide;
-ghost use mathlib.Core.Path.{_≡_};
 ghost use Rattle.exact_depth.specs.FirstPoint.{crossing, byWeights, firstPoint};
 ghost use Rattle.wide_integers.specs.Value.{value, Weight};
 ghost use Rattle.exact_depth.specs.Answer.{Finds};

@@ -1,6 +1,5 @@
 use wide_integers::number;
 use wide_integers::number::Wide;
-ghost use mathlib.Core.Path.{_≡_};
 ghost use Rattle.exact_depth.specs.FirstPoint.{kept};
 ghost use Rattle.wide_integers.specs.Value.{value, Middling};
 ghost use Rattle.exact_depth.specs.Answer.{deepOf, Finds};

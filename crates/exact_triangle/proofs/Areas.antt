@@ -3,12 +3,12 @@ use mathlib.Core.Path.{_≡_, sym, ap, _∙_}
 use Prim.Native.Nat.{_<_}
 use native.Mathlib.Omega.{arith}
 use native.Mathlib.Nat.{mul-comm}
-use lib.IntN.{ℤ, pos, negsuc, negℤ, natAbs, _+ℤ_, _-ℤ_, _*ℤ_, *ℤ-zero}
+use lib.IntN.{ℤ, pos, negℤ, natAbs, _+ℤ_, _-ℤ_, _*ℤ_, *ℤ-zero}
 use Rattle.exact_depth.specs.declared.projection.Projected.{Projected}
 use Rattle.wide_integers.specs.Determinant.{determinant}
 use Rattle.exact_depth.specs.FirstPoint.{area, acrossPoint, upPoint}
 use Rattle.exact_depth.specs.Meeting.{HasArea}
-use Rattle.wide_integers.proofs.Integers.{no-factor, mul-size, neg-size}
+use Rattle.wide_integers.proofs.Integers.{no-factor, mul-size, neg-size, size-zero}
 use Rattle.wide_integers.proofs.Polynomials.{own, own-pos, rep-add, equal}
 use Rattle.exact_depth.proofs.Weights.{spread}
 use Rattle.exact_depth.specs.declared.projection.Point.{Point}
@@ -17,10 +17,6 @@ use Rattle.exact_triangle.specs.Surface.{Flat, Apart}
 use Rattle.exact_triangle.proofs.Shears.{spread-sheared, spread-aside, spread-flip, determinant-edges, edge-from}
 
 -- ---- no factor is 0, and their product is
-pub size-zero : (z : ℤ) → natAbs z ≡ 0 → z ≡ pos 0
-size-zero (pos n) h = ap pos h
-size-zero (negsuc n) h = absurd (omega (arith, h))
-
 pub zero-of-product : (m z : ℤ) → 0 < natAbs m → m *ℤ z ≡ pos 0 → z ≡ pos 0
 zero-of-product m z p h =
     size-zero z (no-factor (natAbs z) (natAbs m) p (mul-comm (natAbs z) (natAbs m) ∙ sym (mul-size m z) ∙ ap natAbs h))

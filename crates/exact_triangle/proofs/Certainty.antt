@@ -14,6 +14,7 @@ use Rattle.geometry.specs.Box.{corner}
 use Rattle.geometry.specs.Segment.{rayAdmitted}
 use Rattle.casts.specs.declared.answer.Reach.{Reach}
 use Rattle.casts.specs.declared.answer.Reach.the-variants.{At, Miss, Refused}
+use Rattle.casts.specs.Answer.{outOfRange}
 use Rattle.exact_depth.specs.declared.projection.Depth.{Depth}
 use Rattle.exact_depth.specs.declared.projection.Depth.the-variants.{At as Met, Miss as Unmet}
 use Rattle.wide_integers.proofs.Polynomials.{own, own-pos, rep-mul}
@@ -26,7 +27,7 @@ use Rattle.exact_triangle.specs.Surface.{FirstSurface, Certain}
 use Rattle.exact_triangle.specs.Shear.{depthOf}
 use Rattle.exact_triangle.proofs.SegmentCertainty.{depth-certain}
 use Rattle.exact_triangle.proofs.Moving.{ray-moves}
-use Rattle.exact_triangle.specs.Reach.{outOfRange, cornersRead, reachAt, cornersReach, gridReach}
+use Rattle.exact_triangle.specs.Reach.{cornersRead, reachAt, cornersReach, gridReach}
 use Rattle.exact_triangle.specs.Certain.{Nearest, CertainReach}
 
 -- ---- the three kinds of an answer

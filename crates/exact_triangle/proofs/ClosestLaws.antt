@@ -8,7 +8,7 @@ use lib.Dec.{ltb}
 use borrow.Author.Tests.{ltb-true, ltb-false}
 use lib.Ieee.{nearest}
 use lib.Ieee.Nearest.{closest}
-use Rattle.exact_triangle.proofs.Millimetres.{Cmp, cmp, closest-near}
+use Rattle.arithmetic.proofs.RoundingError.{closest-near, cmp, Cmp}
 
 -- 2 w d + 2 r = 2 q d + d with r < d
 tie-parts : (w r q d : ℕ) → r < d → 2 * (w * d + r) ≡ 2 * (q * d) + d → (w ≡ q) × (r * 2 ≡ d)

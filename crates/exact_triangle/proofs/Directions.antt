@@ -21,11 +21,13 @@ use Rattle.arithmetic.proofs.ValueOrder.{lt-values, le-values}
 use Rattle.vectors.specs.Numbers.{zeroᶠ}
 use Rattle.vectors.specs.Vector.{finiteVec, dotOf}
 use Rattle.vectors.specs.declared.vec3.Vec3.{Vec3}
+use Rattle.vectors.proofs.Constants.{zero-is}
 use Rattle.geometry.specs.Segment.{rayAdmitted, rangeAdmitted, closeToUnitLength}
 use Rattle.geometry.specs.declared.ray.Ray.{Ray}
 use Rattle.geometry.proofs.UnitLength.{leastSquare, greatestSquare, close-by-square, admitted-is}
 use Rattle.exact_triangle.specs.Grid.{within, allWithin, two, furthest, longest, gridAdmitted}
 use Rattle.exact_triangle.proofs.Touching.{FiniteAt, finite-at, two-is, longest-is}
+use Rattle.exact_triangle.proofs.Moving.{square-is, add-is}
 
 -- ---- a number that is not below 0, or infinity
 data Plain : Float → Type 0 where
@@ -45,12 +47,6 @@ round-plain a c p =
     let x = round binary64 false a c in
     plain-of x (round-not-negative binary64 a c) (le-left-number x x (plain-mono a c a c p p (omega arith)))
 
-square-is : (s : Bool) (m : ℕ) (e : ℤ) → mul binary64 (fin s m e) (fin s m e) ≡ round binary64 false (m * up e * (m * up e))
-    (down e * down e)
-unfolding mul
-square-is false m e = refl
-square-is true m e = refl
-
 square-plain : (x : Float) → isFinite x ≡ true → Plain (mul binary64 x x)
 unfolding isFinite
 square-plain nan f = absurd (false≢true f)
@@ -58,11 +54,6 @@ square-plain (inf s) f = absurd (false≢true f)
 square-plain (fin s m e) f =
     subst Plain (sym (square-is s m e))
     (round-plain (m * up e * (m * up e)) (down e * down e) (mul-pos (down-pos e) (down-pos e)))
-
-add-is : (m : ℕ) (e : ℤ) (n : ℕ) (d : ℤ) → add binary64 (fin false m e) (fin false n d)
-    ≡ round binary64 false (m * up e * down d + n * up d * down e) (down e * down d)
-unfolding add sum
-add-is m e n d = refl
 
 sum-plain : (x y : Float) → Plain x → Plain y → Plain (add binary64 x y)
 unfolding add sum
@@ -209,10 +200,6 @@ module _ (r : Ray) (h : rayAdmitted r ≡ true) where
       direction-within
 
 -- ---- an end out of range is above 32,768
-zero-is : zeroᶠ ≡ fin false 0 (pos 0)
-unfolding ofBits
-zero-is = refl
-
 not-below-zero : (m : ℕ) (e : ℤ) → lt (fin true m e) (fin false 0 (pos 0)) ≡ false → m * up e ≡ 0
 not-below-zero m e h =
     let v = lt-values (fin true m e) (fin false 0 (pos 0)) true false (m * up e) (down e) 0 1 (down-pos e) (lit< tt) (refl, refl)

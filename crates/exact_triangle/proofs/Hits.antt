@@ -13,7 +13,7 @@ use Rattle.vectors.specs.declared.vec3.Normalized.the-variants.{Unit as UnitOf}
 use Rattle.geometry.specs.declared.ray.Ray.{Ray}
 use Rattle.geometry.specs.Box.{corner}
 use Rattle.geometry.specs.Segment.{rayAdmitted}
-use Rattle.casts.specs.Answer.{Answer, hit, none, refused, withNormal, noNormal}
+use Rattle.casts.specs.Answer.{Answer, hit, none, refused, withNormal, noNormal, outOfRange}
 use Rattle.casts.specs.Reach.{reachOf}
 use Rattle.casts.specs.Surface.{facing}
 use Rattle.casts.specs.declared.answer.Reach.{Reach}
@@ -25,7 +25,7 @@ use Rattle.exact_depth.specs.declared.projection.Point.{Point}
 use Rattle.exact_triangle.specs.Grid.{furthest, allWithin, gridAdmitted, gridPoint, gridLine}
 use Rattle.exact_triangle.proofs.RoundedReadings.{coordinate-size}
 use Rattle.exact_triangle.specs.Sizes.{Near, Crossed, Apart as Away}
-use Rattle.exact_triangle.specs.Reach.{outOfRange, cornersRead, reachAt, cornersReach, gridReach}
+use Rattle.exact_triangle.specs.Reach.{cornersRead, reachAt, cornersReach, gridReach}
 use Rattle.exact_triangle.specs.Shear.{from, depthOf}
 use Rattle.exact_triangle.specs.Normal.{crossOf, normalOf}
 use Rattle.exact_triangle.specs.Cast.{gridNormal, reachHit, crossAt, gridHit, gridTriangle}

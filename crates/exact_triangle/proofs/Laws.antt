@@ -29,9 +29,6 @@ use Rattle.exact_triangle.specs.Sizes.{SizedAt, SizedProjected}
 
 -- ---- the cast of what is read
 module _ {k B : ℕ} {factor x : Float} (h : Reads k B factor x) (l : B ≤ 2147483648) where
-  abbrev read-float : Float
-  read-float = sub binary64 (add binary64 (mul binary64 x factor) rounder) rounder
-
   pub cast-taken : T (inSigned binary64 63 (sub binary64 (add binary64 (mul binary64 x factor) rounder) rounder))
   cast-taken = subst (λ (y : Float). T (inSigned binary64 63 y)) (sym (h .float)) (cast-in (nearestTo k x) (le-trans (h .size) l))
 
@@ -63,15 +60,6 @@ second-off p q r h g = sym (ap (λ (b : Bool). b && (q && r)) h ∙ ap (λ (b : 
 
 pub third-tells : (p q r : Bool) {s : Bool} → p ≡ true → q ≡ true → s ≡ r → s ≡ (p && (q && r))
 third-tells p q r h g e = e ∙ sym (ap (λ (b : Bool). b && (q && r)) h ∙ ap (λ (b : Bool). b && r) g)
-
-pub off-one : (p q r s : Bool) → p ≡ false → false ≡ (p && (q && (r && s)))
-off-one p q r s h = sym (ap (λ (b : Bool). b && (q && (r && s))) h)
-
-pub off-two : (p q r s : Bool) → p ≡ true → q ≡ false → false ≡ (p && (q && (r && s)))
-off-two p q r s h g = first-off q r s g ∙ sym (ap (λ (b : Bool). b && (q && (r && s))) h)
-
-pub off-three : (p q r s : Bool) → p ≡ true → q ≡ true → r ≡ false → false ≡ (p && (q && (r && s)))
-off-three p q r s h g k = second-off q r s g k ∙ sym (ap (λ (b : Bool). b && (q && (r && s))) h)
 
 pub four-tells : (p q r s : Bool) {t : Bool} → p ≡ true → q ≡ true → r ≡ true → t ≡ s → t ≡ (p && (q && (r && s)))
 four-tells p q r s h g k e = third-tells q r s g k e ∙ sym (ap (λ (b : Bool). b && (q && (r && s))) h)

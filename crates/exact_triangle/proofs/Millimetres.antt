@@ -1,67 +1,31 @@
 -- A float lies between its grid point's neighbours, and a grid point's float is exact. Assumes nothing.
-use mathlib.Core.Path.{_≡_, refl, sym, ap, _∙_, subst}
+use mathlib.Core.Path.{_≡_, refl, sym, ap, _∙_}
 use mathlib.Core.Bool.{Bool, true, false, not, false≢true}
-use Prim.Native.Nat.{ℕ, zero, suc, _+_, _*_, _/_, _%_, _^_, _≤_, _<_, compare, Ordering, Ordering·lt, Ordering·eq, Ordering·gt}
-use native.Mathlib.Nat.{lt-of-le-of-lt, le-of-lt, mul-assoc, mul-le-mul-right, div-add-mod', mod-lt}
+use Prim.Native.Nat.{ℕ, suc, _+_, _*_, _^_, _≤_, _<_}
+use native.Mathlib.Nat.{lt-of-le-of-lt, le-of-lt, mul-assoc, mul-le-mul-right}
 use native.Mathlib.Omega.{arith}
-use lib.Dec.{T, isLe, isEq, eqb, leb→le, nleb→lt, eqb→eq, eqb-refl, lit<}
-use lib.Arith.{lt-of-le-ne}
+use lib.Dec.{lit<}
 use lib.IntN.{ℤ, pos, negsuc, natAbs, _+ℤ_}
 use lib.Signed.{leZ}
-use lib.Ieee.{Float, nan, inf, fin, binary64, up, down, nearest, round, le, isNan}
+use lib.Ieee.{Float, nan, inf, fin, binary64, up, down, round, le}
 use lib.Ieee.Fits.{down-pos}
 use lib.Ieee.Exact.{HasValue, round-exact}
 use lib.Ieee.Nearest.{closest}
 use Rattle.arithmetic.specs.Basic.{isFinite}
 use Rattle.arithmetic.proofs.SignedOrder.{plus, less, below-not}
-use Rattle.arithmetic.proofs.ValueOrder.{le-values, value-finite}
+use Rattle.arithmetic.proofs.ValueOrder.{le-values}
+use Rattle.arithmetic.proofs.RoundingError.{closest-near}
 use Rattle.wide_integers.proofs.Integers.{pp, np, neg-pp, neg-np}
 use Rattle.wide_integers.proofs.Polynomials.{own, own-pos, rep-add}
 use Rattle.wide_integers.proofs.Order.{rep-le}
 use Rattle.exact_triangle.specs.Grid.{units, signed, nearestTo}
 use Rattle.exact_triangle.specs.Box.{inMillimetres}
 
--- ---- the nearest whole number is half a unit away at most (as in arithmetic/proofs/RoundingError, where it is not pub)
-abbrev pub Cmp : Ordering → ℕ → ℕ → Type 0
-Cmp Ordering·lt a b = a < b
-Cmp Ordering·eq a b = a ≡ b
-Cmp Ordering·gt a b = b < a
-
-pub cmp : (a b : ℕ) → Cmp (compare a b) a b
-cmp a b = go (compare a b) (leb→le a b) (nleb→lt a b) (eqb→eq a b) (λ (e : a ≡ b). subst (λ (x : ℕ). T (eqb a x)) e (eqb-refl a))
-  where
-    go : (o : Ordering) → (T (isLe o) → a ≤ b) → (T (not (isLe o)) → b < a) → (T (isEq o) → a ≡ b) → (a ≡ b → T (isEq o)) → Cmp o a b
-    go Ordering·lt h k e n = lt-of-le-ne (h tt) n
-    go Ordering·eq h k e n = e tt
-    go Ordering·gt h k e n = k tt
-
-half : (q r b : ℕ) (o : Ordering) → Cmp o (r * 2) b → r < b
-    → (2 * (nearest q o * b) ≤ 2 * (q * b + r) + b) × (2 * (q * b + r) ≤ 2 * (nearest q o * b) + b)
-half q r b Ordering·lt c h = (omega arith, omega arith)
-half q r b Ordering·eq c h = go (q % 2) (omega arith)
-  where
-    go : (e : ℕ) → e ≤ 1 → (2 * ((q + e) * b) ≤ 2 * (q * b + r) + b) × (2 * (q * b + r) ≤ 2 * ((q + e) * b) + b)
-    go zero l = (omega arith, omega arith)
-    go (suc zero) l = (omega arith, omega arith)
-    go (suc (suc e)) l = absurd (omega arith)
-half q r b Ordering·gt c h = (omega arith, omega arith)
-
-pub closest-near : (a b : ℕ) → 0 < b → (2 * (closest a b * b) ≤ 2 * a + b) × (2 * a ≤ 2 * (closest a b * b) + b)
-closest-near a b B =
-    subst (λ (z : ℕ). (2 * (closest a b * b) ≤ 2 * z + b) × (2 * z ≤ 2 * (closest a b * b) + b)) (div-add-mod' a b)
-    (half (a / b) (a % b) b (compare (a % b * 2) b) (cmp (a % b * 2) b) (mod-lt a B))
-
 -- ---- z units are exact as a float
 value-of : (s : Bool) (n : ℕ) → n < 2 ^ 53 → HasValue (round binary64 s n units) s n units
 value-of s n l =
     let room : n * 2 ^ 1059 ≤ 2 ^ 53 * 2 ^ 1059 = mul-le-mul-right (2 ^ 1059) (le-of-lt l) in
     round-exact binary64 s n units n 1059 (lit< tt) l (lt-of-le-of-lt room (lit< tt)) (sym (mul-assoc n (2 ^ 1059) units))
-
-pub finite-number : (x : Float) → isFinite x ≡ true → isNan x ≡ false
-unfolding isFinite isNan
-finite-number nan h = absurd (false≢true h)
-finite-number (inf s) h = refl
-finite-number (fin s m e) h = refl
 
 -- ---- a float by its grid point
 signed-pp : (s : Bool) (q : ℕ) → pp (signed s q) ≡ plus s q
@@ -143,21 +107,3 @@ at-least (fin s m e) i z l h =
     let p⁺ = signed-pp s q in
     let p⁻ = signed-np s q in
     at-least-of s m e z l (half-above s (m * up e) (down e) q (pp z) (np z) (c .0) (c .1) (omega (arith, g, p⁺, p⁻)))
-
--- ---- of two grid points
-pub in-order : (z w : ℤ) → natAbs z < 2 ^ 53 → natAbs w < 2 ^ 53 → leZ z w ≡ true → le (inMillimetres z) (inMillimetres w) ≡ true
-in-order z w l m h = go z w l m (rep-le (own z) (own w) h)
-  where
-    go : (z w : ℤ) → natAbs z < 2 ^ 53 → natAbs w < 2 ^ 53 → pp z + np w ≤ pp w + np z → le (inMillimetres z) (inMillimetres w) ≡ true
-    go (pos a) (pos b) l m h =
-        value-le _ _ false false a units b units (lit< tt) (lit< tt) (value-of false a l) (value-of false b m) (omega (arith, h))
-    go (pos a) (negsuc b) l m h = absurd (omega (arith, h))
-    go (negsuc a) (pos b) l m h =
-        value-le _ _ true false (suc a) units b units (lit< tt) (lit< tt) (value-of true (suc a) l) (value-of false b m) (omega (arith, h))
-    go (negsuc a) (negsuc b) l m h =
-        value-le _ _ true true (suc a) units (suc b) units (lit< tt) (lit< tt) (value-of true (suc a) l) (value-of true (suc b) m)
-        (omega (arith, h))
-
-pub in-finite : (z : ℤ) → natAbs z < 2 ^ 53 → isFinite (inMillimetres z) ≡ true
-in-finite (pos n) l = value-finite _ false n units (value-of false n l)
-in-finite (negsuc n) l = value-finite _ true (suc n) units (value-of true (suc n) l)

@@ -17,6 +17,7 @@ use Rattle.arithmetic.proofs.Order.{le-transitive}
 use Rattle.arithmetic.proofs.SumOrder.{le-parts}
 use Rattle.arithmetic.proofs.RoundedOrder.{plain-mono}
 use Rattle.arithmetic.proofs.RoundedSigns.{square-not-negative, sum-not-negative}
+use Rattle.arithmetic.proofs.RoundingError.{closest-near}
 use Rattle.vectors.specs.Vector.{finiteVec, dotOf}
 use Rattle.geometry.specs.Segment.{rayAdmitted, rangeAdmitted, closeToUnitLength}
 use Rattle.vectors.specs.declared.vec3.Vec3.{Vec3}
@@ -24,7 +25,6 @@ use Rattle.geometry.specs.declared.ray.Ray.{Ray}
 use Rattle.geometry.proofs.UnitLength.{leastSquare, close-by-square, admitted-is}
 use Rattle.exact_triangle.specs.Line.{parts, Moves}
 use Rattle.exact_triangle.specs.Grid.{nearestTo, gridLine}
-use Rattle.exact_triangle.proofs.Millimetres.{closest-near}
 use Rattle.exact_triangle.proofs.Touching.{signed-size, FiniteAt, finite-at}
 
 -- 2^-62, 2^-61 and 2^-60
@@ -42,7 +42,7 @@ tiny-is : (k : ℕ) → round binary64 false 1 (2 ^ 62) ≡ tiny 61
 unfolding round units odd size climb span
 tiny-is k = refl
 
-square-is : (s : Bool) (m : ℕ) (e : ℤ) → mul binary64 (fin s m e) (fin s m e) ≡ round binary64 false (m * up e * (m * up e))
+pub square-is : (s : Bool) (m : ℕ) (e : ℤ) → mul binary64 (fin s m e) (fin s m e) ≡ round binary64 false (m * up e * (m * up e))
     (down e * down e)
 unfolding mul
 square-is false m e = refl
@@ -76,7 +76,7 @@ halves a b E F K h g =
     let g' : b * (2 * K) * E ≤ F * E = mul-le-mul-right E g in
     omega (arith, h', g')
 
-add-is : (m : ℕ) (e : ℤ) (n : ℕ) (d : ℤ) → add binary64 (fin false m e) (fin false n d)
+pub add-is : (m : ℕ) (e : ℤ) (n : ℕ) (d : ℤ) → add binary64 (fin false m e) (fin false n d)
     ≡ round binary64 false (m * up e * down d + n * up d * down e) (down e * down d)
 unfolding add sum
 add-is m e n d = refl

@@ -1,12 +1,12 @@
 -- A whole vector up to 2^59 that is not 0 has floats that are finite and not all 0: it has a normal. Assumes nothing.
 use mathlib.Core.Path.{_≡_, refl, sym, ap, _∙_, subst}
 use mathlib.Core.Bool.{Bool, true, false, not, _&&_, cond, true≢false, false≢true}
-use Prim.Native.Nat.{ℕ, zero, suc, _*_, _^_, _≤_, _<_}
+use Prim.Native.Nat.{ℕ, zero, suc, _*_, _≤_, _<_}
 use native.Mathlib.Omega.{arith}
 use native.Mathlib.Nat.{zero-lt-suc}
 use lib.Dec.{T, lit<, eqb, eqb→eq}
-use Rattle.lists.proofs.JoinedTests.{and-both, and-three}
-use Rattle.arithmetic.proofs.Exactness.{neg-round}
+use Rattle.lists.proofs.JoinedTests.{and-both, and-three, and-not-first}
+use Rattle.arithmetic.proofs.Exactness.{neg-round, ofInt-is, ofInt-below, round-one}
 use Rattle.exact_triangle.specs.Surface.{Apart}
 use lib.IntN.{ℤ, pos, negsuc, natAbs}
 use lib.Ieee.{Float, nan, inf, fin, binary64, up, down, round, ofInt, ofBits, neg, le, lt, eq}
@@ -27,18 +27,9 @@ pub record Sound (x : Float) : Type 0 where
   pub finite : isFinite x ≡ true
   pub apart : eq x zeroᶠ ≡ false
 
--- 1 and 2^59
-one-is : round binary64 false 1 1 ≡ fin false 1 (pos 0)
-unfolding round
-one-is = refl
-
 most-is : round binary64 false 576460752303423488 1 ≡ fin false 1 (pos 59)
 unfolding round
 most-is = refl
-
-zero-is : zeroᶠ ≡ fin false 0 (pos 0)
-unfolding ofBits
-zero-is = refl
 
 not-level : (a b : ℕ) → 0 < a → b ≡ 0 → eqb a b ≡ false
 not-level a b h e = go (eqb a b) refl
@@ -47,14 +38,11 @@ not-level a b h e = go (eqb a b) refl
     go false q = refl
     go true q = let w = eqb→eq a b (subst T (sym q) tt) in absurd (omega (arith, h, e, w))
 
-and-not : (p q : Bool) → p ≡ false → (p && q) ≡ false
-and-not p q h = ap (λ (b : Bool). b && q) h
-
 fin-sound : (s : Bool) (m : ℕ) (e : ℤ) → 0 < m * up e → Sound (fin s m e)
 unfolding isFinite eq ofBits
 fin-sound s m e h = record {
   finite = refl;
-  apart = and-not _ _ (not-level (m * up e * 1) (0 * 1 * down e) (omega (arith, h)) (omega arith));
+  apart = and-not-first _ _ (not-level (m * up e * 1) (0 * 1 * down e) (omega (arith, h)) (omega arith));
 }
 
 record Both (x : Float) : Type 0 where
@@ -84,23 +72,15 @@ above (fin true m e) h g =
 both-of : (n : ℕ) → 0 < n → n ≤ 576460752303423488 → Both (round binary64 false n 1)
 both-of n p h =
     above (round binary64 false n 1)
-    (subst (λ (z : Float). le z (round binary64 false n 1) ≡ true) one-is (plain-mono 1 1 n 1 (lit< tt) (lit< tt) (omega (arith, p))))
+    (subst (λ (z : Float). le z (round binary64 false n 1) ≡ true) round-one (plain-mono 1 1 n 1 (lit< tt) (lit< tt) (omega (arith, p))))
     (subst (λ (z : Float). le (round binary64 false n 1) z ≡ true) most-is
     (plain-mono n 1 576460752303423488 1 (lit< tt) (lit< tt) (omega (arith, h))))
 
-of-pos : (n : ℕ) → ofInt binary64 (pos n) ≡ round binary64 false n 1
-unfolding ofInt
-of-pos n = refl
-
-of-negsuc : (n : ℕ) → ofInt binary64 (negsuc n) ≡ round binary64 true (suc n) 1
-unfolding ofInt
-of-negsuc n = refl
-
 pub whole-sound : (z : ℤ) → (z ≡ pos 0 → ⊥) → Sized 576460752303423488 z → Sound (ofInt binary64 z)
 whole-sound (pos zero) h s = absurd (h refl)
-whole-sound (pos (suc n)) h s = subst Sound (sym (of-pos (suc n))) (both-of (suc n) (zero-lt-suc n) (s .size) .plain)
+whole-sound (pos (suc n)) h s = subst Sound (sym (ofInt-is binary64 (suc n))) (both-of (suc n) (zero-lt-suc n) (s .size) .plain)
 whole-sound (negsuc n) h s =
-    subst Sound (neg-round binary64 (suc n) 1 ∙ sym (of-negsuc n)) (both-of (suc n) (zero-lt-suc n) (s .size) .turned)
+    subst Sound (neg-round binary64 (suc n) 1 ∙ sym (ofInt-below binary64 n)) (both-of (suc n) (zero-lt-suc n) (s .size) .turned)
 
 zero-finite : isFinite (ofInt binary64 (pos 0)) ≡ true
 unfolding isFinite ofInt round

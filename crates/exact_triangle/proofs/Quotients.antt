@@ -1,6 +1,6 @@
 -- The float of a depth, by the small fraction. Assumes nothing.
 use mathlib.Core.Path.{_≡_, refl, sym, ap, _∙_}
-use mathlib.Core.Bool.{true, false, false≢true}
+use mathlib.Core.Bool.{true, false≢true}
 use Prim.Native.Nat.{ℕ, zero, suc, _+_, _*_, _<_}
 use native.Mathlib.Nat.{zero-lt-suc}
 use native.Mathlib.Omega.{arith}
@@ -11,11 +11,11 @@ use Rattle.exact_depth.specs.declared.projection.Fraction.{Fraction}
 use Rattle.exact_depth.specs.declared.projection.Depth.the-variants.{At}
 use Rattle.wide_integers.proofs.Polynomials.{ring}
 use Rattle.exact_depth.specs.declared.projection.Point.{Point}
+use Rattle.wide_integers.proofs.Integers.{size-zero}
 use Rattle.wide_integers.specs.Division.{fractionOf}
 use Rattle.exact_triangle.specs.Line.{Line, Moves}
 use Rattle.exact_triangle.specs.Surface.{FirstSurface}
 use Rattle.exact_triangle.specs.Shear.{from, depthOf}
-use Rattle.exact_triangle.proofs.Areas.{size-zero}
 use Rattle.exact_triangle.proofs.SegmentCertainty.{depth-certain}
 use Rattle.exact_triangle.specs.Normal.{crossOf, dotOf}
 use Rattle.exact_triangle.proofs.Ratios.{first-ratio, fraction-same}

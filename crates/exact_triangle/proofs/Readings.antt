@@ -10,11 +10,11 @@ use lib.Ieee.Fits.{down-pos}
 use lib.Ieee.Nearest.{closest}
 use Rattle.arithmetic.specs.Basic.{isFinite}
 use Rattle.arithmetic.proofs.SignedOrder.{plus, less}
+use Rattle.arithmetic.proofs.RoundingError.{closest-near}
 use Rattle.wide_integers.proofs.Integers.{no-factor}
 use Rattle.wide_integers.proofs.Polynomials.{Rep, own-pos, rep-neg, rep-sub, rep-mul}
 use Rattle.exact_depth.proofs.Standing.{Stands}
 use Rattle.exact_triangle.specs.Grid.{signed, nearestTo, HalfFrom}
-use Rattle.exact_triangle.proofs.Millimetres.{closest-near}
 
 -- ---- a multiple is its own nearest
 closest-exact : (n d : ℕ) → 0 < d → closest (n * d) d ≡ n

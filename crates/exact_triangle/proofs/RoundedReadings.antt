@@ -11,7 +11,7 @@ use lib.Dec.{T, ltb, lit<, lit≤, le→leb, lt→ltb}
 use lib.Pow.{pow-pos}
 use lib.IntN.{ℤ, pos, negsuc, negℤ, natAbs, subℕ}
 use lib.Ieee.{Float, nan, inf, fin, binary64, up, down, size, round, sum, add, sub, mul, neg, ofInt, ofBits, fits, toSigned}
-use lib.Ieee.{inFloat, inSigned, unlike, le, lt, eq}
+use lib.Ieee.{inFloat, inSigned, le, lt, eq}
 use lib.Ieee.Fits.{down-pos, round-is}
 use lib.Ieee.Exact.{HasValue, units-val}
 use lib.Ieee.Scale.{round-same}
@@ -21,13 +21,13 @@ use lib.Ieee.Back.{positive-back, negative-back}
 use borrow.Author.Tests.{ltb-true, ltb-false, lt-ltb}
 use Rattle.arithmetic.specs.Basic.{isFinite, absolute}
 use Rattle.arithmetic.proofs.SumOrder.{le-parts}
-use Rattle.arithmetic.proofs.Exactness.{scaled-exact}
+use Rattle.arithmetic.proofs.Exactness.{scaled-exact, ofInt-is, ofInt-below}
 use Rattle.arithmetic.proofs.ScalingLaws.{size-between}
-use Rattle.arithmetic.proofs.ValueOrder.{value-by, mul-values}
+use Rattle.arithmetic.proofs.ValueOrder.{value-by, mul-values, unlike-false}
+use Rattle.arithmetic.proofs.RoundingError.{closest-near}
 use Rattle.exact_triangle.specs.Grid.{units, signed, nearestTo, within, two, furthest, longest, rounder, unitsᶠ, partsᶠ, readBy}
 use Rattle.exact_triangle.specs.Line.{parts}
 use Rattle.exact_triangle.proofs.Touching.{two-is, furthest-is, longest-is, signed-size}
-use Rattle.exact_triangle.proofs.Millimetres.{closest-near}
 use Rattle.exact_triangle.proofs.ClosestLaws.{closest-up, closest-down}
 
 -- ---- a fraction from 2^52 to below 2^53 is rounded to the nearest whole number
@@ -151,14 +151,6 @@ module _ (N d : ℕ) (D : 0 < d) (small : N ≤ 2147483648 * d) where
           omega (arith, g', e', w)
 
 -- ---- taken off again, it leaves that number
-of-pos : (n : ℕ) → ofInt binary64 (pos n) ≡ round binary64 false n 1
-unfolding ofInt
-of-pos n = refl
-
-of-negsuc : (n : ℕ) → ofInt binary64 (negsuc n) ≡ round binary64 true (suc n) 1
-unfolding ofInt
-of-negsuc n = refl
-
 abbrev difference : ℕ → ℕ → Float
 difference a D =
     cond (ltb a (middle * D)) (round binary64 true (middle * D - a) (D * 1)) (round binary64 false (a - middle * D) (D * 1))
@@ -176,14 +168,14 @@ difference-is D a n C h =
         let whole : n + w ≡ middle = omega (arith, l) in
         let scaled : (n + w) * D ≡ middle * D = ap (λ (z : ℕ). z * D) whole in
         round-same binary64 true (middle * D - a) (D * 1) w 1 (omega (arith, C)) (zero-lt-suc 0) (omega (arith, scaled, h))
-        ∙ sym (of-negsuc (middle - suc n))
+        ∙ sym (ofInt-below binary64 (middle - suc n))
     go false false p q r s =
         let w = n - middle in
         let l = s refl in
         let whole : middle + w ≡ n = omega (arith, l) in
         let scaled : (middle + w) * D ≡ n * D = ap (λ (z : ℕ). z * D) whole in
         round-same binary64 false (a - middle * D) (D * 1) w 1 (omega (arith, C)) (zero-lt-suc 0) (omega (arith, scaled, h))
-        ∙ sym (of-pos (n - middle))
+        ∙ sym (ofInt-is binary64 (n - middle))
     go true false p q r s =
         let l = p refl in
         let m : middle * D ≤ n * D = mul-le-mul-right D (s refl) in
@@ -232,10 +224,6 @@ signed-small true zero h = h
 signed-small true (suc c) h = h
 
 -- ---- a float that fits, times 2^t up to 2^31
-unlike-false : (s : Bool) → unlike s false ≡ s
-unlike-false true = refl
-unlike-false false = refl
-
 module _ (t : ℕ) (factor : Float) (power : HasValue factor false (2 ^ t) 1) where
   scaled : (s : Bool) (m : ℕ) (e : ℤ) → T (fits binary64 (fin s m e)) → m * up e * 2 ^ t ≤ 2147483648 * down e
       → HasValue (mul binary64 (fin s m e) factor) s (m * up e * 2 ^ t) (down e)

@@ -32,9 +32,6 @@ pub mix-more : (i j k x y z g : ℤ) → i *ℤ g *ℤ x +ℤ j *ℤ g *ℤ y +�
 mix-more i j k x y z g = simp ring
 
 -- ---- differences of differences
-diff-own : (z : ℤ) → Diff z z (pos 0)
-diff-own z = record { is = equal (rep-add (own z) (own-pos 0)) (own z) (omega arith) }
-
 diff-neg : {z P N : ℤ} → Diff z P N → Diff (negℤ z) N P
 diff-neg {z} {P} {N} a = record { is = ap (λ (x : ℤ). negℤ z +ℤ x) (sym (a .is)) ∙ back z N }
   where

@@ -9,22 +9,23 @@ use lib.Dec.{lit<, lit≤}
 use lib.IntN.{ℤ, pos, negsuc, natAbs, _+ℤ_, _-ℤ_, _*ℤ_, -ℤ-+ℤ-cancel}
 use lib.Signed.{leZ, shrZ}
 use lib.Ieee.{Float, le, isNan}
-use Rattle.lists.proofs.JoinedTests.{and-both, and-three}
+use Rattle.lists.proofs.JoinedTests.{and-both}
 use Rattle.arithmetic.specs.Basic.{isFinite}
 use Rattle.arithmetic.specs.Extremes.{minimumOf, maximumOf}
 use Rattle.arithmetic.proofs.Order.{le-left-number, le-right-number, le-transitive}
 use Rattle.arithmetic.proofs.ExtremesOrder.{minimum-below-first, minimum-below-second, maximum-above-first, maximum-above-second}
-use Rattle.geometry.specs.Box.{touchSide, validSide}
+use Rattle.arithmetic.proofs.Numbers.{finite-number}
+use Rattle.geometry.specs.Box.{touchSide}
 use Rattle.wide_integers.specs.Sizes.{Sized}
 use Rattle.exact_depth.specs.Meeting.{mix}
 use Rattle.wide_integers.proofs.Integers.{pp, np}
 use Rattle.wide_integers.proofs.Reading.{product-size, sum-size, difference-size}
-use Rattle.wide_integers.proofs.Polynomials.{own, own-pos, own-neg, rep-add, rep-sub, rep-mul, ring}
+use Rattle.wide_integers.proofs.Polynomials.{own, own-pos, own-neg, rep-add, rep-mul, ring}
 use Rattle.wide_integers.proofs.Order.{rep-le, le-rep}
 use Rattle.exact_triangle.specs.Line.{parts}
 use Rattle.exact_triangle.specs.Grid.{units, nearestTo}
 use Rattle.exact_triangle.specs.Box.{inMillimetres, floorAt, lesser, greater, lowSide, highSide}
-use Rattle.exact_triangle.proofs.Millimetres.{at-most, at-least, finite-number, in-order, in-finite}
+use Rattle.exact_triangle.proofs.Millimetres.{at-most, at-least}
 use Rattle.exact_triangle.proofs.Floors.{leZ-trans, leZ-more, first-most, second-most, first-least, second-least}
 use Rattle.exact_triangle.proofs.Floors.{OneOf, part-below, part-above, floor-above, floor-below, floor-size}
 
@@ -223,21 +224,6 @@ module _ (O d : ℤ) (near far : ℕ) (held : Held O d near far) where
       (difference-size {y = pos 1} (chosen (Sized 4294967297) (leZ (floorAt O d near) (floorAt O d far)) (floorAt O d near)
       (floorAt O d far) near-size far-size)
       (record { size = lit≤ {m = 1} {n = 1} tt }))
-
-  -- the side is an interval of finite numbers
-  pub side-valid : validSide (lowSide O d near far) (highSide O d near far) ≡ true
-  unfolding validSide lowSide highSide
-  side-valid =
-      let n = floorAt O d near in
-      let f = floorAt O d far in
-      and-three _ _ _ (in-finite (lesser n f -ℤ pos 1) low-fine) (in-finite (greater n f +ℤ pos 1) high-fine)
-      (in-order (lesser n f -ℤ pos 1) (greater n f +ℤ pos 1) low-fine high-fine (apart n f))
-    where
-      apart : (n f : ℤ) → leZ (lesser n f -ℤ pos 1) (greater n f +ℤ pos 1) ≡ true
-      apart n f =
-          let h = rep-le (own (lesser n f)) (own n) (first-least n f) in
-          let g = rep-le (own n) (own (greater n f)) (first-most n f) in
-          le-rep (rep-sub (own (lesser n f)) (own-pos 1)) (rep-add (own (greater n f)) (own-pos 1)) (omega (arith, h, g))
 
   pub side-touches : (a b c : Float) → isFinite a ≡ true → isFinite b ≡ true → isFinite c ≡ true
       → (i j k : ℕ) (t : ℤ) → 0 < i + j + k

@@ -13,8 +13,9 @@ use lib.Ieee.Nearest.{closest}
 use Rattle.lists.proofs.JoinedTests.{and-first, and-second, and-three}
 use Rattle.arithmetic.specs.Basic.{isFinite, absolute}
 use Rattle.arithmetic.proofs.SumOrder.{le-parts}
+use Rattle.arithmetic.proofs.RoundingError.{closest-near}
 use Rattle.vectors.specs.Vector.{finiteVec, minOf, maxOf}
-use Rattle.geometry.specs.Box.{corner, cornersBox, touches, validBox}
+use Rattle.geometry.specs.Box.{corner, cornersBox, touches}
 use Rattle.vectors.specs.declared.vec3.Vec3.{Vec3}
 use Rattle.geometry.specs.declared.ray.Ray.{Ray}
 use Rattle.wide_integers.proofs.Integers.{neg-size}
@@ -23,8 +24,7 @@ use Rattle.exact_triangle.specs.Surface.{Surface}
 use Rattle.exact_triangle.specs.Grid.{units, signed, nearestTo, within, allWithin, two, furthest, longest, gridPoint}
 use Rattle.exact_triangle.specs.Grid.{gridAdmitted, gridLine}
 use Rattle.exact_triangle.specs.Box.{certainBox}
-use Rattle.exact_triangle.proofs.Millimetres.{closest-near}
-use Rattle.exact_triangle.proofs.Sides.{Held, side-touches, side-valid}
+use Rattle.exact_triangle.proofs.Sides.{Held, side-touches}
 
 -- ---- what is read keeps to its size
 pub signed-size : (s : Bool) (q : ℕ) → natAbs (signed s q) ≡ q
@@ -142,13 +142,3 @@ met-touches r admitted vs fa fb fc D t s =
     (b .y) (c .y) (m .i) (m .j) (m .k) t some least most (m .y))
     (side-touches (l .origin .z) (l .direction .z) (l .near) (l .far) (held .z) (corner vs 0 .z) (corner vs 1 .z) (corner vs 2 .z) (a .z)
     (b .z) (c .z) (m .i) (m .j) (m .k) t some least most (m .z))
-
--- the box is one that a tree can be asked for
-pub box-valid : (r : Ray) → gridAdmitted r ≡ true → validBox (certainBox (gridLine r)) ≡ true
-unfolding validBox certainBox
-box-valid r admitted =
-    let l = gridLine r in
-    let held = line-sizes r admitted in
-    and-three _ _ _ (side-valid (l .origin .x) (l .direction .x) (l .near) (l .far) (held .x))
-    (side-valid (l .origin .y) (l .direction .y) (l .near) (l .far) (held .y))
-    (side-valid (l .origin .z) (l .direction .z) (l .near) (l .far) (held .z))

@@ -6,13 +6,13 @@ use Rattle.vectors.specs.Vector.{dotOf}
 use Rattle.vectors.specs.declared.vec3.Vec3.{Vec3}
 use Rattle.geometry.specs.declared.ray.Ray.{Ray}
 use Rattle.geometry.specs.Box.{corner}
-use Rattle.casts.specs.Answer.{Answer, hit, none, refused, withNormal, noNormal}
+use Rattle.casts.specs.Answer.{Answer, hit, none, refused, withNormal, noNormal, outOfRange}
 use Rattle.casts.specs.Surface.{facing}
 use Rattle.casts.specs.declared.answer.Reach.{Reach}
 use Rattle.casts.specs.declared.answer.Reach.the-variants.{At, Miss, Refused}
 use Rattle.exact_depth.specs.declared.projection.Point.{Point}
 use Rattle.exact_triangle.specs.Grid.{gridPoint}
-use Rattle.exact_triangle.specs.Reach.{outOfRange, cornersRead, gridReach}
+use Rattle.exact_triangle.specs.Reach.{cornersRead, gridReach}
 use Rattle.exact_triangle.specs.Normal.{crossOf, normalOf}
 
 -- "The normal faces the ray": normalised first (7), then turned

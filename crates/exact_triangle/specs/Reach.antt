@@ -3,10 +3,11 @@ use Prim.Native.Nat.{ℕ}
 use mathlib.Core.Path.{_≡_}
 use mathlib.Core.Bool.{Bool, true, false, _&&_, cond}
 use mathlib.Core.List.{List}
-use lib.IntN.{ℤ, pos, _*ℤ_}
+use lib.IntN.{pos, _*ℤ_}
 use Rattle.vectors.specs.declared.vec3.Vec3.{Vec3}
 use Rattle.geometry.specs.declared.ray.Ray.{Ray}
 use Rattle.geometry.specs.Box.{corner}
+use Rattle.casts.specs.Answer.{outOfRange}
 use Rattle.casts.specs.declared.answer.Reach.{Reach}
 use Rattle.casts.specs.declared.answer.Reach.the-variants.{At, Miss, Refused}
 use Rattle.exact_depth.specs.declared.projection.Depth.{Depth}
@@ -22,10 +23,6 @@ use Rattle.exact_triangle.specs.Shear.{depthOf}
 use Rattle.exact_triangle.specs.declared.cast.Board.{Board}
 use Rattle.exact_triangle.specs.declared.cast.Board.the-variants.{At as Placed, Off}
 use Rattle.exact_triangle.specs.Sizes.{Near}
-
--- 12, 'out of range'
-abbrev pub outOfRange : ℕ
-outOfRange = 12
 
 -- every corner is within 8,192 mm
 unfoldable pub cornersRead : List Vec3 → Bool

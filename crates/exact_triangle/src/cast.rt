@@ -17,7 +17,6 @@ use vectors::vec3::Vec3;
 use wide_integers::guess;
 use wide_integers::number;
 ghost use mathlib.Core.Path.{_≡_};
-ghost use mathlib.Core.Bool.{true};
 ghost use lib.IntN.{pos, _*ℤ_};
 ghost use Prim.Native.Nat.{_*_};
 ghost use Rattle.geometry.specs.declared.ray.Ray.{Ray as AnyRay};
@@ -34,9 +33,6 @@ ghost use Rattle.exact_triangle.specs.Sizes.{Near};
 ghost use Rattle.exact_triangle.specs.View.{Sees, Aimed};
 ghost use Rattle.exact_triangle.specs.Reach.{cornersRead, Boarded, millimetres, cornersReach, gridReach};
 ghost use Rattle.exact_triangle.specs.Cast.{gridNormal, gridHit, gridTriangle};
-
-// Refusal 12, 'out of range', beyond document 01's table.
-pub const OUT_OF_RANGE: u32 = 12;
 
 // The three corners on the grid.
 pub enum Board {
@@ -106,7 +102,7 @@ pub fn reach_on(line: View, corners: [Vec3; 3]) -> Reach
 {
     let board = board_of(corners);
     let Board::At { a, b, c } = board else {
-        return Reach::Refused(OUT_OF_RANGE);
+        return Reach::Refused(answer::OUT_OF_RANGE);
     };
     let depth = seen::depth_of(line, a, b, c);
     let Found::At(at) = depth else {
@@ -121,7 +117,7 @@ pub fn exact_reach(ray: Ray, corners: [Vec3; 3]) -> Reach
 {
     let aim = view::view_of(ray);
     let Aim::On(line) = aim else {
-        return Reach::Refused(OUT_OF_RANGE);
+        return Reach::Refused(answer::OUT_OF_RANGE);
     };
     reach_on(line, corners)
 }
@@ -146,7 +142,7 @@ pub fn hit_on(ray: Ray, corners: [Vec3; 3], distance: f64) -> Cast
 {
     let board = board_of(corners);
     let Board::At { a, b, c } = board else {
-        return Cast::Refused(OUT_OF_RANGE);
+        return Cast::Refused(answer::OUT_OF_RANGE);
     };
     normal_at(ray, normal::cross_of(a, b, c), distance)
 }

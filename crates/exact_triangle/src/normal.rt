@@ -5,7 +5,6 @@ use vectors::vec3::Vec3;
 use wide_integers::number;
 use wide_integers::number::Wide;
 ghost use mathlib.Core.Path.{_≡_};
-ghost use lib.IntN.{_-ℤ_, _*ℤ_};
 ghost use Rattle.wide_integers.specs.Sizes.{Sized};
 ghost use Rattle.wide_integers.specs.Determinant.{determinant};
 ghost use Rattle.wide_integers.specs.Value.{value};

@@ -12,11 +12,10 @@ use lib.Seq.{sets}
 use Rattle.lists.proofs.JoinedTests.{and-first, and-second}
 use Rattle.vectors.specs.declared.vec3.Vec3.{Vec3}
 use Rattle.geometry.specs.declared.ray.Ray.{Ray}
-use Rattle.casts.specs.Answer.{noRoom}
+use Rattle.casts.specs.Answer.{noRoom, limitReached}
 use Rattle.tree.specs.Layout.{wordAt, vectorAt}
 use Rattle.cabinet.specs.declared.part.Part.{Part}
 use Rattle.cabinet.specs.Parts.{Areas}
-use Rattle.cabinet.specs.PartCast.{limitReached}
 use Rattle.cabinet.specs.Cabinet.{Answer, hitIn, noneAfter, refused, refusedAfter, castCabinet, withResults}
 use Rattle.cabinet.specs.PartAnswers.{AnswersParts}
 use Rattle.cabinet.proofs.Promises.{returnedApart, returned-apart}

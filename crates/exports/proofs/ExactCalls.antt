@@ -10,13 +10,12 @@ use lib.Ieee.{Float}
 use lib.ListN.{length}
 use Rattle.geometry.specs.Segment.{rayAdmitted}
 use Rattle.geometry.specs.declared.ray.Ray.{Ray}
-use Rattle.casts.specs.Answer.{invalidInput, badShape, noRoom}
+use Rattle.casts.specs.Answer.{invalidInput, badShape, noRoom, outOfRange}
 use Rattle.nearest_hit.specs.Nearest.{Indexed, stopped}
 use Rattle.tree.specs.Layout.{Tree}
 use Rattle.tree.specs.Mesh.{Mesh, thirds, lengthsAdmitted}
 use Rattle.tree_check.proofs.Answers.{yes-passes}
 use Rattle.exact_triangle.specs.Grid.{gridAdmitted}
-use Rattle.exact_triangle.specs.Reach.{outOfRange}
 use Rattle.mesh.specs.MeshCast.{shapeAdmitted}
 use Rattle.mesh.specs.Demand3.{PassesCheck}
 use Rattle.mesh_plain.proofs.Agreement.{yes-lengths}

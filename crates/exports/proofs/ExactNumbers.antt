@@ -13,7 +13,7 @@ use Rattle.vectors.specs.declared.vec3.Normalized.the-variants.{Unit as UnitOf,
 use Rattle.vectors.specs.Vector.{dotOf}
 use Rattle.geometry.specs.Segment.{rayAdmitted}
 use Rattle.geometry.specs.declared.ray.Ray.{Ray}
-use Rattle.casts.specs.Answer.{Answer, hit, none, refused, withNormal, noNormal, invalidInput, badShape, outOfBounds}
+use Rattle.casts.specs.Answer.{Answer, hit, none, refused, withNormal, noNormal, invalidInput, badShape, outOfBounds, outOfRange}
 use Rattle.casts.specs.Reach.{reachOf}
 use Rattle.casts.specs.Surface.{facing}
 use Rattle.casts.specs.declared.answer.Reach.{Reach}
@@ -28,7 +28,7 @@ use Rattle.exact_depth.specs.declared.projection.Depth.{Depth}
 use Rattle.exact_depth.specs.declared.projection.Depth.the-variants.{At as Met, Miss as Unmet}
 use Rattle.exact_depth.specs.declared.projection.Point.{Point}
 use Rattle.exact_triangle.specs.Normal.{normalOf}
-use Rattle.exact_triangle.specs.Reach.{outOfRange, cornersRead, reachAt, cornersReach, gridReach}
+use Rattle.exact_triangle.specs.Reach.{cornersRead, reachAt, cornersReach, gridReach}
 use Rattle.exact_triangle.specs.Cast.{gridNormal, reachHit, crossAt, gridTriangle}
 use Rattle.mesh_exact.specs.GridCast.{exactAnswer, overTriangles, rayMeshExactPlain}
 use Rattle.tree_exact.specs.FirstWalk.{Seeking, seeking, broken, times, noted, takePlace, takePlaces, atLeaf, atBranch, atNode}

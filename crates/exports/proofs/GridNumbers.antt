@@ -20,7 +20,7 @@ use Rattle.geometry.specs.Segment.{rayAdmitted}
 use Rattle.geometry.specs.declared.aabb.Aabb.{Aabb}
 use Rattle.geometry.specs.declared.ray.Ray.{Ray}
 use Rattle.casts.specs.Answer.{Answer, hit, none, refused, withNormal}
-use Rattle.casts.specs.Answer.{invalidInput, badShape, outOfBounds, overflow, notConvergent}
+use Rattle.casts.specs.Answer.{invalidInput, badShape, outOfBounds, overflow, notConvergent, badRange}
 use Rattle.nearest_hit.specs.Nearest.{Indexed, hitAt, noHit, stopped, withoutIndex}
 use Rattle.height_field.specs.declared.field.Field.{Field}
 use Rattle.height_field.specs.Cells.{visitedCells}
@@ -30,7 +30,7 @@ use Rattle.height_field.specs.Cast.{answerOf, castListed, spanFinite, heightCas
 use Rattle.height_ranges.specs.Answer.{clear, possible, refused as notClear}
 use Rattle.height_ranges.specs.Answer.{Answer as Clearance}
 use Rattle.height_ranges.specs.Ranges.{rangesAdmitted, nodesOf, nodeInOrder, nearestHeights}
-use Rattle.height_ranges.specs.RangesCast.{badRange, answerListed, visitedAnswer, rangesCast, rayHeightRanges}
+use Rattle.height_ranges.specs.RangesCast.{answerListed, visitedAnswer, rangesCast, rayHeightRanges}
 use Rattle.distance_grid.specs.declared.grid.Grid.{Grid}
 use Rattle.distance_grid.specs.declared.places.Place.{Place}
 use Rattle.distance_grid.specs.declared.places.Place.the-variants.{At as PlaceAt, Overflow as NoPlace}

@@ -13,7 +13,7 @@ use Rattle.vectors.specs.declared.vec3.Vec3.{Vec3}
 use Rattle.geometry.specs.Segment.{rayAdmitted, segmentEnd, segmentBox}
 use Rattle.geometry.specs.declared.aabb.Aabb.{Aabb}
 use Rattle.geometry.specs.declared.ray.Ray.{Ray}
-use Rattle.casts.specs.Answer.{invalidInput, badShape, noRoom, outOfBounds, overflow}
+use Rattle.casts.specs.Answer.{invalidInput, badShape, noRoom, outOfBounds, overflow, limitReached}
 use Rattle.nearest_hit.specs.Nearest.{Indexed, hitAt, noHit, stopped}
 use Rattle.tree.specs.Layout.{Tree, Areas}
 use Rattle.tree.specs.Mesh.{Mesh, thirds, triangleCount, trianglesFit, boxesWritten}
@@ -35,7 +35,7 @@ use Rattle.cabinet.specs.declared.part.Found.{Found}
 use Rattle.cabinet.specs.declared.part.Found.the-variants.{Nothing, Hit, Refused as NotFound}
 use Rattle.cabinet.specs.declared.part.Progress.{Progress}
 use Rattle.cabinet.specs.Parts.{Areas as CabinetAreas, meshOf, treeOfPart, shapeFits, roomFits}
-use Rattle.cabinet.specs.PartCast.{limitReached, Costed, costing, afterLook, castWithin, movedRay, castMoved}
+use Rattle.cabinet.specs.PartCast.{Costed, costing, afterLook, castWithin, movedRay, castMoved}
 use Rattle.cabinet.specs.Cabinet.{foundNext, isRefused, afterPart, beginning, castPart, castParts, answerWith, allParts, castCabinet}
 use Rattle.cabinet.specs.Cabinet as Cabinet
 use Rattle.exports.proofs.RefusalNumbers.{Small, leaf, chosen, tested, smallTests, indexedNumber, stops, over-walk-small}

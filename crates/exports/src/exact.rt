@@ -1,5 +1,4 @@
 use casts::answer;
-use exact_triangle::cast as triangle;
 use exact_triangle::sight;
 use geometry::ray::Ray;
 use mesh::cast as mesh_cast;
@@ -23,7 +22,7 @@ fn short_exact(ray: Ray, shape: bool) -> u32
         return answer::INVALID_INPUT;
     }
     if !sight::admitted(ray) {
-        return triangle::OUT_OF_RANGE;
+        return answer::OUT_OF_RANGE;
     }
     if !shape {
         return answer::BAD_SHAPE;

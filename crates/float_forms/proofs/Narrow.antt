@@ -1,18 +1,19 @@
 -- The guess is right wherever 4 bytes hold the number; and coming back gives the same pattern. Assumes nothing.
 use Prim.Native.Nat.{ℕ, zero, suc, _+_, _-_, _*_, _/_, _%_, _^_, _<_, _≤_}
 use native.Mathlib.Omega.{arith}
-use native.Mathlib.Nat.{mul-assoc, mul-comm, add-comm, div-one, mul-one, le-of-lt, lt-of-lt-of-le, mul-le-mul-right}
-use native.Mathlib.Nat.{mul-lt-mul-of-pos-right, le-antisymm, lt-irrefl, lt-of-le-of-lt, lt-of-not-le, pow-succ', one-mul}
+use native.Mathlib.Nat.{mul-assoc, div-one, mul-one, lt-of-lt-of-le, mul-le-mul-right}
+use native.Mathlib.Nat.{mul-lt-mul-of-pos-right, le-antisymm, lt-irrefl, lt-of-le-of-lt, lt-of-not-le}
 use mathlib.Core.Path.{_≡_, refl, sym, ap, subst, _∙_}
 use mathlib.Core.Bool.{Bool, true, false, not, _&&_, cond}
 use lib.IntN.{ℤ, pos, negsuc}
-use lib.Dec.{T, leb, ltb, eqb, ltb→lt, leb→le, eqb→eq, lit<}
+use lib.Dec.{T, leb, ltb, eqb, ltb→lt, leb→le, eqb→eq}
 use lib.Pow.{pow-add, pow-pos, pow-mono, pow-lt, shl-shr}
-use lib.Ieee.{Float, nan, inf, fin, binary32, binary64, up, down, low, prec, hid, top, emax, size, span, climb, isNan, fits, toBits, ofBits}
+use lib.Ieee.{Float, nan, inf, fin, binary32, binary64, up, down, low, prec, hid, top, size, span, climb, isNan, fits, toBits, ofBits}
 use lib.Ieee.Bits.{ofBits-toBits, toBits-ofBits, ofBits-fits}
 use lib.Ieee.Digits.{size-lt, size-reaches, size-le}
 use lib.Ieee.Fits.{and-i, and-l, and-r, fits-widens}
-use borrow.Author.Tests.{leb-true, leb-false, ne-eqb, le-leb, lt-leb, lt-ltb, le-ltb}
+use borrow.Author.Tests.{leb-true, leb-false, ne-eqb, le-leb, lt-leb, le-ltb}
+use Rattle.arithmetic.proofs.Signs.{zero-exponent}
 use Rattle.float_forms.specs.Short.{guess, guessSize, held}
 
 -- ---- powers of two
@@ -250,15 +251,6 @@ module _ (m j : ℕ) (pos-m : 0 < m) (few-m : m < 2 ^ 24) (most : size m + j ≤
       ∙ sym (to-bits-is binary32 s m e (m * 2 ^ j) short ∙ regroup (cond s (top binary32) 0) _ _)
 
 -- ---- every number that 4 bytes hold
-
-odd-one : (x : ℕ) → 2 * x ≡ 1 → ⊥
-odd-one x h = absurd (omega (arith, h))
-
--- a zero that fits is written with the exponent 0
-zero-exponent : (e : ℤ) → up e * down e ≡ 1 → e ≡ pos 0
-zero-exponent (pos zero) h = refl
-zero-exponent (pos (suc k)) h = absurd (odd-one (2 ^ k) (sym (pow-succ' 2 k) ∙ sym (mul-one (2 ^ suc k)) ∙ h))
-zero-exponent (negsuc k) h = absurd (odd-one (2 ^ k) (sym (pow-succ' 2 k) ∙ sym (one-mul (2 ^ suc k)) ∙ h))
 
 four : (a b c d : Bool) → T (a && b && c && d) → T b × T c × T d
 four true true true true _ = (tt, tt, tt)

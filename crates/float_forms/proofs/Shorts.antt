@@ -1,14 +1,13 @@
 -- The answer for each return of `short_of`. Assumes nothing.
-use Prim.Native.Nat.{ℕ, _*_, _%_, _<_, _≤_}
+use Prim.Native.Nat.{ℕ, _%_, _<_, _≤_}
 use mathlib.Core.Path.{_≡_, refl, sym, ap, subst, _∙_}
-use mathlib.Core.Bool.{Bool, true, false, not, _&&_, cond, true≢false, false≢true}
-use borrow.Author.Tests.{eq-eqb, lt-ltb, le-ltb}
+use mathlib.Core.Bool.{Bool, true, false, not, _&&_, cond}
+use borrow.Author.Tests.{lt-ltb, le-ltb}
 use lib.Dec.{T}
-use lib.Ieee.{Float, nan, inf, fin, up, down, binary32, binary64, isNan, nanBits, fits, ne, eq, div, toBits, ofBits}
+use lib.Ieee.{Float, nan, binary32, binary64, isNan, nanBits, fits, ne, toBits, ofBits}
 use lib.Ieee.Bits.{ofBits-toBits, toBits-ofBits, ofBits-fits, nanBits-is, nanBits-above}
 use lib.Ieee.Fits.{and-i, and-l, and-r, fits-widens}
-use Rattle.arithmetic.proofs.Order.{is-nan, ne-self-is-nan}
-use Rattle.float_forms.specs.declared.short.Short.{Short}
+use Rattle.arithmetic.proofs.Order.{is-nan, ne-self-is-nan, ne-self-passes}
 use Rattle.float_forms.specs.declared.short.Short.the-variants.{Pattern, Unheld}
 use Rattle.float_forms.specs.Short.{guess, held, shortOf}
 use Rattle.float_forms.proofs.Narrow.{narrow-right, widened-held}
@@ -16,14 +15,7 @@ use Rattle.float_forms.proofs.Narrow.{narrow-right, widened-held}
 pub nan-number : (x : Float) → ne x x ≡ true → isNan x ≡ true
 nan-number x h = sym (ne-self-is-nan x) ∙ h
 
-pub number : (x : Float) → ne x x ≡ false → T (not (isNan x))
-number x h = subst T (sym (ap not (sym (ne-self-is-nan x) ∙ h))) tt
-
 -- ---- patterns of 4 bytes
-
-pub zero-over-zero : div binary64 (ofBits binary64 0) (ofBits binary64 0) ≡ nan
-unfolding ofBits div
-zero-over-zero = refl
 
 pub nan-pattern : (bits : ℕ) → 0x7f80_0000 < bits % 0x8000_0000 → ofBits binary32 bits ≡ nan
 nan-pattern bits h = is-nan (ofBits binary32 bits) (sym (nanBits-is binary32 bits) ∙ (nanBits-above binary32 bits ∙ lt-ltb _ _ h))
@@ -65,7 +57,7 @@ unheld x h = go (held x) (λ t. h (guess-back x t))
 
 pub nan-guess : (x : Float) → ne x x ≡ false → 0x7f80_0000 < guess (toBits binary64 x) % 0x8000_0000 → Unheld ≡ shortOf x
 unfolding isNan
-nan-guess x n h = unheld x (λ e. subst (λ (z : Float). T (not (isNan z))) (sym e ∙ nan-pattern _ h) (number x n))
+nan-guess x n h = unheld x (λ e. subst (λ (z : Float). T (not (isNan z))) (sym e ∙ nan-pattern _ h) (ne-self-passes x n))
 
 pub other-guess : (x : Float) → (toBits binary64 (ofBits binary32 (guess (toBits binary64 x))) ≡ toBits binary64 x → ⊥) → Unheld ≡ shortOf x
 other-guess x h = unheld x (λ e. h (ap (toBits binary64) e))

@@ -1,8 +1,7 @@
 // Floats of 4 bytes that hold a float of 8 bytes exactly (document 02, M-113).
 ghost use mathlib.Core.Path.{_≡_};
-ghost use mathlib.Core.Bool.{true, false};
-ghost use Prim.Native.Nat.{_+_, _*_, _<_, _≤_};
-ghost use lib.Ieee.{isNan, ofBits, binary32};
+ghost use Prim.Native.Nat.{_+_, _*_, _<_};
+ghost use lib.Ieee.{ofBits, binary32};
 ghost use Rattle.float_forms.specs.Short.{guess, shortOf};
 
 // The pattern of 4 bytes that stands for a float, or that there is none.

@@ -1,6 +1,5 @@
 -- A ray along the grid's face, whose samples lie a hair outside, and a last node that is itself refused: computed. Assumes nothing.
 use mathlib.Core.Path.{_≡_, refl}
-use mathlib.Core.List.{List, [], _∷_}
 use lib.Ieee.{Float, binary64, ofBits, toBits, div, neg, add, sub, mul, lt, le, eq, ne, isNan, ofInt, toUnsigned}
 use Rattle.arithmetic.specs.Basic.{isFinite, absolute, signPositive, clampTo, negative}
 use Rattle.arithmetic.specs.Below.{justBelow}
@@ -8,7 +7,7 @@ use Rattle.arithmetic.specs.Extremes.{minimumOf, maximumOf}
 use Rattle.arithmetic.specs.Ordering.{totalOrder}
 use Rattle.arithmetic.specs.Root.{rootOf, rootRound, wholeRoot, rootDigits}
 use Rattle.arithmetic.specs.Rounding.{wholeBy, floorOf, roundOf}
-use Rattle.vectors.specs.Numbers.{_/ᶠ_, zeroᶠ, oneᶠ, halfᶠ}
+use Rattle.vectors.specs.Numbers.{zeroᶠ, oneᶠ, halfᶠ}
 use Rattle.arithmetic.specs.Scaling.{unit, digitsOf, scaledBy}
 use Rattle.vectors.specs.Vector.{finiteVec, addOf, scaleOf, minOf, maxOf, dotOf, lengthOf, normalizable, zeroVec, dotTells, scaledToOne}
 use Rattle.vectors.specs.Vector.{overLength, tryNormalize}
@@ -26,13 +25,12 @@ use Rattle.distance_grid.specs.Places.{locateInside, locate}
 use Rattle.distance_grid.specs.Faces.{valueAt, faceAt}
 use Rattle.distance_grid.specs.Steps.{checked, blend, lerp, checkedDifference, over, lerpFace, valueOn, slopeOn}
 use Rattle.distance_grid.specs.Sampling.{gathered, sampleFaces, sampleCell, sample}
-use Rattle.cubic.specs.Polynomial.{twoᶠ, threeᶠ, cubicBy, cubicOf, finiteCubic, evaluate, rootTolerance}
+use Rattle.cubic.specs.Polynomial.{twoᶠ, cubicBy, cubicOf, finiteCubic, evaluate, rootTolerance}
 use Rattle.cubic.specs.Turns.{betweenEnds, keptPoint, keptPoints, vertex, turningBy, turningPoints, extrema}
 use Rattle.cubic.specs.Halving.{middleOf, halveAt, halve, halvings, settled}
 use Rattle.cubic.specs.Roots.{insert, sorted, points, rootBetween, searchOn, searchFrom, searchList, rootOfCubic, firstCubicRoot}
-use Rattle.level_set.specs.Hits.{third, twoThirds, pointAt, along, hitWith, hitAlong, touchAt, valueAlong, samplesOf, samplesAlong}
+use Rattle.level_set.specs.Hits.{pointAt, along, hitWith, hitAlong, touchAt, valueAlong, samplesOf, samplesAlong}
 use Rattle.level_set.specs.Walk.{goesOn, cellBy, cellCast, goesTo, walkStep, cellLimit, walkFrom, levelSetCast, rayLevelSet}
-use Rattle.distance_grid.specs.declared.grid.Grid.{Grid}
 use Rattle.grid_laws.specs.Refusing.{outsideSide, outside, locateRefusing, sampleRefusing, hitBy, touchBy, valueBy, samplesBy}
 use Rattle.grid_laws.specs.Refusing.{cellCastBy, goesToBy, walkStepBy, walkBy, castBy, rayLevelSetRefusing}
 use Rattle.distance_grid.specs.declared.places.Place.the-variants.{Overflow as NoPlace}

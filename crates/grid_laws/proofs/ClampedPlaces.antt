@@ -3,20 +3,24 @@
 use mathlib.Core.Path.{_≡_, refl, sym, ap, _∙_}
 use mathlib.Core.Logic.{_⊎_, inl, inr}
 use mathlib.Core.Bool.{Bool, true, false, cond, true≢false}
+use mathlib.Core.List.{List}
 use Prim.Native.Nat.{ℕ}
 use lib.Ieee.{Float, lt}
+use lib.ListN.{length}
 use Rattle.vectors.specs.Vector.{finiteVec}
 use Rattle.vectors.specs.declared.vec3.Vec3.{Vec3}
+use Rattle.geometry.specs.Box.{validBox}
 use Rattle.casts.specs.Answer.{overflow}
-use Rattle.distance_grid.specs.Grid.{lastNode}
+use Rattle.distance_grid.specs.Grid.{lastNode, gridBox, gridAdmitted}
 use Rattle.distance_grid.specs.Places.{clamped, clampedPoint, locateAxis, withPlace, locateInside, locate}
-use Rattle.grid_laws.specs.Drawing.{AxisStands, AxesStand, RefusedInside}
+use Rattle.grid_laws.specs.Drawing.{AxisStands, AxesStand, RefusedInside, Held}
 use Rattle.distance_grid.specs.declared.grid.Grid.{Grid}
 use Rattle.distance_grid.specs.declared.places.Place.{Place}
 use Rattle.distance_grid.specs.declared.places.Place.the-variants.{At as PlaceAt, Overflow as NoPlace}
 use Rattle.distance_grid.specs.declared.places.Located.{Located}
 use Rattle.distance_grid.specs.declared.places.Located.the-variants.{At, Refused}
 use Rattle.grid_laws.proofs.ClampedLaws.{clamped-right}
+use Rattle.grid_laws.proofs.AxisLaws.{axes-stand}
 
 -- ---- one axis
 clamped-refused : (o s : Float) (side : ℕ) → AxisStands o s side → (p : Float) → locateAxis (clamped p o s side) o s side ≡ NoPlace
@@ -53,11 +57,11 @@ unfolding locate is-refused
 inside-refused g p number f e =
     ap is-refused (sym (ap (λ (b : Bool). cond b (locateInside g (clampedPoint g p)) (Refused overflow)) f) ∙ e)
 
-pub refused-only-inside : (g : Grid) → AxesStand g → (p : Vec3) (number : ℕ) → finiteVec p ≡ true → locate g p ≡ Refused number
+refused-inside : (g : Grid) → AxesStand g → (p : Vec3) (number : ℕ) → finiteVec p ≡ true → locate g p ≡ Refused number
     → RefusedInside (g .origin .x) (g .spacing .x) (g .sides .x) (p .x)
     ⊎ (RefusedInside (g .origin .y) (g .spacing .y) (g .sides .y) (p .y) ⊎ RefusedInside (g .origin .z) (g .spacing .z) (g .sides .z)
     (p .z))
-refused-only-inside g axes p number f e = go (missing (inside-refused g p number f e))
+refused-inside g axes p number f e = go (missing (inside-refused g p number f e))
   where
     X : Type 0
     X = locateAxis (clamped (p .x) (g .origin .x) (g .spacing .x) (g .sides .x)) (g .origin .x) (g .spacing .x) (g .sides .x) ≡ NoPlace
@@ -78,3 +82,11 @@ refused-only-inside g axes p number f e = go (missing (inside-refused g p number
     go (inl h) = inl (clamped-refused (g .origin .x) (g .spacing .x) (g .sides .x) (axes .on-x) (p .x) h)
     go (inr (inl h)) = inr (inl (clamped-refused (g .origin .y) (g .spacing .y) (g .sides .y) (axes .on-y) (p .y) h))
     go (inr (inr h)) = inr (inr (clamped-refused (g .origin .z) (g .spacing .z) (g .sides .z) (axes .on-z) (p .z) h))
+
+-- on a grid that is admitted and whose box is valid
+pub refused-only-inside : (g : Grid) (values : List Float) → Held (g .origin) → Held (g .spacing) → gridAdmitted g (length values) ≡ true
+    → validBox (gridBox g) ≡ true → (p : Vec3) (number : ℕ) → finiteVec p ≡ true → locate g p ≡ Refused number
+    → RefusedInside (g .origin .x) (g .spacing .x) (g .sides .x) (p .x)
+    ⊎ (RefusedInside (g .origin .y) (g .spacing .y) (g .sides .y) (p .y) ⊎ RefusedInside (g .origin .z) (g .spacing .z) (g .sides .z)
+    (p .z))
+refused-only-inside g values o s a v p number f e = refused-inside g (axes-stand g values o s a v) p number f e

@@ -8,8 +8,8 @@ pub mod RootsBetween
 pub mod WayParts
 pub mod HitDistances
 pub mod ClampedLaws
-pub mod ClampedPlaces
 pub mod AxisLaws
+pub mod ClampedPlaces
 pub mod FiveLaws
 pub mod RefusingLaws
 pub mod DistanceExamples

@@ -11,7 +11,7 @@ use Rattle.arithmetic.specs.Extremes.{minimumOf, maximumOf}
 use Rattle.arithmetic.specs.Ordering.{totalOrder}
 use Rattle.arithmetic.specs.Root.{rootOf, rootRound, wholeRoot, rootDigits}
 use Rattle.arithmetic.specs.Rounding.{wholeBy, floorOf, roundOf}
-use Rattle.vectors.specs.Numbers.{_/ᶠ_, zeroᶠ, oneᶠ, halfᶠ}
+use Rattle.vectors.specs.Numbers.{zeroᶠ, oneᶠ, halfᶠ}
 use Rattle.arithmetic.specs.Scaling.{unit, digitsOf, scaledBy}
 use Rattle.vectors.specs.Vector.{finiteVec, addOf, scaleOf, minOf, maxOf, dotOf, lengthOf, normalizable, zeroVec, dotTells, scaledToOne}
 use Rattle.vectors.specs.Vector.{overLength, tryNormalize}
@@ -35,7 +35,7 @@ use Rattle.level_set.specs.Hits.{pointAt, along, hitWith, hitAlong, touchAt, va
 use Rattle.level_set.specs.Walk.{goesOn, cellBy, cellCast, goesTo, walkStep, cellLimit, walkFrom, levelSetCast, rayLevelSet}
 use Rattle.vectors.specs.declared.vec3.Vec3.{Vec3}
 use Rattle.geometry.specs.declared.ray.Ray.{Ray}
-use Rattle.casts.specs.Answer.{Answer, hit, none}
+use Rattle.casts.specs.Answer.{hit, none}
 use Rattle.distance_grid.specs.declared.grid.Grid.{Grid}
 use Rattle.grid_laws.proofs.HitDistances.{FromNear, ray-level-set-from-near}
 

@@ -1,11 +1,12 @@
 -- Where the cast before M-103 is not 5, the cast is the same. Assumes nothing.
 use mathlib.Core.Path.{_≡_, refl, sym, ap, _∙_}
 use mathlib.Core.Logic.{_⊎_, inl, inr, ⊎-elim}
-use mathlib.Core.Bool.{Bool, true, false, cond, _||_, true≢false}
+use mathlib.Core.Bool.{Bool, true, false, cond, _||_}
 use mathlib.Core.List.{List, [], _∷_}
 use Prim.Native.Nat.{ℕ, zero, suc}
 use lib.Ieee.{Float, lt, le, eq}
 use lib.ListN.{length}
+use Rattle.lists.proofs.JoinedTests.{neither-first, neither-second}
 use Rattle.arithmetic.specs.Extremes.{minimumOf}
 use Rattle.geometry.specs.Box.{validBox}
 use Rattle.vectors.specs.Numbers.{zeroᶠ, oneᶠ}
@@ -73,21 +74,13 @@ chosen false h k = k
 
 -- ---- a sample
 
-or-first : (a b : Bool) → (a || b) ≡ false → a ≡ false
-or-first false b h = refl
-or-first true b h = h
-
-or-second : (a b : Bool) → (a || b) ≡ false → b ≡ false
-or-second false b h = h
-or-second true b h = absurd (true≢false h)
-
 side-stays : (point origin spacing : Float) (side : ℕ) → outsideSide point origin (lastNode origin spacing side) ≡ false
     → clamped point origin spacing side ≡ point
 unfolding outsideSide clamped clampedTo
 side-stays point origin spacing side h =
     simp (
-      or-first (lt point origin) (lt (lastNode origin spacing side) point) h,
-      or-second (lt point origin)
+      neither-first (lt point origin) (lt (lastNode origin spacing side) point) h,
+      neither-second (lt point origin)
           (lt (lastNode origin spacing side) point) h,
     )
 
@@ -98,10 +91,10 @@ point-stays g p h =
     let first = outsideSide (p .x) (g .origin .x) (lastNode (g .origin .x) (g .spacing .x) (g .sides .x)) in
     let second = outsideSide (p .y) (g .origin .y) (lastNode (g .origin .y) (g .spacing .y) (g .sides .y)) in
     let third = outsideSide (p .z) (g .origin .z) (lastNode (g .origin .z) (g .spacing .z) (g .sides .z)) in
-    let a = side-stays (p .x) (g .origin .x) (g .spacing .x) (g .sides .x) (or-first first (second || third) h) in
-    let b = side-stays (p .y) (g .origin .y) (g .spacing .y) (g .sides .y) (or-first second third (or-second first (second || third) h)) in
-    let later = or-second first (second || third) h in
-    let c = side-stays (p .z) (g .origin .z) (g .spacing .z) (g .sides .z) (or-second second third later) in
+    let a = side-stays (p .x) (g .origin .x) (g .spacing .x) (g .sides .x) (neither-first first (second || third) h) in
+    let later = neither-second first (second || third) h in
+    let b = side-stays (p .y) (g .origin .y) (g .spacing .y) (g .sides .y) (neither-first second third later) in
+    let c = side-stays (p .z) (g .origin .z) (g .spacing .z) (g .sides .z) (neither-second second third later) in
     λ i. record { x = a i; y = b i; z = c i }
 
 located-unless : (g : Grid) (p : Vec3) → Unless (NotLocated outOfBounds) (locateRefusing g p) (locate g p)

@@ -3,6 +3,7 @@ use arithmetic::extremes;
 use arithmetic::rounding;
 use distance_grid::grid::Grid;
 use distance_grid::places;
+use vectors::numbers;
 use vectors::vec3::Vec3;
 ghost use mathlib.Core.Path.{_≡_};
 ghost use Prim.Native.Nat.{_≤_};
@@ -32,7 +33,7 @@ pub enum Boundary {
 fn slack(size: f64) -> f64
     ensures { λ r. ⌜ r ≡ slack size ⌝ }
 {
-    2.220446049250313e-16 * extremes::maximum(basic::abs(size), 1.0) * 16.0
+    numbers::EPSILON * extremes::maximum(basic::abs(size), 1.0) * 16.0
 }
 
 // The cell at a coordinate. At a node a ray that goes down is in the cell below it.

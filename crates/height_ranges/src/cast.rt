@@ -1,4 +1,3 @@
-use crate::answer;
 use crate::answer::Clearance;
 use crate::order;
 use crate::touching;
@@ -45,7 +44,7 @@ fn visited_answer(ray: Ray, bounds: Aabb, field: Field, lows: &[f64], highs: &[f
     };
     // A cell's nodes reach one row and one column past it.
     if !order::rows_in_order(field, lows, highs, first, last + 1, left, right + 1) {
-        return Clearance::Refused(answer::BAD_RANGE);
+        return Clearance::Refused(refusals::BAD_RANGE);
     }
     touching::first_in_rows(bounds, field, lows, highs, first, last, left, right)
 }

@@ -1,23 +1,23 @@
 -- Document 01's K10 and K11, computed. Assumes nothing.
 use mathlib.Core.Path.{_≡_, refl}
-use mathlib.Core.List.{List, [], _∷_, _++_}
+use mathlib.Core.List.{List, [], _∷_}
 use Prim.Native.Nat.{ℕ, zero, suc, _*_}
-use lib.Ieee.{Float, ofBits, toBits, round, add, sub, mul, neg, lt, le, eq, isNan}
+use lib.Ieee.{Float, ofBits, round, add, sub, mul, neg, lt, le, isNan}
 use lib.ListN.{replicate}
 use Rattle.arithmetic.specs.Extremes.{minimumOf, maximumOf}
 use Rattle.arithmetic.specs.Basic.{isFinite, negative}
 use Rattle.arithmetic.specs.Ordering.{totalOrder}
 use Rattle.vectors.specs.Numbers.{zeroᶠ, oneᶠ}
 use Rattle.vectors.specs.Vector.{component, finiteVec, addOf, subOf, scaleOf, minOf, maxOf}
-use Rattle.geometry.specs.Box.{validSide, validBox, unionOf, centre}
+use Rattle.geometry.specs.Box.{validSide, validBox, centre}
 use Rattle.lists.specs.Lists.{range, every, insertBy, sortBy, folded}
 use Rattle.tree.specs.Layout.{vectorAt, boxAt, boxNumbers, areas}
 use Rattle.tree.specs.Mesh.{lengthsAdmitted, cornersInside, cornerAt, triangleBox, mesh, eachBox, triangleFits, trianglesFit, boxesWritten}
-use Rattle.tree_build.specs.Shape.{shapeWithin, shapeOf, sizeOf, nodesOf, wordsOf}
-use Rattle.tree_ranges.specs.Extents.{longestAxis, hullOf, centreOf, extentOf}
+use Rattle.tree_build.specs.Shape.{shapeWithin, shapeOf, sizeOf, nodesOf}
+use Rattle.tree_ranges.specs.Extents.{longestAxis, centreOf, extentOf}
 use Rattle.tree_ranges.specs.Keys.{keyOf, standsBefore}
-use Rattle.tree_build.specs.Ranges.{sortedRange, leftRange, rightRange, extentsFinite, orderBelow, boxesBelow}
-use Rattle.tree_build.specs.Build.{Answer, nodes, refused, zeroed, roomFor, treeWritten, builtOf, buildOf}
+use Rattle.tree_build.specs.Ranges.{sortedRange, leftRange, rightRange, extentsFinite}
+use Rattle.tree_build.specs.Build.{Answer, nodes, refused, roomFor, builtOf, buildOf}
 
 -- "T is (0,0,0),(1,0,0),(0,1,0)", so many times
 unfoldable pub corners : List Float

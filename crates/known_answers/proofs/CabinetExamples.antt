@@ -12,7 +12,7 @@ use Rattle.vectors.specs.Vector.{component, finiteVec, addOf, subOf, negOf, sca
 use Rattle.vectors.specs.Vector.{checkedDot, crossOf, lengthOf, normalizable, zeroVec, dotTells, scaledToOne, overLength, tryNormalize}
 use Rattle.geometry.specs.Box.{validSide, validBox, touchSide, touches}
 use Rattle.geometry.specs.Segment.{unitLength, rayAdmitted, segmentEnd, segmentBox}
-use Rattle.casts.specs.Surface.{outOfRange, facing}
+use Rattle.casts.specs.Surface.{offSegment, facing}
 use Rattle.triangle_cast.specs.Triangle.{flat, triangleNormal, triangleAbove, triangleAt, triangleOf}
 use Rattle.nearest_hit.specs.Nearest.{Indexed, hitAt, noHit, stopped, nextOf, foldFrom}
 use Rattle.lists.specs.Lists.{range, insertBy, sortBy}
@@ -112,7 +112,7 @@ pub cabinets-answered :
 unfolding castCabinet allParts castParts castPart afterPart foundNext shapeFits roomFits rangesInside castMoved movedRay castWithin
     afterLook walkWithin looks look endedLook rayMesh meshCast overWalk roomFor treeFits shapeAdmitted walkOf ended start takeNode
     atNode atBranch childFits atLeaf takePlaces takePlace times triangleAnswer cornerAt cornersInside lengthsAdmitted boxAt vectorAt
-    sortBy insertBy range foldFrom nextOf triangleOf triangleAt triangleAbove triangleNormal flat facing outOfRange segmentBox
+    sortBy insertBy range foldFrom nextOf triangleOf triangleAt triangleAbove triangleNormal flat facing offSegment segmentBox
     segmentEnd rayAdmitted unitLength touches touchSide validBox validSide normalizable zeroVec dotTells scaledToOne overLength
     tryNormalize digitsOf scaledBy unit lengthOf crossOf checkedDot dotOf maxElement
     absOf maxOf minOf scaleOf negOf subOf addOf finiteVec component rootOf rootRound wholeRoot rootDigits maximumOf minimumOf absolute

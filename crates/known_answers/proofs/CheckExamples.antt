@@ -1,9 +1,8 @@
 -- The check's own answer at the trees of Examples, in areas that are long enough: yes to the foreign tree, and no for each fault. Before
 -- that
 -- 2 for a bad shape and 3 for an area or marks too short. Assumes nothing.
-use Prim.Native.Nat.{ℕ}
 use mathlib.Core.Path.{_≡_, refl}
-use mathlib.Core.List.{List, [], _∷_, _++_, map}
+use mathlib.Core.List.{[], _∷_, _++_, map}
 use lib.Ieee.{ofBits, ofFields, lt, le, eq, isNan}
 use lib.ListN.{replicate}
 use Rattle.arithmetic.specs.Basic.{isFinite}

@@ -1,8 +1,8 @@
 -- The definitions give what document 01 says of every entry of the table: computed once, and the rule at each entry from it. Assumes
 -- nothing.
 use mathlib.Core.Path.{_≡_, refl}
-use mathlib.Core.Bool.{Bool, true, false, _&&_}
-use mathlib.Core.List.{List, [], _∷_}
+use mathlib.Core.Bool.{true}
+use mathlib.Core.List.{List, _∷_}
 use lib.Ieee.{span, climb, size, odd, units, round, neg, sum, add, sub, mul, div, lt, eq, le, ne, ofInt, toUnsigned, isNan, ofFields}
 use lib.Ieee.{ofBits, toBits}
 use Rattle.lists.proofs.JoinedTests.{and-first, and-second}
@@ -17,7 +17,7 @@ use Rattle.vectors.specs.Vector.{crossOf, lengthOf, normalizable, zeroVec, dotT
 use Rattle.geometry.specs.Box.{validSide, validBox, touchSide, touches, withinSide, encloses, sameSide, sameBox, unionOf, centre}
 use Rattle.geometry.specs.Box.{cornersBox}
 use Rattle.geometry.specs.Segment.{unitLength, rayAdmitted, segmentEnd, segmentBox}
-use Rattle.casts.specs.Surface.{outOfRange, facing}
+use Rattle.casts.specs.Surface.{offSegment, facing}
 use Rattle.casts.specs.Plane.{planeAdmitted, planeAt, planeCast, rayPlane}
 use Rattle.triangle_cast.specs.Triangle.{flat, triangleNormal, hasNormal, triangleAbove, triangleAt, triangleOf, rayTriangle}
 use Rattle.nearest_hit.specs.Nearest.{nextOf, foldFrom, withoutIndex}
@@ -65,7 +65,7 @@ unfolding table right allRight repeated outcome throughBuilt ofBuilt span climb 
     wholeRoot rootRound rootOf wholeBy floorOf roundOf totalOrder component finiteVec addOf subOf negOf scaleOf minOf maxOf absOf maxElement
     dotOf checkedDot crossOf lengthOf normalizable zeroVec dotTells scaledToOne overLength tryNormalize digitsOf scaledBy unit validSide
     validBox touchSide touches withinSide encloses sameSide sameBox unionOf centre cornersBox unitLength rayAdmitted segmentEnd segmentBox
-    outOfRange facing planeAdmitted planeAt planeCast rayPlane flat triangleNormal hasNormal triangleAbove triangleAt triangleOf rayTriangle
+    offSegment facing planeAdmitted planeAt planeCast rayPlane flat triangleNormal hasNormal triangleAbove triangleAt triangleOf rayTriangle
     nextOf foldFrom withoutIndex sideAdmitted spacingAdmitted fieldAdmitted floatOf vertexAt cellAt cellRow cellColumn cornersAt
     featureCorners scaledRange spanOf cellRange run rangeCells gridCells columnRange rowRange visitedCells both listAll keep allFinite
     cellFinite featureBox listCell gridListing answerOf castListed spanFinite heightCast rayHeightField cubicBy cubicOf finiteCubic evaluate

@@ -15,7 +15,7 @@ use Rattle.vectors.specs.Vector.{normalizable, zeroVec, dotTells, scaledToOne, 
 use Rattle.geometry.specs.Box.{validSide, validBox, touchSide, touches, withinSide, encloses, sameSide, sameBox}
 use Rattle.geometry.specs.Segment.{unitLength, rayAdmitted, segmentEnd, segmentBox}
 use Rattle.geometry.specs.declared.ray.Ray.{Ray}
-use Rattle.casts.specs.Surface.{outOfRange, facing}
+use Rattle.casts.specs.Surface.{offSegment, facing}
 use Rattle.triangle_cast.specs.Triangle.{flat, triangleNormal, triangleAbove, triangleAt, triangleOf}
 use Rattle.nearest_hit.specs.Nearest.{nextOf, foldFrom}
 use Rattle.lists.specs.Lists.{range, insertBy, sortBy, count, every, flatMap, keep}
@@ -92,7 +92,7 @@ unfolding rayMeshAll meshListing overWalk listingOf afterRefusals fitted written
     notFarther depthOf roomFor
     treeFits shapeAdmitted walkOf ended start takeNode atNode atBranch childFits atLeaf takePlaces takePlace times triangleAnswer
     cornerAt cornersInside lengthsAdmitted boxAt vectorAt sortBy insertBy range foldFrom nextOf triangleOf triangleAt triangleAbove
-    triangleNormal flat facing outOfRange segmentBox segmentEnd rayAdmitted unitLength touches touchSide validBox validSide
+    triangleNormal flat facing offSegment segmentBox segmentEnd rayAdmitted unitLength touches touchSide validBox validSide
     normalizable zeroVec dotTells scaledToOne overLength tryNormalize digitsOf scaledBy unit lengthOf crossOf checkedDot dotOf
     maxElement absOf maxOf minOf scaleOf negOf subOf addOf finiteVec component rootOf
     rootRound wholeRoot rootDigits maximumOf minimumOf absolute isFinite ofBits ofFields isNan ne le eq lt div mul sub add sum neg

@@ -1,5 +1,4 @@
 -- A walk past the node count under three limits, computed from the definitions alone. Assumes nothing.
-use Prim.Native.Nat.{ℕ}
 use mathlib.Core.Path.{_≡_, refl}
 use mathlib.Core.List.{List, [], _∷_}
 use lib.Ieee.{Float, binary64, le, lt, isNan, ofFields, ofBits}
@@ -7,10 +6,10 @@ use Rattle.geometry.specs.Box.{validSide, validBox, touchSide, touches}
 use Rattle.geometry.specs.declared.aabb.Aabb.{Aabb}
 use Rattle.lists.specs.Lists.{range, insertBy, sortBy}
 use Rattle.tree.specs.Layout.{Tree, vectorAt, boxAt}
-use Rattle.tree_walk.specs.Walk.{Walking, walking, broken, times, takePlace, takePlaces, atLeaf, childFits, atBranch, atNode}
+use Rattle.tree_walk.specs.Walk.{broken, takePlace, takePlaces, atLeaf, childFits, atBranch, atNode}
 use Rattle.tree_walk.specs.Walk.{takeNode}
-use Rattle.tree_walk.specs.Walk.{start, ended, walkOf}
-use Rattle.tree_walk.specs.Looking.{Looked, looked, usedUp, lookedIn, nodesLooked, endedLook, look, looks, walkWithin}
+use Rattle.tree_walk.specs.Walk.{start, ended}
+use Rattle.tree_walk.specs.Looking.{looked, usedUp, lookedIn, nodesLooked, endedLook, look, looks, walkWithin}
 
 abbrev o : Float
 o = ofBits binary64 0

@@ -19,7 +19,7 @@ use Rattle.vectors.specs.declared.vec3.Vec3.{Vec3}
 use Rattle.geometry.specs.Box.{validSide, validBox, touchSide, touches}
 use Rattle.geometry.specs.Segment.{unitLength, rayAdmitted, segmentEnd, segmentBox}
 use Rattle.geometry.specs.declared.ray.Ray.{Ray}
-use Rattle.casts.specs.Surface.{outOfRange, facing}
+use Rattle.casts.specs.Surface.{offSegment, facing}
 use Rattle.triangle_cast.specs.Triangle.{flat, triangleNormal, triangleAbove, triangleAt, triangleOf}
 use Rattle.nearest_hit.specs.Nearest.{Indexed, hitAt, noHit, nextOf, foldFrom}
 use Rattle.lists.specs.Lists.{range, keep, every}
@@ -200,7 +200,7 @@ roundedCasts = rayMeshPlain diagonal (slanted six) ∷ (rayMeshPlain diagonal al
 
 pub rounded-passes : roundedCasts ≡ noHit ∷ (noHit ∷ (noHit ∷ []))
 unfolding rayMeshPlain plainCast overRounded trianglesFit triangleFits every candidates keep range triangleBox cornerAt cornersInside
-    lengthsAdmitted vectorAt foldFrom nextOf facing outOfRange segmentBox segmentEnd touches touchSide triangleAnswer
+    lengthsAdmitted vectorAt foldFrom nextOf facing offSegment segmentBox segmentEnd touches touchSide triangleAnswer
     triangleOf triangleAt triangleAbove triangleNormal flat rayAdmitted unitLength validBox validSide normalizable zeroVec dotTells
     scaledToOne overLength tryNormalize digitsOf scaledBy unit lengthOf crossOf checkedDot dotOf maxElement absOf maxOf minOf scaleOf negOf
     subOf addOf finiteVec component rootOf rootRound wholeRoot rootDigits maximumOf minimumOf absolute isFinite ofInt toSigned ofBits

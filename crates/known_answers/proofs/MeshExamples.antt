@@ -1,6 +1,5 @@
 -- Casts at a mesh through a tree that no builder of ours would write, computed from the definitions alone, and demand 3 at that tree.
 -- Assumes nothing.
-use Prim.Native.Nat.{ℕ}
 use mathlib.Core.Path.{_≡_, refl}
 use mathlib.Core.List.{List, [], _∷_}
 use lib.Ieee.{Float, binary64, span, climb, size, odd, units, round, neg, sum, add, sub, mul, div, lt, eq, le, ne, isNan, ofFields, ofBits}
@@ -13,7 +12,7 @@ use Rattle.vectors.specs.Vector.{crossOf, lengthOf, normalizable, zeroVec, dotT
 use Rattle.geometry.specs.Box.{validSide, validBox, touchSide, touches, withinSide, encloses, sameSide, sameBox}
 use Rattle.geometry.specs.Segment.{unitLength, rayAdmitted, segmentEnd, segmentBox}
 use Rattle.geometry.specs.declared.ray.Ray.{Ray}
-use Rattle.casts.specs.Surface.{outOfRange, facing}
+use Rattle.casts.specs.Surface.{offSegment, facing}
 use Rattle.triangle_cast.specs.Triangle.{flat, triangleNormal, triangleAbove, triangleAt, triangleOf}
 use Rattle.nearest_hit.specs.Nearest.{Indexed, hitAt, noHit, stopped, nextOf, foldFrom}
 use Rattle.lists.specs.Lists.{range, insertBy, sortBy, count, every, flatMap}
@@ -71,7 +70,7 @@ pub casts-answered :
     (hitAt (record { x = minusZero; y = minusZero; z = lower }) two 2 ∷ (noHit ∷ (stopped 1 ∷ [])))
 unfolding rayMesh meshCast overWalk roomFor treeFits shapeAdmitted walkOf ended start takeNode atNode atBranch childFits atLeaf takePlaces
     takePlace times triangleAnswer cornerAt cornersInside lengthsAdmitted boxAt vectorAt sortBy insertBy range foldFrom nextOf triangleOf
-    triangleAt triangleAbove triangleNormal flat facing outOfRange segmentBox segmentEnd rayAdmitted unitLength touches touchSide validBox
+    triangleAt triangleAbove triangleNormal flat facing offSegment segmentBox segmentEnd rayAdmitted unitLength touches touchSide validBox
     validSide normalizable zeroVec dotTells scaledToOne overLength tryNormalize digitsOf scaledBy unit lengthOf crossOf checkedDot dotOf
     maxElement absOf maxOf minOf scaleOf negOf subOf addOf finiteVec component rootOf rootRound wholeRoot rootDigits maximumOf minimumOf
     absolute isFinite ofBits ofFields isNan ne le eq lt div mul sub add sum neg round units odd size climb span
@@ -83,7 +82,7 @@ casts-answered = refl
 pub odd-passes : checkOf mesh oddTree 9 ≡ yes
 unfolding rayMesh meshCast overWalk roomFor treeFits shapeAdmitted walkOf ended start takeNode atNode atBranch childFits atLeaf takePlaces
     takePlace times triangleAnswer cornerAt cornersInside lengthsAdmitted boxAt vectorAt sortBy insertBy range foldFrom nextOf triangleOf
-    triangleAt triangleAbove triangleNormal flat facing outOfRange segmentBox segmentEnd rayAdmitted unitLength touches touchSide validBox
+    triangleAt triangleAbove triangleNormal flat facing offSegment segmentBox segmentEnd rayAdmitted unitLength touches touchSide validBox
     validSide normalizable zeroVec dotTells scaledToOne overLength tryNormalize digitsOf scaledBy unit lengthOf crossOf checkedDot dotOf
     maxElement absOf maxOf minOf scaleOf negOf subOf addOf finiteVec component rootOf rootRound wholeRoot rootDigits maximumOf minimumOf
     absolute isFinite ofBits ofFields isNan ne le eq lt div mul sub add sum neg round units odd size climb span checkOf check-roomFor
@@ -95,7 +94,7 @@ odd-passes = refl
 pub odd-admitted : Admitted (along i lower three) mesh oddTree 3 4
 unfolding rayMesh meshCast overWalk roomFor treeFits shapeAdmitted walkOf ended start takeNode atNode atBranch childFits atLeaf takePlaces
     takePlace times triangleAnswer cornerAt cornersInside lengthsAdmitted boxAt vectorAt sortBy insertBy range foldFrom nextOf triangleOf
-    triangleAt triangleAbove triangleNormal flat facing outOfRange segmentBox segmentEnd rayAdmitted unitLength touches touchSide validBox
+    triangleAt triangleAbove triangleNormal flat facing offSegment segmentBox segmentEnd rayAdmitted unitLength touches touchSide validBox
     validSide normalizable zeroVec dotTells scaledToOne overLength tryNormalize digitsOf scaledBy unit lengthOf crossOf checkedDot dotOf
     maxElement absOf maxOf minOf scaleOf negOf subOf addOf finiteVec component rootOf rootRound wholeRoot rootDigits maximumOf minimumOf
     absolute isFinite ofBits ofFields isNan ne le eq lt div mul sub add sum neg round units odd size climb span

@@ -1,8 +1,8 @@
 -- The largest distance grids that are admitted, with one node more along a side, and a coordinate past the last node, computed. Assumes
 -- nothing.
 use mathlib.Core.Path.{_≡_, refl}
-use mathlib.Core.Bool.{Bool, true, false}
-use mathlib.Core.List.{List, [], _∷_}
+use mathlib.Core.Bool.{true, false}
+use mathlib.Core.List.{[], _∷_}
 use Prim.Native.Nat.{ℕ}
 use lib.Ieee.{Float, binary64, ofBits, ofInt, neg, add, sub, mul, div, lt}
 use Rattle.arithmetic.specs.Basic.{isFinite}

@@ -1,5 +1,4 @@
 -- Casts without a tree computed from the definitions alone, and the agreement at a tree that our builder would not write. Assumes nothing.
-use Prim.Native.Nat.{ℕ}
 use mathlib.Core.Path.{_≡_, refl}
 use mathlib.Core.Bool.{true}
 use mathlib.Core.List.{List, [], _∷_}
@@ -14,9 +13,9 @@ use Rattle.vectors.specs.Vector.{normalizable, zeroVec, dotTells, scaledToOne, 
 use Rattle.geometry.specs.Box.{validSide, validBox, touchSide, touches, withinSide, encloses, sameSide, sameBox}
 use Rattle.geometry.specs.Segment.{unitLength, rayAdmitted, segmentEnd, segmentBox}
 use Rattle.geometry.specs.declared.ray.Ray.{Ray}
-use Rattle.casts.specs.Surface.{outOfRange, facing}
+use Rattle.casts.specs.Surface.{offSegment, facing}
 use Rattle.triangle_cast.specs.Triangle.{flat, triangleNormal, triangleAbove, triangleAt, triangleOf}
-use Rattle.nearest_hit.specs.Nearest.{Indexed, hitAt, noHit, stopped, nextOf, foldFrom}
+use Rattle.nearest_hit.specs.Nearest.{hitAt, noHit, stopped, nextOf, foldFrom}
 use Rattle.lists.specs.Lists.{range, keep, count, every, flatMap}
 use Rattle.tree.specs.Layout.{vectorAt, boxAt}
 use Rattle.tree.specs.Mesh.{Mesh, lengthsAdmitted, cornersInside, cornerAt, triangleBox, triangleAnswer, candidates}
@@ -79,7 +78,7 @@ pub casts-answered :
     ∷ (stopped 5
     ∷ (noHit ∷ [])))))
 unfolding rayMeshPlain plainCast overTriangles trianglesFit triangleFits every candidates keep range triangleBox triangleAnswer cornerAt
-    cornersInside lengthsAdmitted vectorAt foldFrom nextOf triangleOf triangleAt triangleAbove triangleNormal flat facing outOfRange
+    cornersInside lengthsAdmitted vectorAt foldFrom nextOf triangleOf triangleAt triangleAbove triangleNormal flat facing offSegment
     segmentBox segmentEnd rayAdmitted unitLength touches touchSide validBox validSide normalizable zeroVec
     dotTells scaledToOne overLength tryNormalize digitsOf scaledBy unit lengthOf crossOf checkedDot dotOf
     maxElement absOf maxOf minOf scaleOf negOf subOf addOf finiteVec component rootOf rootRound wholeRoot rootDigits maximumOf minimumOf

@@ -9,7 +9,7 @@ use Rattle.arithmetic.specs.Basic.{isFinite, absolute, negative}
 use Rattle.arithmetic.specs.Root.{rootDigits, wholeRoot, rootRound, rootOf}
 use Rattle.vectors.specs.Vector.{finiteVec, negOf, dotOf, checkedDot, lengthOf}
 use Rattle.geometry.specs.Segment.{unitLength, rayAdmitted}
-use Rattle.casts.specs.Surface.{outOfRange, facing}
+use Rattle.casts.specs.Surface.{offSegment, facing}
 use Rattle.casts.specs.Plane.{planeAdmitted, planeAt, planeCast, rayPlane}
 use Rattle.float_forms.specs.Bytes.{wordOf, numbersOf, numbersBytes, numberOf, numberBytes, patternOf, patternBytes, wordsOf}
 use Rattle.float_forms.specs.Bytes as bytes
@@ -37,7 +37,7 @@ unfolding shortRecord nanRecord exampleOutput outputOf linesFrom nextOf longBody
     manyCounts manyNumbers manyIndices bodyLength countsOf saidOf fieldsBytes recordBytes wordOf numbersOf numbersBytes numberOf numberBytes
     patternOf patternBytes wordsOf bytes.wordsBytes bytes.wordBytes lineWith parsedText shapeText answerText hitText floatText printedBits
     hexadecimal decimal placesOf digits glyph parse shapeOf wellFormed filled isVersion nearOf shapePlace rayOf planeOf vectorAt floatAt
-    bitsAt wordAt rayPlane planeCast planeAt planeAdmitted facing outOfRange rayAdmitted unitLength lengthOf checkedDot dotOf negOf
+    bitsAt wordAt rayPlane planeCast planeAt planeAdmitted facing offSegment rayAdmitted unitLength lengthOf checkedDot dotOf negOf
     finiteVec rootOf rootRound wholeRoot rootDigits negative absolute isFinite span climb size odd units round neg sum add sub mul div lt eq
     le ne ofInt toUnsigned isNan ofFields ofBits toBits
 short-example = refl

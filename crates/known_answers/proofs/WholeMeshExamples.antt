@@ -5,19 +5,18 @@ use mathlib.Core.List.{List, [], _∷_}
 use Prim.Native.Nat.{ℕ, zero, suc, _≤_, _<_}
 use native.Mathlib.Omega.{arith}
 use lib.Dec.{T, lit≤}
-use lib.IntN.{ℤ, pos, negsuc, natAbs}
+use lib.IntN.{ℤ, pos, negsuc}
 use lib.Signed.{leZ-yes, ltZ-yes}
 use lib.Ieee.{Float, binary64, span, climb, size, odd, units, round, ofInt, neg, sum, add, sub, mul, lt, eq, le, ne, isNan, ofFields}
 use lib.Ieee.{ofBits}
-use lib.ListN.{length}
 use Rattle.arithmetic.specs.Basic.{isFinite}
 use Rattle.arithmetic.specs.Extremes.{minimumOf, maximumOf}
 use Rattle.vectors.specs.Vector.{component, addOf, scaleOf, minOf, maxOf}
-use Rattle.geometry.specs.Box.{validSide, validBox, touchSide, touches}
+use Rattle.geometry.specs.Box.{touchSide, touches}
 use Rattle.geometry.specs.Segment.{segmentEnd, segmentBox}
 use Rattle.vectors.specs.declared.vec3.Vec3.{Vec3}
 use Rattle.geometry.specs.declared.ray.Ray.{Ray}
-use Rattle.nearest_hit.specs.Nearest.{Indexed, hitAt}
+use Rattle.nearest_hit.specs.Nearest.{hitAt}
 use Rattle.tree.specs.Layout.{vectorAt}
 use Rattle.tree.specs.Mesh.{Mesh, lengthsAdmitted, cornerAt, triangleBox}
 use Rattle.known_answers.proofs.QueryExamples.{o, i, ten, eleven, lower, oddTree}

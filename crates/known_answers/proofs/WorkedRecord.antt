@@ -7,7 +7,7 @@ use Rattle.arithmetic.specs.Basic.{isFinite, absolute, negative}
 use Rattle.arithmetic.specs.Root.{rootDigits, wholeRoot, rootRound, rootOf}
 use Rattle.vectors.specs.Vector.{finiteVec, negOf, dotOf, checkedDot, lengthOf}
 use Rattle.geometry.specs.Segment.{unitLength, rayAdmitted}
-use Rattle.casts.specs.Surface.{outOfRange, facing}
+use Rattle.casts.specs.Surface.{offSegment, facing}
 use Rattle.casts.specs.Plane.{planeAdmitted, planeAt, planeCast, rayPlane}
 use Rattle.record_bytes.specs.Bytes.{wordAt, bitsAt, floatAt, vectorAt}
 use Rattle.record_bytes.specs.Fields.{isVersion, nearOf, shapePlace, rayOf, planeOf}
@@ -25,7 +25,7 @@ pub worked-example : outputOf exampleRecords ≡ exampleOutput
 unfolding exampleRecords exampleOutput outputOf linesFrom nextOf longBody lineWith parsedText shapeText answerText hitText floatText
     printedBits hexadecimal decimal placesOf digits glyph parse shapeOf wellFormed filled isVersion nearOf shapePlace rayOf planeOf vectorAt
     floatAt bitsAt wordAt framed bodyBytes shapeBytes kindByte nearBytes rayBytes vectorBytes floatBytes bitsBytes wordBytes rayPlane
-    planeCast planeAt planeAdmitted facing outOfRange rayAdmitted unitLength lengthOf checkedDot dotOf negOf finiteVec rootOf rootRound
+    planeCast planeAt planeAdmitted facing offSegment rayAdmitted unitLength lengthOf checkedDot dotOf negOf finiteVec rootOf rootRound
     wholeRoot rootDigits negative absolute isFinite span climb size odd units round neg sum add sub mul div lt eq le ne ofInt toUnsigned
     isNan ofFields ofBits toBits
 worked-example = refl
@@ -35,7 +35,7 @@ pub near-example : outputOf nearRecords ≡ nearOutput
 unfolding nearRecords nearOutput outputOf linesFrom nextOf longBody lineWith parsedText shapeText answerText hitText floatText printedBits
     hexadecimal decimal placesOf digits glyph parse shapeOf wellFormed filled isVersion nearOf shapePlace rayOf planeOf vectorAt floatAt
     bitsAt wordAt framed bodyBytes shapeBytes kindByte nearBytes rayBytes vectorBytes floatBytes bitsBytes wordBytes rayPlane planeCast
-    planeAt planeAdmitted facing outOfRange rayAdmitted unitLength lengthOf checkedDot dotOf negOf finiteVec rootOf rootRound wholeRoot
+    planeAt planeAdmitted facing offSegment rayAdmitted unitLength lengthOf checkedDot dotOf negOf finiteVec rootOf rootRound wholeRoot
     rootDigits negative absolute isFinite span climb size odd units round neg sum add sub mul div lt eq le ne ofInt toUnsigned isNan
     ofFields ofBits toBits
 near-example = refl

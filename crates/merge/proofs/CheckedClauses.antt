@@ -1,16 +1,15 @@
 -- A tree that has what a passed check says, node by node, place by place and triangle by triangle, passes the check;
 -- and a tree of no node over no triangle has it. Assumes nothing.
-use Prim.Native.Nat.{ℕ, zero, suc, _+_, _-_, _*_, _≤_, _<_}
-use mathlib.Core.Path.{_≡_, refl, sym, ap, _∙_}
+use Prim.Native.Nat.{ℕ, _+_, _-_, _*_, _<_}
+use mathlib.Core.Path.{_≡_, refl, ap}
 use mathlib.Core.Logic.{_⊎_, inl, inr}
 use mathlib.Core.Bool.{Bool, true, false, not, _&&_, _||_}
-use mathlib.Core.List.{List}
 use native.Mathlib.Omega.{arith}
 use lib.Dec.{leb, ltb, eqb}
 use lib.ListN.{length, take}
 use borrow.Author.Tests.{le-leb, lt-ltb, eq-eqb, ne-eqb}
 use Rattle.geometry.specs.Box.{validBox, encloses, sameBox}
-use Rattle.lists.proofs.JoinedTests.{and-both}
+use Rattle.lists.proofs.JoinedTests.{and-both, or-second}
 use Rattle.lists.specs.Lists.{range, count, every, flatMap}
 use Rattle.tree.specs.Layout.{Tree, wordAt, boxAt, firstAt, secondAt}
 use Rattle.tree.specs.Mesh.{Mesh, thirds, cornersInside, triangleBox}
@@ -18,7 +17,7 @@ use Rattle.tree_check.specs.Check.{triangleCount, nodes, isLeaf, isBranch, chil
 use Rattle.tree_check.specs.Check.{namedOnce, placedOnce, orderedOnce, leavesFilled, cornersKnown, boxesSame, boxesValid, nodeEncloses}
 use Rattle.tree_check.specs.Check.{enclosed, clausesHold, treePasses}
 use Rattle.mesh.proofs.CheckedTree.{Checked, checked-or-empty}
-use Rattle.mesh.proofs.BuildClauses.{every-of-listed, every-of-range, every-below, or-first, or-second}
+use Rattle.mesh.proofs.BuildClauses.{every-of-listed, every-of-range, every-below}
 
 -- a test that is asked only where another passes
 where-passes : (a b : Bool) → (a ≡ true → b ≡ true) → (not a || b) ≡ true

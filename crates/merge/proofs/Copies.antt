@@ -1,6 +1,6 @@
 -- A checked tree that stands in another one, its nodes, places and triangles moved up:
 -- each of its nodes passes there what it passed before. Assumes nothing.
-use Prim.Native.Nat.{ℕ, zero, suc, _+_, _-_, _*_, _≤_, _<_}
+use Prim.Native.Nat.{ℕ, _+_, _≤_, _<_}
 use native.Mathlib.Nat.{add-zero}
 use mathlib.Core.Path.{_≡_, refl, sym, ap, _∙_, subst}
 use mathlib.Core.Bool.{Bool, true, false, _||_, cond}
@@ -13,8 +13,7 @@ use Rattle.geometry.specs.declared.aabb.Aabb.{Aabb}
 use Rattle.lists.specs.Lists.{range, count, flatMap}
 use Rattle.tree.specs.Layout.{Tree, wordAt, boxAt, kindAt, firstAt, secondAt}
 use Rattle.tree.specs.Mesh.{Mesh}
-use Rattle.lists.proofs.CountLaws.{count-cons, count-nil, one-same, gathers, range-bounds, count-range-inside}
-use Rattle.lists.proofs.WithinLaws.{Within}
+use Rattle.lists.proofs.CountLaws.{count-cons, one-same, gathers, range-bounds, count-range-inside}
 use Rattle.tree_check.specs.Check.{triangleCount, nodes, isLeaf, isBranch, childrenOf, placesOf}
 use Rattle.mesh.proofs.CheckedTree.{Checked, branch-children, no-children, leaf-places, no-places}
 use Rattle.mesh.proofs.TreeCounts.{placedAt, trianglesOf, triangles-within, place-bound}

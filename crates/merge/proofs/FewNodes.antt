@@ -4,14 +4,14 @@ use Prim.Native.Nat.{ℕ, zero, suc, _+_, _*_, _≤_, _<_}
 use mathlib.Core.Path.{_≡_, refl, sym, ap, _∙_}
 use mathlib.Core.Logic.{_⊎_, inl, inr}
 use mathlib.Core.Bool.{Bool, true, false, _||_, true≢false}
-use mathlib.Core.List.{List, [], _∷_, _++_}
+use mathlib.Core.List.{List, [], _∷_}
 use native.Mathlib.Omega.{arith}
 use lib.ListN.{length, length-append}
 use Rattle.lists.specs.Lists.{range, count, flatMap}
-use Rattle.tree.specs.Layout.{Tree, wordAt, firstAt, secondAt}
+use Rattle.tree.specs.Layout.{Tree, firstAt, secondAt}
 use Rattle.tree.specs.Mesh.{Mesh}
 use Rattle.lists.proofs.CountLaws.{flatMap-cons, count-cons, one-same, length-range, range-bounds}
-use Rattle.lists.proofs.WithinLaws.{Within, within-length}
+use Rattle.lists.proofs.WithinLaws.{within-length}
 use Rattle.tree_check.specs.Check.{triangleCount, nodes, isLeaf, isBranch, childrenOf, placesOf, treePasses}
 use Rattle.mesh.proofs.CheckedTree.{Checked, checked-or-empty, branch-children, leaf-places}
 use Rattle.mesh.proofs.TreeCounts.{placedAt, trianglesOf, named-within, triangles-within}

@@ -2,10 +2,9 @@
 use Prim.Native.Nat.{ℕ, _+_}
 use mathlib.Core.Path.{_≡_, refl, sym, ap, _∙_}
 use mathlib.Core.Bool.{Bool, true, false, cond, true≢false}
-use mathlib.Core.List.{List, [], _∷_, _++_, List·Memᴰ, List·Memᴰ·head, List·Memᴰ·tail}
-use native.Mathlib.Omega.{arith}
-use lib.Ieee.{Float, lt, le, isNan}
-use Rattle.arithmetic.proofs.Order.{le-of-lt, le-left-number, le-right-number, le-of-not-lt, lt-of-lt-le, lt-transitive}
+use mathlib.Core.List.{List, [], _∷_, _++_, List·Memᴰ·head}
+use lib.Ieee.{Float, lt, isNan}
+use Rattle.arithmetic.proofs.Order.{le-of-lt, le-right-number, le-of-not-lt, lt-of-lt-le, lt-transitive}
 use Rattle.vectors.specs.declared.vec3.Vec3.{Vec3}
 use Rattle.casts.specs.Answer.{Answer, hit, none, refused}
 use Rattle.nearest_hit.specs.Nearest.{Indexed, hitAt, noHit, stopped, nextOf, foldFrom, nearestOf}

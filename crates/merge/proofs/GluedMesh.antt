@@ -1,7 +1,7 @@
 -- Of two meshes glued, each triangle has the corners, the box and the answer that it had in its own. Assumes nothing.
-use Prim.Native.Nat.{ℕ, zero, suc, _+_, _*_, _/_, _%_, _≤_, _<_}
-use mathlib.Core.Path.{_≡_, refl, sym, ap, _∙_}
-use mathlib.Core.Bool.{Bool, true, false, _&&_, cond}
+use Prim.Native.Nat.{ℕ, zero, suc, _+_, _*_, _%_, _<_}
+use mathlib.Core.Path.{_≡_, ap, _∙_}
+use mathlib.Core.Bool.{true, _&&_}
 use mathlib.Core.List.{List, _++_}
 use native.Mathlib.Omega.{arith}
 use lib.Dec.{ltb}
@@ -11,7 +11,7 @@ use lib.Seq.{getD-append-add}
 use borrow.Author.Tests.{ltb-true, lt-ltb}
 use Rattle.lists.proofs.JoinedTests.{and-first, and-second, and-three}
 use Rattle.geometry.specs.declared.ray.Ray.{Ray}
-use Rattle.tree.specs.Layout.{vectorAt, wordAt}
+use Rattle.tree.specs.Layout.{vectorAt}
 use Rattle.tree.specs.Mesh.{thirds, cornerIndex, cornersInside, cornerAt, triangleBox, triangleAnswer}
 use Rattle.tree_copy.specs.Moved.{movedUp}
 use Rattle.tree_copy.proofs.MovedLists.{length-moved, at-moved}
@@ -24,9 +24,6 @@ module _ (v w : List Float) (t u : List ℕ) (whole-v : length v % 3 ≡ 0) (who
   ts = t ++ movedUp (thirds (length v)) u
 
   -- ---- how many
-  pub glued-vertices : length w % 3 ≡ 0 → thirds (length vs) ≡ thirds (length v) + thirds (length w)
-  glued-vertices h = omega (arith, length-append v w, whole-v)
-
   pub glued-length : length ts ≡ length t + length u
   glued-length = omega (arith, length-append t (movedUp (thirds (length v)) u), length-moved (thirds (length v)) u)
 

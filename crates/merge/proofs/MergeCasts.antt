@@ -18,7 +18,7 @@ use Rattle.lists.proofs.Members.{Each}
 use Rattle.casts.proofs.AnswerLists.{HitSuch, IsNumber}
 use Rattle.lists.specs.Lists.{range, keep, count}
 use Rattle.tree.specs.Mesh.{Mesh, lengthsAdmitted, triangleBox, triangleAnswer, candidates}
-use Rattle.lists.proofs.CountLaws.{keep-alike, range-bounds}
+use Rattle.lists.proofs.CountLaws.{keep-alike, range-bounds, keep-append}
 use Rattle.tree.proofs.Corners.{answers-measured}
 use Rattle.mesh.specs.MeshCast.{rayMesh}
 use Rattle.mesh.specs.Demand3.{PassesCheck}
@@ -29,7 +29,7 @@ use Rattle.tree_copy.specs.Moved.{movedUp}
 use Rattle.merge.specs.Glue.{glue}
 use Rattle.merge.specs.Merge.{Board, Areas, trianglesIn, total}
 use Rattle.merge.specs.Promises.{Lent, Suffice, MergedCastsGlue}
-use Rattle.tree_copy.proofs.MovedLists.{range-split, keep-append, keep-moved}
+use Rattle.tree_copy.proofs.MovedLists.{range-split, keep-moved}
 use Rattle.merge.proofs.GluedMesh.{glued-triangles, box-first, box-second, answer-first, answer-second}
 use Rattle.merge.proofs.CheckedClauses.{checked-passes}
 use Rattle.merge.proofs.MergedTree.{glued, Sound, merged-checked}

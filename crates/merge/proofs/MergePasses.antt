@@ -6,7 +6,7 @@ use mathlib.Core.Bool.{Bool, true, false, _&&_, cond}
 use mathlib.Core.List.{List, _++_}
 use native.Mathlib.Omega.{arith}
 use lib.Dec.{leb}
-use lib.ListN.{length, take, drop, length-append, length-drop}
+use lib.ListN.{length, drop, length-append, length-drop}
 use lib.Seq.{take-at}
 use borrow.Author.Tests.{leb-true}
 use Rattle.lists.proofs.JoinedTests.{and-first, and-second}
@@ -17,27 +17,20 @@ use Rattle.tree_query.specs.Query.{treeFits}
 use Rattle.tree_check.specs.Check.{treePasses}
 use Rattle.tree_check.specs.Verdict.{yes, roomFor as roomToCheck, checkOf}
 use Rattle.tree_check.proofs.Answers.{passes-yes}
-use Rattle.mesh.proofs.CheckedTree.{Checked}
+use Rattle.mesh.proofs.BuildPasses.{no-refusal, same-count}
 use Rattle.tree_copy.specs.Moved.{movedUp}
-use Rattle.merge.specs.Merge.{Answer, nodes, refused, Board, Areas, Outcome, trianglesIn, verticesIn, mergedVertices}
+use Rattle.merge.specs.Merge.{nodes, refused, Board, Areas, Outcome, trianglesIn, verticesIn, mergedVertices}
 use Rattle.merge.specs.Merge.{mergedTriangles, mergedNodeBoxes, mergedTriangleBoxes, mergedWords, mergedOrder, mergedCount}
 use Rattle.merge.specs.Merge.{mergedOver, shapesAdmitted, total, roomIn, resultsFit, areasFit, treesPass, mergeOf}
 use Rattle.merge.specs.Promises.{boardIn, MergedTreesPass}
 use Rattle.merge.proofs.PassedTests.{Whole, Divided, divided, Fits, fits, fits-test, lengths-test}
 use Rattle.merge.proofs.GluedMesh.{glued-length}
 use Rattle.merge.proofs.CheckedClauses.{checked-passes, passes-checked}
-use Rattle.merge.proofs.Written.{Sized}
 use Rattle.merge.proofs.MergedTree.{glued, Sound, all-triangles, merged-checked}
 
 -- ---- where the merge does not refuse
 abbrev refusedWith : ℕ → Areas → Outcome
 refusedWith number old = record { answer = refused number; after = old }
-
-no-refusal : (number count : ℕ) → refused number ≡ nodes count → ⊥
-no-refusal number count h = let z : _≡_ {A = ℕ} 0 1 = cc in omega arith
-
-same-count : (p q : ℕ) → nodes p ≡ nodes q → p ≡ q
-same-count p q h = cc
 
 pub record Merged (a b : Board) (old : Areas) (work count : ℕ) : Type 0 where
   pub shapes : shapesAdmitted a b ≡ true

@@ -1,8 +1,7 @@
 -- The nodes of a merged tree: the root where there is one, then those of the first tree and those of the second;
 -- what all of them give is what the two trees gave, moved up. Assumes nothing.
-use Prim.Native.Nat.{ℕ, zero, suc, _+_, _-_, _*_, _≤_, _<_}
-use native.Mathlib.Nat.{add-zero, zero-add}
-use mathlib.Core.Path.{_≡_, refl, sym, ap, _∙_, subst}
+use Prim.Native.Nat.{ℕ, zero, suc, _+_, _-_, _≤_, _<_}
+use mathlib.Core.Path.{_≡_, refl, ap, _∙_, subst}
 use mathlib.Core.Logic.{_⊎_, inl, inr}
 use mathlib.Core.Bool.{Bool, true, false, _||_, cond}
 use mathlib.Core.List.{List, [], _∷_, _++_, append-nil}
@@ -13,7 +12,7 @@ use Rattle.lists.specs.Lists.{range, count, flatMap}
 use Rattle.tree.specs.Layout.{Tree}
 use Rattle.tree.specs.Mesh.{Mesh}
 use Rattle.lists.proofs.CountLaws.{one, one-other, same-or-other, count-cons, count-nil, count-append, flatMap-append}
-use Rattle.tree_check.specs.Check.{triangleCount, nodes, placesOf}
+use Rattle.tree_check.specs.Check.{triangleCount, placesOf}
 use Rattle.mesh.proofs.CheckedTree.{Checked}
 use Rattle.mesh.proofs.TreeCounts.{below-or-not}
 use Rattle.merge.specs.Merge.{Board, trianglesIn, oneEmpty, roots, mergedCount}

@@ -1,9 +1,9 @@
 -- A merged tree has what a passed check says. Assumes nothing.
-use Prim.Native.Nat.{ℕ, zero, suc, _+_, _-_, _*_, _%_, _≤_, _<_}
-use native.Mathlib.Nat.{add-zero, zero-add}
+use Prim.Native.Nat.{ℕ, zero, suc, _+_, _-_, _*_, _≤_, _<_}
+use native.Mathlib.Nat.{add-zero}
 use mathlib.Core.Path.{_≡_, refl, sym, ap, _∙_, subst}
 use mathlib.Core.Logic.{_⊎_, inl, inr}
-use mathlib.Core.Bool.{Bool, true, false, _||_, cond, true≢false}
+use mathlib.Core.Bool.{true, false, _||_, true≢false}
 use mathlib.Core.List.{List, [], _∷_, _++_}
 use native.Mathlib.Omega.{arith}
 use lib.Dec.{eqb}
@@ -13,12 +13,12 @@ use lib.Seq.{length-take-le, take-at}
 use Rattle.geometry.specs.Box.{validBox, encloses, sameBox, unionOf}
 use Rattle.geometry.specs.declared.aabb.Aabb.{Aabb}
 use Rattle.lists.specs.Lists.{range, count, flatMap}
-use Rattle.tree.specs.Layout.{Tree, wordAt, boxAt, kindAt, firstAt, secondAt}
+use Rattle.tree.specs.Layout.{Tree, wordAt, boxAt, firstAt, secondAt}
 use Rattle.tree.specs.Mesh.{Mesh, thirds, cornersInside, triangleBox}
-use Rattle.lists.proofs.CountLaws.{one, one-same, one-other, same-or-other, count-cons, count-nil, count-append, range-bounds, length-range}
+use Rattle.lists.proofs.CountLaws.{one, one-same, one-other, count-nil, count-append, range-bounds}
 use Rattle.tree_check.specs.Check.{triangleCount, nodes, isLeaf, isBranch, childrenOf, placesOf}
 use Rattle.mesh.proofs.CheckedTree.{Checked, branch-children, no-places}
-use Rattle.mesh.proofs.TreeCounts.{below-or-not, count-zero, child-bounds, place-bound, placedAt, words-are-order, order-within}
+use Rattle.mesh.proofs.TreeCounts.{below-or-not, count-zero, child-bounds, place-bound, words-are-order, order-within}
 use Rattle.mesh.proofs.BuildBoxes.{union-valid, union-first, union-second}
 use Rattle.mesh.proofs.BuildRuns.{Words}
 use Rattle.tree_copy.specs.Moved.{movedUp}
@@ -32,7 +32,7 @@ use Rattle.merge.proofs.Copies.{differ-moved, filled-moved, node-valid-
 use Rattle.merge.proofs.Copies.{triangle-enclosed-moved}
 use Rattle.merge.proofs.GluedMesh.{glued-triangles, inside-first, inside-second, box-first, box-second}
 use Rattle.merge.proofs.Written.{Sized, first-copied, second-copied, root-written, root-around}
-use Rattle.merge.proofs.MergedNodes.{no-nodes, some-nodes, two-counted, one-of-two, Root, rooted, bare, root-or-none, one-root}
+use Rattle.merge.proofs.MergedNodes.{no-nodes, some-nodes, two-counted, one-of-two, Root, rooted, bare, root-or-none}
 use Rattle.merge.proofs.MergedNodes.{node-cases, gathered-count, root-gives, none-gives}
 
 -- ---- counts of a checked tree past its bounds

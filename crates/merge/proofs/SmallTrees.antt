@@ -1,27 +1,22 @@
 -- The words of a checked tree and of its mesh stay small when they are moved up. Assumes nothing.
-use Prim.Native.Nat.{ℕ, zero, suc, _+_, _*_, _/_, _%_, _≤_, _<_}
-use mathlib.Core.Path.{_≡_, refl, sym, ap, _∙_, subst}
-use mathlib.Core.Bool.{Bool, true, false, _&&_, _||_, cond}
-use mathlib.Core.List.{List, [], _∷_}
+use Prim.Native.Nat.{ℕ, _+_, _*_, _/_, _%_, _<_}
+use mathlib.Core.Path.{_≡_, refl, sym, ap, _∙_}
+use mathlib.Core.Bool.{Bool, true, _||_}
+use mathlib.Core.List.{[], _∷_}
 use native.Mathlib.Omega.{arith}
-use lib.Dec.{eqb, leb}
+use lib.Dec.{eqb}
 use lib.ListN.{length}
-use borrow.Author.Tests.{eqb-true, ne-eqb, leb-true}
-use Rattle.lists.proofs.JoinedTests.{and-first, and-second}
+use borrow.Author.Tests.{ne-eqb}
 use Rattle.lists.specs.Lists.{range, count}
 use Rattle.tree.specs.Layout.{Tree, wordAt, kindAt, firstAt, secondAt}
-use Rattle.tree.specs.Mesh.{Mesh, thirds}
-use Rattle.lists.proofs.CountLaws.{count-cons, count-nil, one-same, gathers, range-bounds, count-range-inside}
-use Rattle.lists.proofs.WithinLaws.{Within}
-use Rattle.tree_check.specs.Check.{triangleCount, isLeaf, isBranch, childrenOf}
+use Rattle.tree.specs.Mesh.{Mesh}
+use Rattle.lists.proofs.CountLaws.{count-cons, one-same, gathers, range-bounds, count-range-inside}
+use Rattle.tree_check.specs.Check.{triangleCount, isBranch}
 use Rattle.mesh.proofs.CheckedTree.{Checked, branch-children}
 use Rattle.mesh.proofs.TreeCounts.{placedAt, order-within}
-use Rattle.tree_copy.specs.Sizes.{SmallWords, SmallNode, SmallNodes}
-use Rattle.merge.specs.Merge.{Board, Areas, trianglesIn, verticesIn, oneEmpty, roots, total, shapesAdmitted, resultsFit, areasFit}
-use Rattle.merge.specs.Merge.{treesPass}
+use Rattle.tree_copy.specs.Sizes.{SmallWords, SmallNodes}
+use Rattle.merge.specs.Merge.{Board, trianglesIn, verticesIn}
 use Rattle.merge.proofs.GluedMesh.{three-below}
-use Rattle.merge.proofs.FewNodes.{fewer-nodes}
-use Rattle.merge.proofs.MergedNodes.{Root, rooted, bare, root-or-none, some-nodes}
 use Rattle.merge.proofs.MergedTree.{Sound}
 
 -- ---- words of a checked tree

@@ -6,7 +6,6 @@ use native.Mathlib.Omega.{arith}
 use lib.Dec.{leb}
 use lib.ListN.{length}
 use borrow.Author.Tests.{leb-true, leb-false, le-leb, lt-leb}
-use Rattle.casts.specs.Answer.{badShape, noRoom}
 use Rattle.tree.specs.Layout.{Tree}
 use Rattle.tree.specs.Mesh.{Mesh, thirds, lengthsAdmitted}
 use Rattle.tree_check.specs.Check.{treePasses}
@@ -18,17 +17,6 @@ rest-admitted k v w h = go (leb w (k - v)) refl
     go : (b : Bool) → leb w (k - v) ≡ b → leb w (k - v) ≡ leb (v + w) k
     go true e = let l : w ≤ k - v = leb-true w (k - v) e in e ∙ sym (le-leb (v + w) k (omega arith))
     go false e = let l : k - v < w = leb-false w (k - v) e in e ∙ sym (lt-leb (v + w) k (omega arith))
-
--- four tests, one after another
-pub first-fails : (p q r s : Bool) → p ≡ false → false ≡ (p && (q && (r && s)))
-first-fails p q r s e = ap (λ (b : Bool). b && (q && (r && s))) (sym e)
-
-pub second-fails : (p q r s : Bool) → p ≡ true → q ≡ false → false ≡ (p && (q && (r && s)))
-second-fails p q r s e f = ap (λ (b : Bool). b && (r && s)) (sym f) ∙ ap (λ (b : Bool). b && (q && (r && s))) (sym e)
-
-pub third-fails : (p q r s : Bool) → p ≡ true → q ≡ true → r ≡ false → false ≡ (p && (q && (r && s)))
-third-fails p q r s e f g =
-    ap (λ (b : Bool). b && s) (sym g) ∙ ap (λ (b : Bool). b && (r && s)) (sym f) ∙ ap (λ (b : Bool). b && (q && (r && s))) (sym e)
 
 pub fourth-told : (p q r s : Bool) → p ≡ true → q ≡ true → r ≡ true → s ≡ (p && (q && (r && s)))
 fourth-told p q r s e f g =

@@ -1,6 +1,6 @@
 -- What the tests of the merge let pass is what the copying asks. Assumes nothing.
-use Prim.Native.Nat.{ℕ, _+_, _*_, _/_, _≤_, _<_}
-use mathlib.Core.Path.{_≡_, refl, sym, ap, _∙_, subst}
+use Prim.Native.Nat.{ℕ, _+_, _*_, _≤_}
+use mathlib.Core.Path.{_≡_, refl, sym, ap, _∙_}
 use mathlib.Core.Bool.{Bool, true, false, _&&_, cond, true≢false}
 use native.Mathlib.Omega.{arith}
 use lib.Dec.{leb}
@@ -15,7 +15,6 @@ use Rattle.lists.proofs.JoinedTests.{and-first, and-second}
 use Rattle.casts.specs.Answer.{badShape, noRoom, outOfBounds}
 use Rattle.lists.specs.Lists.{over}
 use Rattle.tree_query.specs.Query.{treeFits}
-use Rattle.tree_copy.specs.Sizes.{SmallWords, SmallNodes}
 use Rattle.merge.specs.Merge.{nodes, refused, Board, Areas, Outcome, trianglesIn, verticesIn, oneEmpty, roots, rootBox, rootWords}
 use Rattle.merge.specs.Merge.{areasOf, mergedVertices, mergedTriangles, mergedNodeBoxes, mergedTriangleBoxes, mergedWords}
 use Rattle.merge.specs.Merge.{mergedOrder, mergedCount, mergedOver, total, roomIn, resultsFit, shapesAdmitted, areasFit, treesPass}

@@ -1,20 +1,19 @@
 -- What the merge writes: the two trees stand in the result areas, moved up, and a root before them where both boards have triangles.
 -- Assumes nothing.
-use Prim.Native.Nat.{ℕ, zero, suc, _+_, _*_, _≤_, _<_}
-use native.Mathlib.Nat.{add-zero, zero-add}
+use Prim.Native.Nat.{ℕ, _+_, _*_, _≤_, _<_}
+use native.Mathlib.Nat.{zero-add}
 use mathlib.Core.Path.{_≡_, refl, sym, ap, _∙_, subst}
-use mathlib.Core.Bool.{Bool, true, false, _||_, cond}
+use mathlib.Core.Bool.{Bool, true, false, cond}
 use mathlib.Core.List.{List, [], _∷_, _++_}
 use native.Mathlib.Omega.{arith}
 use lib.Dec.{eqb}
 use lib.Ieee.{Float, nan}
-use lib.ListN.{length, getD, take, drop, length-append}
+use lib.ListN.{length, getD, take, drop}
 use lib.Seq.{length-take-le, getD-take}
 use Rattle.geometry.specs.Box.{unionOf}
 use Rattle.geometry.specs.declared.aabb.Aabb.{Aabb}
-use Rattle.lists.specs.Lists.{range, flatMap, over}
 use Rattle.tree.specs.Layout.{Tree, wordAt, vectorAt, boxAt, kindAt, firstAt, secondAt, boxNumbers}
-use Rattle.mesh.proofs.BuildRuns.{Run, run-front, run-first, run-second, six-numbers, run-box, Words, run-words}
+use Rattle.mesh.proofs.BuildRuns.{Run, run-front, run-first, run-second, run-box, Words, run-words}
 use Rattle.tree_copy.specs.Moved.{movedUp, movedNode, movedNodes}
 use Rattle.merge.specs.Merge.{Board, Areas, trianglesIn, oneEmpty, roots, rootBox, rootWords, mergedCount, mergedNodeBoxes}
 use Rattle.merge.specs.Merge.{mergedWords, mergedTriangleBoxes, mergedOrder, mergedOver}

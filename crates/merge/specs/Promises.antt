@@ -4,8 +4,6 @@ use mathlib.Core.Path.{_≡_}
 use mathlib.Core.Bool.{true}
 use lib.ListN.{length, take}
 use Rattle.geometry.specs.declared.ray.Ray.{Ray}
-use Rattle.tree.specs.Layout.{Tree}
-use Rattle.tree.specs.Mesh.{Mesh}
 use Rattle.tree_check.specs.Verdict.{yes, checkOf}
 use Rattle.mesh.specs.MeshCast.{roomFor, rayMesh}
 use Rattle.merge.specs.Glue.{glue}

@@ -3,7 +3,7 @@
 -- Definitions only. Assumes nothing.
 use Prim.Native.Nat.{ℕ, _+_, _*_, _≤_}
 use mathlib.Core.Path.{_≡_}
-use mathlib.Core.Bool.{Bool, true, false, cond}
+use mathlib.Core.Bool.{true, false, cond}
 use lib.ListN.{length}
 use Rattle.tree.specs.Mesh.{lengthsAdmitted}
 use Rattle.tree_check.specs.Verdict.{roomFor}

@@ -4,11 +4,10 @@ use mathlib.Core.Bool.{true, false}
 use lib.ListN.{length}
 use Rattle.geometry.specs.Segment.{rayAdmitted}
 use Rattle.geometry.specs.declared.ray.Ray.{Ray}
-use Rattle.casts.specs.Answer.{invalidInput, badShape}
+use Rattle.casts.specs.Answer.{invalidInput, badShape, outOfRange}
 use Rattle.nearest_hit.specs.Nearest.{Indexed, stopped}
 use Rattle.tree.specs.Mesh.{Mesh, lengthsAdmitted}
 use Rattle.exact_triangle.specs.Grid.{gridAdmitted}
-use Rattle.exact_triangle.specs.Reach.{outOfRange}
 use Rattle.mesh_exact.specs.GridCast.{overTriangles, rayMeshExactPlain}
 
 module _ (r : Ray) (m : Mesh) where

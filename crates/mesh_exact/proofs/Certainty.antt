@@ -27,7 +27,7 @@ use Rattle.arithmetic.proofs.TotalOrder.{at-most-before, totalOrder-antisymmetr
 use Rattle.vectors.specs.declared.vec3.Vec3.{Vec3}
 use Rattle.geometry.specs.Segment.{rayAdmitted}
 use Rattle.geometry.specs.declared.ray.Ray.{Ray}
-use Rattle.casts.specs.Answer.{Answer, hit, none, refused, invalidInput, badShape, outOfBounds}
+use Rattle.casts.specs.Answer.{Answer, hit, none, refused, invalidInput, badShape, outOfBounds, outOfRange}
 use Rattle.casts.proofs.AnswerLists.{HitSuch, IsNumber, NotRefused}
 use Rattle.nearest_hit.specs.Nearest.{Indexed, hitAt, noHit, stopped, nearestOf}
 use Rattle.nearest_hit.proofs.NearestRefusals.{refusal-stops, nones-of-none}
@@ -36,7 +36,6 @@ use Rattle.tree.specs.Mesh.{Mesh, triangleCount, lengthsAdmitted, trianglesFit}
 use Rattle.wide_integers.proofs.Integers.{pp}
 use Rattle.exact_triangle.specs.Line.{Line}
 use Rattle.exact_triangle.specs.Grid.{units, gridAdmitted, gridLine}
-use Rattle.exact_triangle.specs.Reach.{outOfRange}
 use Rattle.mesh_exact.specs.GridCast.{exactAnswer, overTriangles, rayMeshExactPlain}
 use Rattle.mesh_exact.specs.Certain.{cornerOn, Met, InRange, LeastDepth, Struck, OutOfRange, Reason, CertainMesh}
 use Rattle.mesh_exact.specs.Certain.{ray, lengths, triangles, range as byRange}

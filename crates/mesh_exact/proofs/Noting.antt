@@ -6,6 +6,7 @@ use mathlib.Core.Bool.{Bool, true, false, cond}
 use mathlib.Core.List.{List, List·Memᴰ}
 use native.Mathlib.Omega.{arith}
 use lib.Ieee.{Float}
+use Rattle.lists.proofs.EveryLaws.{range-next, range-done}
 use Rattle.geometry.specs.declared.ray.Ray.{Ray}
 use Rattle.lists.specs.Lists.{range}
 use Rattle.lists.proofs.CountLaws.{count-of-member, range-bounds}
@@ -22,7 +23,6 @@ use Rattle.nearest_hit.proofs.SummaryLaws.{nearest-of-ascending}
 use Rattle.nearest_hit.proofs.SummaryMembers.{winner-of-list}
 use Rattle.tree.specs.Mesh.{Mesh, triangleCount, trianglesFit}
 use Rattle.mesh.proofs.Folding.{Below}
-use Rattle.mesh_plain.proofs.Passing.{range-next, range-empty}
 use Rattle.mesh_exact.specs.GridCast.{exactAnswer, overTriangles}
 use Rattle.mesh_exact.specs.Noted.{Won}
 
@@ -58,7 +58,7 @@ module _ (m : Mesh) (answer : ℕ → Answer) where
 
     pub noting-ends : triangleCount m ≤ i → notes ≡ summaryFrom answer nothing (range 0 (triangleCount m))
     unfolding summaryFrom
-    noting-ends h = sym (ap (summaryFrom answer notes) (range-empty i (triangleCount m) h)) ∙ p .gives
+    noting-ends h = sym (ap (summaryFrom answer notes) (range-done i (triangleCount m) h)) ∙ p .gives
 
 module _ (r : Ray) (m : Mesh) where
   abbrev answers : ℕ → Answer

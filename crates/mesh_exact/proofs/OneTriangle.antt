@@ -16,7 +16,7 @@ use lib.Ieee.Scale.{round-same}
 use Rattle.vectors.specs.declared.vec3.Vec3.{Vec3}
 use Rattle.geometry.specs.Segment.{rayAdmitted}
 use Rattle.geometry.specs.declared.ray.Ray.{Ray}
-use Rattle.casts.specs.Answer.{Answer, hit, none, refused, outOfBounds}
+use Rattle.casts.specs.Answer.{Answer, hit, none, refused, outOfBounds, outOfRange}
 use Rattle.casts.specs.Reach.{reachOf}
 use Rattle.casts.specs.declared.answer.Reach.the-variants.{At}
 use Rattle.tree.specs.Mesh.{Mesh, thirds, cornersInside, cornersOf, triangleCount}
@@ -25,7 +25,7 @@ use Rattle.exact_depth.specs.declared.projection.Point.{Point}
 use Rattle.exact_triangle.specs.Line.{Line}
 use Rattle.exact_triangle.specs.Grid.{units, gridAdmitted, gridLine}
 use Rattle.exact_triangle.specs.Surface.{Surface}
-use Rattle.exact_triangle.specs.Reach.{outOfRange, cornersRead, gridReach}
+use Rattle.exact_triangle.specs.Reach.{cornersRead, gridReach}
 use Rattle.exact_triangle.specs.Cast.{gridTriangle}
 use Rattle.exact_triangle.specs.Certain.{Nearest, CertainReach}
 use Rattle.exact_triangle.proofs.Certainty.{reach-certain}

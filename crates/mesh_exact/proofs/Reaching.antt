@@ -11,7 +11,7 @@ use Rattle.vectors.specs.declared.vec3.Vec3.{Vec3}
 use Rattle.geometry.specs.Box.{corner, cornersBox, touches}
 use Rattle.geometry.specs.Segment.{rayAdmitted}
 use Rattle.geometry.specs.declared.ray.Ray.{Ray}
-use Rattle.casts.specs.Answer.{Answer, refused, outOfBounds}
+use Rattle.casts.specs.Answer.{Answer, refused, outOfBounds, outOfRange}
 use Rattle.casts.specs.Reach.{reachOf}
 use Rattle.casts.specs.declared.answer.Reach.{Reach}
 use Rattle.casts.specs.declared.answer.Reach.the-variants.{At, Miss, Refused}
@@ -19,7 +19,7 @@ use Rattle.tree.specs.Mesh.{thirds, cornersInside, cornersOf}
 use Rattle.exact_triangle.specs.Grid.{gridAdmitted, gridLine}
 use Rattle.exact_triangle.specs.Box.{certainBox}
 use Rattle.exact_triangle.proofs.Touching.{met-touches}
-use Rattle.exact_triangle.specs.Reach.{outOfRange, cornersRead, cornersReach, gridReach}
+use Rattle.exact_triangle.specs.Reach.{cornersRead, cornersReach, gridReach}
 use Rattle.exact_triangle.specs.Cast.{gridHit, gridTriangle}
 use Rattle.exact_triangle.proofs.Laws.{first-read, second-read, third-read}
 use Rattle.exact_triangle.proofs.Certainty.{reach-certain}

@@ -19,14 +19,14 @@ use Rattle.vectors.specs.declared.vec3.Vec3.{Vec3}
 use Rattle.geometry.specs.Box.{corner, validBox}
 use Rattle.geometry.specs.Segment.{unitLength, rangeAdmitted, rayAdmitted}
 use Rattle.geometry.specs.declared.ray.Ray.{Ray}
-use Rattle.casts.specs.Answer.{Answer, hit, none, refused, invalidInput, badShape, outOfBounds}
+use Rattle.casts.specs.Answer.{Answer, hit, none, refused, invalidInput, badShape, outOfBounds, outOfRange}
 use Rattle.nearest_hit.specs.Nearest.{stopped, nearestOf}
 use Rattle.nearest_hit.proofs.IndexedCases.{same-number}
 use Rattle.nearest_hit.proofs.NearestLaws.{stopped-by-lowest-refusal}
 use Rattle.tree.specs.Mesh.{Mesh, thirds, lengthsAdmitted, cornersInside, cornerAt, cornersOf, triangleBox, triangleCount, triangleFits}
 use Rattle.tree.specs.Mesh.{trianglesFit}
 use Rattle.exact_triangle.specs.Grid.{within, allWithin, furthest, longest, gridAdmitted}
-use Rattle.exact_triangle.specs.Reach.{outOfRange, cornersRead}
+use Rattle.exact_triangle.specs.Reach.{cornersRead}
 use Rattle.exact_triangle.specs.Cast.{gridTriangle}
 use Rattle.exact_triangle.proofs.Laws.{first-read, second-read, third-read}
 use Rattle.exact_triangle.proofs.Hits.{off-hit, never-refused}

@@ -10,14 +10,13 @@ use lib.Ieee.{Float, binary64, round, lt}
 use Rattle.vectors.specs.declared.vec3.Vec3.{Vec3}
 use Rattle.geometry.specs.Segment.{rayAdmitted}
 use Rattle.geometry.specs.declared.ray.Ray.{Ray}
-use Rattle.casts.specs.Answer.{invalidInput, badShape, outOfBounds}
+use Rattle.casts.specs.Answer.{invalidInput, badShape, outOfBounds, outOfRange}
 use Rattle.nearest_hit.specs.Nearest.{Indexed, hitAt, noHit, stopped}
 use Rattle.tree.specs.Mesh.{Mesh, cornerAt, triangleCount, lengthsAdmitted, trianglesFit}
 use Rattle.exact_depth.specs.declared.projection.Point.{Point}
 use Rattle.exact_triangle.specs.Line.{Line}
 use Rattle.exact_triangle.specs.Grid.{units, allWithin, furthest, longest, gridAdmitted, gridPoint, gridLine}
 use Rattle.exact_triangle.specs.Surface.{Surface, Apart}
-use Rattle.exact_triangle.specs.Reach.{outOfRange}
 
 -- a corner of a triangle, on the grid
 abbrev pub cornerOn : Mesh → ℕ → ℕ → Point

@@ -7,11 +7,10 @@ use lib.ListN.{length}
 use Rattle.lists.specs.Lists.{range}
 use Rattle.geometry.specs.Segment.{rayAdmitted}
 use Rattle.geometry.specs.declared.ray.Ray.{Ray}
-use Rattle.casts.specs.Answer.{Answer, refused, invalidInput, badShape, outOfBounds}
+use Rattle.casts.specs.Answer.{Answer, refused, invalidInput, badShape, outOfBounds, outOfRange}
 use Rattle.nearest_hit.specs.Nearest.{Indexed, stopped, nearestOf}
 use Rattle.tree.specs.Mesh.{Mesh, thirds, lengthsAdmitted, cornersInside, cornersOf, triangleCount, trianglesFit}
 use Rattle.exact_triangle.specs.Grid.{gridAdmitted}
-use Rattle.exact_triangle.specs.Reach.{outOfRange}
 use Rattle.exact_triangle.specs.Cast.{gridTriangle}
 
 -- a triangle's own answer: an index past the vertices is 5, a corner out of range 12

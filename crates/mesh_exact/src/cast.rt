@@ -75,7 +75,7 @@ pub fn ray_mesh_exact_plain(ray: Ray, vertices: &[f64], triangles: &[u32]) -> In
     }
     let aim = view::view_of(ray);
     let Aim::On(line) = aim else {
-        return IndexedCast::Refused(triangle::OUT_OF_RANGE);
+        return IndexedCast::Refused(answer::OUT_OF_RANGE);
     };
     if !triangle_mesh::lengths_admitted(vertices.len(), triangles.len()) {
         return IndexedCast::Refused(answer::BAD_SHAPE);

@@ -1,23 +1,22 @@
 -- The triangles of a list are noted, and those that are hit stored, one after another. Assumes nothing.
-use Prim.Native.Nat.{ℕ, suc, _+_, _*_, _<_, _≤_}
+use Prim.Native.Nat.{ℕ, _+_, _*_, _<_, _≤_}
 use mathlib.Core.Path.{_≡_, refl, sym, ap, subst, _∙_}
 use mathlib.Core.Bool.{Bool, true, false, cond}
-use mathlib.Core.List.{List, [], _∷_, _++_}
+use mathlib.Core.List.{List, [], _∷_}
 use native.Mathlib.Omega.{arith}
 use native.Mathlib.Numerals.{add-one}
-use lib.Ieee.{Float, nan}
-use lib.ListN.{length, getD, take, drop, set, length-take}
+use lib.Ieee.{Float}
+use lib.ListN.{length, take}
 use lib.Seq.{length-take-le, take-suc}
 use Rattle.casts.specs.Answer.{Answer}
 use Rattle.casts.specs.Reach.{reachOf}
 use Rattle.nearest_hit.specs.Summary.{Summary, nothing, noteOf, summaryFrom}
 use Rattle.casts.specs.declared.answer.Reach.{Reach}
 use Rattle.lists.specs.Lists.{keep}
-use Rattle.tree.specs.Layout.{wordAt, numberAt}
+use Rattle.tree.specs.Layout.{wordAt}
 use Rattle.mesh.proofs.Folding.{Folding, folding-begins, folding-goes, folding-ends}
-use Rattle.mesh_hits.specs.HitArea.{isHit, hitsOf, depthAt}
+use Rattle.mesh_hits.specs.HitArea.{isHit}
 use Rattle.mesh_hits.specs.Rows.{Stored, StoredNext}
-use Rattle.depth_sort.specs.SortRows.{Keyed}
 use Rattle.mesh_hits.proofs.Storing.{stored-more}
 
 pub keep-shorter : (p : ℕ → Bool) (l : List ℕ) → length (keep p l) ≤ length l

@@ -1,16 +1,16 @@
 -- The listing from the hits of the walk's list: its refusals, and what is written at the places. Assumes nothing.
-use Prim.Native.Nat.{ℕ, zero, suc, _+_, _*_, _/_, _<_, _≤_}
+use Prim.Native.Nat.{ℕ, _*_, _/_, _<_, _≤_}
 use mathlib.Core.Path.{_≡_, refl, sym, ap, subst, _∙_}
 use mathlib.Core.Bool.{Bool, true, false, cond, true≢false}
-use mathlib.Core.List.{List, [], _∷_, _++_}
+use mathlib.Core.List.{List, _++_}
 use native.Mathlib.Omega.{arith}
-use borrow.Author.Tests.{leb-true, leb-false, le-leb, lt-leb, ltb-true}
+use borrow.Author.Tests.{leb-true, leb-false, ltb-true}
 use lib.Dec.{leb, ltb}
 use lib.Ieee.{Float, nan}
 use lib.ListN.{length, take, drop, length-append, List·getD-append}
 use lib.Seq.{length-take-le, take-at, drop-at, getD-take}
 use Rattle.casts.specs.Answer.{Answer, hit, none, refused, noRoom}
-use Rattle.nearest_hit.specs.Nearest.{Indexed, hitAt, noHit, stopped, nextOf, nearestOf}
+use Rattle.nearest_hit.specs.Nearest.{Indexed, noHit, nextOf}
 use Rattle.casts.specs.Reach.{reachOf}
 use Rattle.nearest_hit.specs.Summary.{Summary, nothing, summaryFrom, winner}
 use Rattle.casts.specs.declared.answer.Reach.the-variants.{At}
@@ -18,10 +18,11 @@ use Rattle.casts.proofs.AnswerLists.{HitsAreNumbers}
 use Rattle.nearest_hit.specs.declared.summary.Outcome.{Outcome as Won}
 use Rattle.nearest_hit.specs.declared.summary.Outcome.the-variants.{Nobody, Refused, Struck as StruckBy}
 use Rattle.lists.specs.Lists.{count, sorted, allBelow}
-use Rattle.tree.specs.Layout.{numberAt, wordAt}
+use Rattle.nearest_hit.proofs.NextLaws.{miss-not-at, refused-not-at}
+use Rattle.tree.specs.Layout.{wordAt}
 use Rattle.lists.proofs.CountLaws.{count-keep, member-of-count, every-at}
 use Rattle.lists.proofs.SortLaws.{same-length}
-use Rattle.tree_query.specs.Query.{Listing, count as countOf}
+use Rattle.tree_query.specs.Query.{count as countOf}
 use Rattle.mesh.proofs.Folding.{nobody-wins, refusal-wins, hit-wins, winner-reached}
 use Rattle.mesh_hits.specs.HitArea.{HitArea, hitArea, Outcome, isHit, depthOf, hitsOf, depthAt, inOrder, numbersOf, placesOf}
 use Rattle.mesh_hits.specs.HitListing.{written, fitted, afterRefusals, listingOf}
@@ -29,7 +30,6 @@ use Rattle.mesh_hits.specs.HitArea.{refusedAt}
 use Rattle.mesh_hits.specs.Rows.{Stored, Ready, Struck}
 use Rattle.depth_sort.specs.SortRows.{Keyed, Ordered}
 use Rattle.mesh_hits.proofs.HitOrder.{in-order-count, sorted-hits}
-use Rattle.mesh_hits.proofs.Storing.{miss-is-no-hit, refusal-is-no-hit}
 use Rattle.mesh_hits.proofs.GatheredHits.{keep-shorter}
 use Rattle.mesh_hits.proofs.PlaceLaws.{at-counted}
 
@@ -58,8 +58,8 @@ module _ (answer : ℕ → Answer) (numbers : HitsAreNumbers answer) (l : List �
     where
       go : (a : Answer) → reachOf a ≡ At distance → rest ≡ afterRefusals (nextOf noHit index a) area rest
       go (hit normal d) r = unfold nextOf afterRefusals in refl
-      go none r = absurd (miss-is-no-hit distance (unfold reachOf in r))
-      go (refused number) r = absurd (refusal-is-no-hit number distance (unfold reachOf in r))
+      go none r = absurd (miss-not-at distance (unfold reachOf in r))
+      go (refused number) r = absurd (refused-not-at number distance (unfold reachOf in r))
 
 -- ---- the hits gathered, ready to be sorted
 -- what is answered depends on the area only where it is not written

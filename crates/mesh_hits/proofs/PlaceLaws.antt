@@ -1,8 +1,8 @@
 -- What stands at the places of a listing: each hit's distance and normal. Assumes nothing.
-use Prim.Native.Nat.{ℕ, zero, suc, _+_, _*_, _<_, _≤_}
+use Prim.Native.Nat.{ℕ, zero, suc, _+_, _*_, _<_}
 use mathlib.Core.Path.{_≡_, refl, sym, ap, subst, _∙_}
 use mathlib.Core.Logic.{_⊎_, inl, inr}
-use mathlib.Core.Bool.{Bool, true, false, cond, true≢false}
+use mathlib.Core.Bool.{true, true≢false}
 use mathlib.Core.List.{List, [], _∷_, _++_, append-assoc}
 use native.Mathlib.Omega.{arith}
 use lib.Ieee.{Float, nan}
@@ -13,7 +13,7 @@ use Rattle.casts.specs.Answer.{Answer, hit, none, refused}
 use Rattle.lists.specs.Lists.{count}
 use Rattle.tree.specs.Layout.{numberAt, wordAt, vectorAt}
 use Rattle.lists.proofs.CountLaws.{one-same, one-other, same-or-other, count-cons, count-nil}
-use Rattle.mesh_hits.specs.HitArea.{isHit, depthOf, placeOf, numbersOf}
+use Rattle.mesh_hits.specs.HitArea.{isHit, placeOf, numbersOf}
 
 -- ---- a number of a list stands at a place
 pub at-counted : (l : List ℕ) (j : ℕ) → j < length l → 0 < count (getD l j 0) l

@@ -1,27 +1,26 @@
 -- The places of hits written one after another: each place's four numbers, its distance among them before. Assumes nothing.
 use Prim.Native.Nat.{ℕ, zero, suc, _+_, _*_, _<_, _≤_}
-use mathlib.Core.Path.{_≡_, refl, sym, ap, subst, _∙_}
+use mathlib.Core.Path.{_≡_, refl, sym, ap, _∙_}
 use mathlib.Core.List.{List, [], _∷_, _++_, append-nil, append-assoc}
 use native.Mathlib.Omega.{arith}
 use native.Mathlib.Numerals.{add-one}
 use lib.Ieee.{Float, nan}
 use lib.ListN.{length, take, drop, length-append}
 use lib.Seq.{sets, sets-eq, take-suc, take-at, drop-append-add, drop-drop, getD-append-add, getD-drop}
-use Rattle.vectors.specs.declared.vec3.Vec3.{Vec3}
 use Rattle.casts.specs.Answer.{Answer, hit, none, refused}
 use Rattle.casts.specs.Reach.{reachOf}
 use Rattle.casts.specs.declared.answer.Reach.the-variants.{At}
+use Rattle.nearest_hit.proofs.NextLaws.{miss-not-at, refused-not-at}
 use Rattle.tree.specs.Layout.{numberAt, wordAt}
 use Rattle.mesh_hits.specs.HitArea.{placeOf, numbersOf}
 use Rattle.mesh_hits.specs.Rows.{Struck}
-use Rattle.mesh_hits.proofs.Storing.{miss-is-no-hit, refusal-is-no-hit}
 
 -- a triangle that is reached fills its place
 pub place-of-four : (a : Answer) (d : Float) → reachOf a ≡ At d → length (placeOf a) ≡ 4
 unfolding reachOf placeOf
 place-of-four (hit normal distance) d h = refl
-place-of-four none d h = absurd (miss-is-no-hit d h)
-place-of-four (refused number) d h = absurd (refusal-is-no-hit number d h)
+place-of-four none d h = absurd (miss-not-at d h)
+place-of-four (refused number) d h = absurd (refused-not-at number d h)
 
 pub record Putting (answer : ℕ → Answer) (indices : List ℕ) (k : ℕ) (numbers₀ numbers : List Float) (i : ℕ) : Type 0 where
   pub within : i ≤ k

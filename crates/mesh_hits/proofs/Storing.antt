@@ -1,45 +1,36 @@
 -- The hits of a list are stored one after another, as far as there are places. Assumes nothing.
-use Prim.Native.Nat.{ℕ, zero, suc, _+_, _*_, _<_, _≤_}
+use Prim.Native.Nat.{ℕ, _+_, _*_, _<_, _≤_}
 use mathlib.Core.Path.{_≡_, refl, sym, ap, subst, _∙_}
 use mathlib.Core.Logic.{_⊎_, inl, inr}
 use mathlib.Core.Bool.{Bool, true, false, cond}
 use mathlib.Core.List.{List, [], _∷_, _++_, append-nil}
 use native.Mathlib.Omega.{arith}
-use native.Mathlib.Numerals.{add-one}
 use lib.Ieee.{Float, nan}
-use lib.ListN.{length, getD, take, drop, set, length-set, length-append}
-use lib.Seq.{length-take-le, take-suc, getD-take, getD-set-same, getD-set-other, drop-set-lt, drop-drop}
+use lib.ListN.{length, take, drop, set, length-set, length-append}
+use lib.Seq.{length-take-le, getD-take, getD-set-same, getD-set-other, drop-set-lt, drop-drop}
 use Rattle.casts.specs.Answer.{Answer, hit, none, refused}
 use Rattle.casts.specs.Reach.{reachOf}
 use Rattle.casts.specs.declared.answer.Reach.{Reach}
 use Rattle.casts.specs.declared.answer.Reach.the-variants.{At, Miss, Refused}
 use Rattle.lists.specs.Lists.{keep}
+use Rattle.nearest_hit.proofs.NextLaws.{miss-not-at, refused-not-at, same-reach}
 use Rattle.tree.specs.Layout.{numberAt, wordAt}
-use Rattle.lists.proofs.CountLaws.{same-or-other}
+use Rattle.lists.proofs.CountLaws.{same-or-other, keep-append}
 use Rattle.lists.proofs.Runs.{stored-after}
 use Rattle.mesh_hits.specs.HitArea.{isHit, depthOf, hitsOf, depthAt}
 use Rattle.mesh_hits.specs.Rows.{Stored, StoredNext}
 use Rattle.depth_sort.specs.SortRows.{Keyed}
 
 -- ---- one triangle
-pub miss-is-no-hit : (d : Float) → Miss ≡ At d → ⊥
-miss-is-no-hit d h = let z : _≡_ {A = ℕ} 0 1 = cc in omega arith
-
-pub refusal-is-no-hit : (number : ℕ) (d : Float) → Refused number ≡ At d → ⊥
-refusal-is-no-hit number d h = let z : _≡_ {A = ℕ} 0 1 = cc in omega arith
-
-same-reach : (d e : Float) → At d ≡ At e → d ≡ e
-same-reach d e h = cc
-
 module _ (index : ℕ) (reach : Reach) (hits places : ℕ) (indices : List ℕ) (numbers : List Float) where
   unstored : ((d : Float) → reach ≡ At d → ⊥) → StoredNext index reach hits places indices numbers hits indices numbers
   unstored miss = record { missed = λ _. (refl, (refl, refl)); struck = λ d e. absurd (miss d e) }
 
   pub stored-miss : reach ≡ Miss → StoredNext index reach hits places indices numbers hits indices numbers
-  stored-miss h = unstored (λ d e. miss-is-no-hit d (sym h ∙ e))
+  stored-miss h = unstored (λ d e. miss-not-at d (sym h ∙ e))
 
   pub stored-refusal : (number : ℕ) → reach ≡ Refused number → StoredNext index reach hits places indices numbers hits indices numbers
-  stored-refusal number h = unstored (λ d e. refusal-is-no-hit number d (sym h ∙ e))
+  stored-refusal number h = unstored (λ d e. refused-not-at number d (sym h ∙ e))
 
   module _ (distance : Float) (h : reach ≡ At distance) where
     pub stored-past : places ≤ hits → StoredNext index reach hits places indices numbers (hits + 1) indices numbers
@@ -53,16 +44,6 @@ module _ (index : ℕ) (reach : Reach) (hits places : ℕ) (indices : List ℕ) 
     }
 
 -- ---- the hits of a longer list
-keep-append : (p : ℕ → Bool) (l m : List ℕ) → keep p (l ++ m) ≡ keep p l ++ keep p m
-unfolding keep
-keep-append p [] m = refl
-keep-append p (x ∷ l) m = go (p x) (keep-append p l m)
-  where
-    go : (b : Bool) → keep p (l ++ m) ≡ keep p l ++ keep p m
-        → cond b (x ∷ keep p (l ++ m)) (keep p (l ++ m)) ≡ cond b (x ∷ keep p l) (keep p l) ++ keep p m
-    go true h = ap (λ (z : List ℕ). x ∷ z) h
-    go false h = h
-
 module _ (answer : ℕ → Answer) where
   more-hits : (l : List ℕ) (x : ℕ) → isHit (answer x) ≡ true → hitsOf answer (l ++ (x ∷ [])) ≡ hitsOf answer l ++ (x ∷ [])
   unfolding keep
@@ -159,8 +140,8 @@ module _ (answer : ℕ → Answer) where
               let w = n .struck d r in
               subst (λ (k : ℕ). Stored answer (l ++ (x ∷ [])) places indices₀ numbers₀ k indices' numbers') (sym (w .0))
               (added d (ap depthOf f) (ap isHit f) indices' numbers' (w .1))
-          go none f = same indices' numbers' hits' (n .missed (λ d g. miss-is-no-hit d (sym (ap reachOf f) ∙ sym e ∙ g)))
+          go none f = same indices' numbers' hits' (n .missed (λ d g. miss-not-at d (sym (ap reachOf f) ∙ sym e ∙ g)))
               (unchanged (ap isHit f))
           go (refused number) f =
-              same indices' numbers' hits' (n .missed (λ d g. refusal-is-no-hit number d (sym (ap reachOf f) ∙ sym e ∙ g)))
+              same indices' numbers' hits' (n .missed (λ d g. refused-not-at number d (sym (ap reachOf f) ∙ sym e ∙ g)))
               (unchanged (ap isHit f))

@@ -8,7 +8,7 @@ use tree_query::query::Listed;
 use tree_query::walk;
 use tree_walk::step::Filled;
 ghost use mathlib.Core.Path.{_≡_};
-ghost use mathlib.Core.Bool.{true, false};
+ghost use mathlib.Core.Bool.{true};
 ghost use lib.ListN.{length};
 ghost use Rattle.geometry.specs.Segment.{rayAdmitted};
 ghost use Rattle.tree.specs.Mesh.{thirds, mesh};

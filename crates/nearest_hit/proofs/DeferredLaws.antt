@@ -1,6 +1,6 @@
 -- A cross stands for its normal: at one triangle, and in what many give. Assumes nothing.
 use Prim.Native.Nat.{ℕ}
-use mathlib.Core.Path.{_≡_, refl, sym, ap, _∙_}
+use mathlib.Core.Path.{_≡_, refl, _∙_}
 use mathlib.Core.Bool.{Bool, true, false, cond}
 use native.Mathlib.Omega.{arith}
 use lib.Ieee.{Float, lt}
@@ -9,7 +9,6 @@ use Rattle.vectors.specs.Numbers.{minPositive}
 use Rattle.vectors.specs.Vector.{crossOf, dotOf, normalizable, overLength, tryNormalize}
 use Rattle.vectors.proofs.NormalLaws.{told-unit}
 use Rattle.vectors.specs.declared.vec3.Vec3.{Vec3}
-use Rattle.vectors.specs.declared.vec3.Normalized.{Normalized}
 use Rattle.vectors.specs.declared.vec3.Normalized.the-variants.{Unit as UnitOf, Degenerate}
 use Rattle.geometry.specs.declared.ray.Ray.{Ray}
 use Rattle.casts.specs.Answer.{Answer, hit, none, refused, noNormal}

@@ -1,6 +1,5 @@
 -- Inner contracts only: answers that have the edges' cross in place of the normal, and what they stand for. Definitions only. Assumes
 -- nothing.
-use Prim.Native.Nat.{ℕ}
 use mathlib.Core.Path.{_≡_}
 use mathlib.Core.Bool.{true, cond}
 use lib.Ieee.{Float}

@@ -11,8 +11,6 @@ use vectors::vec3::Normalized;
 use vectors::vec3::Vec3;
 ghost use mathlib.Core.Path.{_≡_};
 ghost use Prim.Native.Nat.{ℕ};
-ghost use mathlib.Core.Bool.{true};
-ghost use Rattle.vectors.specs.Vector.{dotOf, normalizable};
 ghost use Rattle.geometry.specs.declared.ray.Ray.{Ray as RayOf};
 ghost use Rattle.casts.specs.Answer.{hit, refused};
 ghost use Rattle.nearest_hit.specs.Nearest.{saysIndexed, nextOf};

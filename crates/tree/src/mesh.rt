@@ -5,7 +5,6 @@ ghost use mathlib.Core.Path.{_≡_};
 ghost use mathlib.Core.Bool.{true};
 ghost use Prim.Native.Nat.{_+_, _*_, _<_, _≤_};
 ghost use lib.ListN.{length};
-ghost use Rattle.tree.specs.Layout.{wordAt};
 ghost use Rattle.tree.specs.Mesh.{lengthsAdmitted, thirds, cornerIndex, cornersInside, cornerAt, cornersOf, triangleBox};
 
 // Whether the lengths are three to a vertex and to a triangle, and not past 65,536 of either.

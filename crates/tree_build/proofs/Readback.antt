@@ -52,7 +52,7 @@ unfolding boxesBelow
 hull-begins boxes (leaf n) ts = ([], sym (append-nil (boxNumbers (hullOf boxes ts))))
 hull-begins boxes (branch l r) ts = (boxesBelow boxes l (leftRange boxes l ts) ++ boxesBelow boxes r (rightRange boxes l ts), refl)
 
-six-long : (b : Aabb) → length (boxNumbers b) ≡ 6
+pub six-long : (b : Aabb) → length (boxNumbers b) ≡ 6
 unfolding boxNumbers
 six-long b = refl
 

@@ -2,7 +2,7 @@
 -- pass. Assumes nothing.
 use Prim.Native.Nat.{ℕ, _-_, _*_, _/_, _%_, _<_, _≤_}
 use mathlib.Core.Path.{_≡_, refl, sym, ap, _∙_}
-use mathlib.Core.Bool.{Bool, true, false, _&&_, _||_}
+use mathlib.Core.Bool.{Bool, true, false, _&&_, _||_, and-false}
 use mathlib.Core.List.{List}
 use native.Mathlib.Omega.{arith}
 use borrow.Author.Tests.{eq-eqb, ne-eqb, lt-leb, le-leb, leb-true}
@@ -22,7 +22,7 @@ use Rattle.tree_check.specs.Steps.{wordsPass, boxesPass, Readable, Long}
 use Rattle.tree_check.specs.Sound.{nodeSound}
 use Rattle.tree_check.specs.Verdict.{roomFor}
 use Rattle.tree_check.proofs.Counting.{by-equality}
-use Rattle.tree_check.proofs.Clauses.{and-false, nodes-sound-is, triangles-sound-is, nodes-fit-is}
+use Rattle.tree_check.proofs.Clauses.{nodes-sound-is, triangles-sound-is, nodes-fit-is}
 use Rattle.tree_check.proofs.Pigeonhole.{order-below}
 
 -- the clauses in document 01's order, and as the code groups them

@@ -4,7 +4,7 @@ use casts::answer;
 use tree::layout;
 use tree::mesh;
 ghost use mathlib.Core.Path.{_≡_};
-ghost use Prim.Native.Nat.{_*_, _/_, _<_, _≤_};
+ghost use Prim.Native.Nat.{_*_, _/_, _≤_};
 ghost use lib.ListN.{length};
 ghost use Rattle.tree.specs.Layout.{treeOf};
 ghost use Rattle.tree.specs.Mesh.{mesh};

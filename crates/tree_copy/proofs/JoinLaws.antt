@@ -1,11 +1,10 @@
 -- Runs one after another from the front of an area on: two or three of them are the lists joined, over what was there. Assumes nothing.
-use Prim.Native.Nat.{ℕ, _+_, _*_, _≤_, _<_}
+use Prim.Native.Nat.{ℕ, _+_, _*_, _≤_}
 use native.Mathlib.Nat.{zero-add}
 use mathlib.Core.Path.{_≡_, refl, sym, ap, _∙_}
 use mathlib.Core.Bool.{Bool, true, false, cond}
 use mathlib.Core.List.{List, [], _∷_, _++_, append-assoc}
 use native.Mathlib.Omega.{arith}
-use lib.Ieee.{Float}
 use lib.ListN.{length, take, length-append}
 use lib.Seq.{sets, take-length}
 use Rattle.geometry.specs.declared.aabb.Aabb.{Aabb}

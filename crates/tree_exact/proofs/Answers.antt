@@ -21,7 +21,7 @@ use Rattle.geometry.specs.Box.{encloses}
 use Rattle.geometry.specs.Segment.{rayAdmitted}
 use Rattle.vectors.specs.declared.vec3.Vec3.{Vec3}
 use Rattle.geometry.specs.declared.ray.Ray.{Ray}
-use Rattle.casts.specs.Answer.{Answer, hit, refused, outOfBounds}
+use Rattle.casts.specs.Answer.{Answer, hit, refused, outOfBounds, outOfRange}
 use Rattle.casts.specs.Reach.{reachOf}
 use Rattle.casts.specs.declared.answer.Reach.the-variants.{Refused}
 use Rattle.casts.proofs.AnswerLists.{HitsAreNumbers, hit-not-refused}
@@ -30,7 +30,7 @@ use Rattle.exact_triangle.specs.Line.{Line}
 use Rattle.exact_triangle.specs.Grid.{units, within, allWithin, furthest, gridAdmitted, gridPoint, gridLine}
 use Rattle.exact_triangle.specs.Surface.{Surface}
 use Rattle.exact_triangle.proofs.Touching.{furthest-is}
-use Rattle.exact_triangle.specs.Reach.{outOfRange, cornersRead}
+use Rattle.exact_triangle.specs.Reach.{cornersRead}
 use Rattle.exact_triangle.specs.Cast.{gridTriangle}
 use Rattle.exact_triangle.specs.Certain.{Nearest}
 use Rattle.exact_triangle.proofs.Laws.{first-read, second-read, third-read}

@@ -12,7 +12,7 @@ use Rattle.lists.proofs.JoinedTests.{and-first, and-second, and-both}
 use Rattle.lists.proofs.RefusalLaws as Refusals
 use Rattle.geometry.specs.Segment.{rayAdmitted}
 use Rattle.geometry.specs.declared.ray.Ray.{Ray}
-use Rattle.casts.specs.Answer.{Answer, invalidInput, badShape, noRoom, wrongPose, outOfBounds}
+use Rattle.casts.specs.Answer.{Answer, invalidInput, badShape, noRoom, wrongPose, outOfBounds, outOfRange}
 use Rattle.casts.specs.Reach.{reachOf}
 use Rattle.casts.specs.declared.answer.Reach.the-variants.{At}
 use Rattle.nearest_hit.specs.Nearest.{Indexed, noHit, stopped, nextOf}
@@ -29,7 +29,6 @@ use Rattle.exact_triangle.specs.Grid.{gridAdmitted, gridLine}
 use Rattle.exact_triangle.specs.declared.view.View.{View}
 use Rattle.exact_triangle.specs.declared.view.Aim.{Aim}
 use Rattle.exact_triangle.specs.declared.view.Aim.the-variants.{On, Off}
-use Rattle.exact_triangle.specs.Reach.{outOfRange}
 use Rattle.exact_triangle.specs.View.{Shown, Viewed}
 use Rattle.tree_exact.specs.Onward.{Reached}
 use Rattle.tree_exact.specs.Opening.{opensNode}

@@ -17,11 +17,11 @@ use Rattle.arithmetic.specs.Basic.{isFinite, absolute}
 use Rattle.arithmetic.proofs.SignedOrder.{plus, less}
 use Rattle.arithmetic.proofs.SumOrder.{le-parts}
 use Rattle.arithmetic.proofs.ValueOrder.{lt-values}
+use Rattle.arithmetic.proofs.RoundingError.{closest-near}
 use Rattle.wide_integers.proofs.Integers.{neg-pp, neg-np}
 use Rattle.wide_integers.proofs.Polynomials.{own}
 use Rattle.wide_integers.proofs.Order.{le-rep}
 use Rattle.exact_triangle.specs.Grid.{units, signed, nearestTo, within, furthest, longest}
-use Rattle.exact_triangle.proofs.Millimetres.{closest-near}
 use Rattle.exact_triangle.proofs.Touching.{furthest-is, longest-is, signed-size}
 
 -- ---- the order

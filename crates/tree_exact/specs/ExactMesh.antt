@@ -9,7 +9,7 @@ use lib.ListN.{length}
 use Rattle.lists.specs.Refusals.{Test, refusing, unlessRefused, allPass}
 use Rattle.geometry.specs.Segment.{rayAdmitted}
 use Rattle.geometry.specs.declared.ray.Ray.{Ray}
-use Rattle.casts.specs.Answer.{invalidInput, badShape, noRoom, wrongPose}
+use Rattle.casts.specs.Answer.{invalidInput, badShape, noRoom, wrongPose, outOfRange}
 use Rattle.nearest_hit.specs.Nearest.{Indexed, stopped}
 use Rattle.tree.specs.Layout.{Tree}
 use Rattle.tree.specs.Mesh.{Mesh, thirds}
@@ -17,7 +17,6 @@ use Rattle.tree_query.specs.Query.{treeFits}
 use Rattle.mesh.specs.MeshCast.{shapeAdmitted}
 use Rattle.mesh.specs.Demand3.{PassesCheck}
 use Rattle.exact_triangle.specs.Grid.{gridAdmitted, gridLine}
-use Rattle.exact_triangle.specs.Reach.{outOfRange}
 use Rattle.tree_exact.specs.FirstWalk.{firstOf}
 use Rattle.tree_exact.specs.Opening.{opensNode}
 use Rattle.tree_exact.specs.Order.{leftFirst}

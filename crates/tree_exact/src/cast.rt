@@ -120,7 +120,7 @@ pub fn ray_mesh_exact(
     }
     let aim = view::view_of(ray);
     let Aim::On(line) = aim else {
-        return IndexedCast::Refused(triangle::OUT_OF_RANGE);
+        return IndexedCast::Refused(answer::OUT_OF_RANGE);
     };
     if !mesh_cast::shape_admitted(vertices.len(), triangles.len(), pose.len(), nodes) {
         return IndexedCast::Refused(answer::BAD_SHAPE);

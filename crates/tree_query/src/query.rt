@@ -1,14 +1,12 @@
 use crate::walk;
 use casts::answer;
 use geometry::aabb::Aabb;
-use index_sort::sort;
 use lists::fill;
 use tree::layout;
 use tree_walk::step::Filled;
 ghost use mathlib.Core.Path.{_≡_};
 ghost use mathlib.Core.Bool.{false};
 ghost use Prim.Native.Nat.{_≤_};
-ghost use lib.ListN.{length};
 ghost use Rattle.tree.specs.Layout.{treeOf};
 ghost use Rattle.tree_query.specs.Query.{saysListed, countsAdmitted, treeFits, walkFits, Queries};
 

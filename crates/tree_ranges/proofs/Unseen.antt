@@ -1,16 +1,16 @@
 -- The box of a plain range, and the extent of its centres, do not depend on the order of the range, and the box is the one around the
 -- boxes of its parts. Assumes nothing.
-use mathlib.Core.Path.{_≡_, refl, sym, ap, _∙_}
-use mathlib.Core.Bool.{Bool, true, false, _&&_, cond}
+use mathlib.Core.Path.{_≡_, refl, ap, _∙_}
+use mathlib.Core.Bool.{true, _&&_}
 use mathlib.Core.List.{List}
 use Prim.Native.Nat.{ℕ, _+_, _<_}
 use lib.ListN.{length}
-use lib.Ieee.{Float, isNan}
-use Rattle.lists.specs.Lists.{count, every, foldedAll}
+use lib.Ieee.{Float}
+use Rattle.lists.specs.Lists.{count, foldedAll}
 use Rattle.lists.proofs.CountLaws.{every-at, member-of-count}
 use Rattle.lists.proofs.JoinedTests.{and-first, and-second}
 use Rattle.arithmetic.specs.Extremes.{minimumOf, maximumOf}
-use Rattle.vectors.specs.Vector.{component, vector, subOf, minOf, maxOf}
+use Rattle.vectors.specs.Vector.{vector, subOf, minOf, maxOf}
 use Rattle.vectors.specs.declared.vec3.Vec3.{Vec3}
 use Rattle.geometry.specs.Box.{unionOf, centre}
 use Rattle.geometry.specs.declared.aabb.Aabb.{Aabb}

@@ -4,7 +4,7 @@ use arithmetic::scaling;
 use arithmetic::square_root;
 ghost use mathlib.Core.Path.{_≡_};
 ghost use mathlib.Core.Bool.{true, cond};
-ghost use Rattle.vectors.specs.Vector.{component, finiteVec, hasNumbers, Numbers, addOf, subOf, scaleOf, minOf, maxOf, absOf};
+ghost use Rattle.vectors.specs.Vector.{finiteVec, hasNumbers, Numbers, addOf, subOf, scaleOf, minOf, maxOf, absOf};
 ghost use Rattle.vectors.specs.Vector.{maxElement, dotOf, checkedDot, crossOf, normalizable, tellsLength, scaledToOne, overLength};
 ghost use Rattle.vectors.specs.Vector.{tryNormalize};
 ghost use Rattle.vectors.specs.declared.vec3.Normalized.the-variants.{Unit as UnitOf, Degenerate};

@@ -1,17 +1,17 @@
 -- The digits of a quotient, one at a time. Assumes nothing.
 use mathlib.Core.Path.{_≡_, refl, sym, ap, _∙_, subst}
-use mathlib.Core.Bool.{Bool, true, false, not}
+use mathlib.Core.Bool.{Bool, true, false}
 use Prim.Native.Nat.{ℕ, _+_, _-_, _*_, _%_, _^_, _≤_, _<_, compare, Ordering, Ordering·lt, Ordering·eq, Ordering·gt}
 use native.Mathlib.Nat.{not-le-of-lt, mul-one, lt-of-le-of-lt, lt-of-lt-of-le, le-of-lt, le-trans, mul-le-mul-left, mul-le-mul-right}
 use native.Mathlib.Numerals.{add-one}
 use native.Mathlib.Omega.{arith}
-use lib.Dec.{T, ltb, isLe, isEq, eqb, leb→le, nleb→lt, eqb→eq, eqb-refl}
-use lib.Arith.{lt-of-le-ne}
+use lib.Dec.{ltb}
 use lib.Ieee.{nearest}
-use lib.IntN.{ℤ, _+ℤ_, _-ℤ_}
+use lib.IntN.{_+ℤ_, _-ℤ_}
 use lib.Signed.{ltZ}
 use lib.Pow.{pow-add, pow-pos, pow-mono}
 use borrow.Author.Tests.{ltb-true, ltb-false}
+use Rattle.arithmetic.proofs.RoundingError.{cmp, Cmp}
 use Rattle.wide_integers.specs.declared.number.Wide.{Wide}
 use Rattle.wide_integers.specs.declared.division.Quotient.{Quotient}
 use Rattle.wide_integers.specs.Value.{zeroAt, value, Held}
@@ -251,19 +251,6 @@ dividing-last {d} {N} {i} {q} h l =
     exactly a b = omega (arith, a, b)
 
 -- ---- the digits, rounded
-abbrev Cmp : Ordering → ℕ → ℕ → Type 0
-Cmp Ordering·lt a b = a < b
-Cmp Ordering·eq a b = a ≡ b
-Cmp Ordering·gt a b = b < a
-
-cmp : (a b : ℕ) → Cmp (compare a b) a b
-cmp a b = go (compare a b) (leb→le a b) (nleb→lt a b) (eqb→eq a b) (λ (e : a ≡ b). subst (λ (x : ℕ). T (eqb a x)) e (eqb-refl a))
-  where
-    go : (o : Ordering) → (T (isLe o) → a ≤ b) → (T (not (isLe o)) → b < a) → (T (isEq o) → a ≡ b) → (a ≡ b → T (isEq o)) → Cmp o a b
-    go Ordering·lt h k e n = lt-of-le-ne (h tt) n
-    go Ordering·eq h k e n = e tt
-    go Ordering·gt h k e n = k tt
-
 rounds-down : (q R D : ℕ) (o : Ordering) → Cmp o (R * 2) D → R < D - R → q ≡ nearest q o
 rounds-down q R D Ordering·lt c h = refl
 rounds-down q R D Ordering·eq c h = absurd (omega (arith, c, h))

@@ -1,5 +1,5 @@
 -- Whole numbers with a sign as differences of natural numbers. Assumes nothing.
-use mathlib.Core.Path.{_≡_, refl, sym, ap, _∙_, subst}
+use mathlib.Core.Path.{_≡_, refl, ap}
 use mathlib.Core.Bool.{Bool, true, false, cond}
 use Prim.Native.Nat.{ℕ, zero, suc, _+_, _-_, _*_, _≤_, _<_}
 use native.Mathlib.Nat.{mul-pos, zero-lt-suc}
@@ -25,6 +25,10 @@ no-factor (suc n) d p h = absurd (omega (arith, h, mul-pos (zero-lt-suc n) p))
 pub size-is : (z : ℤ) → natAbs z ≡ pp z + np z
 size-is (pos n) = omega arith
 size-is (negsuc n) = omega arith
+
+pub size-zero : (z : ℤ) → natAbs z ≡ 0 → z ≡ pos 0
+size-zero (pos n) h = ap pos h
+size-zero (negsuc n) h = absurd (omega (arith, h))
 
 -- ---- negation
 pub neg-pp : (z : ℤ) → pp (negℤ z) ≡ np z

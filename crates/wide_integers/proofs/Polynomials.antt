@@ -1,6 +1,6 @@
 -- Equations of whole numbers, as equations of natural numbers: each whole number is written as a difference. Assumes nothing.
-use mathlib.Core.Path.{_≡_, refl, sym, ap, _∙_, subst}
-use Prim.Native.Nat.{ℕ, zero, suc, _+_, _-_, _*_, _≤_, _<_}
+use mathlib.Core.Path.{_≡_, refl, sym, ap, _∙_}
+use Prim.Native.Nat.{ℕ, suc, _+_, _*_}
 use native.Mathlib.Omega.{arith}
 use lib.IntN.{ℤ, pos, negsuc, negℤ, negℤ-negℤ, _+ℤ_, _-ℤ_, _*ℤ_, +ℤ-idl, +ℤ-negℤ-cancel, -ℤ-+ℤ-cancel}
 use Rattle.wide_integers.proofs.Integers.{pp, np, neg-pp, neg-np, add-parts, sub-parts, mul-parts}

@@ -1,7 +1,7 @@
 -- A whole number of the code is what the machine reads back from its bits, while it stays below 2^63. Assumes nothing.
-use mathlib.Core.Path.{_≡_, refl, sym, ap, _∙_, subst}
+use mathlib.Core.Path.{_≡_, sym, ap, _∙_, subst}
 use mathlib.Core.Bool.{Bool, true, false, cond}
-use Prim.Native.Nat.{ℕ, _+_, _*_, _≤_, _<_}
+use Prim.Native.Nat.{ℕ, _+_, _*_, _≤_}
 use native.Mathlib.Nat.{le-trans, le-of-eq, mul-le-mul-right, mul-comm}
 use native.Mathlib.Omega.{arith}
 use lib.Dec.{lit≤}
@@ -15,6 +15,10 @@ use Rattle.wide_integers.proofs.Integers.{add-size, sub-size, mul-size,
 
 abbrev pub bits : ℤ → ℤ
 bits z = toZ w64 (ofZ w64 z)
+
+-- what the machine reads back is the number
+pub bits-back : {z : ℤ} → SFits w64 z → bits z ≡ z
+bits-back {z} f = toZ-ofZ w64 z f
 
 mag-le : (z : ℤ) → mag z ≤ natAbs z
 mag-le (pos n) = omega arith
@@ -31,7 +35,7 @@ fits {z} h =
     record { sfits = omega (arith, m, n) }
 
 pub plain : {z : ℤ} → Fit z → bits z ≡ z
-plain {z} h = toZ-ofZ w64 z (fits h)
+plain h = bits-back (fits h)
 
 -- ---- sizes
 pub widen : {A B : ℕ} {z : ℤ} → Sized A z → A ≤ B → Sized B z
@@ -40,7 +44,7 @@ widen h l = record { size = le-trans (h .size) l }
 pub held-fit : {z : ℤ} → Held z → Fit z
 held-fit h = widen h (lit≤ tt)
 
-mul-le : (a b A B : ℕ) → a ≤ A → b ≤ B → a * b ≤ A * B
+pub mul-le : (a b A B : ℕ) → a ≤ A → b ≤ B → a * b ≤ A * B
 mul-le a b A B h g =
     le-trans (mul-le-mul-right b h) (le-trans (le-of-eq (mul-comm A b)) (le-trans (mul-le-mul-right A g) (le-of-eq (mul-comm B A))))
 

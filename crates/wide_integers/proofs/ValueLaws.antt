@@ -8,7 +8,7 @@ use Rattle.wide_integers.proofs.Integers.{pp, np}
 use Rattle.wide_integers.proofs.Polynomials.{Rep, own-pos, rep-sub, equal}
 use Rattle.wide_integers.specs.declared.number.Wide.{Wide}
 use Rattle.wide_integers.specs.Value.{base, half, zeroAt, raised, value, Held}
-use Rattle.wide_integers.proofs.Limbs.{three, top-least, top-most, whole-words}
+use Rattle.wide_integers.proofs.Limbs.{top-least, top-most, whole-words}
 
 -- a number of a size, as a difference
 pub rep-least : {z : ℤ} {p n : ℕ} → Rep z p n → (L : ℕ) → natAbs z < L → n < p + L

@@ -1,7 +1,4 @@
-ghost use mathlib.Core.Path.{_≡_};
 ghost use Prim.Native.Nat.{_+_, _*_, _≤_};
-ghost use lib.IntN.{pos, _-ℤ_};
-ghost use Rattle.wide_integers.specs.Value.{base};
 ghost use Rattle.wide_integers.specs.Steps.{Added, Taken, Multiplied, Parted};
 
 // The lowest 64 digits of a sum or a difference, and what passes them: 1 or 0.

@@ -6,13 +6,14 @@ use lib.Signed.{ltZ}
 use borrow.Author.Tests.{not-true, not-false}
 use mir.Syntax.{w64}
 use mir.Val.{SFits}
+use Rattle.lists.proofs.JoinedTests.{and-not-first}
 use Rattle.exact_depth.specs.declared.projection.Depth.{Depth}
 use Rattle.exact_depth.specs.declared.projection.Depth.the-variants.{Miss}
 use Rattle.wide_integers.specs.Determinant.{isZero}
 use Rattle.exact_depth.specs.FirstPoint.{crossing, coplanar, byWeights}
-use Rattle.wide_integers.proofs.Reading.{taken, left, negated-size}
+use Rattle.wide_integers.proofs.Reading.{taken, left, negated-size, bits-back}
 use Rattle.wide_integers.specs.Value.{value, Weight}
-use Rattle.exact_depth.proofs.Laws.{missed, finds-as, back, weight-negated}
+use Rattle.exact_depth.proofs.Laws.{missed, finds-as, weight-negated}
 use borrow.Author.Needs.{needs}
 use Rattle.exact_depth.proofs.depth.by_weights.Statement.{statement}
 use Rattle.exact_depth.proofs.depth.by_weights.Tie as tie
@@ -86,8 +87,8 @@ returns c =
     let v = s .args in
     finds-as (c .crossing .ensures)
     (taken (cond (ltZ (sum-of s) (pos 0)) (turned-over s) (flat s)) (above p true (e .if1 .taken))
-    (λ i. crossing (value (v .alpha)) (value (v .beta)) (value (v .gamma)) (back (depth-a s) i) (back (depth-b s) i) (back (depth-c s) i)
-    (back (s .fits .near) i) (back (s .fits .far) i)))
+    (λ i. crossing (value (v .alpha)) (value (v .beta)) (value (v .gamma)) (bits-back (depth-a s) i) (bits-back (depth-b s) i)
+    (bits-back (depth-c s) i) (bits-back (s .fits .near) i) (bits-back (s .fits .far) i)))
 
 returns-2 : tie.Need-returns-2
 unfolding byWeights
@@ -98,8 +99,8 @@ returns-2 c =
     finds-as (c .crossing2 .ensures)
     (left (straight s) (above p false (e .if1 .left))
     (taken (flat s) (below n true (d .if2 .taken))
-    (λ i. crossing (x .negate .ensures i) (y .negate2 .ensures i) (z .negate3 .ensures i) (back (depth-a s) i) (back (depth-b s) i)
-    (back (depth-c s) i) (back (s .fits .near) i) (back (s .fits .far) i))))
+    (λ i. crossing (x .negate .ensures i) (y .negate2 .ensures i) (z .negate3 .ensures i) (bits-back (depth-a s) i)
+    (bits-back (depth-b s) i) (bits-back (depth-c s) i) (bits-back (s .fits .near) i) (bits-back (s .fits .far) i))))
 
 -- past the two tests of the sum
 past : (d : tie.Else2) {r : Depth} → let s : tie.Start = search in r ≡ flat s
@@ -107,9 +108,6 @@ past : (d : tie.Else2) {r : Depth} → let s : tie.Start = search in r ≡ flat 
 past d f =
     let (s, p, e, n) : tie.Start × tie.After-is-positive × tie.Else1 × tie.After-is-negative = search in
     left (straight s) (above p false (e .if1 .left)) (left (turned-over s) (below n false (d .if2 .left)) f)
-
-first-not : (p q : Bool) → p ≡ false → (p && q) ≡ false
-first-not p q h = ap (λ (b : Bool). b && q) h
 
 second-not : (p q : Bool) → p ≡ true → q ≡ false → (p && q) ≡ false
 second-not p q h g = ap (λ (b : Bool). b && q) h ∙ g
@@ -122,7 +120,7 @@ unfolding byWeights
 returns-3 c =
     let (s, d, z) : tie.Start × tie.Else2 × tie.After-is-zero = search in
     missed (past d (left (level s)
-    (first-not _ _ (sym (z .is-zero .ensures) ∙ not-true _ (c .if3 .taken))) refl))
+    (and-not-first _ _ (sym (z .is-zero .ensures) ∙ not-true _ (c .if3 .taken))) refl))
 
 returns-4 : tie.Need-returns-4
 unfolding byWeights
@@ -141,7 +139,7 @@ returns-5 c =
     (past d
     (taken Miss
     (both-yes (sym (z .is-zero .ensures) ∙ not-false _ (g .if3 .left)) (sym (y .is-zero2 .ensures) ∙ not-false _ (l .if4 .left)))
-    (λ i. coplanar (v .a) (v .b) (v .c) (back (s .fits .near) i) (back (s .fits .far) i))))
+    (λ i. coplanar (v .a) (v .b) (v .c) (bits-back (s .fits .near) i) (bits-back (s .fits .far) i))))
 
 pub by-weights-spec : {M : Type 1} → statement M
 by-weights-spec =

@@ -1,13 +1,13 @@
 -- `exact_depth::depth::crossing` meets its contract. Assumes nothing.
-use mathlib.Core.Path.{_≡_, refl, sym, ap, _∙_, subst}
-use mathlib.Core.Bool.{Bool, true, false}
-use lib.IntN.{ℤ, pos, _+ℤ_, _*ℤ_}
+use mathlib.Core.Path.{_≡_, sym, _∙_, subst}
+use mathlib.Core.Bool.{false}
+use lib.IntN.{pos, _+ℤ_, _*ℤ_}
 use lib.Signed.{ltZ}
 use Rattle.exact_depth.specs.declared.projection.Depth.the-variants.{Miss}
 use Rattle.exact_depth.specs.FirstPoint.{kept, crossing}
-use Rattle.wide_integers.proofs.Reading.{left}
+use Rattle.wide_integers.proofs.Reading.{left, bits-back}
 use Rattle.wide_integers.specs.Value.{value, Middling}
-use Rattle.exact_depth.proofs.Laws.{missed, finds-as, back, weights-middling}
+use Rattle.exact_depth.proofs.Laws.{missed, finds-as, weights-middling}
 use borrow.Author.Needs.{needs}
 use Rattle.exact_depth.proofs.depth.crossing.Statement.{statement}
 use Rattle.exact_depth.proofs.depth.crossing.Tie as tie
@@ -57,9 +57,9 @@ returns-4 c =
     let told = signs g in
     finds-as (c .kept .ensures)
     (left Miss (told .0) (left Miss (told .1) (left Miss (told .2)
-    ((λ i. kept (record { t = k .weighted .ensures i; w = l .total .ensures i }) (back (s .fits .near) i) (back (s .fits .far) i))
+    ((λ i. kept (record { t = k .weighted .ensures i; w = l .total .ensures i }) (bits-back (s .fits .near) i) (bits-back (s .fits .far) i))
     ∙ (λ i. kept (record {
-      t = value (v .a) *ℤ back (s .fits .x) i +ℤ value (v .b) *ℤ back (s .fits .y) i +ℤ value (v .c) *ℤ back (s .fits .z) i;
+      t = value (v .a) *ℤ bits-back (s .fits .x) i +ℤ value (v .b) *ℤ bits-back (s .fits .y) i +ℤ value (v .c) *ℤ bits-back (s .fits .z) i;
       w = value (v .a) +ℤ value (v .b) +ℤ value (v .c);
     }) (v .near) (v .far))))))
 

@@ -1,13 +1,13 @@
 -- `exact_depth::depth::first_point` meets its contract. Assumes nothing.
-use mathlib.Core.Path.{_≡_, refl, sym, ap, _∙_, subst}
+use mathlib.Core.Path.{_≡_, sym, subst}
 use lib.IntN.{ℤ}
 use Rattle.exact_depth.specs.declared.projection.Projected.{Projected}
 use Rattle.wide_integers.specs.Determinant.{determinant}
 use Rattle.exact_depth.specs.FirstPoint.{seenDeterminant, byWeights, firstPoint}
-use Rattle.wide_integers.proofs.Reading.{bits, fits, held-fit}
-use Rattle.wide_integers.specs.Value.{value, Weight}
+use Rattle.wide_integers.proofs.Reading.{bits, fits, held-fit, bits-back}
+use Rattle.wide_integers.specs.Value.{Weight}
 use Rattle.exact_depth.specs.Sizes.{Close}
-use Rattle.exact_depth.proofs.Laws.{finds-as, back, determinant-back, seen-weight}
+use Rattle.exact_depth.proofs.Laws.{finds-as, determinant-back, seen-weight}
 use borrow.Author.Needs.{needs}
 use Rattle.exact_depth.proofs.depth.first_point.Statement.{statement}
 use Rattle.exact_depth.proofs.depth.first_point.Tie as tie
@@ -53,8 +53,8 @@ returns c =
     finds-as (c .by-weights .ensures)
     (λ i. byWeights (v .a) (v .b) (v .c) (told (h .1 .0) (h .1 .1) (first-of z .determinant .ensures) i)
     (told (h .1 .1) (h .0) (second-of z .determinant2 .ensures) i) (told (h .0) (h .1 .0) (z .determinant3 .ensures) i)
-    (back (s .fits .near) i)
-    (back (s .fits .far) i))
+    (bits-back (s .fits .near) i)
+    (bits-back (s .fits .far) i))
 
 pub first-point-spec : {M : Type 1} → statement M
 first-point-spec =

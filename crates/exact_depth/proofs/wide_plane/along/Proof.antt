@@ -1,22 +1,20 @@
 -- `exact_depth::wide_plane::along` meets its contract. Assumes nothing.
-use mathlib.Core.Path.{_≡_, refl, sym, ap, _∙_, subst}
-use mathlib.Core.Bool.{Bool, true, false, not}
+use mathlib.Core.Path.{_≡_, refl, sym, _∙_}
+use mathlib.Core.Bool.{Bool, true, false}
 use lib.IntN.{ℤ, pos}
 use mir.Syntax.{w64}
 use mir.Val.{SFits}
 use borrow.Author.Tests.{not-true, not-false}
 use Rattle.exact_depth.specs.declared.projection.Fraction.{Fraction}
-use Rattle.exact_depth.specs.declared.projection.Depth.{Depth}
 use Rattle.exact_depth.specs.declared.projection.Depth.the-variants.{Miss}
 use Rattle.exact_depth.specs.declared.plane.PlanePoint.{PlanePoint}
 use Rattle.exact_depth.specs.declared.plane.Side.{Side}
 use Rattle.exact_depth.specs.FirstPoint.{kept, sideOf, entering, inside, entry, alongPlane}
-use Rattle.wide_integers.proofs.Reading.{bits, taken, left}
-use Rattle.wide_integers.specs.declared.number.Wide.{Wide}
-use Rattle.wide_integers.specs.Value.{value, Middling}
-use Rattle.exact_depth.specs.Answer.{pointOf, sideAs, momentOf}
+use Rattle.wide_integers.proofs.Reading.{taken, left, bits-back}
+use Rattle.wide_integers.specs.Value.{value}
+use Rattle.exact_depth.specs.Answer.{pointOf, momentOf}
 use Rattle.exact_depth.specs.Sizes.{Bounded, Shallow}
-use Rattle.exact_depth.proofs.Laws.{missed, finds-as, back, side-bounded, entering-shallow, start-shallow, word-told, word-middling}
+use Rattle.exact_depth.proofs.Laws.{missed, finds-as, side-bounded, entering-shallow, start-shallow, word-told, word-middling}
 use borrow.Author.Needs.{needs}
 use Rattle.exact_depth.proofs.wide_plane.along.Statement.{statement}
 use Rattle.exact_depth.proofs.wide_plane.along.Tie as tie
@@ -87,7 +85,7 @@ entry-is m =
     × tie.After-entering × tie.After-entering2 = search in
     let v = s .args in
     entered (pointOf (v .a)) (pointOf (v .b)) (pointOf (v .c)) (v .near) _ _ _ (record { t = value (o .of-i64 .result); w = pos 1 }) _ _ _
-    (λ i. record { t = (o .of-i64 .ensures ∙ back (s .fits .near)) i; w = pos 1 }) (d .side-of .ensures) (e .side-of2 .ensures)
+    (λ i. record { t = (o .of-i64 .ensures ∙ bits-back (s .fits .near)) i; w = pos 1 }) (d .side-of .ensures) (e .side-of2 .ensures)
     (g .side-of3 .ensures) (k .entering .ensures) (l .entering2 .ensures) (m .entering3 .ensures)
 
 entering-requires : tie.Need-entering-requires
@@ -142,7 +140,7 @@ returns-2 c =
     finds-as (c .kept .ensures)
     (taken Miss (test-told i true (not-false _ (e .if1 .left)))
     ((λ j. kept (record { t = value (m .entering3 .result .t); w = word-told (shallow₃ m .w) (o .of-i642 .ensures) j })
-    (back (s .fits .near) j) (back (s .fits .far) j))
+    (bits-back (s .fits .near) j) (bits-back (s .fits .far) j))
     ∙ (λ j. kept (entry-is m j) (s .args .near) (s .args .far))))
 
 pub along-spec : {M : Type 1} → statement M

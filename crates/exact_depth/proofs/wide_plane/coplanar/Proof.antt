@@ -1,16 +1,15 @@
 -- `exact_depth::wide_plane::coplanar` meets its contract. Assumes nothing.
-use mathlib.Core.Path.{_≡_, refl, sym, ap, _∙_, subst}
-use lib.IntN.{ℤ}
+use mathlib.Core.Path.{_≡_, sym, _∙_, subst}
 use Rattle.exact_depth.specs.declared.projection.Projected.{Projected}
-use Rattle.exact_depth.specs.declared.projection.Depth.{Depth}
 use Rattle.exact_depth.specs.declared.projection.Depth.the-variants.{Miss}
 use Rattle.exact_depth.specs.declared.plane.PlanePoint.{PlanePoint}
 use Rattle.wide_integers.specs.Sizes.{Held}
 use Rattle.exact_depth.specs.FirstPoint.{acrossPoint, upPoint, inPlane, coplanar}
+use Rattle.wide_integers.proofs.Reading.{bits-back}
 use Rattle.exact_depth.specs.declared.wide_plane.Corner.{Corner}
 use Rattle.exact_depth.specs.Answer.{pointOf}
 use Rattle.exact_depth.specs.Sizes.{Close, Flat}
-use Rattle.exact_depth.proofs.Laws.{finds-as, back}
+use Rattle.exact_depth.proofs.Laws.{finds-as}
 use borrow.Author.Needs.{needs}
 use Rattle.exact_depth.proofs.wide_plane.coplanar.Statement.{statement}
 use Rattle.exact_depth.proofs.wide_plane.coplanar.Tie as tie
@@ -51,8 +50,8 @@ unfolding coplanar
 returns c =
     let (s, x, y, z, u, v, w, k) : tie.Start × tie.After-up-point × tie.After-up-point2 × tie.After-up-point3 × tie.After-across-point
     × tie.After-across-point2 × tie.After-across-point3 × tie.After-in-plane = search in
-    let n = back (s .fits .near) in
-    let f = back (s .fits .far) in
+    let n = bits-back (s .fits .near) in
+    let f = bits-back (s .fits .far) in
     finds-as (c .in-plane2 .ensures)
     ((λ i. inPlane (u .across-point .ensures i) (v .across-point2 .ensures i) (w .across-point3 .ensures i) (n i) (f i)
     (k .in-plane .ensures .is i))

@@ -1,7 +1,7 @@
 -- `exact_depth::wide_plane::entering` meets its contract. Assumes nothing.
 use mathlib.Core.Path.{_≡_, refl}
 use mathlib.Core.Bool.{Bool, true, false}
-use lib.IntN.{ℤ, pos}
+use lib.IntN.{pos}
 use lib.Signed.{ltZ}
 use Rattle.exact_depth.specs.FirstPoint.{enterAt, entering}
 use Rattle.wide_integers.proofs.Reading.{bits, plain, below-read, taken, left}

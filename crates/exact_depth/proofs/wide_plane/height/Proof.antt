@@ -1,6 +1,5 @@
 -- `exact_depth::wide_plane::height` meets its contract. Assumes nothing.
-use mathlib.Core.Path.{_≡_, sym, _∙_, subst}
-use lib.IntN.{ℤ}
+use mathlib.Core.Path.{sym, _∙_, subst}
 use Rattle.wide_integers.specs.Value.{value, Held}
 use Rattle.exact_depth.proofs.Laws.{height-told, height-held, weight-middling}
 use Rattle.exact_depth.proofs.wide_plane.height.Statement.{statement}

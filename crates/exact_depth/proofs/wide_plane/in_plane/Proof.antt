@@ -5,9 +5,9 @@ use lib.IntN.{ℤ, pos}
 use lib.Signed.{ltZ}
 use Rattle.exact_depth.specs.declared.projection.Depth.{Depth}
 use Rattle.exact_depth.specs.FirstPoint.{area, alongPlane, inPlane}
-use Rattle.wide_integers.proofs.Reading.{taken, left}
+use Rattle.wide_integers.proofs.Reading.{taken, left, bits-back}
 use Rattle.exact_depth.specs.Answer.{pointOf, answerOf}
-use Rattle.exact_depth.proofs.Laws.{finds-as, back}
+use Rattle.exact_depth.proofs.Laws.{finds-as}
 use borrow.Author.Needs.{needs}
 use Rattle.exact_depth.proofs.wide_plane.in_plane.Statement.{statement}
 use Rattle.exact_depth.proofs.wide_plane.in_plane.Tie as tie
@@ -40,7 +40,7 @@ returns c =
     let v = s .args in
     finds-as (c .along .ensures)
     (taken (cond (ltZ (area-as s) (pos 0)) (other-way s) (answerOf (v .other))) (above p true (e .if1 .taken))
-    (λ i. alongPlane (pointOf (v .a)) (pointOf (v .b)) (pointOf (v .c)) (back (s .fits .near) i) (back (s .fits .far) i)))
+    (λ i. alongPlane (pointOf (v .a)) (pointOf (v .b)) (pointOf (v .c)) (bits-back (s .fits .near) i) (bits-back (s .fits .far) i)))
 
 returns-2 : tie.Need-returns-2
 unfolding inPlane
@@ -50,7 +50,7 @@ returns-2 c =
     finds-as (c .along2 .ensures)
     (left (one-way s) (above p false (e .if1 .left))
     (taken (answerOf (v .other)) (below n true (d .if2 .taken))
-    (λ i. alongPlane (pointOf (v .a)) (pointOf (v .c)) (pointOf (v .b)) (back (s .fits .near) i) (back (s .fits .far) i))))
+    (λ i. alongPlane (pointOf (v .a)) (pointOf (v .c)) (pointOf (v .b)) (bits-back (s .fits .near) i) (bits-back (s .fits .far) i))))
 
 returns-3 : tie.Need-returns-3
 unfolding inPlane

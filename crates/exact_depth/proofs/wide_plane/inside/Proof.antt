@@ -1,10 +1,9 @@
 -- `exact_depth::wide_plane::inside` meets its contract. Assumes nothing.
-use mathlib.Core.Path.{_≡_, refl, sym, ap, _∙_}
+use mathlib.Core.Path.{_≡_, sym, ap, _∙_}
 use mathlib.Core.Bool.{Bool, true, false, not, _&&_}
 use lib.IntN.{ℤ, pos}
 use lib.Signed.{ltZ, leZ}
 use Rattle.exact_depth.specs.FirstPoint.{heightOf, inside}
-use Rattle.wide_integers.specs.Value.{value}
 use Rattle.exact_depth.specs.Answer.{sideAs, momentOf}
 use borrow.Author.Needs.{needs}
 use Rattle.exact_depth.proofs.wide_plane.inside.Statement.{statement}

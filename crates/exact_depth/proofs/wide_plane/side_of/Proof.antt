@@ -1,5 +1,4 @@
 -- `exact_depth::wide_plane::side_of` meets its contract. Assumes nothing.
-use mathlib.Core.Path.{_≡_}
 use mir.Syntax.{w64}
 use mir.Val.{SFits}
 use Rattle.exact_depth.specs.FirstPoint.{sideOf}

@@ -1,7 +1,7 @@
 -- `exact_depth::wide_projection::kept` meets its contract. Assumes nothing.
-use mathlib.Core.Path.{_≡_, refl}
+use mathlib.Core.Path.{_≡_}
 use mathlib.Core.Bool.{Bool, true, false}
-use lib.IntN.{ℤ, _*ℤ_}
+use lib.IntN.{_*ℤ_}
 use lib.Signed.{ltZ}
 use Rattle.exact_depth.specs.FirstPoint.{kept}
 use Rattle.wide_integers.specs.Value.{value}

@@ -1,10 +1,11 @@
 -- `exact_triangle::cast::exact_reach` meets its contract. Assumes nothing.
 use mathlib.Core.Path.{refl, subst}
 use Rattle.casts.specs.declared.answer.Reach.the-variants.{Refused}
+use Rattle.casts.specs.Answer.{outOfRange}
 use Rattle.wide_integers.proofs.Reading.{taken, left}
 use Rattle.exact_triangle.specs.Grid.{gridLine}
 use Rattle.exact_triangle.specs.View.{Viewed, Shown}
-use Rattle.exact_triangle.specs.Reach.{outOfRange, cornersReach, gridReach}
+use Rattle.exact_triangle.specs.Reach.{cornersReach, gridReach}
 use borrow.Author.Needs.{needs}
 use Rattle.exact_triangle.proofs.cast.exact_reach.Statement.{statement}
 use Rattle.exact_triangle.proofs.cast.exact_reach.Tie as tie

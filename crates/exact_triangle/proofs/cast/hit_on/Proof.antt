@@ -1,9 +1,9 @@
 -- `exact_triangle::cast::hit_on` meets its contract. Assumes nothing.
 use mathlib.Core.Path.{refl, _∙_, subst}
-use Rattle.casts.specs.Answer.{refused}
+use Rattle.casts.specs.Answer.{refused, outOfRange}
 use Rattle.wide_integers.proofs.Reading.{taken, left}
 use Rattle.exact_triangle.specs.Normal.{crossOf}
-use Rattle.exact_triangle.specs.Reach.{outOfRange, Boarded, OnBoard}
+use Rattle.exact_triangle.specs.Reach.{Boarded, OnBoard}
 use Rattle.exact_triangle.specs.Cast.{gridNormal, crossAt, gridHit}
 use borrow.Author.Needs.{needs}
 use Rattle.exact_triangle.proofs.cast.hit_on.Statement.{statement}

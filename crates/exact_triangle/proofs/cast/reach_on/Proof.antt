@@ -3,13 +3,14 @@ use mathlib.Core.Path.{_≡_, refl, sym, ap, _∙_, subst}
 use lib.Ieee.{Float}
 use Rattle.geometry.specs.Box.{corner}
 use Rattle.casts.specs.declared.answer.Reach.the-variants.{At, Refused}
+use Rattle.casts.specs.Answer.{outOfRange}
 use Rattle.wide_integers.proofs.Reading.{taken, left}
 use Rattle.exact_depth.specs.declared.wide_projection.Found.{Found}
 use Rattle.exact_depth.specs.Answer.{answerOf, Narrow}
 use Rattle.exact_triangle.specs.Line.{Line}
 use Rattle.exact_triangle.specs.Grid.{gridPoint, gridLine}
 use Rattle.exact_triangle.specs.Shear.{gain, inUnits, depthOf}
-use Rattle.exact_triangle.specs.Reach.{outOfRange, Boarded, OnBoard, reachAt, cornersReach}
+use Rattle.exact_triangle.specs.Reach.{Boarded, OnBoard, reachAt, cornersReach}
 use Rattle.exact_triangle.specs.View.{Sees}
 use borrow.Author.Needs.{needs}
 use Rattle.exact_triangle.proofs.cast.reach_on.Statement.{statement}

@@ -45,10 +45,6 @@ determinant-requires-3 c κs =
     let f = y .from2 .ensures .1 in
     asked (e .x) (e .y) (f .x) (f .y)
 
--- the edges
-abbrev first-of : tie.After-determinant → tie.After-from
-first-of t = search
-
 first-is : (t : tie.After-determinant) → let (s, x, y) : tie.Start × tie.After-from × tie.After-from2 = search in
     t .determinant .result ≡ determinant (x .from .result .y) (x .from .result .z) (y .from2 .result .y) (y .from2 .result .z)
 first-is t =

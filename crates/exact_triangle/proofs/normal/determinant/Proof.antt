@@ -1,7 +1,7 @@
 -- `exact_triangle::normal::determinant` meets its contract. Assumes nothing.
 use mathlib.Core.Path.{_≡_, sym, subst}
 use lib.Dec.{lit≤}
-use lib.IntN.{ℤ, _-ℤ_, _*ℤ_}
+use lib.IntN.{_-ℤ_, _*ℤ_}
 use Rattle.wide_integers.specs.Sizes.{Sized}
 use Rattle.wide_integers.specs.Determinant.{determinant}
 use Rattle.wide_integers.proofs.Reading.{bits, widen, product-size, difference-size, sub-fits, sub-read}

@@ -1,13 +1,12 @@
 -- `exact_triangle::normal::dot` meets its contract. Assumes nothing.
 use mathlib.Core.Path.{_≡_, sym, subst, _∙_}
 use lib.Dec.{lit<}
-use lib.IntN.{ℤ, _+ℤ_, _*ℤ_}
+use lib.IntN.{_+ℤ_, _*ℤ_}
 use mir.Syntax.{w64}
 use mir.Val.{SFits}
-use Rattle.wide_integers.proofs.Reading.{product-size, sum-size}
+use Rattle.wide_integers.proofs.Reading.{product-size, sum-size, bits-back}
 use Rattle.wide_integers.specs.Value.{value, Held}
 use Rattle.wide_integers.proofs.OperationLaws.{held, word-size}
-use Rattle.exact_depth.proofs.Laws.{back}
 use borrow.Author.Needs.{needs}
 use Rattle.exact_triangle.proofs.normal.dot.Statement.{statement}
 use Rattle.exact_triangle.proofs.normal.dot.Tie as tie
@@ -35,8 +34,8 @@ pair-is : (k : tie.After-product2) → let (s, x) : tie.Start × tie.After-produ
     value (x .product .result) +ℤ value (k .product2 .result) ≡ s .args .n .x *ℤ s .args .p .x +ℤ s .args .n .y *ℤ s .args .p .y
 pair-is k =
     let (s, x) : tie.Start × tie.After-product = search in
-    (λ i. (x .product .ensures ∙ (λ j. back (nx s) j *ℤ back (px s) j)) i
-    +ℤ (k .product2 .ensures ∙ (λ j. back (ny s) j *ℤ back (py s) j)) i)
+    (λ i. (x .product .ensures ∙ (λ j. bits-back (nx s) j *ℤ bits-back (px s) j)) i
+    +ℤ (k .product2 .ensures ∙ (λ j. bits-back (ny s) j *ℤ bits-back (py s) j)) i)
 
 sum-requires : tie.Need-sum-requires
 sum-requires c κs =
@@ -49,7 +48,7 @@ all-is : (k : tie.After-product3) → let (s, t) : tie.Start × tie.After-sum = 
     ≡ s .args .n .x *ℤ s .args .p .x +ℤ s .args .n .y *ℤ s .args .p .y +ℤ s .args .n .z *ℤ s .args .p .z
 all-is k =
     let (s, t, y) : tie.Start × tie.After-sum × tie.After-product2 = search in
-    (λ i. (t .sum .ensures ∙ pair-is y) i +ℤ (k .product3 .ensures ∙ (λ j. back (nz s) j *ℤ back (pz s) j)) i)
+    (λ i. (t .sum .ensures ∙ pair-is y) i +ℤ (k .product3 .ensures ∙ (λ j. bits-back (nz s) j *ℤ bits-back (pz s) j)) i)
 
 sum-requires-2 : tie.Need-sum-requires-2
 sum-requires-2 c κs =

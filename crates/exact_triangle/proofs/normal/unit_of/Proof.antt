@@ -4,8 +4,8 @@ use lib.Ieee.{binary64, ofInt}
 use mir.Syntax.{w64}
 use mir.Val.{SFits}
 use Rattle.vectors.specs.Vector.{tryNormalize}
-use Rattle.exact_depth.proofs.Laws.{back}
 use borrow.Author.Needs.{needs}
+use Rattle.wide_integers.proofs.Reading.{bits-back}
 use Rattle.exact_triangle.proofs.normal.unit_of.Statement.{statement}
 use Rattle.exact_triangle.proofs.normal.unit_of.Tie as tie
 
@@ -23,9 +23,9 @@ returns c =
     let (s, x, y, z) : tie.Start × tie.After-nearest-i64-to-f64 × tie.After-nearest-i64-to-f642 × tie.After-nearest-i64-to-f643 = search in
     c .normalize .ensures
     ∙ (λ i. tryNormalize (record {
-      x = (x .nearest-i64-to-f64 .ensures ∙ ap (ofInt binary64) (back (fits-x s))) i;
-      y = (y .nearest-i64-to-f642 .ensures ∙ ap (ofInt binary64) (back (fits-y s))) i;
-      z = (z .nearest-i64-to-f643 .ensures ∙ ap (ofInt binary64) (back (fits-z s))) i;
+      x = (x .nearest-i64-to-f64 .ensures ∙ ap (ofInt binary64) (bits-back (fits-x s))) i;
+      y = (y .nearest-i64-to-f642 .ensures ∙ ap (ofInt binary64) (bits-back (fits-y s))) i;
+      z = (z .nearest-i64-to-f643 .ensures ∙ ap (ofInt binary64) (bits-back (fits-z s))) i;
     }))
 
 pub unit-of-spec : {M : Type 1} → statement M

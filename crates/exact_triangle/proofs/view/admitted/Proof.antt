@@ -1,8 +1,8 @@
 -- `exact_triangle::view::admitted` meets its contract. Assumes nothing.
-use Rattle.lists.proofs.JoinedTests.{test-passed, test-failed}
+use Rattle.lists.proofs.JoinedTests.{test-passed, test-failed, first-fails, second-fails, third-fails}
 use mathlib.Core.Bool.{Bool}
 use Rattle.exact_triangle.specs.Grid.{within, allWithin, furthest, two, longest, gridAdmitted}
-use Rattle.exact_triangle.proofs.Laws.{off-one, off-two, off-three, four-tells}
+use Rattle.exact_triangle.proofs.Laws.{four-tells}
 use borrow.Author.Needs.{needs}
 use Rattle.exact_triangle.proofs.view.admitted.Statement.{statement}
 use Rattle.exact_triangle.proofs.view.admitted.Tie as tie
@@ -24,21 +24,21 @@ returns : tie.Need-returns
 unfolding gridAdmitted
 returns c =
     let (s, w) : tie.Start × tie.After-all-within = search in
-    off-one (first s) (second s) (third s) (fourth s)
+    first-fails (first s) (second s) (third s) (fourth s)
     (test-failed (w .all-within .ensures) (c .if1 .taken))
 
 returns-2 : tie.Need-returns-2
 unfolding gridAdmitted
 returns-2 c =
     let (s, w, e, u) : tie.Start × tie.After-all-within × tie.Else1 × tie.After-all-within2 = search in
-    off-two (first s) (second s) (third s) (fourth s)
+    second-fails (first s) (second s) (third s) (fourth s)
     (test-passed (w .all-within .ensures) (e .if1 .left)) (test-failed (u .all-within2 .ensures) (c .if2 .taken))
 
 returns-3 : tie.Need-returns-3
 unfolding gridAdmitted
 returns-3 c =
     let (s, w, e, u, d, n) : tie.Start × tie.After-all-within × tie.Else1 × tie.After-all-within2 × tie.Else2 × tie.After-within = search in
-    off-three (first s) (second s) (third s) (fourth s)
+    third-fails (first s) (second s) (third s) (fourth s)
     (test-passed (w .all-within .ensures) (e .if1 .left)) (test-passed (u .all-within2 .ensures) (d .if2 .left))
     (test-failed (n .within .ensures) (c .if3 .taken))
 

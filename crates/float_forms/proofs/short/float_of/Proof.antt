@@ -1,6 +1,7 @@
 -- `float_forms::short::float_of` meets its contract. Assumes nothing.
 use mathlib.Core.Path.{sym, _∙_}
-use Rattle.float_forms.proofs.Shorts.{zero-over-zero, nan-pattern, number-pattern, widens}
+use Rattle.arithmetic.proofs.RootCases.{zero-over-zero}
+use Rattle.float_forms.proofs.Shorts.{nan-pattern, number-pattern, widens}
 use borrow.Author.Needs.{needs}
 use Rattle.float_forms.proofs.short.float_of.Statement.{statement}
 use Rattle.float_forms.proofs.short.float_of.Tie as tie

@@ -3,7 +3,8 @@ use Prim.Native.Nat.{ℕ, _<_, _%_}
 use mathlib.Core.Path.{_≡_, sym, subst}
 use lib.Dec.{T}
 use lib.Ieee.{binary32, binary64, toBits, ofBits}
-use Rattle.float_forms.proofs.Shorts.{nan-unheld, number, nan-guess, number-pattern, pattern-number, widens, other-guess}
+use Rattle.arithmetic.proofs.Order.{ne-self-passes}
+use Rattle.float_forms.proofs.Shorts.{nan-unheld, nan-guess, number-pattern, pattern-number, widens, other-guess}
 use Rattle.float_forms.proofs.Shorts.{right-guess}
 use borrow.Author.Needs.{needs}
 use Rattle.float_forms.proofs.short.short_of.Statement.{statement}
@@ -13,7 +14,7 @@ returns : tie.Need-returns
 returns c = nan-unheld (c .before .args .x) (c .if1 .taken)
 
 float-to-bits-bits : tie.Need-float-to-bits-bits
-float-to-bits-bits c = number (c .before .args .x) (c .if1 .left)
+float-to-bits-bits c = ne-self-passes (c .before .args .x) (c .if1 .left)
 
 -- the guess is a NaN's pattern
 returns-2 : tie.Need-returns-2

@@ -4,8 +4,8 @@ use mathlib.Core.Bool.{_&&_}
 use Prim.Native.Nat.{_+_, _%_}
 use lib.Dec.{eqb, leb}
 use Rattle.merge.specs.Merge.{shapesFit}
-use Rattle.merge.proofs.TestLaws.{first-fails, second-fails, third-fails, fourth-told}
-use Rattle.lists.proofs.JoinedTests.{test-passed, test-failed}
+use Rattle.merge.proofs.TestLaws.{fourth-told}
+use Rattle.lists.proofs.JoinedTests.{test-passed, test-failed, first-fails, second-fails, third-fails}
 use borrow.Author.Needs.{needs}
 use Rattle.merge.proofs.testing.shapes_fit.Statement.{statement}
 use Rattle.merge.proofs.testing.shapes_fit.Tie as tie

@@ -1,6 +1,5 @@
 -- `mesh_exact::bounds::greater` meets its contract. Assumes nothing.
-use Rattle.wide_integers.proofs.Reading.{taken, left}
-use Rattle.exact_depth.proofs.Laws.{back}
+use Rattle.wide_integers.proofs.Reading.{taken, left, bits-back}
 use Rattle.exact_triangle.proofs.Laws.{least-read}
 use Rattle.mesh_exact.proofs.bounds.greater.Statement.{statement}
 use Rattle.mesh_exact.proofs.bounds.greater.Tie as tie
@@ -9,12 +8,12 @@ use Rattle.mesh_exact.proofs.bounds.greater.Tie as tie
 returns : tie.Need-returns
 returns c =
     let s : tie.Start = search in
-    taken (s .args .x) (least-read (back (s .fits .x)) (back (s .fits .y)) (c .if1 .taken)) (back (s .fits .y))
+    taken (s .args .x) (least-read (bits-back (s .fits .x)) (bits-back (s .fits .y)) (c .if1 .taken)) (bits-back (s .fits .y))
 
 returns-2 : tie.Need-returns-2
 returns-2 c =
     let s : tie.Start = search in
-    left (s .args .y) (least-read (back (s .fits .x)) (back (s .fits .y)) (c .if1 .left)) (back (s .fits .x))
+    left (s .args .y) (least-read (bits-back (s .fits .x)) (bits-back (s .fits .y)) (c .if1 .left)) (bits-back (s .fits .x))
 
 pub greater-spec : {M : Type 1} → statement M
 greater-spec =

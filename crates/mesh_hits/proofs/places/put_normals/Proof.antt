@@ -3,7 +3,7 @@ use Prim.Native.Nat.{_-_}
 use mathlib.Core.Path.{sym, ap, _∙_}
 use Rattle.casts.specs.declared.answer.Reach.the-variants.{At}
 use native.Mathlib.Omega.{arith}
-use Rattle.tree.specs.Mesh.{thirds, triangleAnswer}
+use Rattle.tree.specs.Mesh.{triangleAnswer}
 use Rattle.tree.proofs.Corners.{hit-inside, hit-answer}
 use Rattle.mesh_hits.proofs.Putting.{Putting, putting-begins, distance-stands, putting-goes, putting-ends}
 use borrow.Author.Needs.{needs}

@@ -1,7 +1,7 @@
 -- `nearest_hit::deferred::next_at` meets its contract. Assumes nothing.
 use mathlib.Core.Path.{sym, ap, _∙_}
 use Rattle.arithmetic.proofs.Order.{ne-self-is-nan}
-use Rattle.vectors.specs.Vector.{dotOf, normalizable}
+use Rattle.vectors.specs.Vector.{normalizable}
 use Rattle.vectors.proofs.NormalLaws.{told-direction, between-tells}
 use Rattle.nearest_hit.specs.Nearest.{nextOf}
 use Rattle.nearest_hit.specs.Deferred.{saysNear, facedIndexed}

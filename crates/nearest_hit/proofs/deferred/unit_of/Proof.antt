@@ -1,6 +1,5 @@
 -- `nearest_hit::deferred::unit_of` meets its contract. Assumes nothing.
-use mathlib.Core.Path.{sym, ap, _∙_}
-use Rattle.arithmetic.specs.Root.{rootOf}
+use mathlib.Core.Path.{sym, _∙_}
 use Rattle.vectors.specs.Vector.{overLength, lengthOf}
 use Rattle.vectors.proofs.NormalLaws.{between-tells}
 use Rattle.nearest_hit.proofs.DeferredLaws.{unit-told, unit-there, unit-by-length}

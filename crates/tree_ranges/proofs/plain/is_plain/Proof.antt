@@ -1,15 +1,10 @@
 -- `tree_ranges::plain::is_plain` meets its contract. Assumes nothing.
-use mathlib.Core.Path.{_≡_, sym, _∙_}
-use mathlib.Core.Bool.{false}
-use lib.Ieee.{Float, isNan, ne}
-use Rattle.arithmetic.proofs.Order.{ne-self-is-nan}
+use mathlib.Core.Path.{sym, _∙_}
+use Rattle.arithmetic.proofs.Order.{ne-self-is-nan, ne-self-number}
 use Rattle.arithmetic.proofs.Numbers.{number-passes}
 use Rattle.tree_ranges.proofs.PlainNumbers.{nan-not-plain, number-plain, below-plain, above-plain}
 use Rattle.tree_ranges.proofs.plain.is_plain.Statement.{statement}
 use Rattle.tree_ranges.proofs.plain.is_plain.Tie as tie
-
-is-number : (x : Float) → ne x x ≡ false → isNan x ≡ false
-is-number x h = sym (ne-self-is-nan x) ∙ h
 
 -- below 0
 returns : tie.Need-returns
@@ -32,13 +27,13 @@ returns-3 c =
 float-to-bits-result : tie.Need-float-to-bits-result
 float-to-bits-result c =
     let s : tie.Start = search in
-    number-passes (s .args .x) (is-number (s .args .x) (c .if3 .left))
+    number-passes (s .args .x) (ne-self-number (s .args .x) (c .if3 .left))
 
 -- a zero: the pattern tells which
 returns-4 : tie.Need-returns-4
 returns-4 c =
     let s : tie.Start = search in
-    number-plain (s .args .x) (s .good .0 .1) (is-number (s .args .x) (c .if3 .left))
+    number-plain (s .args .x) (s .good .0 .1) (ne-self-number (s .args .x) (c .if3 .left))
 
 pub is-plain-spec : {M : Type 1} → statement M
 is-plain-spec = tie.close (tie.spec returns returns-2 returns-3 float-to-bits-result returns-4)

@@ -1,23 +1,18 @@
 -- `wide_integers::number::product` meets its contract. Assumes nothing.
-use mathlib.Core.Path.{_≡_, sym, _∙_, subst}
+use mathlib.Core.Path.{sym, _∙_, subst}
 use Prim.Native.Nat.{ℕ, _/_, _≤_, _<_}
 use native.Mathlib.Omega.{arith}
 use borrow.Author.Needs.{needs}
 use lib.IntN.{ℤ, _*ℤ_}
 use mir.Syntax.{w64}
 use mir.Val.{SFits}
-use mir.ValLaws.{toZ-ofZ}
-use Rattle.wide_integers.proofs.Reading.{bits}
+use Rattle.wide_integers.proofs.Reading.{bits, bits-back}
 use Rattle.wide_integers.proofs.OperationLaws.{flag-word, product-signed}
 use Rattle.wide_integers.proofs.number.product.Statement.{statement}
 use Rattle.wide_integers.proofs.number.product.Tie as tie
 
--- what the machine reads back is the number
-plain : {x : ℤ} → SFits w64 x → bits x ≡ x
-plain {x} f = toZ-ofZ w64 x f
-
 plain-fits : {x : ℤ} → SFits w64 x → SFits w64 (bits x)
-plain-fits f = subst (SFits w64) (sym (plain f)) f
+plain-fits f = subst (SFits w64) (sym (bits-back f)) f
 
 mul-minus : tie.Need-mul-minus
 mul-minus c =
@@ -38,7 +33,7 @@ returns c =
     × tie.After-minus2 = search in
     product-signed (x .parted .result) (y .parted2 .result) (d .times .result) (o .minus .result) (t .minus2 .result) (x .parted .ensures)
     (y .parted2 .ensures) (plain-fits (s .fits .a)) (plain-fits (s .fits .b)) (d .times .ensures) (o .minus .ensures) (t .minus2 .ensures)
-    ∙ (λ i. plain (s .fits .a) i *ℤ plain (s .fits .b) i)
+    ∙ (λ i. bits-back (s .fits .a) i *ℤ bits-back (s .fits .b) i)
 
 pub product-spec : {M : Type 1} → statement M
 product-spec =

@@ -1,24 +1,19 @@
 -- `wide_integers::number::times` meets its contract. Assumes nothing.
-use mathlib.Core.Path.{_≡_, sym, ap, _∙_, subst}
+use mathlib.Core.Path.{sym, ap, _∙_, subst}
 use native.Mathlib.Omega.{arith}
 use borrow.Author.Needs.{needs}
 use Prim.Native.Nat.{_<_}
 use lib.IntN.{ℤ, _*ℤ_}
 use mir.Syntax.{w64}
 use mir.Val.{SFits}
-use mir.ValLaws.{toZ-ofZ}
-use Rattle.wide_integers.proofs.Reading.{bits}
+use Rattle.wide_integers.proofs.Reading.{bits, bits-back}
 use Rattle.wide_integers.specs.Value.{base, value}
 use Rattle.wide_integers.proofs.OperationLaws.{flag-word, middling-most, middling-least, times-told}
 use Rattle.wide_integers.proofs.number.times.Statement.{statement}
 use Rattle.wide_integers.proofs.number.times.Tie as tie
 
--- what the machine reads back is the number
-plain : {x : ℤ} → SFits w64 x → bits x ≡ x
-plain {x} f = toZ-ofZ w64 x f
-
 plain-fits : {x : ℤ} → SFits w64 x → SFits w64 (bits x)
-plain-fits f = subst (SFits w64) (sym (plain f)) f
+plain-fits f = subst (SFits w64) (sym (bits-back f)) f
 
 abbrev begun : tie.After-struct-known → tie.Start
 begun k = search
@@ -63,7 +58,7 @@ returns c =
     (c .wrapping-sub-u643 .result) (y .parted .ensures) (plain-fits (s .fits .k)) (omega arith) (lo .times .ensures) (up .times2 .ensures)
     (o .plus .ensures) (t .minus .ensures) (w .wrapping-add-u64 .ensures) (f .wrapping-sub-u64 .ensures) (g .wrapping-sub-u642 .ensures)
     (c .wrapping-sub-u643 .ensures)
-    ∙ ap (λ (x : ℤ). value (s .args .a) *ℤ x) (plain (s .fits .k))
+    ∙ ap (λ (x : ℤ). value (s .args .a) *ℤ x) (bits-back (s .fits .k))
 
 pub times-spec : {M : Type 1} → statement M
 times-spec =
