@@ -1,5 +1,5 @@
 use casts::answer;
-use exact_triangle::sight;
+use exact_triangle::view;
 use geometry::ray::Ray;
 use mesh::cast as mesh_cast;
 use mesh_exact::cast;
@@ -21,7 +21,7 @@ fn short_exact(ray: Ray, shape: bool) -> u32
     if !ray.validate() {
         return answer::INVALID_INPUT;
     }
-    if !sight::admitted(ray) {
+    if !view::admitted(ray) {
         return answer::OUT_OF_RANGE;
     }
     if !shape {
