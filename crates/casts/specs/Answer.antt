@@ -9,7 +9,7 @@ use Rattle.vectors.specs.declared.vec3.Normalized.the-variants.{Unit as UnitOf,
 use Rattle.casts.specs.declared.answer.Cast.{Cast}
 use Rattle.casts.specs.declared.answer.Cast.the-variants.{Hit, None, Refused}
 
--- the table's numbers: 1 to 8 are document 01's, 9 to 12 document 02's
+-- the table's numbers: 1 to 8 are document 01's, 9 to 11 document 02's, 12 is the exact cast's
 abbrev pub invalidInput : ℕ
 invalidInput = 1
 

@@ -14,7 +14,7 @@ pub enum Reach {
     Refused(u32),
 }
 
-// The table of refusals: 1 to 8 are document 01's, 9 to 12 document 02's.
+// The table of refusals: 1 to 8 are document 01's, 9 to 11 document 02's, 12 is the exact cast's.
 pub const INVALID_INPUT: u32 = 1;
 
 pub const BAD_SHAPE: u32 = 2;
