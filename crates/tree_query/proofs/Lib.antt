@@ -2,3 +2,4 @@
 pub mod Unlimited
 pub mod SortedWalks
 pub mod Queries
+pub mod QueryExamples
