@@ -2,6 +2,7 @@
 pub mod Kept
 pub mod RefusalNumbers
 pub mod ExactNumbers
+pub mod ManyNumbers
 pub mod GridNumbers
 pub mod TreeNumbers
 pub mod Codes
@@ -16,3 +17,4 @@ pub mod FoundHits
 pub mod BoardCalls
 pub mod ConversionCalls
 pub mod ExactCalls
+pub mod ManyCalls

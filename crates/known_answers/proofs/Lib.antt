@@ -4,16 +4,13 @@ pub mod CallInstances
 pub mod ListingExamples
 pub mod CabinetInstances
 pub mod MeshExactExamples
-pub mod TreeExactExamples
 pub mod ExactTriangleExamples
 pub mod WideExamples
 pub mod WordExamples
 pub mod CheckExamples
 pub mod CabinetExamples
-pub mod MeshExamples
 pub mod BuilderInstance
 pub mod PlainExamples
-pub mod QueryExamples
 pub mod GlueExamples
 pub mod MergeTestExamples
 pub mod BuildExamples

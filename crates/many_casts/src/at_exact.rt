@@ -2,15 +2,11 @@ use crate::places;
 use casts::answer;
 use mesh::cast;
 use tree_exact::cast as exact_cast;
-use tree_query::query;
 ghost use mathlib.Core.Path.{_≡_};
-ghost use mathlib.Core.Bool.{_&&_};
 ghost use Prim.Native.Nat.{_+_, _*_, _<_, _≤_};
-ghost use lib.Dec.{leb};
 ghost use lib.ListN.{length};
 ghost use Rattle.tree.specs.Mesh.{mesh};
 ghost use Rattle.tree.specs.Layout.{treeOf};
-ghost use Rattle.tree_query.specs.Query.{treeFits};
 ghost use Rattle.many_casts.specs.Many.{rayAt, places, answerAt, answersOf, exactAnswer, returnedMany, ManyExactCall};
 
 // One ray's cast, its answer at its places.
@@ -101,26 +97,6 @@ fn cast_each(
     }
 }
 
-// Whether the tree's areas and the stack are long enough.
-fn room_fits(
-    count: usize,
-    nodes: usize,
-    node_boxes: &[f64],
-    triangle_boxes: &[f64],
-    node_words: &[u32],
-    order: &[u32],
-    stack: usize,
-) -> bool
-    requires { ⌜ count ≤ 65536 ⌝ }
-    ensures { λ r. ⌜ r ≡ (treeFits count (treeOf nodes (now («node_boxes» .entry)) (now («triangle_boxes» .entry))
-        (now («node_words» .entry)) (now (order .entry))) && leb (nodes + 1) stack) ⌝ }
-{
-    if !query::tree_fits(count, nodes, node_boxes, triangle_boxes, node_words, order) {
-        return false;
-    }
-    nodes < stack
-}
-
 // The exact cast of many rays. Refusals 2 to 4 are tested once; until they have let the call pass every area is unchanged, and then the
 // stack may hold anything.
 // What `ManyExactCall` says last: what is read at a ray's places is what the single call leaves there.
@@ -151,7 +127,7 @@ pub fn ray_mesh_exact_many(
     if !cast::shape_admitted(vertices.len(), triangles.len(), pose.len(), nodes) {
         return answer::BAD_SHAPE;
     }
-    if !room_fits(
+    if !exact_cast::room_fits(
         triangles.len() / 3,
         nodes,
         node_boxes,

@@ -75,7 +75,7 @@ fn exact_through(
 }
 
 // Whether the tree's areas and the stack are long enough.
-fn room_fits(
+pub fn room_fits(
     count: usize,
     nodes: usize,
     node_boxes: &[f64],

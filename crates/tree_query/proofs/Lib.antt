@@ -1,3 +1,4 @@
 -- The laws of the query, beside the functions' own proofs. Assumes nothing.
 pub mod SortedWalks
 pub mod Queries
+pub mod QueryExamples
