@@ -21,3 +21,7 @@ pub mod PlaceExamples
 pub mod CubicExamples
 pub mod AgreementExamples
 pub mod WholeMeshExamples
+pub mod TreeExactExamples
+pub mod MeshExamples
+pub mod QueryExamples
+pub mod ManyExamples
