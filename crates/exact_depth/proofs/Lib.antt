@@ -1,4 +1,4 @@
--- The whole numbers' laws, and the first point of a segment in a closed triangle. Assumes nothing.
+-- Laws about the first point of a segment in a closed triangle. Assumes nothing.
 pub mod Weights
 pub mod Firsts
 pub mod Crossed

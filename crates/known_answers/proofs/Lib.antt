@@ -1,4 +1,4 @@
--- The one check of the table. Assumes nothing.
+-- The one check of the table, and computed examples. Assumes nothing.
 pub mod Checked
 pub mod CallInstances
 pub mod ListingExamples

@@ -7,5 +7,5 @@ pub mod hulls;
 // Boxes, centres, extents and keys.
 pub mod ranges;
 
-// The test of a range.
+// Whether no box of the tree sees the order of a range.
 pub mod plain;
