@@ -8,3 +8,4 @@ pub mod Coplanar
 pub mod FirstPoints
 pub mod Standing
 pub mod Laws
+pub mod OneSided

@@ -3,3 +3,4 @@ pub mod FirstPoint
 pub mod Meeting
 pub mod Answer
 pub mod Sizes
+pub mod Sides

@@ -9,5 +9,7 @@ pub mod plane;
 pub mod wide_projection;
 // The first point in a plane that the line lies in.
 mod wide_plane;
+// Corners on one side of the line.
+mod sides;
 // The public call.
 pub mod depth;

@@ -17,3 +17,4 @@ pub mod Quotients
 pub mod Normals
 pub mod Certainty
 pub mod Hits
+pub mod Within

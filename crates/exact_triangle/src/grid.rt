@@ -1,4 +1,3 @@
-use arithmetic::basic;
 use exact_depth::projection::Point;
 use vectors::vec3::Vec3;
 ghost use mathlib.Core.Path.{_≡_};
@@ -30,7 +29,10 @@ const ROUNDER: f64 = 6755399441055744.0;
 pub fn within(b: f64, x: f64) -> bool
     ensures { λ r. ⌜ r ≡ within b x ⌝ }
 {
-    basic::abs(x) <= b
+    if x <= b {
+        return -b <= x;
+    }
+    false
 }
 
 pub fn all_within(b: f64, v: Vec3) -> bool

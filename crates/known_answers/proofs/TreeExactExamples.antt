@@ -12,6 +12,7 @@ use Rattle.arithmetic.specs.Scaling.{unit, digitsOf, scaledBy}
 use Rattle.arithmetic.specs.Root.{rootDigits, wholeRoot, rootRound, rootOf}
 use Rattle.vectors.specs.Vector.{component, finiteVec, negOf, minOf, maxOf, absOf, maxElement, dotOf, checkedDot, lengthOf, normalizable}
 use Rattle.vectors.specs.Vector.{zeroVec, dotTells, scaledToOne, overLength, tryNormalize}
+use Rattle.geometry.specs.Box.{touchSide, touches}
 use Rattle.geometry.specs.Segment.{unitLength, rayAdmitted}
 use Rattle.geometry.specs.declared.ray.Ray.{Ray}
 use Rattle.casts.specs.Surface.{facing}
@@ -29,13 +30,14 @@ use Rattle.exact_depth.specs.FirstPoint.{kept, crossing, sideOf, entering, insi
 use Rattle.exact_depth.specs.FirstPoint.{firstPoint}
 use Rattle.exact_triangle.specs.Grid.{nearestTo, gridAdmitted, gridLine}
 use Rattle.exact_triangle.specs.Shear.{mainOf, depthOf}
+use Rattle.exact_triangle.specs.Box.{lowSide, highSide, certainBox}
 use Rattle.exact_triangle.specs.Reach.{cornersRead, cornersReach, gridReach}
 use Rattle.exact_triangle.specs.Cast.{gridNormal, gridTriangle}
 use Rattle.mesh_exact.specs.GridCast.{exactAnswer, rayMeshExactPlain}
 use Rattle.tree_exact.specs.FirstWalk.{times, takePlace, takePlaces, atLeaf, atBranch, atNode, takeNode, start, ended, firstOf}
 use Rattle.tree_exact.specs.Room.{roomOf, roomMet}
-use Rattle.tree_exact.specs.Opening.{boxMet, opensNode}
-use Rattle.tree_exact.specs.Order.{nearerFirst, leftFirst}
+use Rattle.tree_exact.specs.Opening.{lineMet, shortSegment, boxMet, opensNode}
+use Rattle.tree_exact.specs.Order.{nearerFirst, takenFirst, leftFirst}
 use Rattle.tree_exact.specs.Numbers.{NoNaN, cornersNumbered, hasNumbers}
 use Rattle.tree_exact.specs.ExactMesh.{exactThrough, roomFor, rayMeshExact}
 use Rattle.tree_exact.proofs.NumberTests.{yes-numbers}
@@ -100,7 +102,8 @@ pub casts-hit :
     ∷ noHit
     ∷ hitAt (record { x = o; y = o; z = i }) i 0 ∷ []
 unfolding rayMeshExact exactThrough roomFor treeFits shapeAdmitted lengthsAdmitted firstOf ended start takeNode atNode atBranch atLeaf
-    takePlaces takePlace times range opensNode boxMet roomMet roomOf leftFirst nearerFirst boxAt vectorAt answerAt winnerOf noteOf keepOf
+    takePlaces takePlace times range opensNode boxMet lineMet shortSegment touches touchSide certainBox lowSide highSide roomMet
+    roomOf leftFirst takenFirst nearerFirst boxAt vectorAt answerAt winnerOf noteOf keepOf
     nearer reachOf nextOf exactAnswer cornerAt cornersOf cornersInside facing gridTriangle gridNormal gridReach cornersReach cornersRead
     gridAdmitted gridLine nearestTo depthOf mainOf firstPoint byWeights crossing kept coplanar inPlane area alongPlane entry inside entering
     sideOf rayAdmitted unitLength normalizable zeroVec dotTells scaledToOne overLength tryNormalize digitsOf scaledBy unit lengthOf
@@ -118,7 +121,8 @@ refusals =
 
 pub casts-refused : refusals ≡ stopped 1 ∷ stopped 12 ∷ stopped 2 ∷ stopped 3 ∷ stopped 4 ∷ stopped 5 ∷ []
 unfolding rayMeshExact exactThrough roomFor treeFits shapeAdmitted lengthsAdmitted firstOf ended start takeNode atNode times opensNode
-    boxMet roomMet roomOf boxAt vectorAt gridAdmitted gridLine nearestTo mainOf rayAdmitted unitLength lengthOf dotOf maxElement absOf
+    boxMet lineMet shortSegment touches touchSide certainBox lowSide highSide roomMet roomOf boxAt vectorAt
+    gridAdmitted gridLine nearestTo mainOf rayAdmitted unitLength lengthOf dotOf maxElement absOf
     maxOf minOf finiteVec component rootOf rootRound wholeRoot rootDigits maximumOf minimumOf absolute isFinite ofInt toSigned ofBits
     ofFields isNan ne le eq lt div mul sub add sum neg round units odd size climb span
 casts-refused = refl

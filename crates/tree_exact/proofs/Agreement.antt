@@ -3,7 +3,7 @@ use Prim.Native.Nat.{ℕ, _*_}
 use mathlib.Core.Path.{_≡_, refl, ap, _∙_}
 use mathlib.Core.Logic.{_⊎_, inl, inr}
 use mathlib.Core.Bool.{Bool, true, false}
-use mathlib.Core.List.{List}
+use mathlib.Core.List.{List, [], _∷_}
 use native.Mathlib.Omega.{arith}
 use lib.Ieee.{Float}
 use lib.ListN.{length}
@@ -23,6 +23,9 @@ use Rattle.mesh.proofs.CheckedTree.{Checked, checked-or-empty}
 use Rattle.mesh_plain.proofs.Agreement.{yes-lengths, few-nodes, triangles-fit}
 use Rattle.exact_triangle.specs.Grid.{gridAdmitted, gridLine}
 use Rattle.exact_triangle.proofs.Moving.{ray-moves}
+use Rattle.geometry.specs.Box.{cornersBox}
+use Rattle.exact_triangle.proofs.Touching.{met-touches}
+use Rattle.mesh_exact.proofs.Ranges.{vector-finite}
 use Rattle.tree_exact.specs.WalkDemand.{PassesSafely}
 use Rattle.tree_exact.proofs.Finding.{finds-nearest}
 use Rattle.tree_exact.specs.Opening.{opensNode}
@@ -30,8 +33,13 @@ use Rattle.tree_exact.specs.Order.{leftFirst}
 use Rattle.mesh_exact.specs.GridCast.{exactAnswer, overTriangles, rayMeshExactPlain}
 use Rattle.tree_exact.specs.Numbers.{NoNaN}
 use Rattle.tree_exact.specs.ExactMesh.{exactThrough, roomFor, rayMeshExact, AsWithoutTree}
-use Rattle.tree_exact.proofs.Safely.{passes-safely}
+use Rattle.tree_exact.proofs.Safely.{MeetsInBox, passes-safely}
 use Rattle.tree_exact.proofs.Answers.{grid-answers, hits-are-numbers}
+
+meets-in-box : (r : Ray) → gridAdmitted r ≡ true → MeetsInBox (gridLine r)
+unfolding cornersBox
+meets-in-box r read a b c h g f D t on =
+    met-touches r read (a ∷ (b ∷ (c ∷ []))) (vector-finite a h) (vector-finite b g) (vector-finite c f) D t on
 
 module _ (r : Ray) (m : Mesh) (t : Tree) (passes : treePasses m t ≡ true) where
   module _ (admitted : rayAdmitted r ≡ true) (read : gridAdmitted r ≡ true) (numbered : NoNaN m) where
@@ -44,6 +52,7 @@ module _ (r : Ray) (m : Mesh) (t : Tree) (passes : treePasses m t ≡ true) wher
         go : Checked m t ⊎ ((t .nodeCount ≡ 0) × (triangleCount m ≡ 0)) → PassesSafely m t answer (opensNode (gridLine r) t)
         go (inl c) =
             passes-safely (gridLine r) (ray-moves r admitted) m t c answer (grid-answers r admitted read m numbered (c .corners))
+            (meets-in-box r read)
         go (inr empty) = λ node s below. absurd (omega (arith, below, empty .0))
 
     pub casts-agree : exactThrough r (m .vertices) (m .triangles) t ≡ nearestOf answer (range 0 (triangleCount m))

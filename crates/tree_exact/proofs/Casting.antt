@@ -11,6 +11,7 @@ use lib.ListN.{length, length-replicate, replicate}
 use Rattle.lists.proofs.JoinedTests.{and-first, and-second, and-both}
 use Rattle.lists.proofs.RefusalLaws as Refusals
 use Rattle.geometry.specs.Segment.{rayAdmitted}
+use Rattle.geometry.specs.declared.aabb.Aabb.{Aabb}
 use Rattle.geometry.specs.declared.ray.Ray.{Ray}
 use Rattle.casts.specs.Answer.{Answer, invalidInput, badShape, noRoom, wrongPose, outOfBounds, outOfRange}
 use Rattle.casts.specs.Reach.{reachOf}
@@ -34,7 +35,7 @@ use Rattle.tree_exact.specs.Onward.{Reached}
 use Rattle.tree_exact.specs.Opening.{opensNode}
 use Rattle.tree_exact.specs.Order.{leftFirst}
 use Rattle.mesh_exact.specs.GridCast.{exactAnswer}
-use Rattle.mesh_exact.specs.Noted.{Casts}
+use Rattle.mesh_exact.specs.Noted.{Bounded}
 use Rattle.tree_exact.specs.ExactMesh.{exactThrough, roomFor, exactTests, testsPass, rayMeshExact}
 use Rattle.tree_exact.specs.Walking.{Reads, WalkRoom, WalkedBy, Walks}
 use Rattle.tree_exact.specs.declared.walk.Walked.{Walked}
@@ -66,9 +67,9 @@ module _ (t : Tree) (n : ℕ) (answer : ℕ → Answer) (opens : ℕ → Summary
       subst (λ (i : ℕ). (i < n) × (reachOf (answer i) ≡ At distance)) (ap struckIndex e)
       (subst (λ (d : Float). (best .index < n) × (reachOf (answer (best .index)) ≡ At d)) (ap (struckAt distance) e) h)
 
-module _ (line : View) (pose : List Float) (triangles : List ℕ) (nodes : ℕ) (boxes : List Float) (words order : List ℕ)
-    (result : Walked) (walked : Walks line pose triangles nodes boxes words order result) (r : Ray) (on : Casts r line) (t : Tree)
-    (reads : Reads t nodes boxes words order) where
+module _ (line : View) (reach : Aabb) (pose : List Float) (triangles : List ℕ) (nodes : ℕ) (boxes : List Float) (words order : List ℕ)
+    (result : Walked) (walked : Walks line reach pose triangles nodes boxes words order result) (r : Ray) (on : Bounded r line reach)
+    (t : Tree) (reads : Reads t nodes boxes words order) where
   abbrev n : ℕ
   n = thirds (length triangles)
 

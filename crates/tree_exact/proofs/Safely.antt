@@ -2,6 +2,7 @@
 use Prim.Native.Nat.{ℕ, _+_, _*_, _≤_, _<_}
 use mathlib.Core.Path.{_≡_, refl, sym, ap, _∙_}
 use mathlib.Core.Bool.{Bool, true, false, not, cond, true≢false, false≢true}
+use mathlib.Core.Logic.{_⊎_, inl, inr}
 use mathlib.Core.List.{List}
 use native.Mathlib.Omega.{arith}
 use lib.IntN.{ℤ, pos}
@@ -12,8 +13,8 @@ use Rattle.arithmetic.specs.Basic.{isFinite, absolute}
 use Rattle.arithmetic.proofs.SignedOrder.{plus, less, below-not}
 use Rattle.arithmetic.proofs.SumOrder.{le-parts}
 use Rattle.arithmetic.proofs.ValueOrder.{le-values}
-use Rattle.geometry.specs.Box.{withinSide, encloses, boxOf}
-use Rattle.geometry.proofs.BoxLaws.{encloses-of-same}
+use Rattle.geometry.specs.Box.{withinSide, encloses, touches, boxOf}
+use Rattle.geometry.proofs.BoxLaws.{encloses-of-same, touches-grows}
 use Rattle.vectors.specs.declared.vec3.Vec3.{Vec3}
 use Rattle.geometry.specs.declared.aabb.Aabb.{Aabb}
 use Rattle.casts.specs.Answer.{Answer, hit, none, refused}
@@ -28,7 +29,9 @@ use Rattle.exact_triangle.specs.Grid.{within, allWithin, furthest, gridPoint}
 use Rattle.tree_exact.specs.WalkDemand.{PassesSafely}
 use Rattle.tree_exact.proofs.Unders.{under-below, under-enclosed}
 use Rattle.tree_exact.specs.Room.{roomOf, roomMet}
-use Rattle.tree_exact.specs.Opening.{limitOf, boxRead, boxMet, opensNode}
+use Rattle.exact_triangle.specs.Box.{certainBox}
+use Rattle.exact_triangle.specs.Surface.{Surface}
+use Rattle.tree_exact.specs.Opening.{limitOf, boxRead, lineMet, shortSegment, boxMet, opensNode}
 use Rattle.tree_exact.specs.Demand.{gridBox, Deep, GridAnswers}
 use Rattle.tree_exact.proofs.Rooms.{beyond}
 use Rattle.exact_triangle.proofs.Touching.{furthest-is}
@@ -95,6 +98,13 @@ not-met : (a b : Bool) → cond a b true ≡ false → (a ≡ true) × (b ≡ fa
 not-met true b h = (refl, h)
 not-met false b h = absurd (true≢false h)
 
+-- .. and apart from the segment's, or the line does not pass through it
+shut-by : (t s a b : Bool) → cond t (cond s true (cond a b true)) (not a) ≡ false → (a ≡ true) × ((t ≡ false) ⊎ (b ≡ false))
+shut-by true true a b h = absurd (true≢false h)
+shut-by true false a b h = let e = not-met a b h in (e .0, inr (e .1))
+shut-by false s true b h = (refl, inl refl)
+shut-by false s false b h = absurd (true≢false h)
+
 pub corners-enclosed : (box : Aabb) (vertices : List Float) (triangles : List ℕ) (x : ℕ)
     → encloses box (triangleBox vertices triangles x) ≡ true
     → encloses box (boxOf (cornerAt vertices triangles x 0) (cornerAt vertices triangles x 1) (cornerAt vertices triangles x 2)) ≡ true
@@ -113,10 +123,16 @@ module _ (l : Line) (moves : Moves (l .direction)) (box : Aabb) (limit : ℕ) (r
       (corner-inside l box read b (deep .second) (e .x .second) (e .y .second) (e .z .second))
       (corner-inside l box read c (deep .third) (e .x .third) (e .y .third) (e .z .third)) limit shut
 
+-- a triangle in range in which the segment has a point touches the segment's box
+abbrev pub MeetsInBox : Line → Type 0
+MeetsInBox l =
+    (a b c : Vec3) → allWithin furthest a ≡ true → allWithin furthest b ≡ true → allWithin furthest c ≡ true → (D : ℕ) (t : ℤ)
+    → Surface l (gridPoint a) (gridPoint b) (gridPoint c) D t → touches (boxOf a b c) (certainBox l) ≡ true
+
 module _ (l : Line) (moves : Moves (l .direction)) (m : Mesh) (t : Tree) (c : Checked m t) (answer : ℕ → Answer)
-    (good : GridAnswers l m answer) where
+    (good : GridAnswers l m answer) (meets : MeetsInBox l) where
   pub passes-safely : PassesSafely m t answer (opensNode l t)
-  unfolding opensNode boxMet noteOf reachOf
+  unfolding opensNode boxMet lineMet noteOf reachOf
   passes-safely node s below shut x under = go (answer x) refl
     where
       box : Aabb
@@ -128,23 +144,39 @@ module _ (l : Line) (moves : Moves (l .direction)) (m : Mesh) (t : Tree) (c : Ch
       inside : x < triangleCount m
       inside = under-below m t c node x below under
 
-      fails : (boxRead box ≡ true) × (roomMet l (limitOf l (s .least)) (roomOf l box) ≡ false)
-      fails = not-met (boxRead box) (roomMet l (limitOf l (s .least)) (roomOf l box)) shut
+      fails : (boxRead box ≡ true) × ((touches box (certainBox l) ≡ false) ⊎ (roomMet l (limitOf l (s .least)) (roomOf l box) ≡ false))
+      fails =
+          shut-by (touches box (certainBox l)) (shortSegment l) (boxRead box) (roomMet l (limitOf l (s .least)) (roomOf l box)) shut
 
       enclosed : encloses box own ≡ true
       enclosed =
           encloses-through box (boxAt (t .triangleBoxes) x) own (under-enclosed m t c node x below under)
           (encloses-of-same (boxAt (t .triangleBoxes) x) own (c .same x inside))
 
+      a₀ : Vec3
+      a₀ = cornerAt (m .vertices) (m .triangles) x 0
+
+      a₁ : Vec3
+      a₁ = cornerAt (m .vertices) (m .triangles) x 1
+
+      a₂ : Vec3
+      a₂ = cornerAt (m .vertices) (m .triangles) x 2
+
+      around : encloses box (boxOf a₀ a₁ a₂) ≡ true
+      around = corners-enclosed box (m .vertices) (m .triangles) x enclosed
+
+      by : (normal : Vec3) (d : Float) → Deep l a₀ a₁ a₂ d
+          → (touches box (certainBox l) ≡ false) ⊎ (roomMet l (limitOf l (s .least)) (roomOf l box) ≡ false)
+          → noteOf s x (reachOf (hit normal d)) ≡ s
+      by normal d deep (inl apart) =
+          let met = meets a₀ a₁ a₂ (deep .first) (deep .second) (deep .third) (deep .D) (pos (deep .t)) (deep .on) in
+          absurd (true≢false (sym (touches-grows box (boxOf a₀ a₁ a₂) (certainBox l) around met) ∙ apart))
+      by normal d deep (inr missed) =
+          let past = hit-past l moves box (limitOf l (s .least)) (fails .0) missed a₀ a₁ a₂ d deep around in
+          ap (λ (k : Kept (Found Float)). record { refuser = s .refuser; least = k }) (nothing-changes l a₀ a₁ a₂ d deep (s .least) past x)
+
       go : (a : Answer) → answer x ≡ a → noteOf s x (reachOf a) ≡ s
       go none e = refl
       go (refused number) e =
           absurd (good .answered x number inside (encloses-through gridBox box own (read-enclosed box (fails .0)) enclosed) e)
-      go (hit normal d) e =
-          let deep = good .deep x inside normal d e in
-          let a₀ = cornerAt (m .vertices) (m .triangles) x 0 in
-          let a₁ = cornerAt (m .vertices) (m .triangles) x 1 in
-          let a₂ = cornerAt (m .vertices) (m .triangles) x 2 in
-          let past = hit-past l moves box (limitOf l (s .least)) (fails .0) (fails .1) a₀ a₁ a₂ d deep
-          (corners-enclosed box (m .vertices) (m .triangles) x enclosed) in
-          ap (λ (k : Kept (Found Float)). record { refuser = s .refuser; least = k }) (nothing-changes l a₀ a₁ a₂ d deep (s .least) past x)
+      go (hit normal d) e = by normal d (good .deep x inside normal d e) (fails .1)

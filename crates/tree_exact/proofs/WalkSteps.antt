@@ -30,9 +30,10 @@ use Rattle.tree_exact.proofs.Standings.{on-stack-next, on-stack-none, o
 use Rattle.tree_exact.proofs.Standings.{stands-first, stands-empty, place-taken, place-bad}
 use Rattle.tree_exact.proofs.Standings.{places-done, node-tests, node-bad, node-passes, node-opens, stands-used-up, stands-ended}
 use Rattle.tree_exact.specs.Opening.{limitOf, boxMet, opensNode}
-use Rattle.tree_exact.specs.Order.{nearerFirst, leftFirst}
+use Rattle.tree_exact.specs.Order.{takenFirst, leftFirst}
 use Rattle.mesh_exact.specs.GridCast.{exactAnswer}
-use Rattle.mesh_exact.specs.Noted.{Casts}
+use Rattle.exact_triangle.specs.Box.{certainBox}
+use Rattle.mesh_exact.specs.Noted.{Casts, Bounded}
 use Rattle.tree_exact.specs.ExactMesh.{exactThrough}
 use Rattle.tree_exact.specs.Walking.{Limited, Stands, Tests, NearestSoFarLeaf, Reads, OpensNode, TakesNode, Walks}
 use Rattle.tree_exact.specs.declared.walk.Best.{Best}
@@ -129,7 +130,7 @@ module _ (line : View) (pose : List Float) (triangles : List ℕ) (nodes : ℕ) 
       }
 
     module _ (read : Node) (is : Opens n words node read) (left right : ℕ) (e : read ≡ Branch left right) (b : Bool)
-        (first : (l : Line) → Sees line l → b ≡ nearerFirst l nodes boxes left right) where
+        (first : (l : Line) → Sees line l → b ≡ takenFirst l nodes boxes left right) where
       branched : Opens n words node (Branch left right)
       branched = subst (Opens n words node) e is
 
@@ -140,7 +141,7 @@ module _ (line : View) (pose : List Float) (triangles : List ℕ) (nodes : ℕ) 
           let l = gridLine r in
           let x = branched .stands .0 ∙ ap (λ (w : List ℕ). firstAt w node) (sym (reads .worded)) in
           let y = branched .stands .1 ∙ ap (λ (w : List ℕ). secondAt w node) (sym (reads .worded)) in
-          first l (on .shown .sees) ∙ (λ i. nearerFirst l (sym (reads .counted) i) (sym (reads .boxed) i) (x i) (y i))
+          first l (on .shown .sees) ∙ (λ i. takenFirst l (sym (reads .counted) i) (sym (reads .boxed) i) (x i) (y i))
 
       stack-is : (area' : List ℕ) → onStack area' (top + 2)
           ≡ cond b (firstAt words node ∷ (secondAt words node ∷ onStack area top))
@@ -181,6 +182,11 @@ module _ (line : View) (pose : List Float) (triangles : List ℕ) (nodes : ℕ) 
       stands = tt;
     }
 
+-- hull is the segment's box
+module _ (line : View) (hull : Aabb) (pose : List Float) (triangles : List ℕ) (nodes : ℕ) (boxes : List Float) (words order : List ℕ) where
+  abbrev count : ℕ
+  count = thirds (length triangles)
+
   -- ---- the next node of the stack
   module _ (area : List ℕ) (top : ℕ) (best : Best) (some : 0 < top) (node : ℕ) (is : node ≡ wordAt area (top - 1)) where
     stack-next : onStack area top ≡ node ∷ onStack area (top - 1)
@@ -190,49 +196,50 @@ module _ (line : View) (pose : List Float) (triangles : List ℕ) (nodes : ℕ) 
         → Stands r pose triangles t (suc k) [] (node ∷ onStack area (top - 1)) s
     moved r t k s h = subst (λ (l : List ℕ). Stands r pose triangles t (suc k) [] l s) stack-next h
 
-    pub takes-bad : nodes ≤ node → TakesNode line pose triangles nodes boxes words order area top best Bad area
+    pub takes-bad : nodes ≤ node → TakesNode line hull pose triangles nodes boxes words order area top best Bad area
     unfolding exactThrough
     takes-bad h = record {
       holds = λ r on t reads k stands.
-          node-bad t n (exactAnswer r pose triangles) (opensNode (gridLine r) t) (leftFirst (gridLine r) t) k node (onStack area (top - 1))
-          (saysNearestSoFar (best .notes)) (moved r t k (saysNearestSoFar (best .notes)) stands)
+          node-bad t count (exactAnswer r pose triangles) (opensNode (gridLine r) t) (leftFirst (gridLine r) t) k node
+          (onStack area (top - 1)) (saysNearestSoFar (best .notes)) (moved r t k (saysNearestSoFar (best .notes)) stands)
           (subst (λ (c : ℕ). c ≤ node) (sym (reads .counted)) h);
       stands = tt;
     }
 
     module _ (below : node < nodes) (limited : Limited line best) (box : Aabb) (boxed : box ≡ boxAt boxes node) (met : Bool)
-        (known : (l : Line) (limit : ℕ) → Sees line l → best .past ≡ pos (limit * gain l) → met ≡ boxMet l limit box) where
-      tested : (r : Ray) → Casts r line → (t : Tree) → Reads t nodes boxes words order
+        (known : (l : Line) (limit : ℕ) → Sees line l → hull ≡ certainBox l → best .past ≡ pos (limit * gain l)
+        → met ≡ boxMet l limit box) where
+      tested : (r : Ray) → Bounded r line hull → (t : Tree) → Reads t nodes boxes words order
           → met ≡ opensNode (gridLine r) t node (saysNearestSoFar (best .notes))
       unfolding opensNode
       tested r on t reads =
           let l = gridLine r in
-          let sees = on .shown .sees in
+          let sees = on .casts .shown .sees in
           let limit = limitOf l (saysNearestSoFar (best .notes) .least) in
-          known l limit sees (limited .past l sees)
+          known l limit sees (on .box) (limited .past l sees)
           ∙ ap (boxMet l limit) (boxed ∙ ap (λ (xs : List Float). boxAt xs node) (sym (reads .boxed)))
 
       testing : (r : Ray) (t : Tree) → Reads t nodes boxes words order → (k : ℕ)
           → Stands r pose triangles t (suc k) [] (onStack area top) (saysNearestSoFar (best .notes))
           → Tests r pose triangles t k node (onStack area (top - 1)) (saysNearestSoFar (best .notes))
       testing r t reads k stands =
-          node-tests t n (exactAnswer r pose triangles) (opensNode (gridLine r) t) (leftFirst (gridLine r) t) k node
+          node-tests t count (exactAnswer r pose triangles) (opensNode (gridLine r) t) (leftFirst (gridLine r) t) k node
           (onStack area (top - 1)) (saysNearestSoFar (best .notes)) (moved r t k (saysNearestSoFar (best .notes)) stands)
           (subst (λ (c : ℕ). node < c) (sym (reads .counted)) below)
 
-      pub takes-past : met ≡ false → TakesNode line pose triangles nodes boxes words order area top best (Next (top - 1) best) area
+      pub takes-past : met ≡ false → TakesNode line hull pose triangles nodes boxes words order area top best (Next (top - 1) best) area
       takes-past e = record {
         holds = λ r on t reads k stands.
-            node-passes t n (exactAnswer r pose triangles) (opensNode (gridLine r) t) (leftFirst (gridLine r) t) k node
+            node-passes t count (exactAnswer r pose triangles) (opensNode (gridLine r) t) (leftFirst (gridLine r) t) k node
             (onStack area (top - 1)) (saysNearestSoFar (best .notes)) (testing r t reads k stands) (sym (tested r on t reads) ∙ e);
         stands = (omega arith, limited);
       }
 
       pub takes-open : met ≡ true → {result : Step} {area' : List ℕ}
           → OpensNode line pose triangles nodes boxes words order area node (top - 1) best result area'
-          → TakesNode line pose triangles nodes boxes words order area top best result area'
+          → TakesNode line hull pose triangles nodes boxes words order area top best result area'
       takes-open e o = record {
-        holds = λ r on t reads k stands. o .holds r on t reads k (sym (tested r on t reads) ∙ e) (testing r t reads k stands);
+        holds = λ r on t reads k stands. o .holds r (on .casts) t reads k (sym (tested r on t reads) ∙ e) (testing r t reads k stands);
         stands = o .stands;
       }
 
@@ -241,20 +248,20 @@ module _ (line : View) (pose : List Float) (triangles : List ℕ) (nodes : ℕ) 
     pub long : length area ≡ length area₀
     pub room : top + left ≤ length area
     pub limited : Limited line best
-    pub holds : (r : Ray) → Casts r line → (t : Tree) → Reads t nodes boxes words order
+    pub holds : (r : Ray) → Bounded r line hull → (t : Tree) → Reads t nodes boxes words order
         → Stands r pose triangles t left [] (onStack area top) (saysNearestSoFar (best .notes))
 
   pub walks-empty : nodes ≡ 0 → (notes : NearestSoFar) → saysNearestSoFar notes ≡ nothing
-      → Walks line pose triangles nodes boxes words order (Ended notes)
+      → Walks line hull pose triangles nodes boxes words order (Ended notes)
   unfolding exactThrough
   walks-empty z notes e = record {
     holds = λ r on t reads.
         let lf = leftFirst (gridLine r) t in
         let opens = opensNode (gridLine r) t in
         let answer = exactAnswer r pose triangles in
-        let first = stands-empty t n answer opens lf (reads .counted ∙ z) in
-        let now = subst (λ (s : Summary). Standing t n answer opens lf (t .nodeCount) [] [] s) (sym e) first in
-        (stands-ended t n answer opens lf (t .nodeCount) (saysNearestSoFar notes) now, now .reached);
+        let first = stands-empty t count answer opens lf (reads .counted ∙ z) in
+        let now = subst (λ (s : Summary). Standing t count answer opens lf (t .nodeCount) [] [] s) (sym e) first in
+        (stands-ended t count answer opens lf (t .nodeCount) (saysNearestSoFar notes) now, now .reached);
   }
 
   pub walk-begins : (entry : List ℕ) → nodes < length entry → 0 < nodes → (best : Best) (notes : NearestSoFar) → best .notes ≡ notes
@@ -267,16 +274,17 @@ module _ (line : View) (pose : List Float) (triangles : List ℕ) (nodes : ℕ) 
         let lf = leftFirst (gridLine r) t in
         let opens = opensNode (gridLine r) t in
         let answer = exactAnswer r pose triangles in
-        let first = stands-first t n answer opens lf (subst (λ (c : ℕ). 0 < c) (sym (reads .counted)) some) in
+        let first = stands-first t count answer opens lf (subst (λ (c : ℕ). 0 < c) (sym (reads .counted)) some) in
         let says : saysNearestSoFar (best .notes) ≡ nothing = ap (λ (w : NearestSoFar). saysNearestSoFar w) e ∙ z in
-        subst (λ (c : ℕ). Standing t n answer opens lf c [] (onStack (set entry 0 0) 1) (saysNearestSoFar (best .notes))) (reads .counted)
-        (subst (λ (l : List ℕ). Standing t n answer opens lf (t .nodeCount) [] l (saysNearestSoFar (best .notes)))
+        subst (λ (c : ℕ). Standing t count answer opens lf c [] (onStack (set entry 0 0) 1) (saysNearestSoFar (best .notes)))
+        (reads .counted)
+        (subst (λ (l : List ℕ). Standing t count answer opens lf (t .nodeCount) [] l (saysNearestSoFar (best .notes)))
         (sym (on-stack-root entry (omega (arith, h))))
-        (subst (λ (s : Summary). Standing t n answer opens lf (t .nodeCount) [] (0 ∷ []) s) (sym says) first));
+        (subst (λ (s : Summary). Standing t count answer opens lf (t .nodeCount) [] (0 ∷ []) s) (sym says) first));
   }
 
   module _ (area₀ area : List ℕ) (top left : ℕ) (best : Best) (far : WalkSoFar area₀ area top left best) where
-    pub walk-ended : top ≡ 0 → (notes : NearestSoFar) → notes ≡ best .notes → Walks line pose triangles nodes boxes words order
+    pub walk-ended : top ≡ 0 → (notes : NearestSoFar) → notes ≡ best .notes → Walks line hull pose triangles nodes boxes words order
         (Ended notes)
     unfolding exactThrough
     walk-ended z notes e = record {
@@ -286,12 +294,13 @@ module _ (line : View) (pose : List Float) (triangles : List ℕ) (nodes : ℕ) 
           let answer = exactAnswer r pose triangles in
           let none : onStack area top ≡ [] = ap (onStack area) z ∙ on-stack-none area in
           let now =
-          subst (λ (l : List ℕ). Standing t n answer opens lf left [] l (saysNearestSoFar (best .notes))) none (far .holds r on t reads) in
-          let now' = subst (λ (w : NearestSoFar). Standing t n answer opens lf left [] [] (saysNearestSoFar w)) (sym e) now in
-          (stands-ended t n answer opens lf left (saysNearestSoFar notes) now', now' .reached);
+          subst (λ (l : List ℕ). Standing t count answer opens lf left [] l (saysNearestSoFar (best .notes))) none
+          (far .holds r on t reads) in
+          let now' = subst (λ (w : NearestSoFar). Standing t count answer opens lf left [] [] (saysNearestSoFar w)) (sym e) now in
+          (stands-ended t count answer opens lf left (saysNearestSoFar notes) now', now' .reached);
     }
 
-    pub walk-used-up : left ≡ 0 → 0 < top → Walks line pose triangles nodes boxes words order Broken
+    pub walk-used-up : left ≡ 0 → 0 < top → Walks line hull pose triangles nodes boxes words order Broken
     unfolding exactThrough
     walk-used-up z some = record {
       holds = λ r on t reads.
@@ -299,33 +308,35 @@ module _ (line : View) (pose : List Float) (triangles : List ℕ) (nodes : ℕ) 
           let opens = opensNode (gridLine r) t in
           let answer = exactAnswer r pose triangles in
           let s = saysNearestSoFar (best .notes) in
-          let none = subst (λ (k : ℕ). Standing t n answer opens lf k [] (onStack area top) s) z (far .holds r on t reads) in
-          stands-used-up t n answer opens lf (wordAt area (top - 1)) (onStack area (top - 1)) s
-          (subst (λ (l : List ℕ). Standing t n answer opens lf 0 [] l s) (on-stack-next area top some) none);
+          let none = subst (λ (k : ℕ). Standing t count answer opens lf k [] (onStack area top) s) z (far .holds r on t reads) in
+          stands-used-up t count answer opens lf (wordAt area (top - 1)) (onStack area (top - 1)) s
+          (subst (λ (l : List ℕ). Standing t count answer opens lf 0 [] l s) (on-stack-next area top some) none);
     }
 
     module _ (more : 0 < left) (some : 0 < top) where
       again : suc (left - 1) ≡ left
       again = omega (arith, more)
 
-      next : (r : Ray) → Casts r line → (t : Tree) → Reads t nodes boxes words order
+      next : (r : Ray) → Bounded r line hull → (t : Tree) → Reads t nodes boxes words order
           → Stands r pose triangles t (suc (left - 1)) [] (onStack area top) (saysNearestSoFar (best .notes))
       next r on t reads =
           subst (λ (k : ℕ). Stands r pose triangles t k [] (onStack area top) (saysNearestSoFar (best .notes))) (sym again)
           (far .holds r on t reads)
 
-      pub walk-broken : (area' : List ℕ) (result : Step) → TakesNode line pose triangles nodes boxes words order area top best result area'
-          → result ≡ Bad → Walks line pose triangles nodes boxes words order Broken
+      pub walk-broken : (area' : List ℕ) (result : Step)
+          → TakesNode line hull pose triangles nodes boxes words order area top best result area' → result ≡ Bad
+          → Walks line hull pose triangles nodes boxes words order Broken
       walk-broken area' result taken e = record {
         holds = λ r on t reads.
-            subst (λ (w : Step). TakesNode line pose triangles nodes boxes words order area top best w area') e taken .holds r on t reads
-            (left - 1) (next r on t reads);
+            subst (λ (w : Step). TakesNode line hull pose triangles nodes boxes words order area top best w area') e taken .holds r on t
+            reads (left - 1) (next r on t reads);
       }
 
-      pub walk-goes : (area' : List ℕ) (result : Step) → TakesNode line pose triangles nodes boxes words order area top best result area'
+      pub walk-goes : (area' : List ℕ) (result : Step)
+          → TakesNode line hull pose triangles nodes boxes words order area top best result area'
           → (top' : ℕ) (best' : Best) → result ≡ Next top' best' → length area' ≡ length area → WalkSoFar area₀ area' top' (left - 1) best'
       walk-goes area' result taken top' best' e same =
-          let known = subst (λ (w : Step). TakesNode line pose triangles nodes boxes words order area top best w area') e taken in
+          let known = subst (λ (w : Step). TakesNode line hull pose triangles nodes boxes words order area top best w area') e taken in
           record {
             long = same ∙ far .long;
             room = omega (arith, known .stands .0, far .room, same, more, some);

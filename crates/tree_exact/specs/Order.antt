@@ -10,6 +10,7 @@ use Rattle.vectors.specs.declared.vec3.Vec3.{Vec3}
 use Rattle.geometry.specs.declared.aabb.Aabb.{Aabb}
 use Rattle.tree.specs.Layout.{Tree, boxAt, firstAt, secondAt}
 use Rattle.exact_triangle.specs.Line.{Line}
+use Rattle.tree_exact.specs.Opening.{shortSegment}
 use Rattle.exact_triangle.specs.Shear.{Main, alongX, alongY, alongZ, mainOf, heading}
 
 -- the coordinate on an axis
@@ -30,6 +31,9 @@ unfoldable pub nearerFirst : Line → ℕ → List Float → ℕ → ℕ → Boo
 nearerFirst l nodes boxes left right =
     cond (ltb left nodes) (cond (ltb right nodes) (comesFirst l (boxAt boxes left) (boxAt boxes right)) true) true
 
--- the nearer child first
+-- for a short segment the left child, without a test; else the nearer one
+unfoldable pub takenFirst : Line → ℕ → List Float → ℕ → ℕ → Bool
+takenFirst l nodes boxes left right = cond (shortSegment l) true (nearerFirst l nodes boxes left right)
+
 unfoldable pub leftFirst : Line → Tree → ℕ → Bool
-leftFirst l t node = nearerFirst l (t .nodeCount) (t .nodeBoxes) (firstAt (t .nodeWords) node) (secondAt (t .nodeWords) node)
+leftFirst l t node = takenFirst l (t .nodeCount) (t .nodeBoxes) (firstAt (t .nodeWords) node) (secondAt (t .nodeWords) node)

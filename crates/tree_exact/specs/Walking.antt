@@ -7,6 +7,7 @@ use lib.IntN.{pos}
 use lib.Ieee.{Float}
 use lib.ListN.{length}
 use Rattle.lists.specs.Lists.{range}
+use Rattle.geometry.specs.declared.aabb.Aabb.{Aabb}
 use Rattle.geometry.specs.declared.ray.Ray.{Ray}
 use Rattle.casts.specs.Answer.{outOfBounds}
 use Rattle.nearest_hit.specs.Nearest.{stopped}
@@ -25,7 +26,7 @@ use Rattle.tree_exact.specs.Onward.{Reached, Standing, Testing}
 use Rattle.tree_exact.specs.Opening.{limitOf, opensNode}
 use Rattle.tree_exact.specs.Order.{leftFirst}
 use Rattle.mesh_exact.specs.GridCast.{exactAnswer}
-use Rattle.mesh_exact.specs.Noted.{Casts}
+use Rattle.mesh_exact.specs.Noted.{Casts, Bounded}
 use Rattle.tree_exact.specs.ExactMesh.{exactThrough}
 use Rattle.tree_exact.specs.declared.walk.Best.{Best}
 use Rattle.tree_exact.specs.declared.walk.Noted.{Noted}
@@ -104,14 +105,14 @@ pub record OpensNode (line : View) (pose : List Float) (triangles : List ℕ) (n
   pub stands : StepIn line top result
 
 -- the next node of the stack
-pub record TakesNode (line : View) (pose : List Float) (triangles : List ℕ) (nodes : ℕ) (boxes : List Float) (words order area : List ℕ)
-    (top : ℕ) (best : Best) (result : Step) (area' : List ℕ) : Type 0 where
-  pub holds : (r : Ray) → Casts r line → (t : Tree) → Reads t nodes boxes words order → (k : ℕ)
+pub record TakesNode (line : View) (reach : Aabb) (pose : List Float) (triangles : List ℕ) (nodes : ℕ) (boxes : List Float)
+    (words order area : List ℕ) (top : ℕ) (best : Best) (result : Step) (area' : List ℕ) : Type 0 where
+  pub holds : (r : Ray) → Bounded r line reach → (t : Tree) → Reads t nodes boxes words order → (k : ℕ)
       → Stands r pose triangles t (suc k) [] (onStack area top) (saysNearestSoFar (best .notes)) → SteppedBy r pose triangles t k area'
       result
   pub stands : StepIn line (top - 1) result
 
 -- the whole walk
-pub record Walks (line : View) (pose : List Float) (triangles : List ℕ) (nodes : ℕ) (boxes : List Float) (words order : List ℕ)
-    (result : Walked) : Type 0 where
-  pub holds : (r : Ray) → Casts r line → (t : Tree) → Reads t nodes boxes words order → WalkedBy r pose triangles t result
+pub record Walks (line : View) (reach : Aabb) (pose : List Float) (triangles : List ℕ) (nodes : ℕ) (boxes : List Float)
+    (words order : List ℕ) (result : Walked) : Type 0 where
+  pub holds : (r : Ray) → Bounded r line reach → (t : Tree) → Reads t nodes boxes words order → WalkedBy r pose triangles t result

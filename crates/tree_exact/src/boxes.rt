@@ -13,9 +13,10 @@ ghost use Rattle.wide_integers.specs.Sizes.{Sized};
 ghost use Rattle.exact_triangle.specs.Line.{Line};
 ghost use Rattle.exact_triangle.specs.Grid.{within, furthest};
 ghost use Rattle.exact_triangle.specs.Shear.{gain};
+ghost use Rattle.exact_triangle.specs.Box.{certainBox};
 ghost use Rattle.exact_triangle.specs.View.{mainAs, Sees, Aimed};
 ghost use Rattle.tree_exact.specs.Room.{sideOn, facingRoom, boxRoom, SideSized, RoomSized};
-ghost use Rattle.tree_exact.specs.Opening.{boxRead, boxMet};
+ghost use Rattle.tree_exact.specs.Opening.{boxRead, lineMet, shortSegment, boxMet};
 
 // One side of a box on the grid, from a coordinate of the origin.
 fn side_of(low: f64, high: f64, o: i64) -> Span
@@ -83,13 +84,39 @@ fn room_of(line: View, bounds: Aabb) -> Room
 }
 
 // Whether the line can meet a box at a depth before past; a box out of range counts as one that it can meet.
-pub fn box_met(line: View, past: i64, bounds: Aabb) -> bool
+fn line_met(line: View, past: i64, bounds: Aabb) -> bool
     requires { ⌜ Aimed line ⌝ }
-    ensures { λ r. ⌜ ((l : Line) (limit : ℕ) → Sees line l → past ≡ pos (limit * gain l) → r ≡ boxMet l limit bounds) ⌝ }
+    ensures { λ r. ⌜ ((l : Line) (limit : ℕ) → Sees line l → past ≡ pos (limit * gain l) → r ≡ lineMet l limit bounds) ⌝ }
 {
     if !is_read(bounds) {
         return true;
     }
     let seen = room_of(line, bounds);
     room::passes(seen, line.heading, line.ahead, line.near, past)
+}
+
+// Whether the segment is at most 64 mm long.
+pub fn is_short(line: View) -> bool
+    requires { ⌜ Aimed line ⌝ }
+    ensures { λ r. ⌜ ((l : Line) → Sees line l → r ≡ shortSegment l) ⌝ }
+{
+    let length = line.far - line.near;
+    let most = line.gain * 2097152;
+    length <= most
+}
+
+// Whether a node with such a box is opened: its box against the segment's, reach, decides most of them, and for a short segment all in
+// range.
+pub fn box_met(line: View, reach: Aabb, past: i64, bounds: Aabb) -> bool
+    requires { ⌜ Aimed line ⌝ }
+    ensures { λ r. ⌜ ((l : Line) (limit : ℕ) → Sees line l → reach ≡ certainBox l → past ≡ pos (limit * gain l)
+        → r ≡ boxMet l limit bounds) ⌝ }
+{
+    if !bounds.touches(reach) {
+        return !is_read(bounds);
+    }
+    if is_short(line) {
+        return true;
+    }
+    line_met(line, past, bounds)
 }

@@ -7,6 +7,7 @@ use exact_triangle::view::Aim;
 use exact_triangle::view::View;
 use geometry::ray::Ray;
 use mesh::cast as mesh_cast;
+use mesh_exact::bounds;
 use nearest_hit::nearest;
 use nearest_hit::nearest::IndexedCast;
 use nearest_hit::summary;
@@ -47,6 +48,7 @@ fn exact_through(
 {
     let walked = walk::find_nearest(
         line,
+        bounds::segment_box(ray),
         pose,
         triangles,
         nodes,

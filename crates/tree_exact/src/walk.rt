@@ -7,6 +7,7 @@ use casts::answer::Reach;
 use exact_triangle::grid;
 use exact_triangle::view;
 use exact_triangle::view::View;
+use geometry::aabb::Aabb;
 use mesh_exact::noted;
 use nearest_hit::summary;
 use nearest_hit::summary::ChosenHit;
@@ -154,7 +155,7 @@ fn open_node(
             };
         }
         Node::Branch { left, right } => {
-            let left_first = children::nearer_first(line, nodes, node_boxes, left, right);
+            let left_first = children::taken_first(line, nodes, node_boxes, left, right);
             nodes_read::push(node_words, stack, node, top, left_first);
             return Step::Next {
                 top: top + 2,
@@ -167,9 +168,10 @@ fn open_node(
     }
 }
 
-// The next node of the stack: passed over if the line cannot meet its box before the nearest hit so far, else opened.
+// The next node of the stack: passed over if its box cannot be met before the nearest hit so far, else opened.
 fn take_node(
     line: View,
+    reach: Aabb,
     pose: &[f64],
     triangles: &[u32],
     nodes: usize,
@@ -183,7 +185,7 @@ fn take_node(
     requires { ⌜ (Aimed line × Limited line best)
         × (WalkRoom (thirds (length (now triangles))) nodes (now «node_boxes») (now «node_words») (now order)
         × ((0 < top) × (top + 1 ≤ length (now stack)))) ⌝ }
-    ensures { λ r. ⌜ TakesNode line (now (pose .entry)) (now (triangles .entry)) nodes (now («node_boxes» .entry))
+    ensures { λ r. ⌜ TakesNode line reach (now (pose .entry)) (now (triangles .entry)) nodes (now («node_boxes» .entry))
         (now («node_words» .entry)) (now (order .entry)) (now (stack .entry)) top best r (now (stack .exit)) ⌝ }
 {
     let below = top - 1;
@@ -191,7 +193,7 @@ fn take_node(
     if node >= nodes {
         return Step::Bad;
     }
-    if !boxes::box_met(line, best.past, layout::box_at(node_boxes, node)) {
+    if !boxes::box_met(line, reach, best.past, layout::box_at(node_boxes, node)) {
         return Step::Next {
             top: below,
             best: best,
@@ -215,6 +217,7 @@ fn take_node(
 // The walk. The stack may hold anything afterwards.
 pub fn find_nearest(
     line: View,
+    reach: Aabb,
     pose: &[f64],
     triangles: &[u32],
     nodes: usize,
@@ -225,8 +228,8 @@ pub fn find_nearest(
 ) -> Walked
     requires { ⌜ Aimed line × (WalkRoom (thirds (length (now triangles))) nodes (now «node_boxes») (now «node_words») (now order)
         × (nodes < length (now stack))) ⌝ }
-    ensures { λ r. ⌜ Walks line (now (pose .entry)) (now (triangles .entry)) nodes (now («node_boxes» .entry)) (now («node_words» .entry))
-        (now (order .entry)) r ⌝ }
+    ensures { λ r. ⌜ Walks line reach (now (pose .entry)) (now (triangles .entry)) nodes (now («node_boxes» .entry))
+        (now («node_words» .entry)) (now (order .entry)) r ⌝ }
 {
     if nodes == 0 {
         return Walked::Ended(summary::empty());
@@ -242,6 +245,7 @@ pub fn find_nearest(
         }
         let step = take_node(
             line,
+            reach,
             pose,
             triangles,
             nodes,

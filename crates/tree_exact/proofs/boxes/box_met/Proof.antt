@@ -1,47 +1,49 @@
 -- `tree_exact::boxes::box_met` meets its contract. Assumes nothing.
-use lib.Dec.{lit≤}
+use mathlib.Core.Path.{sym, _∙_}
 use mir.Syntax.{w64}
 use mir.ValLaws.{toZ-ofZ}
-use mathlib.Core.Path.{_∙_}
-use Rattle.wide_integers.proofs.Reading.{plain, widen, sized-bits}
 use Rattle.lists.proofs.JoinedTests.{test-passed, test-failed}
-use Rattle.tree_exact.proofs.BoxSteps.{unread-met, read-met}
+use Rattle.tree_exact.proofs.BoxSteps.{apart-met, short-met, long-met}
 use borrow.Author.Needs.{needs}
 use Rattle.tree_exact.proofs.boxes.box_met.Statement.{statement}
 use Rattle.tree_exact.proofs.boxes.box_met.Tie as tie
 
--- out of range
+-- apart from the segment's box
 returns : tie.Need-returns
 returns c =
-    let (s, a) : tie.Start × tie.After-is-read = search in
-    λ l limit sees e. unread-met (s .args .line) l sees limit (s .args .bounds) (test-failed (a .is-read .ensures) (c .if1 .taken))
+    let (s, a, e, k) : tie.Start × tie.After-touches × tie.Then1 × tie.After-is-read = search in
+    λ l limit sees box past. apart-met l limit (s .args .bounds) _ box
+    (test-failed (a .touches .ensures) (e .if1 .taken)) (k .is-read .ensures)
 
-room-of-requires : tie.Need-room-of-requires
-room-of-requires c κs =
-    let (s, a, e) : tie.Start × tie.After-is-read × tie.Else1 = search in
-    (s .pre, test-passed (a .is-read .ensures) (e .if1 .left))
+is-short-requires : tie.Need-is-short-requires
+is-short-requires c κs = let s : tie.Start = search in s .pre
 
-passes-requires : tie.Need-passes-requires
-passes-requires c κs =
-    let (s, k) : tie.Start × tie.After-room-of = search in
-    let t = s .pre .turned in
-    (k .room-of .ensures .1, record { heading = t .heading; ahead = sized-bits (t .ahead) (lit≤ tt) })
-
--- the room decides
+-- a short segment
 returns-2 : tie.Need-returns-2
 returns-2 c =
-    let (s, a, e, k) : tie.Start × tie.After-is-read × tie.Else1 × tie.After-room-of = search in
-    let v = s .args .line in
-    λ l limit sees past. read-met v l sees limit (s .args .bounds) (test-passed (a .is-read .ensures) (e .if1 .left))
-    (c .passes .ensures) (plain (widen (s .pre .near) (lit≤ tt))) (toZ-ofZ w64 (s .args .past) (s .fits .past) ∙ past)
-    (plain (widen (s .pre .turned .ahead) (lit≤ tt))) (k .room-of .ensures .0)
+    let (s, a, e, k, f) : tie.Start × tie.After-touches × tie.Else1 × tie.After-is-short × tie.Then2 = search in
+    λ l limit sees box past. short-met l limit (s .args .bounds) _ box
+    (test-passed (a .touches .ensures) (e .if1 .left)) (sym (k .is-short .ensures l sees) ∙ f .if2 .taken)
+
+line-met-requires : tie.Need-line-met-requires
+line-met-requires c κs = let s : tie.Start = search in s .pre
+
+-- the line decides
+returns-3 : tie.Need-returns-3
+returns-3 c =
+    let (s, a, e, k, f) : tie.Start × tie.After-touches × tie.Else1 × tie.After-is-short × tie.Else2 = search in
+    λ l limit sees box past. long-met l limit (s .args .bounds) _ box
+    (test-passed (a .touches .ensures) (e .if1 .left)) (sym (k .is-short .ensures l sees) ∙ f .if2 .left)
+    (c .line-met .ensures l limit sees (toZ-ofZ w64 (s .args .past) (s .fits .past) ∙ past))
 
 pub box-met-spec : {M : Type 1} → statement M
 box-met-spec =
     tie.close
     (tie.spec
+    (search needs)  -- touches-requires
     (search needs)  -- is-read-requires
     returns
-    room-of-requires
-    passes-requires
-    returns-2)
+    is-short-requires
+    returns-2
+    line-met-requires
+    returns-3)

@@ -9,11 +9,11 @@ use Rattle.tree_exact.proofs.walk.find_nearest.Statement.{statement}
 use Rattle.tree_exact.proofs.walk.find_nearest.Tie as tie
 
 abbrev Inv-loop : tie.InvT-loop
-Inv-loop line pose triangles nodes node-boxes node-words order stack₀ best₀ top₀ left₀ stack best top left =
-    WalkSoFar line pose triangles nodes node-boxes node-words order stack₀ stack top left best
+Inv-loop line reach pose triangles nodes node-boxes node-words order stack₀ best₀ top₀ left₀ stack best top left =
+    WalkSoFar line reach pose triangles nodes node-boxes node-words order stack₀ stack top left best
 
 abbrev μ-loop : tie.MeasureT-loop
-μ-loop line pose triangles nodes node-boxes node-words order stack₀ best₀ top₀ left₀ stack best top left = left
+μ-loop line reach pose triangles nodes node-boxes node-words order stack₀ best₀ top₀ left₀ stack best top left = left
 
 -- the places of the loop
 abbrev Start : Type 0
@@ -33,7 +33,7 @@ returns : tie.Need-returns Inv-loop μ-loop
 returns c =
     let (s, t, e) : Start × tie.Then1 Inv-loop μ-loop × tie.After-empty Inv-loop μ-loop = search in
     let v = s .args in
-    walks-empty (v .line) (v .pose .now) (v .triangles .now) (v .nodes) (v .node-boxes .now) (v .node-words .now) (v .order .now)
+    walks-empty (v .line) (v .reach) (v .pose .now) (v .triangles .now) (v .nodes) (v .node-boxes .now) (v .node-words .now) (v .order .now)
     (t .if1 .taken) _ (e .empty .ensures)
 
 best-of-requires : tie.Need-best-of-requires Inv-loop μ-loop
@@ -43,7 +43,7 @@ loop-holds : tie.Need-loop-holds Inv-loop μ-loop
 loop-holds c =
     let (s, e, z, b) : Start × tie.Else1 Inv-loop μ-loop × tie.After-empty2 Inv-loop μ-loop × tie.After-best-of Inv-loop μ-loop = search in
     let v = s .args in
-    walk-begins (v .line) (v .pose .now) (v .triangles .now) (v .nodes) (v .node-boxes .now) (v .node-words .now) (v .order .now)
+    walk-begins (v .line) (v .reach) (v .pose .now) (v .triangles .now) (v .nodes) (v .node-boxes .now) (v .node-words .now) (v .order .now)
     (v .stack .now) (s .pre .1 .1) (omega (arith, e .if1 .left)) _ _ (b .best-of .ensures .0) (z .empty2 .ensures) (b .best-of .ensures .1)
 
 same-length : tie.Need-same-length Inv-loop μ-loop
@@ -56,7 +56,7 @@ returns-2 : tie.Need-returns-2 Inv-loop μ-loop
 returns-2 c =
     let (s, l, t) : Start × At × tie.Then2 Inv-loop μ-loop = search in
     let v = s .args in
-    walk-ended (v .line) (v .pose .now) (v .triangles .now) (v .nodes) (v .node-boxes .now) (v .node-words .now) (v .order .now)
+    walk-ended (v .line) (v .reach) (v .pose .now) (v .triangles .now) (v .nodes) (v .node-boxes .now) (v .node-words .now) (v .order .now)
     _ _ _ _ _ (l .loop .inv) (t .if2 .taken) _ refl
 
 take-node-requires : tie.Need-take-node-requires Inv-loop μ-loop
@@ -69,7 +69,7 @@ take-node-requires c κs =
 same-length-2 : tie.Need-same-length-2 Inv-loop μ-loop
 same-length-2 c =
     let (s, l, k) : Start × At × Taken = search in
-    k .take-node .kept .1 .1 .1 .1 .1 .1 .1 .0 ∙ l .loop .inv .long ∙ length-set {A = ℕ} (s .args .stack .now) 0 0
+    k .take-node .kept .1 .1 .1 .1 .1 .1 .1 .1 .0 ∙ l .loop .inv .long ∙ length-set {A = ℕ} (s .args .stack .now) 0 0
 
 -- a 5
 returns-3 : tie.Need-returns-3 Inv-loop μ-loop
@@ -77,7 +77,7 @@ returns-3 c =
     let (s, l, i, e, k) : Start × At × Within × tie.Else2 Inv-loop μ-loop × Taken = search in
     let z : tie.After-enum-told Inv-loop μ-loop = search in
     let v = s .args in
-    walk-broken (v .line) (v .pose .now) (v .triangles .now) (v .nodes) (v .node-boxes .now) (v .node-words .now) (v .order .now)
+    walk-broken (v .line) (v .reach) (v .pose .now) (v .triangles .now) (v .nodes) (v .node-boxes .now) (v .node-words .now) (v .order .now)
     _ _ _ _ _ (l .loop .inv) (i .loop-test .taken) (omega (arith, e .if2 .left)) _ _ (k .take-node .ensures) (z .enum-told .given .1)
 
 -- the next node
@@ -86,9 +86,9 @@ loop-again c =
     let (s, l, i, e, k) : Start × At × Within × tie.Else2 Inv-loop μ-loop × Taken = search in
     let n : tie.After-step Inv-loop μ-loop = search in
     let v = s .args in
-    walk-goes (v .line) (v .pose .now) (v .triangles .now) (v .nodes) (v .node-boxes .now) (v .node-words .now) (v .order .now)
+    walk-goes (v .line) (v .reach) (v .pose .now) (v .triangles .now) (v .nodes) (v .node-boxes .now) (v .node-words .now) (v .order .now)
     _ _ _ _ _ (l .loop .inv) (i .loop-test .taken) (omega (arith, e .if2 .left)) _ _ (k .take-node .ensures) _ _ (n .step .given .1)
-    (k .take-node .kept .1 .1 .1 .1 .1 .1 .1 .0)
+    (k .take-node .kept .1 .1 .1 .1 .1 .1 .1 .1 .0)
 
 same-length-3 : tie.Need-same-length-3 Inv-loop μ-loop
 same-length-3 c =
@@ -100,7 +100,7 @@ returns-4 : tie.Need-returns-4 Inv-loop μ-loop
 returns-4 c =
     let (s, l, t) : Start × At × tie.Then3 Inv-loop μ-loop = search in
     let v = s .args in
-    walk-ended (v .line) (v .pose .now) (v .triangles .now) (v .nodes) (v .node-boxes .now) (v .node-words .now) (v .order .now)
+    walk-ended (v .line) (v .reach) (v .pose .now) (v .triangles .now) (v .nodes) (v .node-boxes .now) (v .node-words .now) (v .order .now)
     _ _ _ _ _ (l .loop .inv) (t .if3 .taken) _ refl
 
 same-length-4 : tie.Need-same-length-4 Inv-loop μ-loop
@@ -113,8 +113,8 @@ returns-5 : tie.Need-returns-5 Inv-loop μ-loop
 returns-5 c =
     let (s, l, o, e) : Start × At × tie.After-loop Inv-loop μ-loop × tie.Else3 Inv-loop μ-loop = search in
     let v = s .args in
-    walk-used-up (v .line) (v .pose .now) (v .triangles .now) (v .nodes) (v .node-boxes .now) (v .node-words .now) (v .order .now)
-    _ _ _ _ _ (l .loop .inv) (omega (arith, o .loop-test .left)) (omega (arith, e .if3 .left))
+    walk-used-up (v .line) (v .reach) (v .pose .now) (v .triangles .now) (v .nodes) (v .node-boxes .now) (v .node-words .now)
+    (v .order .now) _ _ _ _ _ (l .loop .inv) (omega (arith, o .loop-test .left)) (omega (arith, e .if3 .left))
 
 pub find-nearest-spec : {M : Type 1} → statement M
 find-nearest-spec =

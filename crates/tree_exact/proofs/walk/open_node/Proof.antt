@@ -36,8 +36,8 @@ returns-2 c =
 best-of-requires : tie.Need-best-of-requires
 best-of-requires c κs = let s : tie.Start = search in s .pre .0 .0
 
-nearer-first-requires : tie.Need-nearer-first-requires
-nearer-first-requires c κs =
+taken-first-requires : tie.Need-taken-first-requires
+taken-first-requires c κs =
     let s : tie.Start = search in
     (s .pre .0 .0, s .pre .1 .0 .boxed)
 
@@ -54,10 +54,10 @@ add-t27 c =
 -- a branch
 returns-3 : tie.Need-returns-3
 returns-3 c =
-    let (s, a, k, f, p) : tie.Start × tie.After-node-at × tie.After-opened2 × tie.After-nearer-first × tie.After-push = search in
+    let (s, a, k, f, p) : tie.Start × tie.After-node-at × tie.After-opened2 × tie.After-taken-first × tie.After-push = search in
     let v = s .args in
     opens-branch (v .line) (v .pose .now) (v .triangles .now) (v .nodes) (v .node-boxes .now) (v .node-words .now) (v .order .now)
-    (v .stack .now) (v .node) (v .top) (v .best) _ (a .node-at .ensures) _ _ (k .opened2 .given .1) _ (f .nearer-first .ensures)
+    (v .stack .now) (v .node) (v .top) (v .best) _ (a .node-at .ensures) _ _ (k .opened2 .given .1) _ (f .taken-first .ensures)
     _ (p .push .ensures) (s .pre .0 .1)
 
 -- a node that is none
@@ -81,7 +81,7 @@ open-node-spec =
     best-of-requires
     returns-2
     (search needs)  -- enum-known-opened-2
-    nearer-first-requires
+    taken-first-requires
     push-requires
     add-t27
     (search needs)  -- same-length

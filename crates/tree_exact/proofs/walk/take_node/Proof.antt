@@ -13,7 +13,7 @@ returns : tie.Need-returns
 returns c =
     let (s, w) : tie.Start × tie.After-word-at = search in
     let v = s .args in
-    takes-bad (v .line) (v .pose .now) (v .triangles .now) (v .nodes) (v .node-boxes .now) (v .node-words .now) (v .order .now)
+    takes-bad (v .line) (v .reach) (v .pose .now) (v .triangles .now) (v .nodes) (v .node-boxes .now) (v .node-words .now) (v .order .now)
     (v .stack .now) (v .top) (v .best) (s .pre .1 .1 .0) (w .word-at .result) (w .word-at .ensures) (omega arith)
 
 box-met-requires : tie.Need-box-met-requires
@@ -25,10 +25,11 @@ returns-2 c =
     let (s, w, e, b, m, f) : tie.Start × tie.After-word-at × tie.Else1 × tie.After-box-at × tie.After-box-met × tie.Then2 = search in
     let v = s .args in
     let limited = s .pre .0 .1 in
-    takes-past (v .line) (v .pose .now) (v .triangles .now) (v .nodes) (v .node-boxes .now) (v .node-words .now) (v .order .now)
+    takes-past (v .line) (v .reach) (v .pose .now) (v .triangles .now) (v .nodes) (v .node-boxes .now) (v .node-words .now) (v .order .now)
     (v .stack .now) (v .top) (v .best) (s .pre .1 .1 .0) (w .word-at .result) (w .word-at .ensures) (omega (arith, e .if1 .left)) limited
     (b .box-at .result) (b .box-at .ensures) (m .box-met .result)
-    (λ l limit sees past. m .box-met .ensures l limit sees (plain (limited .fits) ∙ past)) (not-true (m .box-met .result) (f .if2 .taken))
+    (λ l limit sees box past. m .box-met .ensures l limit sees box (plain (limited .fits) ∙ past))
+    (not-true (m .box-met .result) (f .if2 .taken))
 
 open-node-requires : tie.Need-open-node-requires
 open-node-requires c κs =
@@ -42,10 +43,11 @@ returns-3 c =
     let o : tie.After-open-node = search in
     let v = s .args in
     let limited = s .pre .0 .1 in
-    takes-open (v .line) (v .pose .now) (v .triangles .now) (v .nodes) (v .node-boxes .now) (v .node-words .now) (v .order .now)
+    takes-open (v .line) (v .reach) (v .pose .now) (v .triangles .now) (v .nodes) (v .node-boxes .now) (v .node-words .now) (v .order .now)
     (v .stack .now) (v .top) (v .best) (s .pre .1 .1 .0) (w .word-at .result) (w .word-at .ensures) (omega (arith, e .if1 .left)) limited
     (b .box-at .result) (b .box-at .ensures) (m .box-met .result)
-    (λ l limit sees past. m .box-met .ensures l limit sees (plain (limited .fits) ∙ past)) (not-false (m .box-met .result) (f .if2 .left))
+    (λ l limit sees box past. m .box-met .ensures l limit sees box (plain (limited .fits) ∙ past))
+    (not-false (m .box-met .result) (f .if2 .left))
     (o .open-node .ensures)
 
 pub take-node-spec : {M : Type 1} → statement M
