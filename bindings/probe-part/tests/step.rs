@@ -1,9 +1,15 @@
 //! Boards drawn as solids, cut by gmsh (OpenCASCADE) and triangulated as docs/STEP.md says. The rows are written from the
 //! drawings' measures. Where gmsh is not installed each test says that it is skipped.
+mod board;
+mod known;
+
+use board::Chance;
+use known::explains;
 use probe_part::model::{Doubt, End, Outline, Part, Report};
 use probe_part::recognise::{recognise, Options};
 use probe_part::shape::Shape;
 use probe_part::tables::{kind_word, outline_word};
+use probe_rays::stl::{self, Corners};
 use std::path::Path;
 use std::process::Command;
 use std::{env, fs};
@@ -11,11 +17,12 @@ use std::{env, fs};
 /// A board of 600 by 400 by 18, with a volume for each tool.
 const BOARD: &str = "Box(1) = {0, 0, 0, 600, 400, 18};";
 
-/// The report of a body and what is cut from it, each a volume of its own from 2 on; none without gmsh.
-fn cut(name: &str, body: &str, tools: &[&str]) -> Option<Report> {
+/// The facets and the report of a body and what is cut from it, each a volume of its own from 2 on; none without gmsh.
+fn cut(name: &str, body: &str, tools: &[&str]) -> Option<(Vec<Corners>, Report)> {
     let last = tools.len() + 1;
     let text = format!(
-        "SetFactory(\"OpenCASCADE\");\n{body}\n{}\nBooleanDifference(1000) = {{ Volume{{1}}; Delete; }}{{ Volume{{2:{last}}}; Delete; }};\n",
+        "SetFactory(\"OpenCASCADE\");\n{body}\n{}\n\
+        BooleanDifference(1000) = {{ Volume{{1}}; Delete; }}{{ Volume{{2:{last}}}; Delete; }};\n",
         tools.join("\n")
     );
     let folder = env::temp_dir().join(format!("probe-part-step-{name}-{}", std::process::id()));
@@ -23,7 +30,7 @@ fn cut(name: &str, body: &str, tools: &[&str]) -> Option<Report> {
     let file = |name: &str| folder.join(name);
     fs::write(file("part.geo"), text).unwrap();
     let drawn = gmsh(&file("part.geo"), &["-o"], &file("part.step"));
-    let shape = drawn.map(|()| {
+    let facets = drawn.map(|()| {
         let settings = [
             ["-setnumber", "Mesh.StlLinearDeflection", "0.05"],
             ["-setnumber", "Mesh.StlAngularDeflection", "0.35"],
@@ -31,13 +38,16 @@ fn cut(name: &str, body: &str, tools: &[&str]) -> Option<Report> {
         let mut words: Vec<&str> = settings.concat();
         words.extend(["-format", "stl", "-bin", "-o"]);
         gmsh(&file("part.step"), &words, &file("part.stl")).unwrap();
-        Shape::load(file("part.stl").to_str().unwrap()).unwrap()
+        stl::facets(&fs::read(file("part.stl")).unwrap()).unwrap()
     });
     fs::remove_dir_all(&folder).unwrap();
-    if shape.is_none() {
+    let Some(facets) = facets else {
         println!("SKIPPED: {name}, since gmsh is not installed (apt-get install gmsh)");
-    }
-    shape.map(|shape| recognise(&shape, &Options::default()).unwrap())
+        return None;
+    };
+    let shape = Shape::of(&facets).unwrap();
+    let report = recognise(&shape, &Options::default()).unwrap();
+    Some((facets, report))
 }
 
 /// Runs gmsh without meshing; none where it is not installed.
@@ -87,7 +97,7 @@ fn told(part: &Part, place: usize) -> String {
 
 /// A certain list of these rows, in any order.
 fn holds(name: &str, body: &str, tools: &[&str], rows: &[&str]) {
-    let Some(report) = cut(name, body, tools) else {
+    let Some((facets, report)) = cut(name, body, tools) else {
         return;
     };
     assert!(report.is_certain(), "{name}: {report:#?}");
@@ -99,11 +109,14 @@ fn holds(name: &str, body: &str, tools: &[&str], rows: &[&str]) {
     read.sort();
     wanted.sort();
     assert_eq!(read, wanted, "{name}");
+    if !part.faces.iter().any(|face| face.is_round) {
+        explains(&facets, part, 1);
+    }
 }
 
 /// A list that is in doubt because of what is not understood, and not because of the mesh.
 fn doubts(name: &str, tools: &[&str]) {
-    let Some(report) = cut(name, BOARD, tools) else {
+    let Some((_, report)) = cut(name, BOARD, tools) else {
         return;
     };
     let [part] = report.parts.as_slice() else {
@@ -228,7 +241,7 @@ fn bores_in_mitres() {
         "Cylinder(4) = {596, 280, 14, -10, 0, -10, 4};",
         "Cylinder(5) = {300, -1, 9, 0, 31, 0, 4};",
     ];
-    let Some(report) = cut("mitre", body, &tools) else {
+    let Some((_, report)) = cut("mitre", body, &tools) else {
         return;
     };
     assert!(report.is_certain(), "{report:#?}");
@@ -330,4 +343,71 @@ fn what_is_not_recognised() {
         "fillet",
         &["Box(2) = {200, 100, 10, 100, 80, 12}; Fillet{2}{15, 16, 19, 20, 21, 22, 23, 24}{3}"],
     );
+}
+
+/// A bore, an edge bore, a pocket, a leaning bore or a pocket in the edge, as the volume of a number: anywhere, so that they
+/// overlap, and run out at sides.
+fn tool_of_chance(chance: &mut Chance, number: usize) -> String {
+    let mut half = |low: f64, high: f64| (2.0 * chance.between(low, high)).round() / 2.0;
+    let (x, y, wide, deep) = (
+        half(5.0, 195.0),
+        half(5.0, 115.0),
+        half(3.0, 30.0),
+        half(2.0, 30.0),
+    );
+    let (z, long, lean) = (half(6.0, 12.0), half(10.0, 100.0), half(2.0, 8.0));
+    match chance.below(6) {
+        0 => format!(
+            "Cylinder({number}) = {{{x}, {y}, {}, 0, 0, 60, {}}};",
+            18.0 - deep,
+            wide / 2.0
+        ),
+        1 => format!(
+            "Cylinder({number}) = {{{x}, {y}, -1, 0, 0, {}, {}}};",
+            deep + 1.0,
+            wide / 2.0
+        ),
+        2 => format!(
+            "Cylinder({number}) = {{-1, {y}, {z}, {long}, 0, 0, {}}};",
+            lean / 2.0
+        ),
+        3 => format!(
+            "Box({number}) = {{{}, {}, {}, {long}, {wide}, 60}};",
+            x - 15.0,
+            y - 15.0,
+            18.0 - deep
+        ),
+        4 => format!(
+            "Cylinder({number}) = {{{x}, {y}, 23, {lean}, 0, -{}, {}}};",
+            deep + 5.0,
+            lean / 2.0
+        ),
+        _ => format!(
+            "Box({number}) = {{-1, {y}, {}, {long}, {wide}, {lean}}};",
+            z / 2.0
+        ),
+    }
+}
+
+/// Boards of chance whose rows overlap: of each list that is certain, the rows leave material exactly where the mesh has some.
+#[test]
+fn boards_of_chance_that_overlap() {
+    let mut chance = Chance(41);
+    let mut certain = 0;
+    for number in 0..16 {
+        let count = 3 + chance.below(3) as usize;
+        let tools: Vec<String> = (2..count + 2)
+            .map(|n| tool_of_chance(&mut chance, n))
+            .collect();
+        let words: Vec<&str> = tools.iter().map(String::as_str).collect();
+        let name = format!("chance-{number}");
+        let Some((facets, report)) = cut(&name, "Box(1) = {0, 0, 0, 200, 120, 18};", &words) else {
+            return;
+        };
+        if report.is_certain() {
+            certain += 1;
+            explains(&facets, &report.parts[0], number);
+        }
+    }
+    assert!((4..16).contains(&certain), "{certain} of 16 are certain");
 }
