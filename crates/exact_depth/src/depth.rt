@@ -66,7 +66,7 @@ fn by_weights(
 }
 
 // The first depth by the corners' turns about the line.
-fn by_turns(a: Projected, b: Projected, c: Projected, near: i64, far: i64) -> Found
+fn by_determinants(a: Projected, b: Projected, c: Projected, near: i64, far: i64) -> Found
     requires { ⌜ Close a × (Close b × Close c) ⌝ }
     ensures { λ r. ⌜ Finds r (firstPoint a b c near far) ⌝ }
 {
@@ -88,5 +88,5 @@ pub fn first_point(a: Projected, b: Projected, c: Projected, near: i64, far: i64
     if sides::one_side(a.up, b.up, c.up) {
         return Found::Miss;
     }
-    by_turns(a, b, c, near, far)
+    by_determinants(a, b, c, near, far)
 }

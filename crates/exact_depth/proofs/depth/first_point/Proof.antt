@@ -28,14 +28,14 @@ returns-2 c =
     (side-read (plain (held-fit (h .0 .up))) (plain (held-fit (h .1 .0 .up))) (plain (held-fit (h .1 .1 .up)))
     (a .one-side2 .ensures (c .if2 .taken))))
 
-by-turns-requires : tie.Need-by-turns-requires
-by-turns-requires c κs = let s : tie.Start = search in s .pre
+by-determinants-requires : tie.Need-by-determinants-requires
+by-determinants-requires c κs = let s : tie.Start = search in s .pre
 
 returns-3 : tie.Need-returns-3
 returns-3 c =
     let s : tie.Start = search in
     let v = s .args in
-    finds-as (c .by-turns .ensures) (λ i. firstPoint (v .a) (v .b) (v .c) (bits-back (s .fits .near) i) (bits-back (s .fits .far) i))
+    finds-as (c .by-determinants .ensures) (λ i. firstPoint (v .a) (v .b) (v .c) (bits-back (s .fits .near) i) (bits-back (s .fits .far) i))
 
 pub first-point-spec : {M : Type 1} → statement M
 first-point-spec =
@@ -45,5 +45,5 @@ first-point-spec =
     returns
     (search needs)  -- one-side-requires-2
     returns-2
-    by-turns-requires
+    by-determinants-requires
     returns-3)

@@ -1,4 +1,4 @@
--- `exact_depth::depth::by_turns` meets its contract. Assumes nothing.
+-- `exact_depth::depth::by_determinants` meets its contract. Assumes nothing.
 use mathlib.Core.Path.{_≡_, refl, sym, ap, _∙_, subst}
 use lib.IntN.{ℤ}
 use Rattle.exact_depth.specs.declared.projection.Projected.{Projected}
@@ -9,8 +9,8 @@ use Rattle.wide_integers.specs.Value.{value, Weight}
 use Rattle.exact_depth.specs.Sizes.{Close}
 use Rattle.exact_depth.proofs.Laws.{finds-as, determinant-back, seen-weight}
 use borrow.Author.Needs.{needs}
-use Rattle.exact_depth.proofs.depth.by_turns.Statement.{statement}
-use Rattle.exact_depth.proofs.depth.by_turns.Tie as tie
+use Rattle.exact_depth.proofs.depth.by_determinants.Statement.{statement}
+use Rattle.exact_depth.proofs.depth.by_determinants.Tie as tie
 
 -- one turn, and its size
 module _ {p q : Projected} (h : Close p) (g : Close q) {x : ℤ}
@@ -56,8 +56,8 @@ returns c =
     (bits-back (s .fits .near) i)
     (bits-back (s .fits .far) i))
 
-pub by-turns-spec : {M : Type 1} → statement M
-by-turns-spec =
+pub by-determinants-spec : {M : Type 1} → statement M
+by-determinants-spec =
     tie.close
     (tie.spec
     (search needs)  -- turn-requires
