@@ -27,10 +27,10 @@ use Rattle.nearest_hit.specs.Nearest.{hitAt, nextOf, foldFrom}
 use Rattle.lists.specs.Lists.{range, every}
 use Rattle.tree.specs.Layout.{vectorAt}
 use Rattle.tree.specs.Mesh.{Mesh, lengthsAdmitted, cornersInside, cornerAt, cornersOf, triangleBox, triangleFits, trianglesFit}
-use Rattle.tree_query.proofs.QueryExamples.{o, i, ten, eleven, lower, oddTree}
+use Rattle.known_answers.proofs.QueryExamples.{o, i, ten, eleven, lower, oddTree}
 use Rattle.mesh.specs.MeshCast.{treeFits, roomFor, rayMesh}
 use Rattle.mesh.specs.Demand3.{Candidate}
-use Rattle.mesh.proofs.CastExamples.{odd-passes}
+use Rattle.known_answers.proofs.MeshExamples.{odd-passes}
 use Rattle.exact_depth.specs.FirstPoint.{kept, crossing, sideOf, entering, inside, entry, alongPlane, area, inPlane, coplanar, byWeights}
 use Rattle.exact_depth.specs.FirstPoint.{firstPoint}
 use Rattle.wide_integers.proofs.Integers.{pp}

@@ -11,7 +11,7 @@ use Rattle.geometry.specs.Segment.{unitLength, rayAdmitted}
 use Rattle.tree.specs.Mesh.{lengthsAdmitted}
 use Rattle.mesh.specs.MeshCast.{shapeAdmitted, treeFits, roomFor}
 use Rattle.mesh.specs.Demand3.{PassesCheck, NearestHit}
-use Rattle.mesh.proofs.CastExamples.{odd-passes}
+use Rattle.known_answers.proofs.MeshExamples.{odd-passes}
 use Rattle.cabinet.specs.declared.part.Part.{Part}
 use Rattle.cabinet.specs.declared.part.Found.the-variants.{Nothing}
 use Rattle.cabinet.specs.Parts.{meshOf, treeOfPart, rangesInside, shapeFits, roomFits}

@@ -15,9 +15,9 @@ use Rattle.casts.specs.Answer.{noRoom}
 use Rattle.known_answers.proofs.BuildExamples.{corners, times, answered, k11-five}
 use Rattle.tree_build.specs.Build.{Answer, buildOf}
 use Rattle.tree_check.specs.Verdict.{yes, checkOf}
-use Rattle.tree_query.proofs.QueryExamples.{o, i, quarter, ten, eleven, lower, oddTree}
+use Rattle.known_answers.proofs.QueryExamples.{o, i, quarter, ten, eleven, lower, oddTree}
 use Rattle.mesh.specs.Demand3.{MeetsDemand}
-use Rattle.mesh.proofs.CastExamples.{odd-admitted}
+use Rattle.known_answers.proofs.MeshExamples.{odd-admitted}
 use Rattle.results.specs.Results.{BuildReturned, resultsFit, answeredMesh, returnedNodes, buildReturned, doneCode}
 use Rattle.exports.specs.Reading.{answerRead}
 use Rattle.exports.proofs.Kept.{room-there}

@@ -27,7 +27,7 @@ use Rattle.tree_check.specs.Check.{clausesHold, treePasses}
 use Rattle.tree_check.specs.Verdict.{yes, checkOf, roomFor as marksFit}
 use Rattle.tree_walk.specs.Walk.{times, takePlace, takePlaces, atLeaf, childFits, atBranch, atNode, takeNode, start, ended, walkOf}
 use Rattle.tree_query.specs.Query.{Listing, count as countOf, refused}
-use Rattle.tree_query.proofs.QueryExamples.{o, i, quarter, ten, eleven, lower, oddTree}
+use Rattle.known_answers.proofs.QueryExamples.{o, i, quarter, ten, eleven, lower, oddTree}
 use Rattle.mesh.specs.MeshCast.{shapeAdmitted, treeFits, roomFor, rayMesh}
 use Rattle.mesh.specs.Demand3.{Admitted}
 use Rattle.depth_sort.specs.Order.{notFarther, keyedAhead}

@@ -20,10 +20,10 @@ use Rattle.geometry.specs.declared.ray.Ray.{Ray}
 use Rattle.nearest_hit.specs.Nearest.{Indexed, hitAt}
 use Rattle.tree.specs.Layout.{vectorAt}
 use Rattle.tree.specs.Mesh.{Mesh, lengthsAdmitted, cornerAt, triangleBox}
-use Rattle.tree_query.proofs.QueryExamples.{o, i, ten, eleven, lower, oddTree}
+use Rattle.known_answers.proofs.QueryExamples.{o, i, ten, eleven, lower, oddTree}
 use Rattle.mesh.specs.MeshCast.{treeFits, roomFor, rayMesh}
 use Rattle.mesh.specs.Demand3.{Candidate}
-use Rattle.mesh.proofs.CastExamples.{odd-passes}
+use Rattle.known_answers.proofs.MeshExamples.{odd-passes}
 use Rattle.whole_numbers.specs.Points.{Point}
 use Rattle.whole_numbers.specs.Board.{Drawn, DrawnAt, downward}
 use Rattle.whole_numbers.specs.Boards.{Plan, drawingOf, Boards, Met, MeshExact}

@@ -2,4 +2,3 @@
 pub mod Answers
 pub mod Calls
 pub mod Progress
-pub mod Examples

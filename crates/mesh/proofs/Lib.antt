@@ -9,7 +9,6 @@ pub mod WalkState
 pub mod WalkStep
 pub mod WalkLists
 pub mod Demand3
-pub mod CastExamples
 pub mod Contract
 pub mod BuildBoxes
 pub mod BuildOrder

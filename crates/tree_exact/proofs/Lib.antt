@@ -20,4 +20,3 @@ pub mod LimitSteps
 pub mod WalkSteps
 pub mod NumberTests
 pub mod Casting
-pub mod Examples

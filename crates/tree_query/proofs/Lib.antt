@@ -2,4 +2,3 @@
 pub mod Unlimited
 pub mod SortedWalks
 pub mod Queries
-pub mod QueryExamples

@@ -23,10 +23,10 @@ use Rattle.tree_check.specs.Check.{childrenOf, placesOf, kindsKnown, childrenAb
 use Rattle.tree_check.specs.Check.{leavesFilled, cornersKnown, boxesSame, boxesValid, nodeEncloses, enclosed, clausesHold, treePasses}
 use Rattle.tree_check.specs.Verdict.{yes, checkOf, roomFor as check-roomFor}
 use Rattle.tree_walk.specs.Walk.{times, takePlace, takePlaces, atLeaf, childFits, atBranch, atNode, takeNode, start, ended, walkOf}
-use Rattle.tree_query.proofs.QueryExamples.{o, i, quarter, ten, eleven, lower, oddTree}
+use Rattle.known_answers.proofs.QueryExamples.{o, i, quarter, ten, eleven, lower, oddTree}
 use Rattle.mesh.specs.Demand3.{Admitted, MeetsDemand}
 use Rattle.mesh.proofs.Demand3.{demand3}
 use Rattle.mesh.specs.MeshCast.{shapeAdmitted, treeFits, roomFor, overWalk, meshCast, rayMesh}
 
 -- the three triangles of that tree: one at height 0, one beside it, one below it
 abbrev vertices : List Float

@@ -22,9 +22,9 @@ use Rattle.lists.specs.Lists.{range}
 use Rattle.tree.specs.Layout.{Tree, vectorAt, boxAt}
 use Rattle.tree.specs.Mesh.{Mesh, lengthsAdmitted, cornersInside, cornerAt, cornersOf}
 use Rattle.tree_query.specs.Query.{treeFits}
-use Rattle.tree_query.proofs.QueryExamples.{o, i, quarter, ten, eleven, lower, oddTree}
+use Rattle.known_answers.proofs.QueryExamples.{o, i, quarter, ten, eleven, lower, oddTree}
 use Rattle.mesh.specs.MeshCast.{shapeAdmitted}
-use Rattle.mesh.proofs.CastExamples.{odd-passes}
+use Rattle.known_answers.proofs.MeshExamples.{odd-passes}
 use Rattle.exact_depth.specs.FirstPoint.{kept, crossing, sideOf, entering, inside, entry, alongPlane, area, inPlane, coplanar, byWeights}
 use Rattle.exact_depth.specs.FirstPoint.{firstPoint}
 use Rattle.exact_triangle.specs.Grid.{nearestTo, gridAdmitted, gridLine}

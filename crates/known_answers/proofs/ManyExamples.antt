@@ -6,14 +6,14 @@ use lib.ListN.{getD}
 use Rattle.nearest_hit.specs.Nearest.{Indexed, noHit}
 use Rattle.tree.specs.Layout.{vectorAt}
 use Rattle.tree.specs.Mesh.{Mesh, lengthsAdmitted}
-use Rattle.tree_query.proofs.QueryExamples.{o, i, quarter, ten, eleven, lower, oddTree}
+use Rattle.known_answers.proofs.QueryExamples.{o, i, quarter, ten, eleven, lower, oddTree}
 use Rattle.mesh.specs.MeshCast.{shapeAdmitted, treeFits, roomFor}
-use Rattle.mesh.proofs.CastExamples.{casts-answered}
+use Rattle.known_answers.proofs.MeshExamples.{casts-answered}
 use Rattle.tree_exact.specs.ExactMesh as Exact
-use Rattle.tree_exact.proofs.Examples.{casts-hit}
+use Rattle.known_answers.proofs.TreeExactExamples.{casts-hit}
 use Rattle.results.specs.Results.{hitCode, noneCode, doneCode}
 use Rattle.many_casts.specs.Many.{rayAt, Places, places, placesFit, answerAt, answersOf, ReturnedMany, returnedMany, manyReturned}
 use Rattle.many_casts.specs.Many.{meshAnswer, exactAnswer}
 
 -- a mesh of three triangles, and a tree that no builder of ours would write
 abbrev vertices : List Float
