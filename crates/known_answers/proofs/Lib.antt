@@ -3,14 +3,18 @@ pub mod Checked
 pub mod CallInstances
 pub mod ListingExamples
 pub mod CabinetInstances
+pub mod ManyInstances
 pub mod MeshExactExamples
+pub mod TreeExactExamples
 pub mod ExactTriangleExamples
 pub mod WideExamples
 pub mod WordExamples
 pub mod CheckExamples
 pub mod CabinetExamples
+pub mod MeshExamples
 pub mod BuilderInstance
 pub mod PlainExamples
+pub mod QueryExamples
 pub mod GlueExamples
 pub mod MergeTestExamples
 pub mod BuildExamples
@@ -19,6 +23,7 @@ pub mod ShortRecord
 pub mod LookExamples
 pub mod PlaceExamples
 pub mod CubicExamples
+pub mod ManyExamples
 pub mod AgreementExamples
 pub mod WholeMeshExamples
 pub mod TreeExactExamples
