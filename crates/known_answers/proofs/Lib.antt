@@ -26,7 +26,3 @@ pub mod CubicExamples
 pub mod ManyExamples
 pub mod AgreementExamples
 pub mod WholeMeshExamples
-pub mod TreeExactExamples
-pub mod MeshExamples
-pub mod QueryExamples
-pub mod ManyExamples

@@ -2,9 +2,8 @@
 use mathlib.Core.Path.{refl}
 use mathlib.Core.Bool.{false≢true}
 use lib.IntN.{pos}
-use Rattle.wide_integers.proofs.Reading.{below-read}
+use Rattle.wide_integers.proofs.Reading.{below-read, bits-back}
 use Rattle.exact_depth.specs.Sides.{above, below}
-use Rattle.exact_depth.proofs.Laws.{back}
 use Rattle.exact_depth.proofs.sides.one_side.Statement.{statement}
 use Rattle.exact_depth.proofs.sides.one_side.Tie as tie
 
@@ -12,8 +11,8 @@ use Rattle.exact_depth.proofs.sides.one_side.Tie as tie
 returns : tie.Need-returns
 returns c =
     let (s, t, u) : tie.Start × tie.Then1 × tie.Then2 = search in
-    λ e. above (below-read {X = pos 0} refl (back (s .fits .x)) (t .if1 .taken))
-    (below-read {X = pos 0} refl (back (s .fits .y)) (u .if2 .taken)) (below-read {X = pos 0} refl (back (s .fits .z)) e)
+    λ e. above (below-read {X = pos 0} refl (bits-back (s .fits .x)) (t .if1 .taken))
+    (below-read {X = pos 0} refl (bits-back (s .fits .y)) (u .if2 .taken)) (below-read {X = pos 0} refl (bits-back (s .fits .z)) e)
 
 returns-2 : tie.Need-returns-2
 returns-2 c = λ e. absurd (false≢true e)
@@ -22,8 +21,8 @@ returns-2 c = λ e. absurd (false≢true e)
 returns-3 : tie.Need-returns-3
 returns-3 c =
     let (s, t, u) : tie.Start × tie.Then3 × tie.Then4 = search in
-    λ e. below (below-read {Y = pos 0} (back (s .fits .x)) refl (t .if3 .taken))
-    (below-read {Y = pos 0} (back (s .fits .y)) refl (u .if4 .taken)) (below-read {Y = pos 0} (back (s .fits .z)) refl e)
+    λ e. below (below-read {Y = pos 0} (bits-back (s .fits .x)) refl (t .if3 .taken))
+    (below-read {Y = pos 0} (bits-back (s .fits .y)) refl (u .if4 .taken)) (below-read {Y = pos 0} (bits-back (s .fits .z)) refl e)
 
 returns-4 : tie.Need-returns-4
 returns-4 c = λ e. absurd (false≢true e)
