@@ -1,6 +1,6 @@
 use casts::answer;
 use exact_triangle::cast as triangle;
-use exact_triangle::sight;
+use exact_triangle::view;
 use geometry::ray::Ray;
 use mesh::cast as mesh_cast;
 use mesh_exact::cast;
@@ -22,7 +22,7 @@ fn short_exact(ray: Ray, shape: bool) -> u32
     if !ray.validate() {
         return answer::INVALID_INPUT;
     }
-    if !sight::admitted(ray) {
+    if !view::admitted(ray) {
         return triangle::OUT_OF_RANGE;
     }
     if !shape {
