@@ -7,6 +7,7 @@ use mathlib.Core.List.{List, [], _∷_}
 use borrow.Author.Tests.{leb-true}
 use lib.Dec.{leb, eqb}
 use lib.Ieee.{Float}
+use lib.ListN.{length}
 use lib.Seq.{sets}
 use Rattle.lists.proofs.JoinedTests.{and-first, and-second}
 use Rattle.vectors.specs.declared.vec3.Vec3.{Vec3}
@@ -17,9 +18,11 @@ use Rattle.cabinet.specs.declared.part.Found.{Found}
 use Rattle.cabinet.specs.declared.part.Found.the-variants.{Nothing, Hit, Refused}
 use Rattle.cabinet.specs.declared.part.Progress.{Progress}
 use Rattle.cabinet.specs.declared.part.State.{State}
+use Rattle.cabinet.specs.declared.part.Look.{Look}
 use Rattle.cabinet.specs.Parts.{Areas}
+use Rattle.cabinet.specs.Looks.{lookFrom, lookParts, turnedBy}
 use Rattle.cabinet.specs.Cabinet.{Answer, hitIn, noneAfter, refused, refusedAfter, castCabinet, testsPass, withResults}
-use Rattle.cabinet.specs.Steps.{isIdle, KeptByBoth, begun, between, passes, lastAnswer}
+use Rattle.cabinet.specs.Steps.{isIdle, Kept, begun, between, passes, stepParts, lastAnswer}
 use Rattle.cabinet.proofs.Passes.{tests-keep, passes-are-cabinet}
 use Rattle.results.specs.Results.{hitCode, noneCode}
 use Rattle.exports.specs.CabinetResults.{cabinetFits, CabinetReturned, cabinetReturned, returnedCabinet}
@@ -85,6 +88,19 @@ module _ (s : Progress) (hit : List Float) (index part spent : List ℕ) where
     unfolding returnedCabinet withResults lastAnswer
     refused-returned fits f z = simp (f, e, z)
 
+-- ---- the two passes, one after the other
+module _ (a : Areas) (m k : ℕ) (start : State) (parts : List Part) where
+  pub starts-second : (s : State) (i l : Look)
+      → i ≡ lookFrom start (length (a .vertices)) (length (a .triangles)) (length (a .nodeBoxes)) (length (a .triangleBoxes))
+      (length (a .nodeWords)) (length (a .order)) m k
+      → l ≡ lookParts i parts → s ≡ turnedBy start l → s ≡ between a m k start parts
+  unfolding between
+  starts-second s i l e f g = g ∙ ap (turnedBy start) (f ∙ ap (λ (z : Look). lookParts z parts) e)
+
+  pub ends-second : (s r : State) → s ≡ between a m k start parts → r ≡ stepParts a m k s parts → r ≡ passes a m k start parts
+  unfolding passes
+  ends-second s r e f = f ∙ ap (λ (z : State). stepParts a m k z parts) e
+
 -- ---- the whole call
 -- the result slices are asked once
 results-twice : (fits : Bool) (answer : Answer) → withResults fits (withResults fits answer) ≡ withResults fits answer
@@ -112,6 +128,6 @@ module _ (r : Ray) (a : Areas) (m k limit : ℕ) (fits : Bool) (parts : List Par
       (ap (withResults fits) (last-is f s e g) ∙ results-twice fits (castCabinet r a m k limit parts))
 
   pub cabinet-keeps : (f : State) → f ≡ begun r limit fits → (list list' stack stack' : List ℕ)
-      → KeptByBoth a m k f parts list list' stack stack' → testsPass r a m k fits parts ≡ false → (list' ≡ list) × (stack' ≡ stack)
+      → Kept (between a m k f parts) list list' stack stack' → testsPass r a m k fits parts ≡ false → (list' ≡ list) × (stack' ≡ stack)
   cabinet-keeps f e list list' stack stack' kept h =
       kept (ap (λ (x : State). isIdle (between a m k x parts)) e ∙ tests-keep a m k r limit fits parts h)

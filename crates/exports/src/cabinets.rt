@@ -1,3 +1,4 @@
+use cabinet::look;
 use cabinet::part::Found;
 use cabinet::part::Part;
 use cabinet::part::State;
@@ -168,7 +169,20 @@ pub extern "C" fn probe_ray_cabinet(
         part.len(),
         spent.len(),
     );
-    let end = pass::cast_twice(
+    let looking = look::look_from(
+        start,
+        vertices.len(),
+        triangles.len(),
+        node_boxes.len(),
+        triangle_boxes.len(),
+        node_words.len(),
+        order.len(),
+        list.len(),
+        stack.len(),
+    );
+    let looked = pass::look_all(parts, looking);
+    let between = look::turn(start, looked);
+    let end = pass::cast_all(
         parts,
         vertices,
         triangles,
@@ -178,7 +192,7 @@ pub extern "C" fn probe_ray_cabinet(
         order,
         list,
         stack,
-        start,
+        between,
     );
     put_cabinet(end, hit, index, part, spent)
 }
