@@ -17,7 +17,6 @@ use Rattle.tree_query.specs.Query.{treeFits}
 use Rattle.tree_check.specs.Check.{treePasses}
 use Rattle.tree_check.specs.Verdict.{yes, roomFor as roomToCheck, checkOf}
 use Rattle.tree_check.proofs.Answers.{passes-yes}
-use Rattle.mesh.proofs.BuildPasses.{no-refusal, same-count}
 use Rattle.tree_copy.specs.Moved.{movedUp}
 use Rattle.merge.specs.Merge.{nodes, refused, Board, Areas, Outcome, trianglesIn, verticesIn, mergedVertices}
 use Rattle.merge.specs.Merge.{mergedTriangles, mergedNodeBoxes, mergedTriangleBoxes, mergedWords, mergedOrder, mergedCount}
@@ -31,6 +30,12 @@ use Rattle.merge.proofs.MergedTree.{glued, Sound, all-triangles, merged
 -- ---- where the merge does not refuse
 abbrev refusedWith : ℕ → Areas → Outcome
 refusedWith number old = record { answer = refused number; after = old }
+
+no-refusal : (number count : ℕ) → refused number ≡ nodes count → ⊥
+no-refusal number count h = let z : _≡_ {A = ℕ} 0 1 = cc in omega arith
+
+same-count : (p q : ℕ) → nodes p ≡ nodes q → p ≡ q
+same-count p q h = cc
 
 pub record Merged (a b : Board) (old : Areas) (work count : ℕ) : Type 0 where
   pub shapes : shapesAdmitted a b ≡ true
