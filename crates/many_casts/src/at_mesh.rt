@@ -1,3 +1,4 @@
+use crate::admitted;
 use crate::places;
 use casts::answer;
 use mesh::cast;
@@ -8,6 +9,7 @@ ghost use lib.ListN.{length};
 ghost use Rattle.tree.specs.Mesh.{mesh};
 ghost use Rattle.tree.specs.Layout.{treeOf};
 ghost use Rattle.many_casts.specs.Many.{rayAt, places, answerAt, answersOf, meshAnswer, returnedMany, ManyCall};
+ghost use Rattle.many_casts.specs.Ready.{Ready};
 
 // One ray's cast, its answer at its places.
 fn cast_at(
@@ -28,7 +30,9 @@ fn cast_at(
     indices: &mut [u32],
 )
     requires { ⌜ (8 * index + 8 ≤ length (now rays))
-        × ((index < length (now codes)) × ((4 * index + 4 ≤ length (now hits)) × (index < length (now indices)))) ⌝ }
+        × ((index < length (now codes)) × ((4 * index + 4 ≤ length (now hits)) × (index < length (now indices)))) ⌝
+        ∗ ⌜ Ready (mesh (now vertices) (now triangles)) (now pose)
+        (treeOf nodes (now «node_boxes») (now «triangle_boxes») (now «node_words») (now order)) (length (now list)) (length (now stack)) ⌝ }
     ensures { λ _. ⌜ places (now (codes .exit)) (now (hits .exit)) (now (indices .exit))
         ≡ answerAt (meshAnswer (mesh (now (vertices .entry)) (now (triangles .entry))) (now (pose .entry))
         (treeOf nodes (now («node_boxes» .entry)) (now («triangle_boxes» .entry)) (now («node_words» .entry)) (now (order .entry)))
@@ -36,7 +40,7 @@ fn cast_at(
         (places (now (codes .entry)) (now (hits .entry)) (now (indices .entry))) ⌝ }
 {
     let ray = places::ray_at(rays, index);
-    let found = cast::ray_mesh(
+    let found = admitted::cast_ray(
         ray,
         vertices,
         triangles,
@@ -71,7 +75,9 @@ fn cast_each(
     indices: &mut [u32],
 )
     requires { ⌜ (8 * count ≤ length (now rays))
-        × ((count ≤ length (now codes)) × ((4 * count ≤ length (now hits)) × (count ≤ length (now indices)))) ⌝ }
+        × ((count ≤ length (now codes)) × ((4 * count ≤ length (now hits)) × (count ≤ length (now indices)))) ⌝
+        ∗ ⌜ Ready (mesh (now vertices) (now triangles)) (now pose)
+        (treeOf nodes (now «node_boxes») (now «triangle_boxes») (now «node_words») (now order)) (length (now list)) (length (now stack)) ⌝ }
     ensures { λ _. ⌜ places (now (codes .exit)) (now (hits .exit)) (now (indices .exit))
         ≡ answersOf (meshAnswer (mesh (now (vertices .entry)) (now (triangles .entry))) (now (pose .entry))
         (treeOf nodes (now («node_boxes» .entry)) (now («triangle_boxes» .entry)) (now («node_words» .entry)) (now (order .entry)))

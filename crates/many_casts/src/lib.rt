@@ -2,6 +2,8 @@
 
 // A ray in the slice of rays, and the places of its answer.
 pub mod places;
+// The mesh cast of one ray, past the tests of the mesh and its tree.
+mod admitted;
 // The mesh cast.
 pub mod at_mesh;
 // The exact cast.

@@ -7,7 +7,7 @@ use Rattle.tree.specs.Layout.{treeOf}
 use Rattle.tree.specs.Mesh.{mesh}
 use Rattle.many_casts.specs.Many.{places, answersOf, meshAnswer}
 use Rattle.many_casts.proofs.Answers.{answers-next, answers-all}
-use Rattle.many_casts.proofs.Progress.{Answered, same-answer}
+use Rattle.many_casts.proofs.Progress.{Answered, same-answer, still-ready}
 use borrow.Author.Needs.{needs}
 use Rattle.many_casts.proofs.at_mesh.cast_each.Statement.{statement}
 use Rattle.many_casts.proofs.at_mesh.cast_each.Tie as tie
@@ -51,8 +51,18 @@ cast-at-requires c κs =
     let (s, l, w) : Start × At × Within = search in
     let inv = l .loop .inv in
     let less = w .loop-test .taken in (
-      omega (arith, s .pre, less),
-      (omega (arith, s .pre, less, inv .codes), (omega (arith, s .pre, less, inv .hits), omega (arith, s .pre, less, inv .indices))),
+      (
+        omega (arith, s .pre .0, less),
+        (
+          omega (arith, s .pre .0, less, inv .codes),
+          (
+            omega (arith, s .pre .0, less, inv .hits),
+            omega
+                (arith, s .pre .0, less, inv .indices),
+          ),
+        ),
+      ),
+      still-ready (inv .list-long) (inv .stack-long) (s .pre .1),
     )
 
 -- one more ray
