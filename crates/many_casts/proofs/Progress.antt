@@ -8,7 +8,7 @@ use Rattle.geometry.specs.declared.ray.Ray.{Ray}
 use Rattle.nearest_hit.specs.Nearest.{Indexed}
 use Rattle.tree.specs.Layout.{Tree}
 use Rattle.tree.specs.Mesh.{Mesh}
-use Rattle.many_casts.specs.Ready.{Ready}
+use Rattle.many_casts.specs.Ready.{Ready, ReadyExact}
 use Rattle.many_casts.specs.Many.{Places, answerAt, answersOf, meshAnswer, exactAnswer}
 
 pub record Answered (answer : Ray → Indexed) (rays : List Float) (count i : ℕ) (before after : Places)
@@ -26,6 +26,10 @@ pub still-ready : {m : Mesh} {pose : List Float} {t : Tree} {list list' stack st
     → Ready m pose t list' stack' → Ready m pose t list stack
 still-ready {m} {pose} {t} {list} {list'} {stack} {stack'} e f ready =
     subst (λ (k : ℕ). Ready m pose t k stack) (sym e) (subst (λ (k : ℕ). Ready m pose t list' k) (sym f) ready)
+
+pub still-ready-exact : {m : Mesh} {pose : List Float} {t : Tree} {stack stack' : ℕ} → stack ≡ stack' → ReadyExact m pose t stack'
+    → ReadyExact m pose t stack
+still-ready-exact {m} {pose} {t} {stack} {stack'} f ready = subst (λ (k : ℕ). ReadyExact m pose t k) (sym f) ready
 
 -- work areas of the same lengths give the same answer
 pub same-answer : (m : Mesh) (pose : List Float) (t : Tree) (list list' stack stack' : ℕ) → list ≡ list' → stack ≡ stack'

@@ -1,3 +1,4 @@
+use crate::admitted_exact;
 use crate::places;
 use casts::answer;
 use mesh::cast;
@@ -8,6 +9,7 @@ ghost use lib.ListN.{length};
 ghost use Rattle.tree.specs.Mesh.{mesh};
 ghost use Rattle.tree.specs.Layout.{treeOf};
 ghost use Rattle.many_casts.specs.Many.{rayAt, places, answerAt, answersOf, exactAnswer, returnedMany, ManyExactCall};
+ghost use Rattle.many_casts.specs.Ready.{ReadyExact};
 
 // One ray's cast, its answer at its places.
 fn cast_at(
@@ -27,7 +29,9 @@ fn cast_at(
     indices: &mut [u32],
 )
     requires { ⌜ (8 * index + 8 ≤ length (now rays))
-        × ((index < length (now codes)) × ((4 * index + 4 ≤ length (now hits)) × (index < length (now indices)))) ⌝ }
+        × ((index < length (now codes)) × ((4 * index + 4 ≤ length (now hits)) × (index < length (now indices)))) ⌝
+        ∗ ⌜ ReadyExact (mesh (now vertices) (now triangles)) (now pose)
+        (treeOf nodes (now «node_boxes») (now «triangle_boxes») (now «node_words») (now order)) (length (now stack)) ⌝ }
     ensures { λ _. ⌜ places (now (codes .exit)) (now (hits .exit)) (now (indices .exit))
         ≡ answerAt (exactAnswer (mesh (now (vertices .entry)) (now (triangles .entry))) (now (pose .entry))
         (treeOf nodes (now («node_boxes» .entry)) (now («triangle_boxes» .entry)) (now («node_words» .entry)) (now (order .entry)))
@@ -35,7 +39,7 @@ fn cast_at(
         (places (now (codes .entry)) (now (hits .entry)) (now (indices .entry))) ⌝ }
 {
     let ray = places::ray_at(rays, index);
-    let found = exact_cast::ray_mesh_exact(
+    let found = admitted_exact::cast_ray(
         ray,
         vertices,
         triangles,
@@ -68,7 +72,9 @@ fn cast_each(
     indices: &mut [u32],
 )
     requires { ⌜ (8 * count ≤ length (now rays))
-        × ((count ≤ length (now codes)) × ((4 * count ≤ length (now hits)) × (count ≤ length (now indices)))) ⌝ }
+        × ((count ≤ length (now codes)) × ((4 * count ≤ length (now hits)) × (count ≤ length (now indices)))) ⌝
+        ∗ ⌜ ReadyExact (mesh (now vertices) (now triangles)) (now pose)
+        (treeOf nodes (now «node_boxes») (now «triangle_boxes») (now «node_words») (now order)) (length (now stack)) ⌝ }
     ensures { λ _. ⌜ places (now (codes .exit)) (now (hits .exit)) (now (indices .exit))
         ≡ answersOf (exactAnswer (mesh (now (vertices .entry)) (now (triangles .entry))) (now (pose .entry))
         (treeOf nodes (now («node_boxes» .entry)) (now («triangle_boxes» .entry)) (now («node_words» .entry)) (now (order .entry)))

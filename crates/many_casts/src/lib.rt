@@ -6,5 +6,7 @@ pub mod places;
 mod admitted;
 // The mesh cast.
 pub mod at_mesh;
+// The exact cast of one ray, past those tests.
+mod admitted_exact;
 // The exact cast.
 pub mod at_exact;

@@ -10,7 +10,7 @@ mod boxes;
 // Which child of a branch is taken first.
 mod order;
 // The walk.
-mod walk;
+pub mod walk;
 // The public call.
 pub mod cast;
 // Whether a mesh has numbers alone.

@@ -7,7 +7,7 @@ use Rattle.tree.specs.Layout.{treeOf}
 use Rattle.tree.specs.Mesh.{mesh}
 use Rattle.many_casts.specs.Many.{places, answersOf, exactAnswer}
 use Rattle.many_casts.proofs.Answers.{answers-next, answers-all}
-use Rattle.many_casts.proofs.Progress.{Answered, same-exact}
+use Rattle.many_casts.proofs.Progress.{Answered, same-exact, still-ready-exact}
 use borrow.Author.Needs.{needs}
 use Rattle.many_casts.proofs.at_exact.cast_each.Statement.{statement}
 use Rattle.many_casts.proofs.at_exact.cast_each.Tie as tie
@@ -49,9 +49,13 @@ cast-at-requires : tie.Need-cast-at-requires Inv-loop μ-loop
 cast-at-requires c κs =
     let (s, l, w) : Start × At × Within = search in
     let inv = l .loop .inv in
-    let less = w .loop-test .taken in (
-      omega (arith, s .pre, less),
-      (omega (arith, s .pre, less, inv .codes), (omega (arith, s .pre, less, inv .hits), omega (arith, s .pre, less, inv .indices))),
+    let less = w .loop-test .taken in
+    let before = s .pre .0 in (
+      (
+        omega (arith, before, less),
+        (omega (arith, before, less, inv .codes), (omega (arith, before, less, inv .hits), omega (arith, before, less, inv .indices))),
+      ),
+      still-ready-exact (inv .stack-long) (s .pre .1),
     )
 
 -- one more ray
