@@ -1,7 +1,7 @@
 //! Casts that confirm what was recognised: down a row's axis, just inside and just outside its outline.
 use crate::model::{Check, Frame};
 use crate::shape::Shape;
-use crate::record_bytes::fixed;
+use crate::words::fixed;
 use crate::work::{Draft, Probe};
 use probe_rays::{Batch, Cast, Ray, Refusal, Scratch};
 

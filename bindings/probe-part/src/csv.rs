@@ -4,7 +4,7 @@ use crate::model::{End, Outline, Part, Report, Row};
 use crate::tables::{
     doubt_words, kind_word, left_over_words, notes, outline_word, part_name, Listing,
 };
-use crate::record_bytes::fixed;
+use crate::words::fixed;
 
 /// The columns of the list for programs.
 pub const COLUMNS: &str = "part,number,feature,face,kind,outline,width,height,radius,angle,sides,entry_depth,depth,tip_depth,\

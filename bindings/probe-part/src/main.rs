@@ -15,7 +15,7 @@ use probe_part::recognise::{recognise, Options};
 use probe_part::shape::Shape;
 use probe_part::summary::{counted, exit_status, Line};
 use probe_part::tables::{doubt_words, Listing};
-use probe_part::record_bytes::{all_told, fixed, told};
+use probe_part::words::{all_told, fixed, told};
 use probe_part::{csv, svg, tables};
 use probe_rays::{Cast, Progress, Ray};
 use std::fs::{self, File};

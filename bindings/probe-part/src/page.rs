@@ -6,7 +6,7 @@ use crate::model::{End, Part, Row};
 use crate::summary::{Line, Status};
 use crate::svg::escaped;
 use crate::tables::{depth_words, kind_word, left_over_words, notes, outline_word, size_words};
-use crate::record_bytes::fixed;
+use crate::words::fixed;
 
 const STYLE: &str = include_str!("page.css");
 

@@ -3,7 +3,7 @@ use crate::faces::Face;
 use crate::letters::{width, write, HEIGHT};
 use crate::png::Picture;
 use crate::raster::{face_level, Raster};
-use crate::record_bytes::fixed;
+use crate::words::fixed;
 
 /// Where a ray goes through.
 pub const OPEN: [u8; 3] = [255, 255, 255];

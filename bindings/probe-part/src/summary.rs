@@ -2,7 +2,7 @@
 use crate::batch::{Entry, Outcome};
 use crate::csv::quoted;
 use crate::tables::{doubt_words, part_name};
-use crate::record_bytes::fixed;
+use crate::words::fixed;
 
 /// What is known of a part's list.
 #[derive(Clone, Copy, Debug, PartialEq, Eq)]

@@ -4,7 +4,7 @@ use crate::geometry::Vector;
 use crate::model::{Check, End, Kind, LeftOver, Outline, Row};
 use crate::pictures::{DepthMap, OPEN};
 use crate::tables::{depth_words, outline_word, size_words};
-use crate::record_bytes::fixed;
+use crate::words::fixed;
 use std::fmt::Write;
 
 /// What is drawn over a face's depths.

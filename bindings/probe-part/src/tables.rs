@@ -1,7 +1,7 @@
 //! The list of a part's rows as a table for people.
 use crate::geometry::{dot, scale, Vector};
 use crate::model::{Check, Doubt, End, Frame, Kind, LeftOver, Outline, Part, Report, Row};
-use crate::record_bytes::fixed;
+use crate::words::fixed;
 
 /// A circle of fewer sides is said to have them: its diameter is that through their corners.
 const FEW_SIDES: usize = 16;
