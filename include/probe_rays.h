@@ -52,7 +52,8 @@
  *
  * Tested are 1, 2, 3 and 4 in this order, then the others as the cast meets them. 12 of the ray comes directly after 1, 12 of a
  * corner after 5, the late 3 last. The result slices hit, index, nodes (of probe_build and probe_merge), found, cell, part,
- * spent and written are lent slices like the others: one that is too short is 3, after 1 and 2.
+ * spent, written, codes, hits and indices are lent slices like the others: one that is too short is 3, after 1 and 2. A call of
+ * many rays tests 2, 3 and 4 once, before 1 of its first ray.
  *
  * After a refusal every result area and result slice is unchanged, but for these:
  *
@@ -64,8 +65,10 @@
  *
  * Else the result slices are written only with PROBE_HIT, PROBE_DONE and PROBE_POSSIBLE, and spent with PROBE_NONE too; their
  * places past those stated are unchanged.
- * Work areas are the list and the stack of a mesh cast, a listing and a cabinet, the query's stack, the build's work, and the
- * marks of the check and of the merge. They need not be cleared before a call. They are unchanged after 1, 2, 4, 12 of the ray
+ * A ray that one of the calls of many rays refuses is no refusal of the call: its number stands in codes, and its places of hits
+ * and indices are unchanged.
+ * Work areas are the list and the stack of a mesh cast, of a call of many rays, a listing and a cabinet, the query's stack, the
+ * build's work, and the marks of the check and of the merge. They need not be cleared before a call. They are unchanged after 1, 2, 4, 12 of the ray
  * and every 3 but the late one, and hold anything after any other answer.
  *
  * LIMITS
@@ -140,6 +143,9 @@ extern "C" {
  *   hit             double    4               normal x, y, z, then the distance
  *   index           uint32_t  1               the index of the triangle hit
  *   nodes, found    size_t    1               the build's node count; how many triangles the query listed
+ *   rays            double    8 a ray         origin x, y, z, direction x, y, z, the maximum, the near distance
+ *   codes, indices  uint32_t  1 a ray         what the single call answers; the index of the triangle hit
+ *   hits            double    4 a ray         normal x, y, z, then the distance
  *   part, spent     size_t    1               the part hit, from 0; the nodes spent on a cabinet
  *   written         size_t    1               how many bytes a converted record has
  *
@@ -158,6 +164,8 @@ extern "C" {
 #define PROBE_HIT_LENGTH 4
 #define PROBE_INDEX_LENGTH 1
 #define PROBE_COUNT_LENGTH 1
+#define PROBE_RAYS_LENGTH(rays) ((size_t)8 * (rays))
+#define PROBE_HITS_LENGTH(rays) ((size_t)4 * (rays))
 
 /* No record of version 2 or 3 is longer, its four length bytes included. */
 #define PROBE_MAX_RECORD 8196u
@@ -590,6 +598,80 @@ uint32_t probe_ray_mesh_exact(
     size_t hit_length,
     uint32_t *index,
     size_t index_length
+);
+
+/* Casts many rays at a mesh through its tree: the answer of each is probe_ray_mesh_near's, at the ray's own places of the
+ * result slices. `rays` has eight numbers a ray: origin x, y, z, direction x, y, z, the maximum and the near distance. `codes`
+ * has a place a ray, `hits` four and `indices` one; longer ones are admitted. The other arguments are probe_ray_mesh_near's.
+ *
+ * Answers PROBE_DONE, or refuses the call with 2 (a limit of the mesh, or a length of `rays` that eight does not divide), then
+ * 3, then 4; these are tested once, before the first ray, and nothing is written then. No ray at all is PROBE_DONE.
+ *
+ * With PROBE_DONE codes[i] is what the single call answers for ray i: PROBE_HIT, PROBE_NONE or the ray's own refusal, 1, 5, 6 or
+ * 7, after which the other rays are cast all the same. Where it is PROBE_HIT, hits[4 * i] to hits[4 * i + 3] have the normal and
+ * the distance, and indices[i] the triangle; else these places are unchanged. So are all places past the last ray's. That each
+ * ray's places hold what the single call leaves there is proved, and with it all that is said of probe_ray_mesh.
+ */
+uint32_t probe_ray_mesh_many(
+    const double *rays,
+    size_t rays_length,
+    const double *vertices,
+    size_t vertices_length,
+    const uint32_t *triangles,
+    size_t triangles_length,
+    const double *pose,
+    size_t pose_length,
+    size_t nodes,
+    const double *node_boxes,
+    size_t node_boxes_length,
+    const double *triangle_boxes,
+    size_t triangle_boxes_length,
+    const uint32_t *node_words,
+    size_t node_words_length,
+    const uint32_t *order,
+    size_t order_length,
+    uint32_t *list,
+    size_t list_length,
+    uint32_t *stack,
+    size_t stack_length,
+    uint32_t *codes,
+    size_t codes_length,
+    double *hits,
+    size_t hits_length,
+    uint32_t *indices,
+    size_t indices_length
+);
+
+/* The exact cast of many rays through a tree, in the same way: the answer of each is probe_ray_mesh_exact's. There is no list. A
+ * ray's own refusals are 1, 12 and 5. At the mesh's own vertices, through a tree for which probe_tree_check says PROBE_YES and for
+ * a mesh for which probe_mesh_has_numbers does, a none in codes is certain.
+ */
+uint32_t probe_ray_mesh_exact_many(
+    const double *rays,
+    size_t rays_length,
+    const double *vertices,
+    size_t vertices_length,
+    const uint32_t *triangles,
+    size_t triangles_length,
+    const double *pose,
+    size_t pose_length,
+    size_t nodes,
+    const double *node_boxes,
+    size_t node_boxes_length,
+    const double *triangle_boxes,
+    size_t triangle_boxes_length,
+    const uint32_t *node_words,
+    size_t node_words_length,
+    const uint32_t *order,
+    size_t order_length,
+    uint32_t *stack,
+    size_t stack_length,
+    uint32_t *codes,
+    size_t codes_length,
+    double *hits,
+    size_t hits_length,
+    uint32_t *indices,
+    size_t indices_length
 );
 
 /* Lists every triangle of a mesh that a ray hits, of those that the tree lists for the box of the ray's segment, and

@@ -43,6 +43,7 @@
 #include <stdexcept>
 #include <string>
 #include <string_view>
+#include <type_traits>
 #include <unordered_map>
 #include <utility>
 #include <variant>
@@ -108,10 +109,21 @@ inline std::string told(Refusal refusal)
     return "refused " + std::to_string(number(refusal)) + ", " + words;
 }
 
+/* The same with the test of refusal 1 that a ray fails (Ray::fault), where one is named. */
+inline std::string told(Refusal refusal, const char *fault)
+{
+    if (refusal != Refusal::invalid_input || fault == nullptr)
+        return told(refusal);
+    return "refused " + std::to_string(number(refusal)) + ", invalid input: " + fault;
+}
+
 /* Thrown where an answer is asked for that a call refused. */
 class Refused : public std::runtime_error {
 public:
-    explicit Refused(Refusal refusal) : std::runtime_error(told(refusal)), refusal_(refusal) {}
+    explicit Refused(Refusal refusal, const char *fault = nullptr)
+        : std::runtime_error(told(refusal, fault)), refusal_(refusal)
+    {
+    }
     Refusal refusal() const noexcept { return refusal_; }
 
 private:
@@ -156,6 +168,14 @@ template <class Error>
 
 [[noreturn]] inline void fail(Refusal refusal) { raise(Refused(refusal)); }
 
+/* Why a cast refused, and the test of refusal 1 that its ray fails. */
+struct CastFault {
+    Refusal refusal;
+    const char *fault;
+};
+
+[[noreturn]] inline void fail(const CastFault &why) { raise(Refused(why.refusal, why.fault)); }
+
 [[noreturn]] inline void fail(const TreeFault &fault)
 {
     if (fault.refusal)
@@ -199,7 +219,7 @@ template <class T, class Why = Refusal>
 class [[nodiscard]] Result {
 public:
     explicit Result(T value) : held_(std::in_place_index<0>, std::move(value)) {}
-    explicit Result(Why why) : held_(std::in_place_index<1>, std::move(why)) {}
+    explicit Result(Why why, const char *fault = nullptr) : held_(std::in_place_index<1>, std::move(why)), fault_(fault) {}
 
     bool is_refused() const noexcept { return held_.index() == 1; }
 
@@ -225,11 +245,16 @@ public:
 private:
     void demand() const
     {
-        if (is_refused())
+        if (!is_refused())
+            return;
+        if constexpr (std::is_same_v<Why, Refusal>)
+            detail::fail(detail::CastFault{*std::get_if<1>(&held_), fault_});
+        else
             detail::fail(*std::get_if<1>(&held_));
     }
 
     std::variant<T, Why> held_;
+    const char *fault_ = nullptr; /* the test of refusal 1 that a ray fails */
 };
 
 /* No hit from near to the maximum, by the cast's definition. */
@@ -244,7 +269,7 @@ class [[nodiscard]] Cast {
 public:
     explicit Cast(H hit) : held_(std::move(hit)) {}
     explicit Cast(None none) : held_(none) {}
-    explicit Cast(Refusal refusal) : held_(refusal) {}
+    explicit Cast(Refusal refusal, const char *fault = nullptr) : held_(detail::CastFault{refusal, fault}) {}
 
     explicit operator bool() const = delete;
 
@@ -259,8 +284,8 @@ public:
     {
         if (const H *hit = std::get_if<H>(&held_))
             return on_hit(*hit);
-        if (const Refusal *refusal = std::get_if<Refusal>(&held_))
-            return on_refused(*refusal);
+        if (const detail::CastFault *why = std::get_if<detail::CastFault>(&held_))
+            return on_refused(why->refusal);
         return on_none();
     }
 
@@ -288,23 +313,23 @@ public:
         return std::holds_alternative<None>(held_);
     }
 
-    bool is_refused() const noexcept { return std::holds_alternative<Refusal>(held_); }
+    bool is_refused() const noexcept { return std::holds_alternative<detail::CastFault>(held_); }
 
     Refusal refusal() const
     {
         if (!is_refused())
             detail::raise(NotThere("a refusal is asked for, and the cast did not refuse"));
-        return *std::get_if<Refusal>(&held_);
+        return std::get_if<detail::CastFault>(&held_)->refusal;
     }
 
 private:
     void demand() const
     {
-        if (const Refusal *refusal = std::get_if<Refusal>(&held_))
-            detail::fail(*refusal);
+        if (const detail::CastFault *why = std::get_if<detail::CastFault>(&held_))
+            detail::fail(*why);
     }
 
-    std::variant<None, H, Refusal> held_;
+    std::variant<None, H, detail::CastFault> held_;
 };
 
 using Vec3 = probe_vec3;
@@ -345,17 +370,6 @@ struct Places {
     MeshHit of_mesh() const noexcept { return MeshHit{normal(), hit[3], index[0]}; }
 };
 
-/* The answer of a call that may write a hit. What is neither of the two codes is a refusal, also a number that is new. */
-template <class H>
-Cast<H> cast_of(std::uint32_t answer, const H &hit)
-{
-    if (answer == PROBE_HIT)
-        return Cast<H>(hit);
-    if (answer == PROBE_NONE)
-        return Cast<H>(None{});
-    return Cast<H>(static_cast<Refusal>(answer));
-}
-
 } // namespace detail
 
 /* ---- a ray ---- */
@@ -366,6 +380,12 @@ struct Ray {
     Vec3 direction;
     double max_distance;
     double near_distance = 0;
+
+    /* The ray of eight numbers: origin, direction, maximum, near distance. */
+    static Ray of(const std::array<double, 8> &numbers) noexcept
+    {
+        return Ray{{numbers[0], numbers[1], numbers[2]}, {numbers[3], numbers[4], numbers[5]}, numbers[6], numbers[7]};
+    }
 
     /* A ray whose direction, of any length, is made one of length 1. One that has none (zero, or not finite) is left as it
      * is, and a cast refuses it. */
@@ -388,6 +408,34 @@ struct Ray {
         return ray;
     }
 
+    /* Which test of refusal 1 the ray fails, in words; null where it is admitted. */
+    const char *fault() const noexcept
+    {
+        const auto any = [](const Vec3 &v, auto test) { return test(v.x) || test(v.y) || test(v.z); };
+        const auto is_nan = [](double part) { return std::isnan(part); };
+        const auto is_infinite = [](double part) { return std::isinf(part); };
+        const double square = direction.x * direction.x + direction.y * direction.y + direction.z * direction.z;
+        const std::pair<bool, const char *> tests[] = {
+            {any(origin, is_nan), "the origin has a NaN"},
+            {any(origin, is_infinite), "the origin is infinite"},
+            {any(direction, is_nan), "the direction has a NaN"},
+            {any(direction, is_infinite), "the direction is infinite"},
+            {!any(direction, [](double part) { return part != 0; }), "the direction is zero"},
+            /* the squares whose roots are not more than 1e-12 from 1 */
+            {!(square >= 0.999999999998 && square <= 1.000000000002), "the direction's length is not 1"},
+            {is_nan(max_distance), "the maximum is NaN"},
+            {max_distance > 0 && is_infinite(max_distance), "the maximum is infinite"},
+            {max_distance < 0, "the maximum is below 0"},
+            {is_nan(near_distance), "the near distance is NaN"},
+            {near_distance < 0, "the near distance is below 0"},
+            {near_distance > max_distance, "the near distance is above the maximum"},
+        };
+        for (const auto &[failed, words] : tests)
+            if (failed)
+                return words;
+        return nullptr;
+    }
+
     /* The point at a distance. */
     Vec3 at(double distance) const noexcept
     {
@@ -395,6 +443,24 @@ struct Ray {
             origin.x + direction.x * distance, origin.y + direction.y * distance, origin.z + direction.z * distance};
     }
 };
+
+/* The refusal of a cast of this ray in words: for refusal 1 with the test that the ray fails. */
+inline std::string explained(Refusal refusal, const Ray &ray) { return told(refusal, ray.fault()); }
+
+namespace detail {
+
+/* The answer of a call that may write a hit. What is neither of the two codes is a refusal, also a number that is new. */
+template <class H>
+Cast<H> cast_of(std::uint32_t answer, const H &hit, const Ray &ray)
+{
+    if (answer == PROBE_HIT)
+        return Cast<H>(hit);
+    if (answer == PROBE_NONE)
+        return Cast<H>(None{});
+    return Cast<H>(static_cast<Refusal>(answer), ray.fault());
+}
+
+} // namespace detail
 
 /* ---- plane, triangle, grids ---- */
 
@@ -437,7 +503,7 @@ inline Cast<Hit> ray_plane(const Ray &ray, const Plane &plane)
         ray.origin.x, ray.origin.y, ray.origin.z, ray.direction.x, ray.direction.y, ray.direction.z, ray.max_distance,
         ray.near_distance, plane.normal.x, plane.normal.y, plane.normal.z, plane.distance, places.hit.data(),
         places.hit.size());
-    return detail::cast_of(answer, places.plain());
+    return detail::cast_of(answer, places.plain(), ray);
 }
 
 inline Cast<Hit> ray_triangle(const Ray &ray, const Vec3 &a, const Vec3 &b, const Vec3 &c)
@@ -446,7 +512,7 @@ inline Cast<Hit> ray_triangle(const Ray &ray, const Vec3 &a, const Vec3 &b, cons
     const std::uint32_t answer = probe_ray_triangle_near(
         ray.origin.x, ray.origin.y, ray.origin.z, ray.direction.x, ray.direction.y, ray.direction.z, ray.max_distance,
         ray.near_distance, a.x, a.y, a.z, b.x, b.y, b.z, c.x, c.y, c.z, places.hit.data(), places.hit.size());
-    return detail::cast_of(answer, places.plain());
+    return detail::cast_of(answer, places.plain(), ray);
 }
 
 /* The same by numbers that stand in arrays: a ray's eight are its origin, direction, maximum and near distance, a plane's four
@@ -456,7 +522,7 @@ inline Cast<Hit> ray_plane_slices(const std::array<double, 8> &ray, const std::a
     detail::Places places;
     const std::uint32_t answer = probe_ray_plane_slices(
         ray.data(), ray.size(), plane.data(), plane.size(), places.hit.data(), places.hit.size());
-    return detail::cast_of(answer, places.plain());
+    return detail::cast_of(answer, places.plain(), Ray::of(ray));
 }
 
 inline Cast<Hit> ray_triangle_slices(const std::array<double, 8> &ray, const std::array<double, 9> &triangle)
@@ -464,7 +530,7 @@ inline Cast<Hit> ray_triangle_slices(const std::array<double, 8> &ray, const std
     detail::Places places;
     const std::uint32_t answer = probe_ray_triangle_slices(
         ray.data(), ray.size(), triangle.data(), triangle.size(), places.hit.data(), places.hit.size());
-    return detail::cast_of(answer, places.plain());
+    return detail::cast_of(answer, places.plain(), Ray::of(ray));
 }
 
 inline Cast<Hit> ray_height_field(const Ray &ray, const HeightField &field)
@@ -474,7 +540,7 @@ inline Cast<Hit> ray_height_field(const Ray &ray, const HeightField &field)
         ray.origin.x, ray.origin.y, ray.origin.z, ray.direction.x, ray.direction.y, ray.direction.z, ray.max_distance,
         ray.near_distance, field.rows, field.columns, field.spacing[0], field.spacing[1], detail::from(field.heights),
         field.heights.size(), places.hit.data(), places.hit.size());
-    return detail::cast_of(answer, places.plain());
+    return detail::cast_of(answer, places.plain(), ray);
 }
 
 /* The normal points to where the distances grow, and is not turned towards the ray. A hit may lie one float past the maximum. */
@@ -486,7 +552,7 @@ inline Cast<Hit> ray_level_set(const Ray &ray, const LevelSet &grid)
         ray.near_distance, grid.sides[0], grid.sides[1], grid.sides[2], grid.origin.x, grid.origin.y, grid.origin.z,
         grid.spacing.x, grid.spacing.y, grid.spacing.z, detail::from(grid.values), grid.values.size(), places.hit.data(),
         places.hit.size());
-    return detail::cast_of(answer, places.plain());
+    return detail::cast_of(answer, places.plain(), ray);
 }
 
 /* The first cell, row * (columns - 1) + column, in which a grid within the ranges may be met. */
@@ -497,7 +563,10 @@ struct Cell {
 /* Whether a ray may meet a grid whose heights are known only within ranges: clear, possible, or a refusal. */
 class [[nodiscard]] Clearance {
 public:
-    Clearance(std::uint32_t answer, std::uint32_t cell) : answer_(answer), cell_{cell} {}
+    Clearance(std::uint32_t answer, std::uint32_t cell, const char *fault = nullptr)
+        : answer_(answer), cell_{cell}, fault_(fault)
+    {
+    }
 
     explicit operator bool() const = delete;
 
@@ -537,11 +606,12 @@ private:
     void demand() const
     {
         if (is_refused())
-            detail::fail(static_cast<Refusal>(answer_));
+            detail::fail(detail::CastFault{static_cast<Refusal>(answer_), fault_});
     }
 
     std::uint32_t answer_;
     Cell cell_;
+    const char *fault_; /* the test of refusal 1 that the ray fails */
 };
 
 inline Clearance ray_height_ranges(const Ray &ray, const HeightRanges &ranges)
@@ -551,7 +621,7 @@ inline Clearance ray_height_ranges(const Ray &ray, const HeightRanges &ranges)
         ray.origin.x, ray.origin.y, ray.origin.z, ray.direction.x, ray.direction.y, ray.direction.z, ray.max_distance,
         ray.near_distance, ranges.rows, ranges.columns, ranges.spacing[0], ranges.spacing[1], detail::from(ranges.lows),
         ranges.lows.size(), detail::from(ranges.highs), ranges.highs.size(), &cell, 1);
-    return Clearance(answer, cell);
+    return Clearance(answer, cell, PROBE_IS_REFUSAL(answer) ? ray.fault() : nullptr);
 }
 
 /* ---- meshes ---- */
@@ -583,6 +653,8 @@ struct Scratch {
     std::vector<std::uint32_t> stack;
     std::vector<std::uint32_t> indices;
     std::vector<double> numbers;
+    std::vector<double> rays;
+    std::vector<std::uint32_t> codes;
 
     void fit(std::size_t n, std::size_t nodes)
     {
@@ -595,6 +667,31 @@ struct Scratch {
     {
         detail::grow(indices, n);
         detail::grow(numbers, 4 * n);
+    }
+
+    /* The numbers of many rays, and places for their answers: the codes, and those of a listing of as many hits. */
+    void fit_many(const std::vector<Ray> &many)
+    {
+        static_assert(sizeof(Ray) == 8 * sizeof(double) && std::is_trivially_copyable_v<Ray>, "a ray is its eight numbers");
+        fit_hits(many.size());
+        detail::grow(codes, many.size());
+        rays.resize(PROBE_RAYS_LENGTH(many.size()));
+        if (!many.empty())
+            std::memcpy(rays.data(), many.data(), many.size() * sizeof(Ray));
+    }
+
+    /* The answers of many rays after a call. The areas are as long as it asks and a mesh is admitted, so that it refuses
+     * nothing but a ray. */
+    std::vector<Cast<MeshHit>> read_many(std::uint32_t answer, const std::vector<Ray> &many) const
+    {
+        std::vector<Cast<MeshHit>> casts;
+        casts.reserve(many.size());
+        for (std::size_t k = 0; k < many.size(); k++) {
+            const double *hit = numbers.data() + 4 * k;
+            const MeshHit place{Vec3{hit[0], hit[1], hit[2]}, hit[3], indices[k]};
+            casts.push_back(detail::cast_of(answer == PROBE_DONE ? codes[k] : answer, place, many[k]));
+        }
+        return casts;
     }
 };
 
@@ -648,7 +745,7 @@ inline Cast<MeshHit> cast_exact(const Shape &shape, const Ray &ray)
         ray.origin.x, ray.origin.y, ray.origin.z, ray.direction.x, ray.direction.y, ray.direction.z, ray.max_distance,
         ray.near_distance, from(shape.vertices), shape.vertices.size(), from(shape.triangles), shape.triangles.size(),
         places.hit.data(), places.hit.size(), places.index.data(), places.index.size());
-    return cast_of(answer, places.of_mesh());
+    return cast_of(answer, places.of_mesh(), ray);
 }
 } // namespace detail
 
@@ -762,7 +859,7 @@ public:
             detail::from(tree_.node_words), tree_.node_words.size(), detail::from(tree_.order), tree_.order.size(),
             detail::into(scratch.list), scratch.list.size(), detail::into(scratch.stack), scratch.stack.size(),
             places.hit.data(), places.hit.size(), places.index.data(), places.index.size());
-        return detail::cast_of(answer, places.of_mesh());
+        return detail::cast_of(answer, places.of_mesh(), ray);
     }
 
     /* On a grid of 2^-15 mm, in any direction, decided in whole numbers: what PlainMesh::cast_exact answers, through the tree;
@@ -794,7 +891,53 @@ public:
             detail::from(tree_.node_words), tree_.node_words.size(), detail::from(tree_.order), tree_.order.size(),
             detail::into(scratch.stack), scratch.stack.size(),
             places.hit.data(), places.hit.size(), places.index.data(), places.index.size());
-        return detail::cast_of(answer, places.of_mesh());
+        return detail::cast_of(answer, places.of_mesh(), ray);
+    }
+
+    /* The `cast` of each ray, in the order of the rays, by one call. A ray that is refused is so by itself: the others are cast
+     * all the same. */
+    [[nodiscard]] std::vector<Cast<MeshHit>> cast_many(const std::vector<Ray> &rays) { return cast_many(rays, scratch_); }
+
+    [[nodiscard]] std::vector<Cast<MeshHit>> cast_many(const std::vector<Ray> &rays, Scratch &scratch) const
+    {
+        scratch.fit(shape_.triangle_count(), tree_.nodes);
+        scratch.fit_many(rays);
+        const std::uint32_t answer = probe_ray_mesh_many(
+            detail::from(scratch.rays), scratch.rays.size(), detail::from(shape_.vertices), shape_.vertices.size(),
+            detail::from(shape_.triangles), shape_.triangles.size(), detail::from(shape_.vertices), shape_.vertices.size(),
+            tree_.nodes, detail::from(tree_.node_boxes), tree_.node_boxes.size(), detail::from(tree_.triangle_boxes),
+            tree_.triangle_boxes.size(), detail::from(tree_.node_words), tree_.node_words.size(), detail::from(tree_.order),
+            tree_.order.size(), detail::into(scratch.list), scratch.list.size(),
+            detail::into(scratch.stack), scratch.stack.size(), detail::into(scratch.codes), scratch.codes.size(),
+            detail::into(scratch.numbers), scratch.numbers.size(), detail::into(scratch.indices), scratch.indices.size());
+        return scratch.read_many(answer, rays);
+    }
+
+    /* The `cast_exact` of each ray, in the same way. */
+    [[nodiscard]] std::vector<Cast<MeshHit>> cast_exact_many(const std::vector<Ray> &rays)
+    {
+        return cast_exact_many(rays, scratch_);
+    }
+
+    [[nodiscard]] std::vector<Cast<MeshHit>> cast_exact_many(const std::vector<Ray> &rays, Scratch &scratch) const
+    {
+        if (!has_numbers_) {
+            std::vector<Cast<MeshHit>> casts;
+            for (const Ray &ray : rays)
+                casts.push_back(detail::cast_exact(shape_, ray));
+            return casts;
+        }
+        scratch.fit(shape_.triangle_count(), tree_.nodes);
+        scratch.fit_many(rays);
+        const std::uint32_t answer = probe_ray_mesh_exact_many(
+            detail::from(scratch.rays), scratch.rays.size(), detail::from(shape_.vertices), shape_.vertices.size(),
+            detail::from(shape_.triangles), shape_.triangles.size(), detail::from(shape_.vertices), shape_.vertices.size(),
+            tree_.nodes, detail::from(tree_.node_boxes), tree_.node_boxes.size(), detail::from(tree_.triangle_boxes),
+            tree_.triangle_boxes.size(), detail::from(tree_.node_words), tree_.node_words.size(), detail::from(tree_.order),
+            tree_.order.size(),
+            detail::into(scratch.stack), scratch.stack.size(), detail::into(scratch.codes), scratch.codes.size(),
+            detail::into(scratch.numbers), scratch.numbers.size(), detail::into(scratch.indices), scratch.indices.size());
+        return scratch.read_many(answer, rays);
     }
 
     /* Every triangle that a ray hits, each once, in order of depth, of equally near ones the lower index first. The hit of
@@ -821,7 +964,7 @@ public:
             detail::into(scratch.indices), scratch.indices.size(), detail::into(scratch.numbers), scratch.numbers.size(),
             &found, PROBE_COUNT_LENGTH);
         if (answer != PROBE_DONE)
-            return Result<std::vector<MeshHit>>(static_cast<Refusal>(answer));
+            return Result<std::vector<MeshHit>>(static_cast<Refusal>(answer), ray.fault());
         std::vector<MeshHit> hits;
         hits.reserve(found);
         for (std::size_t k = 0; k < found; k++) {
@@ -886,7 +1029,7 @@ public:
             ray.origin.x, ray.origin.y, ray.origin.z, ray.direction.x, ray.direction.y, ray.direction.z, ray.max_distance,
             ray.near_distance, detail::from(shape_.vertices), shape_.vertices.size(), detail::from(shape_.triangles),
             shape_.triangles.size(), places.hit.data(), places.hit.size(), places.index.data(), places.index.size());
-        return detail::cast_of(answer, places.of_mesh());
+        return detail::cast_of(answer, places.of_mesh(), ray);
     }
 
     /* On a grid of 2^-15 mm, in any direction, decided in whole numbers: the first point of the segment that lies in a closed
@@ -974,7 +1117,8 @@ public:
             detail::from(order_), order_.size(), limit, detail::into(scratch.list), scratch.list.size(),
             detail::into(scratch.stack), scratch.stack.size(), places.hit.data(), places.hit.size(), places.index.data(),
             places.index.size(), &part, PROBE_COUNT_LENGTH, &spent, PROBE_COUNT_LENGTH);
-        return CabinetCast{detail::cast_of(answer, PartHit{places.normal(), places.hit[3], places.index[0], part}), spent};
+        const PartHit hit{places.normal(), places.hit[3], places.index[0], part};
+        return CabinetCast{detail::cast_of(answer, hit, ray), spent};
     }
 
 private:

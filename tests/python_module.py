@@ -347,6 +347,8 @@ class Batches(Case):
             self.assertEqual(mesh.cast(ray), hit)
         self.assertGreater(min(told["hit"], told["none"]), 100)
         self.assertLess(told["open"], 10)
+        casts = mesh.cast_exact_many(origins, [ray.direction for ray in rays], [ray.max_distance for ray in rays])
+        self.assertEqual(list(casts), [mesh.cast_exact(ray) for ray in rays])
 
     def test_arrays(self):
         mesh = Mesh(*SQUARE)
@@ -367,8 +369,28 @@ class Batches(Case):
             ([(1, 3)], DOWN, 10), ([(1, 3, 5)] * 3, [DOWN] * 2, 10), ([(1, 3, 5)] * 3, DOWN, [1, 2]), ([], [DOWN] * 2, 10),
             ([1, 3, 5, 9], DOWN, 10), ((1, 3, 5), [DOWN] * 2, [1] * 3),
         ):
-            with self.assertRaises(ValueError):
-                mesh.cast_many(*wrong)
+            for cast in (mesh.cast_many, mesh.cast_exact_many):
+                with self.assertRaises(ValueError):
+                    cast(*wrong)
+
+    def test_one_for_all_or_one_for_each(self):
+        # whatever is one for all rays, the answers are those of the single casts
+        mesh, pick = Mesh(*self.soup(9, 60)), random.Random(19)
+        each = {
+            "origins": [tuple(pick.uniform(-12, 12) for _ in range(3)) for _ in range(40)],
+            "directions": [Ray.toward((0, 0, 0), [pick.uniform(-1, 1) for _ in range(3)], 1).direction for _ in range(40)],
+            "max_distance": [pick.uniform(10, 40) for _ in range(40)],
+            "near_distance": [pick.uniform(0, 5) for _ in range(40)],
+        }
+        met = 0
+        for chosen in range(16):
+            values = {name: column if chosen >> k & 1 else column[0] for k, (name, column) in enumerate(each.items())}
+            rays = [Ray(*(each[name][n if chosen >> k & 1 else 0] for k, name in enumerate(each))) for n in range(40 if chosen else 1)]
+            for many, one in ((mesh.cast_many, mesh.cast), (mesh.cast_exact_many, mesh.cast_exact)):
+                casts = many(**values)
+                self.assertEqual(list(casts), [one(ray) for ray in rays])
+                met += len(casts) - casts.answers.tolist().count(257)
+        self.assertGreater(met, 100)
 
     def test_refusals_are_no_nones(self):
         mesh = Mesh(*SQUARE)
@@ -379,8 +401,21 @@ class Batches(Case):
         self.assertTrue(math.isnan(kept.distances[1]))
         self.assertEqual(self.refuses(1, lambda: kept[1]).ray, 1)
         self.refuses(1, lambda: list(kept))
-        with self.assertRaises(ValueError):
-            mesh.cast_many(origins, DOWN, 10, refused="none")
+        for cast in (mesh.cast_many, mesh.cast_exact_many):
+            with self.assertRaises(ValueError):
+                cast(origins, DOWN, 10, refused="none")
+        # the rays' own refusals stand among the answers: a NaN, an origin out of range, a maximum below 0
+        exact = mesh.cast_exact_many([*origins, (1, 3, 9000), (3, 1, 5)], DOWN, [10, 10, 10, 9001, -1], refused="keep")
+        self.assertEqual((exact.answers.tolist(), exact.refused), ([256, 1, 257, 12, 1], [1, 3, 4]))
+        self.assertEqual([math.isnan(distance) for distance in exact.distances], [False, True, False, True, True])
+        self.assertEqual(exact.triangles.tolist()[1:], [2**32 - 1] * 4)
+        self.refuses(12, lambda: exact[3])
+
+    def test_a_mesh_with_a_nan(self):
+        vertices = [(0, 0, 0), (9, 0, 0), (0, 9, 0), (500, math.nan, 0), (509, 0, 0), (500, 9, 0)]
+        mesh = Mesh(vertices, [(0, 1, 2), (3, 4, 5)])
+        self.assertEqual(mesh.cast_exact_many([(1, 1, 1), (20, 1, 1)], DOWN, 2, refused="keep").answers.tolist(), [12, 12])
+        self.assertEqual(self.refuses(12, lambda: mesh.cast_exact_many((1, 1, 1), DOWN, 2)).ray, 0)
 
     def test_threads_share_a_mesh(self):
         shape = self.soup(5, 200)
@@ -472,6 +507,10 @@ class Stl(Case):
         numbers = list(map(float, words))
         return [Ray.toward(n[:3], n[3:6], n[6]) for n in (numbers[k : k + 7] for k in range(0, len(numbers), 7))]
 
+    def expected(self, file):
+        # the files have the words of every refusal 1; the module says which test the ray fails
+        return (EXAMPLES / file).read_text().replace("a ray or a query's box that is not admitted", "the maximum is below 0")
+
     def told(self, mesh, rays, cast):
         lines = [f"{len(mesh.triangles)} triangles, {len(mesh.vertices)} vertices, {mesh.tree.nodes} nodes"]
         for number, ray in enumerate(rays, 1):
@@ -493,20 +532,83 @@ class Stl(Case):
 
     def test_panel(self):
         mesh = Mesh.from_stl(EXAMPLES / "panel.stl")
-        self.assertEqual(self.first(mesh), (EXAMPLES / "panel.hits").read_text())
+        self.assertEqual(self.first(mesh), self.expected("panel.hits"))
         depths = self.told(mesh, self.rays("panel.bores"), lambda ray: self.every(ray, mesh.cast_all(ray)))
-        self.assertEqual(depths, (EXAMPLES / "panel.depths").read_text())
+        self.assertEqual(depths, self.expected("panel.depths"))
 
     def test_files(self):
         subprocess.run([HERE / "stl_files.py", WORK], check=True)
         same, wrong = sorted(WORK.glob("same-*.stl")), sorted(WORK.glob("wrong-*.stl"))
         self.assertGreaterEqual((len(same), len(wrong)), (3, 12))
         for file in same:
-            self.assertEqual(self.first(Mesh.from_stl(file)), (EXAMPLES / "panel.hits").read_text())
+            self.assertEqual(self.first(Mesh.from_stl(file)), self.expected("panel.hits"))
         for file in wrong:
             with self.assertRaises(probe_rays.StlError) as caught:
                 Mesh.from_stl(file)
             self.assertEqual(f"stl: {caught.exception}\n", file.with_suffix(".says").read_text())
+
+
+class Faults(Case):
+    """A ray that a cast refuses with 1 is told the test that it fails, and no other ray is."""
+
+    CASES = [
+        (Ray((math.nan, 0, 0), UP, 1), "the origin has a NaN"),
+        (Ray((0, -math.inf, 0), UP, 1), "the origin is infinite"),
+        (Ray((0, 0, 0), (0, math.nan, 1), 1), "the direction has a NaN"),
+        (Ray((0, 0, 0), (math.inf, 0, 0), 1), "the direction is infinite"),
+        (Ray((0, 0, 0), (0, -0.0, 0), 1), "the direction is zero"),
+        (Ray((0, 0, 0), (0, 0, 2), 1), "the direction's length is not 1"),
+        (Ray((0, 0, 0), (1e200, 0, 0), 1), "the direction's length is not 1"),
+        (Ray((0, 0, 0), UP, math.nan), "the maximum is NaN"),
+        (Ray((0, 0, 0), UP, math.inf), "the maximum is infinite"),
+        (Ray((0, 0, 0), UP, -1), "the maximum is below 0"),
+        (Ray((0, 0, 0), UP, -math.inf), "the maximum is below 0"),
+        (Ray((0, 0, 0), UP, 1, math.nan), "the near distance is NaN"),
+        (Ray((0, 0, 0), UP, 1, -0.5), "the near distance is below 0"),
+        (Ray((0, 0, 0), UP, 1, 1.5), "the near distance is above the maximum"),
+        (Ray((0, 0, 0), UP, 1, math.inf), "the near distance is above the maximum"),
+    ]
+
+    def test_words(self):
+        mesh, cabinet = layers(1), Cabinet()
+        cabinet.add(mesh, (0, 0, 0))
+        for ray, words in self.CASES:
+            self.assertEqual(ray.fault(), words)
+            many = ([ray.origin], [ray.direction], [ray.max_distance], [ray.near_distance])
+            for cast in (
+                lambda: ray_plane(ray, UP, 0), lambda: ray_triangle(ray, *T), lambda: mesh.cast(ray), lambda: mesh.cast_exact(ray),
+                lambda: mesh.cast_all(ray), lambda: PlainMesh(T, [(0, 1, 2)]).cast(ray), lambda: cabinet.cast(ray),
+                lambda: PlainMesh(T, [(0, 1, 2)]).cast_exact(ray), lambda: HeightField([0.0] * 4, 2, 2, (1, 1)).cast(ray),
+                lambda: HeightRanges([0.0] * 4, [1.0] * 4, 2, 2, (1, 1)).cast(ray),
+            ):
+                refused = self.refuses(1, cast)
+                self.assertEqual((str(refused), refused.fault), (f"refused 1, invalid input: {words}", words))
+            for cast in (mesh.cast_many, mesh.cast_exact_many):
+                self.assertEqual(str(self.refuses(1, lambda: cast(*many))), f"refused 1, invalid input: {words} (ray 0)")
+
+    def test_other_refusals_say_nothing_of_the_ray(self):
+        self.assertIsNone(Ray((0, 0, 0), UP, 0, -0.0).fault())
+        for refused in (
+            self.refuses(12, lambda: layers(1).cast_exact(down(0, 0, 9000, 2))),
+            self.refuses(1, lambda: layers(1).query((1, 0, 0), (0, 1, 1))),
+        ):
+            self.assertIsNone(refused.fault)
+
+    def test_lengths_near_the_ends(self):
+        refused = 0
+        for end in (1 - 1e-12, 1 + 1e-12):
+            for x, y in ((0, 0), (0.6, 0), (0.36, 0.48)):
+                z = math.sqrt(1 - x * x - y * y)
+                for step in range(-40, 41):
+                    length = end + step * 2 * sys.float_info.epsilon
+                    ray = Ray((0, 0, 0), (x * length, y * length, z * length), 1)
+                    try:
+                        ray_plane(ray, UP, 0)
+                        self.assertIsNone(ray.fault())
+                    except Refused:
+                        self.assertEqual(ray.fault(), "the direction's length is not 1")
+                        refused += 1
+        self.assertTrue(100 <= refused < 386, refused)
 
 
 class Facts(Case):

@@ -10,9 +10,7 @@ pointer its size, and its fields' names, types and offsets. The proved source de
 Python tell it, are the same in all three, and begin with its name in the header's table:
 
   crates/exports/src/*.rt       the calls, the version, and the codes
-  crates/casts/src/answer.rt    the refusals, and that of the ranges in crates/height_ranges/src/answer.rt,
-                                of a limit in crates/cabinet_cast/src/cast.rt, of a float that is not held in
-                                crates/float_forms/src/forms.rt, and of what is out of range in crates/grid_triangle/src/cast.rt
+  crates/casts/src/answer.rt    the refusals
   crates/cabinet/src/part.rt    the structs; crates/vectors/src/vec3.rt has the vector in them
   crates/tree/src/lib.rt        the table of areas
   include/probe_rays.h          for C and C++
@@ -27,13 +25,7 @@ import tempfile
 
 RATTLE = "crates/exports/src"
 CODES = "crates/results/src/lib.rt"
-REFUSALS = [
-    "crates/casts/src/answer.rt",
-    "crates/height_ranges/src/answer.rt",
-    "crates/float_forms/src/forms.rt",
-    "crates/grid_triangle/src/cast.rt",
-    "crates/cabinet_cast/src/cast.rt",
-]
+REFUSALS = "crates/casts/src/answer.rt"
 STRUCTS = ["crates/cabinet/src/part.rt", "crates/vectors/src/vec3.rt"]
 AREAS = "crates/tree/src/lib.rt"
 HEADER = "include/probe_rays.h"
@@ -216,7 +208,7 @@ def read(folder):
     """What each side declares: {side: {what: value}}."""
     text = {
         path: re.sub(r"/\*.*?\*/", "", (folder / path).read_text(), flags=re.S)
-        for path in [*REFUSALS, AREAS, HEADER, RUST, LENGTHS] + STRUCTS
+        for path in [REFUSALS, AREAS, HEADER, RUST, LENGTHS] + STRUCTS
     }
     source = "\n".join(path.read_text() for path in [*sorted((folder / RATTLE).glob("*.rt")), folder / CODES])
     plain = re.sub(r"//.*", "", source)
@@ -225,7 +217,7 @@ def read(folder):
     # the body of the call, past its contract
     version = re.search(r"fn probe_version\(\) -> u32.*?\{\s*(\d+)\s*\}", plain, re.S)
     numbers = r"^pub const (?!VERSION)(\w+): u32 = (\d+);"
-    refusals = constants(re.sub(r"//.*", "", "\n".join(text[path] for path in REFUSALS)), numbers)
+    refusals = constants(re.sub(r"//.*", "", text[REFUSALS]), numbers)
     structs = rust_structs(re.sub(r"//.*", "", "\n".join(text[path] for path in STRUCTS)))
     codes = constants(plain, numbers)
     lengths = re.findall(r"fn (\w+)_length\((?:n|nodes): usize\) -> usize \{([^}]*)\}", text[LENGTHS])
@@ -372,7 +364,7 @@ FAULTS = [
     (RATTLE + "/meshes.rt", "fn probe_query(", "fn probe_list("),
     (RATTLE + "/meshes.rt", "#[no_mangle]\n", ""),
     (CODES, "pub const NO: u32 = 259;", "pub const NO: u32 = 258;"),
-    (REFUSALS[0], "pub const WRONG_POSE: u32 = 4;", "pub const WRONG_POSE: u32 = 9;"),
+    (REFUSALS, "pub const WRONG_POSE: u32 = 4;", "pub const WRONG_POSE: u32 = 9;"),
     (AREAS, "| 12n ", "| 10n "),
     (HEADER, "const probe_part *parts,", "probe_part *parts,"),
     (HEADER, "    size_t nodes;\n    probe_span vertices;", "    probe_span vertices;\n    size_t nodes;"),
@@ -385,11 +377,15 @@ FAULTS = [
     (RUST, "#[repr(C)]\n#[derive(Clone, Copy, Debug, Default, PartialEq)]\npub struct Part", "pub struct Part"),
     (STRUCTS[0], "    pub node_boxes: Span,\n    pub triangle_boxes: Span,", "    pub triangle_boxes: Span,\n    pub node_boxes: Span,"),
     (STRUCTS[1], "#[repr(C)]\n", ""),
-    (REFUSALS[-1], "pub const LIMIT_REACHED: u32 = 10;", "pub const LIMIT_REACHED: u32 = 11;"),
-    (REFUSALS[3], "pub const OUT_OF_RANGE: u32 = 12;", "pub const OUT_OF_RANGE: u32 = 13;"),
-    (REFUSALS[2], "pub const NOT_HELD: u32 = 11;", "pub const NOT_HELD: u32 = 10;"),
+    (REFUSALS, "pub const LIMIT_REACHED: u32 = 10;", "pub const LIMIT_REACHED: u32 = 11;"),
+    (REFUSALS, "pub const OUT_OF_RANGE: u32 = 12;", "pub const OUT_OF_RANGE: u32 = 13;"),
+    (REFUSALS, "pub const NOT_HELD: u32 = 11;", "pub const NOT_HELD: u32 = 10;"),
     (HEADER, "    const uint8_t *bytes,", "    const uint32_t *bytes,"),
     (RUST, "        out: *mut u8,", "        out: *const u8,"),
+    (HEADER, "    uint32_t *codes,", "    double *codes,"),
+    (HEADER, "    double *hits,\n    size_t hits_length,\n", ""),
+    (RUST, "        rays: *const f64,", "        rays: *mut f64,"),
+    (RATTLE + "/many.rt", "    codes: &mut [u32],\n    hits: &mut [f64],", "    hits: &mut [f64],\n    codes: &mut [u32],"),
     (HEADER, " *   12   out of range  ", " *   12   out of reach  "),
     ("include/probe_rays.hpp", "no room: a lent slice", "no room: a slice"),
     ("bindings/rust/src/answer.rs", "out of range: the origin or", "out of range: an origin or"),
@@ -403,7 +399,7 @@ def self_test(folder, loud):
     for file, old, new in [(HEADER, "", "")] + FAULTS:
         with tempfile.TemporaryDirectory() as name:
             copy = pathlib.Path(name)
-            for path in [RATTLE, CODES, *REFUSALS, AREAS, HEADER, RUST, LENGTHS, *WORDS] + STRUCTS:
+            for path in [RATTLE, CODES, REFUSALS, AREAS, HEADER, RUST, LENGTHS, *WORDS] + STRUCTS:
                 (copy / path).parent.mkdir(parents=True, exist_ok=True)
                 if (folder / path).is_dir():
                     shutil.copytree(folder / path, copy / path)

@@ -4,7 +4,6 @@
 usage: tools/lines.py [--self-test]
 
 - No line of a .antt or .rt file under crates/ is longer than 140 characters.
-- A function with a `requires` says above it, or its crate's or file's head says for all of them, that callers show what it asks.
 - No proof counts its way back by a chain of `.before`: one step back reads as the source does, and a place further off is named by its type.
 - A file of specs/ whose first line says 'Inner contracts only' is for the proofs of its crate: no other file of specs/ may use it, nor the
   contract of a call for C, so that what a reader has to believe stands apart.
@@ -33,38 +32,12 @@ def long_lines(name, lines):
     return [f"{name}:{number}: {len(line)} characters" for number, line in enumerate(lines, 1) if len(line) > LONGEST]
 
 
-def head(path):
-    """The comment that a file begins with, or nothing."""
-    if not path.is_file():
-        return ""
-    lines = path.read_text(encoding="utf-8").splitlines()
-    return " ".join(line for line in lines[: next((k for k, line in enumerate(lines) if not line.startswith("//")), len(lines))])
-
-
-def asked_in_silence(name, lines, heads):
-    """The functions that have a `requires` and no word of who shows it."""
-    faults, above, function = [], [], None
-    for line in lines:
-        text = line.strip()
-        if text.startswith("//"):
-            above.append(text)
-        elif match := re.match(r"(?:pub |extern \S+ )*fn (\w+)", text):
-            function, said = match[1], " ".join(above)
-        elif text.startswith("requires {") and function:
-            if not re.search(r"\bcallers?\b", said + heads, re.IGNORECASE):
-                faults.append(f"{name}: `{function}` has a `requires`, and no comment says that callers show it")
-            function = None
-        if not text.startswith("//"):
-            above = []
-    return faults
-
-
 def faults_of(root):
     faults, inners, files = [], set(), sorted(root.glob("crates/*/**/*.antt"))
     for path in sorted(root.glob("crates/*/src/*.rt")):
         lines = path.read_text(encoding="utf-8").splitlines()
         name = path.relative_to(root)
-        faults += long_lines(name, lines) + asked_in_silence(name, lines, head(path) + head(path.parent / "lib.rt"))
+        faults += long_lines(name, lines)
     for path in files:
         name = path.relative_to(root)
         lines = path.read_text(encoding="utf-8").splitlines()
@@ -101,10 +74,6 @@ FAULTS = [
         {"a/specs/I.antt": "-- Inner contracts only.", "b/src/c.rt": 'ghost use Rattle.a.specs.I.{step};\npub extern "C" fn c() {}'},
     ),
     ("a line of code of 141 characters", {"a/src/b.rt": "// " + "x" * 138, "a/proofs/P.antt": "-- P."}),
-    (
-        "a demand that nobody is said to show",
-        {"a/src/b.rt": "// The first.\nfn first(xs: &[u8]) -> u8\n    requires { ⌜ 1 ≤ length (now xs) ⌝ }\n{", "a/proofs/P.antt": "-- P."},
-    ),
     ("no file", {}),
 ]
 SOUND = {
@@ -112,7 +81,7 @@ SOUND = {
     "a/specs/J.antt": "-- Inner contracts only: steps.\nuse Rattle.a.specs.I.{step}",
     "a/specs/D.antt": "-- D.\nuse Rattle.a.specs.E.{whole}",
     "a/proofs/P.antt": "-- " + "x" * 137 + "\nf c = c .before .args",
-    "a/src/b.rt": "// The first. Callers show that there is one.\nfn first(xs: &[u8]) -> u8\n    requires { ⌜ 1 ≤ length (now xs) ⌝ }\n{",
+    "a/src/b.rt": "// The first.\nfn first(xs: &[u8]) -> u8\n    requires { ⌜ 1 ≤ length (now xs) ⌝ }\n{",
 }
 
 

@@ -27,6 +27,7 @@ mod conversion;
 mod exact;
 mod inputs;
 mod listing;
+mod many;
 mod merge;
 mod near;
 mod plain;

@@ -10,7 +10,7 @@ use crate::{
         mesh::{MeshQueryWorkspace, TriangleBvh},
         query::{QueryScratch, Ray as RustRay, timed},
     },
-    conversion, exact, inputs, listing, merge, near, plain, ranges, records,
+    conversion, exact, inputs, listing, many, merge, near, plain, ranges, records,
     shape::{self, TriangleMesh},
     timing::Row,
 };
@@ -113,12 +113,6 @@ pub fn rust_rays(rays: &[Ray]) -> Vec<RustRay> {
 
 type TrianglePair = (Ray, [[f64; 3]; 3]);
 
-/// A ray's eight numbers, in the order of the calls.
-fn eight(ray: &Ray) -> [f64; 8] {
-    let ([x, y, z], [dx, dy, dz]) = (ray.origin, ray.direction);
-    [x, y, z, dx, dy, dz, ray.max_distance, ray.near_distance]
-}
-
 fn rust_pairs(pairs: &[TrianglePair]) -> Vec<(RustRay, [Vec3; 3])> {
     pairs
         .iter()
@@ -129,7 +123,7 @@ fn rust_pairs(pairs: &[TrianglePair]) -> Vec<(RustRay, [Vec3; 3])> {
 /// Ours is handed the numbers as slices, as the Rust is handed two addresses.
 fn triangles(name: &str, wanted: u32, pairs: Vec<TrianglePair>) -> Row {
     let nine = |corners: &[[f64; 3]; 3]| std::array::from_fn(|place| corners[place / 3][place % 3]);
-    let slices = |(ray, corners): &TrianglePair| (eight(ray), nine(corners));
+    let slices = |(ray, corners): &TrianglePair| (ray.numbers(), nine(corners));
     casts(
         name,
         wanted,
@@ -167,7 +161,7 @@ fn rust_planes(items: &[PlanePair]) -> Vec<(RustRay, shape::Plane)> {
 
 fn plane(name: &str) -> Row {
     let items = inputs::at_planes(256);
-    let slices = |(ray, n, distance): &PlanePair| (eight(ray), [n[0], n[1], n[2], *distance]);
+    let slices = |(ray, n, distance): &PlanePair| (ray.numbers(), [n[0], n[1], n[2], *distance]);
     casts(
         name,
         HIT,
@@ -613,6 +607,7 @@ pub fn all() -> Vec<Planned> {
         meshes(),
         plain::rows(),
         exact::rows(),
+        many::rows(),
         merge::rows(),
         grids(),
         ranges::rows(),

@@ -10,6 +10,7 @@ pub mod lent;
 pub mod library;
 pub mod listing;
 pub mod log;
+pub mod many;
 pub mod merge;
 pub mod other_trees;
 pub mod panel;

@@ -7,7 +7,7 @@ use crate::{
     library::{Build, Cast, Check, Query},
     listing,
     log::Log,
-    merge,
+    many, merge,
     other_trees::{any_words, one_clause},
     panel, plain, ranges, shapes, slices,
 };
@@ -111,6 +111,7 @@ pub fn compare(log: &mut Log, seed: u64, number: u64, mesh: &Mesh) {
     exact::compare(log, seed, number, mesh);
     ranges::compare(log, random, seed, number);
     merge::compare(log, seed, number, mesh);
+    many::compare(log, seed, number, mesh);
 }
 
 fn count_constructed(log: &mut Log, mesh: &Mesh) {

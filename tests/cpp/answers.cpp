@@ -11,6 +11,7 @@
 #include <optional>
 #include <string>
 #include <thread>
+#include <utility>
 #include <vector>
 
 #include "probe_rays.hpp"
@@ -530,6 +531,138 @@ void large_meshes()
     CHECK(hits_at(large.cast_rounded(last), 6) && large.cast_rounded(last).hit().triangle == 69999);
 }
 
+/* Whether two answers are the same, to the bit where they are hits. */
+bool same(const Cast<MeshHit> &one, const Cast<MeshHit> &other)
+{
+    if (one.kind() != other.kind())
+        return false;
+    if (one.is_refused())
+        return one.refusal() == other.refusal();
+    if (one.is_none())
+        return true;
+    const MeshHit a = one.hit(), b = other.hit();
+    const auto bits = [](double x, double y) { return x == y && std::signbit(x) == std::signbit(y); };
+    return a.triangle == b.triangle && bits(a.distance, b.distance) && bits(a.normal.x, b.normal.x) &&
+           bits(a.normal.y, b.normal.y) && bits(a.normal.z, b.normal.z);
+}
+
+/* Many rays in one call: a board's hits by its measures, and each answer as the single cast gives it, refusals among them. */
+void many_rays()
+{
+    Mesh board = box({0, 0, 0}, {60, 40, 18}).build().value();
+    CHECK(board.cast_many({}).empty() && board.cast_exact_many({}).empty());
+    // the upper face, past the board, a maximum below 0, the upper face from below by its lower one, and a side
+    const std::vector<Ray> five{
+        from(30, 10, 100, 200), from(70, 10, 100, 200), from(30, 10, 100, -1), {{30, 10, -5}, {0, 0, 1}, 50}, {{-2, 20, 9}, {1, 0, 0}, 3}};
+    for (const bool exact : {false, true}) {
+        const std::vector<Cast<MeshHit>> casts = exact ? board.cast_exact_many(five) : board.cast_many(five);
+        CHECK(casts.size() == 5 && hits_at(casts[0], 82) && casts[1].is_none() && refuses(casts[2], 1));
+        CHECK(casts[3].hit().distance == 5 && casts[3].hit().normal.z == -1);
+        CHECK(casts[4].hit().distance == 2 && casts[4].hit().normal.x == -1);
+    }
+    // the rays' places are not mixed up, whatever the scratch served before
+    Scratch scratch;
+    std::size_t hits = 0, refused = 0;
+    for (const std::size_t count : {std::size_t{500}, std::size_t{1}, std::size_t{77}}) {
+        std::vector<Ray> rays;
+        for (std::size_t k = 0; k < count; k++) {
+            const double x = static_cast<double>(k % 70), y = static_cast<double>(k % 43);
+            const Vec3 way = k % 11 == 3 ? Vec3{0, 0, -2} : down;
+            rays.push_back(Ray{{x, y, 30}, way, k % 5 == 1 ? 10.0 : 40.0, static_cast<double>(k % 3)});
+        }
+        const std::vector<Cast<MeshHit>> casts = board.cast_many(rays, scratch), exact = board.cast_exact_many(rays, scratch);
+        CHECK(casts.size() == count && exact.size() == count);
+        for (std::size_t k = 0; k < count; k++) {
+            CHECK(same(casts[k], board.cast(rays[k])) && same(exact[k], board.cast_exact(rays[k])));
+            hits += casts[k].kind() == Kind::hit;
+            refused += casts[k].is_refused();
+        }
+    }
+    CHECK(hits > 200 && refused > 40);
+    // a mesh with a NaN is cast at without its tree, one ray like many
+    const PlainMesh holed({{0, 0, 0}, {31, 0, 0}, {0, 31, 0}, {std::nan(""), 1, 1}}, {{0, 1, 2}, {0, 1, 3}});
+    Mesh built = holed.build().value();
+    for (const Cast<MeshHit> &cast : built.cast_exact_many({from(1, 1, 1, 2), from(40, 1, 1, 2)}))
+        CHECK(refuses(cast, 12));
+}
+
+/* What a refusal of this ray says, where it is thrown. */
+std::string thrown(const Cast<Hit> &cast)
+{
+    try {
+        static_cast<void>(cast.hit());
+    } catch (const Refused &refused) {
+        return refused.what();
+    }
+    return "";
+}
+
+/* The test of refusal 1 that a ray fails, in the words of the Rust crate. */
+void faults()
+{
+    const double nan = std::nan("");
+    const Vec3 zero{0, 0, 0}, up{0, 0, 1};
+    const std::pair<Ray, const char *> cases[] = {
+        {{{nan, 0, 0}, up, 1}, "the origin has a NaN"},
+        {{{0, -infinite, 0}, up, 1}, "the origin is infinite"},
+        {{zero, {0, nan, 1}, 1}, "the direction has a NaN"},
+        {{zero, {infinite, 0, 0}, 1}, "the direction is infinite"},
+        {{zero, {0, -0.0, 0}, 1}, "the direction is zero"},
+        {{zero, {0, 0, 2}, 1}, "the direction's length is not 1"},
+        {{zero, {1e200, 0, 0}, 1}, "the direction's length is not 1"},
+        {{zero, up, nan}, "the maximum is NaN"},
+        {{zero, up, infinite}, "the maximum is infinite"},
+        {{zero, up, -1}, "the maximum is below 0"},
+        {{zero, up, -infinite}, "the maximum is below 0"},
+        {{zero, up, 1, nan}, "the near distance is NaN"},
+        {{zero, up, 1, -0.5}, "the near distance is below 0"},
+        {{zero, up, 1, 1.5}, "the near distance is above the maximum"},
+        {{zero, up, 1, infinite}, "the near distance is above the maximum"},
+    };
+    for (const auto &[ray, words] : cases) {
+        const std::string said = std::string("refused 1, invalid input: ") + words;
+        CHECK(refuses(ray_plane(ray, ground), 1) && ray.fault() == std::string(words));
+        CHECK(explained(Refusal::invalid_input, ray) == said && thrown(ray_plane(ray, ground)) == said);
+        // another refusal has nothing to do with the ray
+        CHECK(explained(Refusal::no_room, ray) == told(Refusal::no_room));
+    }
+    const Ray admitted{zero, up, 0, -0.0};
+    CHECK(admitted.fault() == nullptr && explained(Refusal::invalid_input, admitted) == told(Refusal::invalid_input));
+    // lengths about the ends of what is admitted, a few floats apart
+    int refused = 0;
+    for (const double end : {1 - 1e-12, 1 + 1e-12})
+        for (int step = -40; step <= 40; step++) {
+            const double length = end + step * 2 * std::numeric_limits<double>::epsilon();
+            const Ray ray{zero, {0.36 * length, 0.48 * length, 0.8 * length}, 1};
+            CHECK((ray.fault() != nullptr) == ray_plane(ray, ground).is_refused());
+            refused += ray.fault() != nullptr;
+        }
+    CHECK(refused > 40 && refused < 122);
+    // the words reach every cast
+    Mesh mesh = layers(1).value();
+    const Ray still{{0.25, 0.25, 1}, zero, 2};
+    Cabinet cabinet;
+    CHECK(cabinet.push(mesh, zero) == 0);
+    const auto says = [](const char *words, auto &&call) {
+        try {
+            call();
+        } catch (const Refused &why) {
+            return why.what() == std::string("refused 1, invalid input: ") + words;
+        }
+        return false;
+    };
+    const HeightRanges veneer{2, 2, {1, 1}, std::vector<double>(4, 0.0), std::vector<double>(4, 1.0)};
+    CHECK(says("the direction is zero", [&] { static_cast<void>(mesh.cast(still).hit()); }));
+    CHECK(says("the direction is zero", [&] { static_cast<void>(mesh.cast_many({still})[0].hit()); }));
+    CHECK(says("the direction is zero", [&] { static_cast<void>(mesh.cast_exact_many({still})[0].hit()); }));
+    CHECK(says("the direction is zero", [&] { static_cast<void>(mesh.cast_all(still).value()); }));
+    CHECK(says("the direction is zero", [&] { static_cast<void>(cabinet.cast(still).answer.hit()); }));
+    CHECK(says("the direction is zero", [&] { static_cast<void>(ray_height_ranges(still, veneer).is_clear()); }));
+    CHECK(says("the direction is zero", [&] {
+        static_cast<void>(ray_triangle_slices({0, 0, 1, 0, 0, 0, 2, 0}, {0, 0, 0, 1, 0, 0, 0, 1, 0}).hit());
+    }));
+}
+
 } // namespace
 
 int main()
@@ -548,6 +681,8 @@ int main()
     cabinets();
     records();
     exactly();
+    many_rays();
+    faults();
     large_meshes();
     std::printf("%d checks\n", checks);
     return 0;

@@ -4,6 +4,7 @@ use crate::geometry::{box_of, Vector};
 use crate::model::{Check, End, LeftOver, Row};
 use crate::topology::NONE;
 use crate::work::{DraftEnd, Work};
+use std::collections::HashMap;
 
 /// The rows, in their order: by face and place, and what lies within another after it.
 pub fn rows(work: &Work<'_>, features: &Features, checks: Vec<Check>) -> Vec<Row> {
@@ -15,62 +16,18 @@ pub fn rows(work: &Work<'_>, features: &Features, checks: Vec<Check>) -> Vec<Row
     let parents: Vec<Option<usize>> = (0..count)
         .map(|n| owner(work.drafts[n].within).filter(|&parent| parent != n))
         .collect();
-    let key = |&n: &usize| {
-        let draft = &work.drafts[n];
-        let [a, b] = place_on_face(draft.axis, draft.centre);
-        (
-            draft.face.unwrap_or(NONE),
-            (10.0 * a).round() as i64,
-            (10.0 * b).round() as i64,
-            n,
-        )
-    };
-    let mut order: Vec<usize> = Vec::new();
-    let mut tops: Vec<usize> = (0..count).filter(|&n| parents[n].is_none()).collect();
-    tops.sort_by_key(key);
-    let mut open: Vec<usize> = tops.into_iter().rev().collect();
-    let mut placed = vec![false; count];
-    while let Some(next) = open.pop() {
-        if std::mem::replace(&mut placed[next], true) {
-            continue;
-        }
-        order.push(next);
-        let mut children: Vec<usize> = (0..count).filter(|&n| parents[n] == Some(next)).collect();
-        children.sort_by_key(key);
-        open.extend(children.into_iter().rev());
-    }
-    // rows that lie within each other in a circle stand at the end
-    order.extend((0..count).filter(|&n| !placed[n]));
+    let order = ordered(work, &parents);
     let mut numbers = vec![0; count];
-    order
-        .iter()
-        .enumerate()
-        .for_each(|(place, &n)| numbers[n] = place);
-    let of_drafts = features.of_drafts(work);
-    let mut joined: Vec<u32> = order.iter().map(|&n| of_drafts[n]).collect();
-    let mut known: Vec<u32> = Vec::new();
-    for feature in &mut joined {
-        let place = known
-            .iter()
-            .position(|known| known == feature)
-            .unwrap_or_else(|| {
-                known.push(*feature);
-                known.len() - 1
-            });
-        *feature = place as u32;
+    for (place, &n) in order.iter().enumerate() {
+        numbers[n] = place;
     }
-    let mut sizes = vec![(0, 0.0); count];
-    for (region, &owner) in work.owner.iter().enumerate() {
-        if owner != NONE {
-            sizes[owner as usize].0 += work.regions.all[region].triangles.len();
-            sizes[owner as usize].1 += work.regions.all[region].area;
-        }
-    }
+    let joined = joined(&features.of_drafts(work), &order);
+    let sizes = sizes(work);
     let row = |(place, &n): (usize, &usize)| {
         let draft = &work.drafts[n];
         Row {
             kind: draft.kind,
-            feature: joined[place] as usize,
+            feature: joined[place],
             face: draft.face.map(|face| face as usize),
             outline: draft.outline.clone(),
             centre: draft.centre,
@@ -96,6 +53,66 @@ pub fn rows(work: &Work<'_>, features: &Features, checks: Vec<Check>) -> Vec<Row
         }
     };
     order.iter().enumerate().map(row).collect()
+}
+
+/// The drafts in the order of the list, of which each may have a parent that it stands behind.
+fn ordered(work: &Work<'_>, parents: &[Option<usize>]) -> Vec<usize> {
+    let count = parents.len();
+    let key = |&n: &usize| {
+        let draft = &work.drafts[n];
+        let [a, b] = place_on_face(draft.axis, draft.centre);
+        (
+            draft.face.unwrap_or(NONE),
+            (10.0 * a).round() as i64,
+            (10.0 * b).round() as i64,
+            n,
+        )
+    };
+    let mut children: Vec<Vec<usize>> = vec![Vec::new(); count];
+    let mut tops: Vec<usize> = Vec::new();
+    for (n, parent) in parents.iter().enumerate() {
+        match parent {
+            Some(parent) => children[*parent].push(n),
+            None => tops.push(n),
+        }
+    }
+    tops.sort_by_key(key);
+    let mut open: Vec<usize> = tops.into_iter().rev().collect();
+    let mut order: Vec<usize> = Vec::new();
+    let mut placed = vec![false; count];
+    while let Some(next) = open.pop() {
+        if std::mem::replace(&mut placed[next], true) {
+            continue;
+        }
+        order.push(next);
+        children[next].sort_by_key(key);
+        open.extend(children[next].iter().rev());
+    }
+    // rows that lie within each other in a circle stand at the end
+    order.extend((0..count).filter(|&n| !placed[n]));
+    order
+}
+
+/// The number of each row's feature, in the order of the rows: that of the first row is 0, and so on.
+fn joined(of_drafts: &[u32], order: &[usize]) -> Vec<usize> {
+    let mut known: HashMap<u32, usize> = HashMap::new();
+    let mut number = |&n: &usize| {
+        let next = known.len();
+        *known.entry(of_drafts[n]).or_insert(next)
+    };
+    order.iter().map(&mut number).collect()
+}
+
+/// How many triangles each draft has, and their area.
+fn sizes(work: &Work<'_>) -> Vec<(usize, f64)> {
+    let mut sizes = vec![(0, 0.0); work.drafts.len()];
+    for (region, &owner) in work.owner.iter().enumerate() {
+        if owner != NONE {
+            sizes[owner as usize].0 += work.regions.all[region].triangles.len();
+            sizes[owner as usize].1 += work.regions.all[region].area;
+        }
+    }
+    sizes
 }
 
 /// The two coordinates of a place along the face that a row is entered from.

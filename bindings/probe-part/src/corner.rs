@@ -15,9 +15,10 @@ fn move_part(part: &mut Part) {
     part.frame.origin = part.frame.place_in_file(corner);
     shift(&mut part.low);
     shift(&mut part.high);
-    part.faces
-        .iter_mut()
-        .for_each(|face| shift(&mut face.point));
+    for face in &mut part.faces {
+        shift(&mut face.point);
+        face.outline.iter_mut().flatten().for_each(shift);
+    }
     for row in &mut part.rows {
         shift(&mut row.centre);
         row.loops.iter_mut().flatten().for_each(shift);

@@ -1,5 +1,5 @@
 //! Bores and countersinks: the round surfaces that are seen from within, along their axes.
-use crate::geometry::{along, dot, scale, Vector};
+use crate::geometry::{along, dot, scale, unit, Vector};
 use crate::islands::middle_of;
 use crate::model::{Kind, Outline};
 use crate::rims::{plane, rims, turned, Beyond, Rim};
@@ -17,6 +17,10 @@ pub const NEAR: f64 = 0.01;
 
 /// How far the triangles of a round wall may lie within it, as a share of its radius: sides of 45 degrees.
 const BULGE: f64 = 0.08;
+
+/// The surface beside an end is looked at so far from it, in millimetres, and at no more places than this.
+const BESIDE: f64 = 0.02;
+const SEEN_FROM: usize = 6;
 
 /// A floor across an axis leans by less: 0.1 degrees.
 const LEAN: f64 = 2e-6;
@@ -55,8 +59,16 @@ fn entry_order(work: &Work<'_>, number: u32, rim: &Rim) -> Option<f64> {
     match rim.beyond {
         Beyond::Face(face) => Some(f64::from(face)),
         Beyond::Partly(face) => Some(f64::from(face) + 50.0),
-        // what opens in the floor of another row is entered from there
-        Beyond::Level(region) => Some(work.order_of(work.normal(region)) - 20.0),
+        // what opens in the floor of another row is entered from there; what opens in a wall, only where it has no other end
+        Beyond::Level(region) => {
+            let order = work.order_of(work.normal(region));
+            let is_floor = is_seen_beside(work, round, rim, outwards);
+            Some(if is_floor {
+                order - 20.0
+            } else {
+                order + 200.0
+            })
+        }
         Beyond::Floor(_) => None,
         Beyond::Round(other) => {
             let other = &work.rounds.all[other as usize];
@@ -76,16 +88,57 @@ fn entry_order(work: &Work<'_>, number: u32, rim: &Rim) -> Option<f64> {
     }
 }
 
+/// Whether the surface beside an end is seen from far outside, in a direction: a floor is, and the wall of a pocket is not.
+fn is_seen_beside(work: &Work<'_>, round: &Round, rim: &Rim, outwards: Vector) -> bool {
+    let step = rim.edges.len().div_ceil(SEEN_FROM).max(1);
+    rim.edges.iter().step_by(step).all(|edge| {
+        // beyond the circle, so that no side of another bore about the same axis lies further out
+        let aside = unit(round.axis.radial(edge.from));
+        let height = round.axis.height(edge.from);
+        let beside = along(
+            round.axis.at(height),
+            aside,
+            BESIDE + round.radius_at(height),
+        );
+        (work.sight)(along(beside, outwards, BESIDE), outwards)
+    })
+}
+
+/// A bore that is measured: its surface, its ends, and where it lies.
+struct Drilled<'a> {
+    round: Round,
+    entry: &'a Rim,
+    last: Option<&'a Rim>,
+    /// Where its axis meets its entry.
+    centre: Vector,
+    /// The direction into the part.
+    axis: Vector,
+    /// From its entry to its other end.
+    depth: f64,
+    /// The height of its entry along the round surface's axis.
+    from: f64,
+    /// The height of its other end.
+    to: f64,
+}
+
 fn add_bore(work: &mut Work<'_>, number: u32, rims: &[Rim], all: &[(u32, Vec<Rim>)]) {
-    let round = work.rounds.all[number as usize].clone();
-    let order = |rim: &&Rim| entry_order(work, number, rim);
-    let best = rims
-        .iter()
-        .filter(|rim| order(rim).is_some())
-        .min_by(|a, b| order(a).unwrap_or(9e9).total_cmp(&order(b).unwrap_or(9e9)));
-    let Some(entry) = best else {
+    let Some(bore) = measured(work, number, rims) else {
         return;
     };
+    let mut regions = bore.round.regions.clone();
+    let (end, floor) = ending(work, &bore, all, &mut regions);
+    let draft = draft(work, &bore, end, floor);
+    work.add(draft, regions);
+}
+
+/// The bore of a round surface, from the end that serves best as its entry.
+fn measured<'a>(work: &Work<'_>, number: u32, rims: &'a [Rim]) -> Option<Drilled<'a>> {
+    let round = work.rounds.all[number as usize].clone();
+    let order = |rim: &&Rim| entry_order(work, number, rim);
+    let entry = rims
+        .iter()
+        .filter(|rim| order(rim).is_some())
+        .min_by(|a, b| order(a).unwrap_or(9e9).total_cmp(&order(b).unwrap_or(9e9)))?;
     let last = rims.iter().find(|rim| !std::ptr::eq(*rim, entry));
     let height = |rim: &Rim| {
         let met = plane(work, rim).and_then(|(normal, offset)| round.axis.meets(normal, offset));
@@ -97,17 +150,28 @@ fn add_bore(work: &mut Work<'_>, number: u32, rims: &[Rim], all: &[(u32, Vec<Rim
         Some(rim) => height(rim),
         // a cone to a point
         None if !round.is_cylinder() => -round.radius / round.slope,
-        None => return,
+        None => return None,
     };
-    let axis = scale(round.axis.direction, (to - from).signum());
-    let centre = round.axis.at(from);
-    let depth = (to - from).abs();
-    let mut regions = round.regions.clone();
-    let (end, floor_depth) = ending(work, &round, last, depth, all, &mut regions);
-    let entry_plane = plane(work, entry).unwrap_or((scale(axis, -1.0), -dot(axis, centre)));
+    Some(Drilled {
+        axis: scale(round.axis.direction, (to - from).signum()),
+        centre: round.axis.at(from),
+        depth: (to - from).abs(),
+        from,
+        to,
+        round,
+        entry,
+        last,
+    })
+}
+
+/// The row of a bore that ends so, and whose axis meets a surface between two depths.
+fn draft(work: &Work<'_>, bore: &Drilled<'_>, end: DraftEnd, floor: [f64; 2]) -> Draft {
+    let Drilled {
+        round, entry, last, ..
+    } = bore;
     let (face, entry_depth) = match entry.beyond {
         Beyond::Face(face) | Beyond::Partly(face) => (Some(face), 0.0),
-        _ => match work.face_against(axis, centre) {
+        _ => match work.face_against(bore.axis, bore.centre) {
             Some((face, below)) => (Some(face), below),
             None => (None, 0.0),
         },
@@ -116,64 +180,14 @@ fn add_bore(work: &mut Work<'_>, number: u32, rims: &[Rim], all: &[(u32, Vec<Rim
         Beyond::Level(_) | Beyond::Round(_) => entry.edges.first().map(|edge| edge.across),
         _ => None,
     };
-    let is_outside = matches!(entry.beyond, Beyond::Face(_) | Beyond::Partly(_));
-    let before = if is_outside { BEFORE } else { BEFORE_WITHIN };
-    // where the floor has a hole, or what stands on it, the axis does not meet it
-    let down = match last.map(|rim| rim.beyond) {
-        Some(Beyond::Floor(floor)) if work.regions.all[floor as usize].loops.len() > 1 => {
-            let middle = middle_of(work, floor);
-            along(middle, axis, -depth - before)
-        }
-        _ => along(centre, axis, -before),
-    };
-    let mut probes = vec![Probe {
-        what: "down its axis",
-        from: down,
-        way: axis,
-        expected: [
-            floor_depth[0] - NEAR + before,
-            floor_depth[1] + NEAR + before,
-        ],
-    }];
-    if plane(work, entry).is_some() {
-        // where an end lies aslant, depths differ from side to side
-        let aslant =
-            [Some(entry), last].map(|rim| rim.map_or(0.0, |rim| (rim.high - rim.low) / 2.0));
-        let aslant = NEAR + aslant[0] + aslant[1];
-        let inside = if round.is_cylinder() {
-            [depth.min(floor_depth[0]) - aslant, floor_depth[1] + aslant]
-        } else {
-            [0.0, floor_depth[1] + NEAR]
-        };
-        // sides that are not straight strips bulge inwards between their corners
-        let is_plain = round.regions.len() == round.sides;
-        let bulge = if is_plain {
-            0.0
-        } else {
-            BULGE * round.radius_at(from)
-        };
-        // beside another row's surface the plane of the entry is not met
-        let on_plane = |point: Vector| (dot(point, entry_plane.0) - entry_plane.1).abs() <= NEAR;
-        let edges: Vec<Edge> = turned(&entry.edges, axis)
-            .into_iter()
-            .filter(|edge| on_plane(edge.from) && on_plane(edge.to))
-            .filter(|edge| work.regions.all[edge.across as usize].offset - entry_plane.1 <= NEAR)
-            .collect();
-        probes.extend(probes_beside(
-            &edges,
-            axis,
-            entry_plane,
-            inside,
-            before,
-            bulge,
-        ));
-    }
-    let is_countersink = !round.is_cylinder();
-    let spread = [entry, last.unwrap_or(entry)].map(|rim| match plane(work, rim) {
+    // where an end lies in no plane, what it takes away is known between the end's heights
+    let spread = |rim: &Rim, height: f64| match plane(work, rim) {
         Some(_) => 0.0,
-        None => rim.high - rim.low,
-    });
-    let draft = Draft {
+        None => rim.high - rim.low + (height - rim.mean).abs(),
+    };
+    let spread = spread(entry, bore.from) + last.map_or(0.0, |rim| spread(rim, bore.to));
+    let is_countersink = !round.is_cylinder();
+    Draft {
         kind: if is_countersink {
             Kind::Countersink
         } else {
@@ -181,42 +195,102 @@ fn add_bore(work: &mut Work<'_>, number: u32, rims: &[Rim], all: &[(u32, Vec<Rim
         },
         face,
         outline: Outline::Circle {
-            diameter: 2.0 * round.radius_at(from),
+            diameter: 2.0 * round.radius_at(bore.from),
             sides: round.sides,
         },
-        centre,
-        axis,
+        centre: bore.centre,
+        axis: bore.axis,
         entry_depth,
-        depth,
+        depth: bore.depth,
         end,
         cone: is_countersink.then(|| 2.0 * round.slope.abs().atan().to_degrees()),
         within,
         open: Vec::new(),
         loops: vec![entry.edges.iter().map(|edge| edge.from).collect()],
-        volume: volume(&round, entry, last, depth, end, spread[0] + spread[1]),
-        probes,
-    };
-    work.add(draft, regions);
+        volume: volume(bore, end, spread),
+        probes: probes(work, bore, floor),
+    }
 }
 
-/// The height at which the axis meets the cylinder that an end opens into.
-fn meets_round(work: &Work<'_>, round: &Round, rim: &Rim) -> Option<f64> {
-    let Beyond::Round(other) = rim.beyond else {
-        return None;
+/// Probes down the axis of a bore, and beside its outline where that lies in a plane.
+fn probes(work: &Work<'_>, bore: &Drilled<'_>, floor: [f64; 2]) -> Vec<Probe> {
+    let Drilled { entry, axis, .. } = *bore;
+    let is_outside = matches!(entry.beyond, Beyond::Face(_) | Beyond::Partly(_));
+    let before = if is_outside { BEFORE } else { BEFORE_WITHIN };
+    // where the floor has a hole, or what stands on it, the axis does not meet it
+    let down = match bore.last.map(|rim| rim.beyond) {
+        Some(Beyond::Floor(floor)) if work.regions.all[floor as usize].loops.len() > 1 => {
+            along(middle_of(work, floor), axis, -bore.depth - before)
+        }
+        _ => along(bore.centre, axis, -before),
     };
-    let other = &work.rounds.all[other as usize];
+    let mut probes = vec![Probe {
+        what: "down its axis",
+        from: down,
+        way: axis,
+        expected: [floor[0] - NEAR + before, floor[1] + NEAR + before],
+    }];
+    if let Some(entry_plane) = plane(work, entry) {
+        probes.extend(outline_probes(work, bore, floor, entry_plane, before));
+    }
+    probes
+}
+
+/// Probes just inside and just outside the outline of a bore, which lies in a plane.
+fn outline_probes(
+    work: &Work<'_>,
+    bore: &Drilled<'_>,
+    floor: [f64; 2],
+    entry_plane: (Vector, f64),
+    before: f64,
+) -> Vec<Probe> {
+    let Drilled {
+        round, entry, last, ..
+    } = bore;
+    // where an end lies aslant, depths differ from side to side
+    let aslant = [Some(*entry), *last].map(|rim| rim.map_or(0.0, |rim| (rim.high - rim.low) / 2.0));
+    let aslant = NEAR + aslant[0] + aslant[1];
+    let inside = if round.is_cylinder() {
+        [bore.depth.min(floor[0]) - aslant, floor[1] + aslant]
+    } else {
+        [0.0, floor[1] + NEAR]
+    };
+    // sides that are not straight strips bulge inwards between their corners
+    let is_plain = round.regions.len() == round.sides;
+    let bulge = if is_plain {
+        0.0
+    } else {
+        BULGE * round.radius_at(bore.from)
+    };
+    // beside another row's surface the plane of the entry is not met
+    let on_plane = |point: Vector| (dot(point, entry_plane.0) - entry_plane.1).abs() <= NEAR;
+    let edges: Vec<Edge> = turned(&entry.edges, bore.axis)
+        .into_iter()
+        .filter(|edge| on_plane(edge.from) && on_plane(edge.to))
+        .filter(|edge| work.regions.all[edge.across as usize].offset - entry_plane.1 <= NEAR)
+        .collect();
+    probes_beside(&edges, bore.axis, entry_plane, inside, before, bulge)
+}
+
+/// The height at which the axis meets the cylinder that an end opens into, or the round outer face that it opens in.
+fn meets_round(work: &Work<'_>, round: &Round, rim: &Rim) -> Option<f64> {
+    let (other, radius) = match rim.beyond {
+        Beyond::Round(other) => {
+            let other = &work.rounds.all[other as usize];
+            other.is_cylinder().then_some((other.axis, other.radius))?
+        }
+        Beyond::Face(face) | Beyond::Partly(face) => work.outer.cylinders[face as usize]?,
+        _ => return None,
+    };
     // the distance from the other axis is a square of the height: a·h² + 2·b·h + c
     let across = |way: Vector| {
-        let along_axis = dot(way, other.axis.direction);
-        crate::geometry::subtract(way, scale(other.axis.direction, along_axis))
+        let along_axis = dot(way, other.direction);
+        crate::geometry::subtract(way, scale(other.direction, along_axis))
     };
-    let (way, from) = (
-        across(round.axis.direction),
-        other.axis.radial(round.axis.point),
-    );
+    let (way, from) = (across(round.axis.direction), other.radial(round.axis.point));
     let (a, b) = (dot(way, way), dot(way, from));
-    let root = b * b - a * (dot(from, from) - other.radius * other.radius);
-    if !other.is_cylinder() || a < 1e-9 || root < 0.0 {
+    let root = b * b - a * (dot(from, from) - radius * radius);
+    if a < 1e-9 || root < 0.0 {
         return None;
     }
     let heights = [-1.0, 1.0].map(|sign| (-b + sign * root.sqrt()) / a);
@@ -231,13 +305,12 @@ fn meets_round(work: &Work<'_>, round: &Round, rim: &Rim) -> Option<f64> {
 /// How a bore ends, and between which depths its axis meets a surface.
 fn ending(
     work: &Work<'_>,
-    round: &Round,
-    last: Option<&Rim>,
-    depth: f64,
+    bore: &Drilled<'_>,
     all: &[(u32, Vec<Rim>)],
     regions: &mut Vec<u32>,
 ) -> (DraftEnd, [f64; 2]) {
-    let Some(rim) = last else {
+    let (round, depth) = (&bore.round, bore.depth);
+    let Some(rim) = bore.last else {
         let angle = 2.0 * round.slope.abs().atan().to_degrees();
         return (DraftEnd::Tip(angle, depth), [depth; 2]);
     };
@@ -275,14 +348,15 @@ fn ending(
 }
 
 /// The volume between two ends, which may lie slanted.
-fn volume(
-    round: &Round,
-    entry: &Rim,
-    last: Option<&Rim>,
-    depth: f64,
-    end: DraftEnd,
-    spread: f64,
-) -> [f64; 2] {
+fn volume(bore: &Drilled<'_>, end: DraftEnd, spread: f64) -> [f64; 2] {
+    let Drilled {
+        round,
+        entry,
+        last,
+        depth,
+        ..
+    } = bore;
+    let depth = *depth;
     let tip = match end {
         DraftEnd::Tip(_, to) if round.is_cylinder() => to - depth,
         _ => 0.0,

@@ -4,7 +4,7 @@ use crate::plans::{left_over_of, rows_of, Plan};
 use crate::tables::{kind_word, lean};
 use std::collections::BTreeMap;
 
-/// The layers beside those of the rows: the part's box, the rows' numbers, and what is not understood.
+/// The layer of the face's outline: of a round face, of the box around the part.
 pub const PART: &str = "PART";
 /// The layer of the numbers in the list.
 pub const NUMBERS: &str = "NUMBERS";
@@ -18,8 +18,13 @@ const RED: u8 = 1;
 pub fn dxf(part: &Part, face: usize) -> String {
     let plan = Plan::of(part, &part.faces[face]);
     let mut drawing = Drawing::default();
-    let [width, height] = plan.size;
-    drawing.polygon(PART, WHITE, &rectangle([0.0, 0.0], [width, height]));
+    for outline in &part.faces[face].outline {
+        let corners: Vec<[f64; 2]> = outline.iter().map(|&corner| plan.place(corner)).collect();
+        drawing.polygon(PART, WHITE, &corners);
+    }
+    if part.faces[face].outline.is_empty() {
+        drawing.polygon(PART, WHITE, &rectangle([0.0, 0.0], plan.size));
+    }
     for (number, row) in rows_of(part, face) {
         let colour = if row.is_confirmed() && row.end != End::Unknown {
             WHITE
@@ -79,6 +84,11 @@ fn group(text: &mut String, code: u32, value: &str) {
     *text += &format!("{code:>3}\n{value}\n");
 }
 
+fn groups(text: &mut String, all: &[(u32, &str)]) {
+    all.iter()
+        .for_each(|(code, value)| group(text, *code, value));
+}
+
 fn point(text: &mut String, [x, y]: [f64; 2]) {
     group(text, 10, &format!("{x:.6}"));
     group(text, 20, &format!("{y:.6}"));
@@ -124,11 +134,13 @@ impl Drawing {
     fn row(&mut self, plan: &Plan, part: &Part, row: &Row, colour: u8) {
         let layer = layer(row);
         let centre = plan.place(row.centre);
+        let is_flat = row.face.is_some_and(|face| !part.faces[face].is_round);
+        let is_straight = is_flat && lean(part, row).is_none();
         match row.outline {
-            Outline::Circle { diameter, .. } if lean(part, row).is_none() => {
+            Outline::Circle { diameter, .. } if is_straight => {
                 self.circle(&layer, colour, centre, diameter);
             }
-            Outline::Ring { outer, inner } if lean(part, row).is_none() => {
+            Outline::Ring { outer, inner } if is_straight => {
                 self.circle(&layer, colour, centre, outer);
                 self.circle(&layer, colour, centre, inner);
             }
@@ -141,67 +153,38 @@ impl Drawing {
         }
     }
 
+    /// The text of the file: a header with the drawing's extent, the tables, and the entities.
     fn file(&self, [width, height]: [f64; 2]) -> String {
         let mut text = String::new();
-        let mut line = |code, value: &str| group(&mut text, code, value);
-        for (code, value) in [
-            (0, "SECTION"),
-            (2, "HEADER"),
-            (9, "$ACADVER"),
-            (1, "AC1009"),
-        ] {
-            line(code, value);
+        groups(&mut text, &[(0, "SECTION"), (2, "HEADER")]);
+        groups(&mut text, &[(9, "$ACADVER"), (1, "AC1009")]);
+        for (name, corner) in [("$EXTMIN", [0.0, 0.0]), ("$EXTMAX", [width, height])] {
+            group(&mut text, 9, name);
+            point(&mut text, corner);
         }
-        for (name, [x, y]) in [("$EXTMIN", [0.0, 0.0]), ("$EXTMAX", [width, height])] {
-            line(9, name);
-            line(10, &format!("{x:.6}"));
-            line(20, &format!("{y:.6}"));
-            line(30, "0.0");
-        }
-        for (code, value) in [
-            (0, "ENDSEC"),
-            (0, "SECTION"),
-            (2, "TABLES"),
-            (0, "TABLE"),
-            (2, "LTYPE"),
-            (70, "1"),
-        ] {
-            line(code, value);
-        }
-        for (code, value) in [
-            (0, "LTYPE"),
-            (2, "CONTINUOUS"),
-            (70, "0"),
-            (3, "Solid line"),
-            (72, "65"),
-            (73, "0"),
-            (40, "0.0"),
-        ] {
-            line(code, value);
-        }
-        for (code, value) in [(0, "ENDTAB"), (0, "TABLE"), (2, "LAYER")] {
-            line(code, value);
-        }
-        line(70, &self.layers.len().to_string());
-        for (name, colour) in &self.layers {
-            line(0, "LAYER");
-            line(2, name);
-            line(70, "0");
-            line(62, &colour.to_string());
-            line(6, "CONTINUOUS");
-        }
-        for (code, value) in [
-            (0, "ENDTAB"),
-            (0, "ENDSEC"),
-            (0, "SECTION"),
-            (2, "ENTITIES"),
-        ] {
-            line(code, value);
-        }
+        groups(&mut text, &[(0, "ENDSEC")]);
+        self.tables(&mut text);
+        groups(&mut text, &[(0, "SECTION"), (2, "ENTITIES")]);
         text += &self.entities;
-        for (code, value) in [(0, "ENDSEC"), (0, "EOF")] {
-            group(&mut text, code, value);
-        }
+        groups(&mut text, &[(0, "ENDSEC"), (0, "EOF")]);
         text
+    }
+
+    /// The one line type, and the layers with their colours.
+    fn tables(&self, text: &mut String) {
+        groups(text, &[(0, "SECTION"), (2, "TABLES")]);
+        groups(text, &[(0, "TABLE"), (2, "LTYPE"), (70, "1")]);
+        groups(text, &[(0, "LTYPE"), (2, "CONTINUOUS"), (70, "0")]);
+        groups(
+            text,
+            &[(3, "Solid line"), (72, "65"), (73, "0"), (40, "0.0")],
+        );
+        groups(text, &[(0, "ENDTAB"), (0, "TABLE"), (2, "LAYER")]);
+        group(text, 70, &self.layers.len().to_string());
+        for (name, colour) in &self.layers {
+            groups(text, &[(0, "LAYER"), (2, name), (70, "0")]);
+            groups(text, &[(62, &colour.to_string()), (6, "CONTINUOUS")]);
+        }
+        groups(text, &[(0, "ENDTAB"), (0, "ENDSEC")]);
     }
 }

@@ -1,4 +1,5 @@
 //! The part's own frame: z across its largest flat face, x along its longest side.
+use crate::circles::LEAST_SIDES;
 use crate::geometry::{box_of, cross, dot, length, scale, subtract, unit, Vector};
 use crate::model::Frame;
 use crate::planes::Regions;
@@ -125,8 +126,13 @@ fn longest_direction(shell: &Shell, regions: &Regions, up: Vector) -> Vector {
     } else {
         [0.0, 1.0, 0.0]
     };
-    let best = ways.into_iter().max_by(|a, b| a.1.total_cmp(&b.1));
-    let side = best.map_or(fallback, |way| way.0);
+    let total: f64 = ways.iter().map(|way| way.1).sum();
+    let best = ways.iter().max_by(|a, b| a.1.total_cmp(&b.1));
+    let side = match best {
+        // no side of a round outline says how it lies
+        Some(way) if way.1 * LEAST_SIDES as f64 > total => way.0,
+        _ => fallback,
+    };
     unit(subtract(side, scale(up, dot(side, up))))
 }
 

@@ -170,3 +170,64 @@ pub fn box_of(points: impl IntoIterator<Item = Vector>) -> [Vector; 2] {
     }
     bounds
 }
+
+/// Points nearer than this are one, and points so near a line lie on it.
+const SAME_PLACE: f64 = 1e-3;
+
+/// A polygon without the points that stand twice or on straight lines between others.
+pub fn straightened(polygon: &[Vector]) -> Vec<Vector> {
+    let is_same = |a: Vector, b: Vector| length(subtract(a, b)) <= SAME_PLACE;
+    let mut points = polygon.to_vec();
+    points.dedup_by(|a, b| is_same(*a, *b));
+    while points.len() > 1 && is_same(points[0], points[points.len() - 1]) {
+        points.pop();
+    }
+    let count = points.len();
+    let mut kept: Vec<Vector> = Vec::new();
+    for place in 0..count {
+        let before = kept
+            .last()
+            .copied()
+            .unwrap_or(points[(place + count - 1) % count]);
+        let (here, after) = (points[place], points[(place + 1) % count]);
+        let way = unit(subtract(after, before));
+        let from = subtract(here, before);
+        let off = length(subtract(from, scale(way, dot(from, way))));
+        if off > SAME_PLACE || dot(from, way) < 0.0 {
+            kept.push(here);
+        }
+    }
+    kept
+}
+
+#[cfg(test)]
+mod tests {
+    use super::straightened;
+
+    /// The corners of a square, with middles of sides between them and corners twice, whichever comes first.
+    #[test]
+    fn a_polygon_keeps_its_corners() {
+        let corner = |x: f64, y: f64| [x, y, 5.0];
+        let square = [
+            corner(0.0, 0.0),
+            corner(0.0, 0.0),
+            corner(2.0, 0.0),
+            corner(4.0, 0.0),
+            corner(4.0, 0.0),
+            corner(4.0, 1.0),
+            corner(4.0, 3.0),
+            corner(4.0, 4.0),
+            corner(0.0, 4.0),
+            corner(0.0, 4.0),
+            corner(0.0, 2.0),
+        ];
+        for start in 0..square.len() {
+            let mut turned = square;
+            turned.rotate_left(start);
+            let mut kept = straightened(&turned);
+            kept.sort_by(|a, b| a[0].total_cmp(&b[0]).then(a[1].total_cmp(&b[1])));
+            let corners = [[0.0, 0.0], [0.0, 4.0], [4.0, 0.0], [4.0, 4.0]];
+            assert_eq!(kept, corners.map(|[x, y]| corner(x, y)), "from {start}");
+        }
+    }
+}

@@ -60,6 +60,7 @@ fn of_face(face: &Face) -> String {
         ("radius", face.radius.map_or_else(null, number)),
         ("area", number(face.area)),
         ("triangles", face.triangles.to_string()),
+        ("outline", polygons(&face.outline)),
     ])
 }
 
@@ -91,15 +92,13 @@ fn of_row(part: &Part, place: usize, row: &Row) -> String {
         ("note", words(&notes(part, row))),
         ("triangles", row.triangles.to_string()),
         ("area", number(row.area)),
-        (
-            "loops",
-            list(
-                row.loops
-                    .iter()
-                    .map(|around| list(around.iter().map(|point| vector(point)))),
-            ),
-        ),
+        ("loops", polygons(&row.loops)),
     ])
+}
+
+fn polygons(all: &[Vec<[f64; 3]>]) -> String {
+    let polygon = |corners: &Vec<[f64; 3]>| list(corners.iter().map(|point| vector(point)));
+    list(all.iter().map(polygon))
 }
 
 fn of_outline(outline: &Outline) -> String {

@@ -7,7 +7,8 @@
 //! The recognition, in the order in which it works: `topology` welds corners and takes shells apart; `planes` and `loops` have
 //! flat regions and the polygons around them; `rounds`, `revolve` and `cylinder` grow cylinders and cones over them; `frames`
 //! and `outer` have the part's own frame and its outer faces; `bosses`, `drilled`, `pockets`, `floors`, `islands` and
-//! `notches` find rows; `confirm` probes them, `features` compares volumes, and `assemble` orders the list.
+//! `notches` find rows; `confirm` probes them, `features` compares volumes, `assemble` orders the list, and `outlines` draws
+//! around the faces.
 #![deny(missing_docs)]
 
 mod assemble;
@@ -38,6 +39,7 @@ pub mod model;
 mod notches;
 mod outer;
 mod outline;
+mod outlines;
 pub mod page;
 pub mod pictures;
 mod planes;

@@ -71,12 +71,17 @@ pub struct Face {
     pub normal: [f64; 3],
     /// A point of it.
     pub point: [f64; 3],
-    /// The radius of a round one.
+    /// Whether it is a round edge, and not flat.
+    pub is_round: bool,
+    /// The radius of a round one that is part of a cylinder.
     pub radius: Option<f64>,
     /// Its area.
     pub area: f64,
     /// How many triangles it has.
     pub triangles: usize,
+    /// The polygons around it, in its plane, to the left around where somebody looks at it: around what its rows take away
+    /// along its sides too, and without its openings. A round one has none.
+    pub outline: Vec<Vec<[f64; 3]>>,
 }
 
 /// What a row is.

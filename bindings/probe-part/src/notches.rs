@@ -1,6 +1,6 @@
 //! What goes right through with walls along an axis: slots and cut-outs, and notches that are open at a side.
 use crate::drilled::NEAR;
-use crate::geometry::{along, dot, length, scale, subtract, Sheet, Vector};
+use crate::geometry::{along, dot, length, scale, straightened, subtract, Sheet, Vector};
 use crate::islands::loop_at;
 use crate::model::Kind;
 use crate::outline::named;
@@ -257,24 +257,4 @@ fn add(
         ),
     };
     work.add(draft, walls);
-}
-
-/// A polygon without the points on straight lines between others.
-fn straightened(polygon: &[Vector]) -> Vec<Vector> {
-    let mut kept: Vec<Vector> = Vec::new();
-    let count = polygon.len();
-    for place in 0..count {
-        let before = kept
-            .last()
-            .copied()
-            .unwrap_or(polygon[(place + count - 1) % count]);
-        let (here, after) = (polygon[place], polygon[(place + 1) % count]);
-        let way = crate::geometry::unit(subtract(after, before));
-        let from = subtract(here, before);
-        let off = length(subtract(from, scale(way, dot(from, way))));
-        if off > 1e-3 || dot(from, way) < 0.0 {
-            kept.push(here);
-        }
-    }
-    kept
 }

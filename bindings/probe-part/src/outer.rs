@@ -1,6 +1,6 @@
 //! The outer faces of a part: the flat regions whose plane has nothing of the part before it.
 use crate::cylinder;
-use crate::geometry::{dot, length, Vector};
+use crate::geometry::{dot, length, Axis, Vector};
 use crate::model::Face;
 use crate::planes::{off_plane, Regions};
 use crate::polytope::Polytope;
@@ -23,6 +23,9 @@ const UPRIGHT: f64 = 5e-7;
 /// Neighbours of a round outer edge lean from each other by at most 30 degrees.
 const ROUND: f64 = 0.86;
 
+/// A cylinder: its axis and radius.
+pub type Cylinder = (Axis, f64);
+
 /// The outer faces of a shell, and the face of each region.
 #[derive(Clone, Debug)]
 pub struct Outer {
@@ -30,6 +33,8 @@ pub struct Outer {
     pub faces: Vec<Face>,
     /// How far along its normal each face lies.
     pub offsets: Vec<f64>,
+    /// The cylinder that each face lies on, of round ones that lie on one.
+    pub cylinders: Vec<Option<Cylinder>>,
     /// The face of each region; [`NONE`] where it has none.
     pub of: Vec<u32>,
     /// The body that the outer faces enclose.
@@ -80,12 +85,9 @@ pub fn outer(shell: &Shell, regions: &Regions, standing_out: &[bool]) -> Outer {
             planes.push(number);
         }
     }
-    let (faces, offsets, of) = named(shell, regions, &flags);
     Outer {
-        faces,
-        offsets,
-        of,
         body,
+        ..named(shell, regions, &flags)
     }
 }
 
@@ -111,68 +113,120 @@ fn extremes(points: &[Vector]) -> Vec<Vector> {
     found
 }
 
-type Named = (Vec<Face>, Vec<f64>, Vec<u32>);
-
 /// Groups outer regions to faces: those of one plane are one face, and round edges are one.
-fn named(shell: &Shell, regions: &Regions, flags: &[bool]) -> Named {
-    let mut of = vec![NONE; regions.all.len()];
-    let (mut faces, mut offsets): (Vec<Face>, Vec<f64>) = (Vec::new(), Vec::new());
-    let mut add = |name: String, members: &[usize], radius: Option<f64>, of: &mut Vec<u32>| {
-        let first = &regions.all[members[0]];
-        members.iter().for_each(|&n| of[n] = faces.len() as u32);
-        faces.push(Face {
-            name,
-            normal: first.normal,
-            point: first.centre,
-            radius,
-            area: members.iter().map(|&n| regions.all[n].area).sum(),
-            triangles: members
-                .iter()
-                .map(|&n| regions.all[n].triangles.len())
-                .sum(),
-        });
-        offsets.push(first.offset);
+fn named(shell: &Shell, regions: &Regions, flags: &[bool]) -> Outer {
+    let mut found = Outer {
+        faces: Vec::new(),
+        offsets: Vec::new(),
+        cylinders: Vec::new(),
+        of: vec![NONE; regions.all.len()],
+        body: Polytope::of_box([[0.0; 3]; 2]),
     };
     let mut outer: Vec<usize> = (0..flags.len()).filter(|&n| flags[n]).collect();
     outer.sort_by(|&a, &b| regions.all[b].area.total_cmp(&regions.all[a].area));
+    let rounds = round_faces(shell, regions, &outer);
+    let is_round: HashSet<usize> = rounds.iter().flat_map(|round| &round.0).copied().collect();
     for (name, way) in NAMED {
-        let is_it = |n: &usize| dot(regions.all[*n].normal, way) > 1.0 - UPRIGHT;
+        let is_it = |n: &usize| !is_round.contains(n) && looks_along(regions, *n, way);
         let members: Vec<usize> = outer.iter().copied().filter(is_it).collect();
         if !members.is_empty() {
-            add(name.into(), &members, None, &mut of);
+            found.add(regions, name.into(), &members, None);
         }
     }
-    let (mut slanted, mut round) = (0, 0);
-    for &start in &outer {
-        if of[start] != NONE {
+    let mut slanted = 0;
+    for &one in &outer {
+        if found.of[one] != NONE || is_round.contains(&one) {
             continue;
         }
-        let members = smooth(regions, start, |n| flags[n] && of[n] == NONE);
-        let radius = (members.len() >= 3).then(|| radius_of(shell, regions, &members));
-        if let Some(radius) = radius {
-            round += 1;
-            add(format!("round {round}"), &members, radius, &mut of);
-        } else {
-            for &one in &members {
-                if of[one] != NONE {
-                    continue;
-                }
-                slanted += 1;
-                let is_it = |n: &usize| {
-                    of[*n] == NONE && (*n == one || is_one_plane(shell, regions, one, *n))
-                };
-                let plane: Vec<usize> = outer.iter().copied().filter(is_it).collect();
-                add(format!("slanted {slanted}"), &plane, None, &mut of);
-            }
-        }
+        slanted += 1;
+        let is_it = |n: &usize| {
+            let is_free = found.of[*n] == NONE && !is_round.contains(n);
+            is_free && (*n == one || is_one_plane(shell, regions, one, *n))
+        };
+        let plane: Vec<usize> = outer.iter().copied().filter(is_it).collect();
+        found.add(regions, format!("slanted {slanted}"), &plane, None);
     }
-    (faces, offsets, of)
+    for (number, (members, cylinder)) in rounds.iter().enumerate() {
+        found.add(
+            regions,
+            format!("round {}", number + 1),
+            members,
+            Some(*cylinder),
+        );
+    }
+    found
 }
 
-/// The regions that are connected with one by edges that are hardly bent.
-fn smooth(regions: &Regions, start: usize, free: impl Fn(usize) -> bool) -> Vec<usize> {
-    let mut members = vec![start];
-    let mut seen = HashSet::from([start]);
+impl Outer {
+    /// Adds a face of some regions; of a round one, with its cylinder, where it lies on one.
+    fn add(
+        &mut self,
+        regions: &Regions,
+        name: String,
+        members: &[usize],
+        round: Option<Option<Cylinder>>,
+    ) {
+        let first = &regions.all[members[0]];
+        for &member in members {
+            self.of[member] = self.faces.len() as u32;
+        }
+        let count = |&n: &usize| regions.all[n].triangles.len();
+        let cylinder = round.flatten();
+        self.faces.push(Face {
+            name,
+            normal: first.normal,
+            point: first.centre,
+            is_round: round.is_some(),
+            radius: cylinder.map(|(_, radius)| radius),
+            area: members.iter().map(|&n| regions.all[n].area).sum(),
+            triangles: members.iter().map(count).sum(),
+            outline: Vec::new(),
+        });
+        self.offsets.push(first.offset);
+        self.cylinders.push(cylinder);
+    }
+}
+
+/// Whether a region looks along the axis that a face is named after.
+fn looks_along(regions: &Regions, region: usize, way: Vector) -> bool {
+    dot(regions.all[region].normal, way) > 1.0 - UPRIGHT
+}
+
+/// The round outer faces: three slanted regions or more that are connected by edges that are hardly bent. Where they lie on
+/// a cylinder, its other strips belong to them too, those across an axis as well.
+fn round_faces(
+    shell: &Shell,
+    regions: &Regions,
+    outer: &[usize],
+) -> Vec<(Vec<usize>, Option<Cylinder>)> {
+    let mut free: HashSet<usize> = outer.iter().copied().collect();
+    let is_slanted = |n: usize| !NAMED.iter().any(|(_, way)| looks_along(regions, n, *way));
+    let mut found = Vec::new();
+    for &start in outer {
+        if !free.contains(&start) || !is_slanted(start) {
+            continue;
+        }
+        let slanted = |n: usize| free.contains(&n) && is_slanted(n);
+        let mut members = smooth(regions, vec![start], slanted);
+        if members.len() < 3 {
+            continue;
+        }
+        let cylinder = cylinder_of(shell, regions, &members);
+        if let Some(cylinder) = cylinder {
+            let goes_on = |n: usize| free.contains(&n) && lies_on(shell, regions, n, cylinder);
+            members = smooth(regions, members, goes_on);
+        }
+        members.iter().for_each(|member| {
+            free.remove(member);
+        });
+        found.push((members, cylinder));
+    }
+    found
+}
+
+/// Some regions and those that are connected with them by edges that are hardly bent.
+fn smooth(regions: &Regions, mut members: Vec<usize>, free: impl Fn(usize) -> bool) -> Vec<usize> {
+    let mut seen: HashSet<usize> = members.iter().copied().collect();
     let mut next = 0;
     while let Some(&region) = members.get(next) {
         next += 1;
@@ -189,20 +243,36 @@ fn smooth(regions: &Regions, start: usize, free: impl Fn(usize) -> bool) -> Vec<
     members
 }
 
-/// The radius of a round edge, if it is a cylinder.
-fn radius_of(shell: &Shell, regions: &Regions, members: &[usize]) -> Option<f64> {
+/// The corners around a region; those of its openings lie where they lie.
+fn corners<'a>(
+    shell: &'a Shell,
+    regions: &'a Regions,
+    region: usize,
+) -> impl Iterator<Item = Vector> + 'a {
+    let outline = regions.all[region].loops.first().into_iter();
+    outline
+        .flat_map(|around| &around.corners)
+        .map(|&vertex| shell.vertices[vertex as usize])
+}
+
+/// Whether the corners of a region lie on a cylinder.
+fn lies_on(shell: &Shell, regions: &Regions, region: usize, (axis, radius): Cylinder) -> bool {
+    let off = crate::rounds::off_round(shell);
+    corners(shell, regions, region)
+        .all(|corner| (length(axis.radial(corner)) - radius).abs() <= off)
+}
+
+/// The cylinder of a round edge, if it is one.
+fn cylinder_of(shell: &Shell, regions: &Regions, members: &[usize]) -> Option<Cylinder> {
     let normals = members
         .iter()
         .map(|&n| (regions.all[n].normal, regions.all[n].area));
     let direction = cylinder::across(normals)?;
-    let corners: Vec<Vector> = members
+    let all: Vec<Vector> = members
         .iter()
-        .flat_map(|&n| &regions.all[n].loops)
-        .flat_map(|around| &around.corners)
-        .map(|&vertex| shell.vertices[vertex as usize])
+        .flat_map(|&n| corners(shell, regions, n))
         .collect();
-    let (axis, radius) = cylinder::fitted(&corners, direction)?;
-    let off = crate::rounds::off_round(shell);
-    let on = |corner: &Vector| (length(axis.radial(*corner)) - radius).abs() <= off;
-    corners.iter().all(on).then_some(radius)
+    let fitted = cylinder::fitted(&all, direction)?;
+    let on = |&member: &usize| lies_on(shell, regions, member, fitted);
+    members.iter().all(on).then_some(fitted)
 }

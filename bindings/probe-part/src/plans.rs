@@ -129,7 +129,7 @@ fn lies_below_a_row(part: &Part, rest: &LeftOver, face: usize) -> bool {
 pub fn faces_to_show(part: &Part) -> Vec<usize> {
     let shown = |&face: &usize| {
         let entered = part.rows.iter().any(|row| row.face == Some(face));
-        let flat = part.faces[face].radius.is_none();
+        let flat = !part.faces[face].is_round;
         entered || (flat && !left_over_of(part, face).is_empty())
     };
     let faces: Vec<usize> = (0..part.faces.len()).filter(shown).collect();

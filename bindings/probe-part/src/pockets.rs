@@ -140,7 +140,7 @@ fn is_island_top(work: &Work<'_>, region: u32) -> bool {
 /// The outer face that looks along a direction.
 pub fn face_along(work: &Work<'_>, up: Vector) -> Option<u32> {
     let faces = &work.outer.faces;
-    let is_it = |n: &usize| faces[*n].radius.is_none() && dot(faces[*n].normal, up) > 1.0 - 1e-6;
+    let is_it = |n: &usize| !faces[*n].is_round && dot(faces[*n].normal, up) > 1.0 - 1e-6;
     (0..faces.len()).find(is_it).map(|n| n as u32)
 }
 

@@ -8,13 +8,14 @@ use crate::frames::own_frame;
 use crate::geometry::{box_of, length, subtract, Vector};
 use crate::model::{Doubt, End, Frame, Part, Report, Unit};
 use crate::outer::outer;
+use crate::outlines::outlines;
 use crate::planes::Regions;
 use crate::pockets::add_pockets;
 use crate::rounds::Rounds;
 use crate::shape::Shape;
 use crate::topology::{moved, shells, Shell, NONE};
 use crate::work::Work;
-use probe_rays::Refusal;
+use probe_rays::{Cast, Ray, Refusal, Scratch};
 
 /// What is asked of the recognition.
 #[derive(Clone, Copy, Debug, PartialEq)]
@@ -112,6 +113,16 @@ fn part(shape: &Shape, drawn: &Shell, options: &Options, is_hollow: bool) -> Res
     let bosses = bosses::find(shell, &regions, &rounds);
     let standing_out = bosses::regions_of(&bosses, &rounds, regions.all.len());
     let outer = outer(shell, &regions, &standing_out);
+    let [low, high] = box_of(shell.vertices.iter().copied());
+    let wide = length(subtract(high, low));
+    let sight = |from: Vector, way: Vector| {
+        let ray = Ray::toward(
+            frame.place_in_file(from),
+            frame.direction_in_file(way),
+            wide,
+        );
+        shape.cast(&ray, &mut Scratch::new()) == Cast::None
+    };
     let mut work = Work {
         shell,
         regions: &regions,
@@ -119,22 +130,26 @@ fn part(shape: &Shape, drawn: &Shell, options: &Options, is_hollow: bool) -> Res
         outer: &outer,
         owner: vec![NONE; regions.all.len()],
         drafts: Vec::new(),
+        sight: &sight,
     };
     bosses::add_bosses(&mut work, &bosses);
     add_bores(&mut work);
     add_pockets(&mut work);
-    let [low, high] = box_of(shell.vertices.iter().copied());
-    let checks = confirm(shape, &frame, &work.drafts, length(subtract(high, low)))?;
+    let checks = confirm(shape, &frame, &work.drafts, wide)?;
     let features = Features::of(&work);
     let rows = rows(&work, &features, checks);
     let left_over = left_over(&work, &features);
+    let mut faces = outer.faces.clone();
+    for (face, outline) in faces.iter_mut().zip(outlines(&work)) {
+        face.outline = outline;
+    }
     let mut part = Part {
         triangles: shell.triangles.len(),
         area: shell.areas.iter().sum(),
         frame,
         low,
         high,
-        faces: outer.faces.clone(),
+        faces,
         rows,
         left_over,
         doubts: Vec::new(),
@@ -177,7 +192,7 @@ fn doubts(part: &Part, work: &Work<'_>, features: &Features, is_hollow: bool) ->
     if is_hollow {
         doubts.push(Doubt::Hollow);
     }
-    if part.faces.iter().all(|face| face.radius.is_some()) {
+    if part.faces.iter().all(|face| face.is_round) {
         doubts.push(Doubt::NoFlatFace);
     }
     let mut sides = part.size();

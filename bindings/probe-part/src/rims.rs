@@ -132,8 +132,9 @@ fn beyond(work: &Work<'_>, edges: &[Edge]) -> Beyond {
     let kind = |edge: &Edge| match edge.across {
         NONE => Beyond::Mixed,
         region => match (work.round(region), work.face(region)) {
+            // a round outer face may be a whole cylinder
+            (_, Some(face)) if edge.is_convex => Beyond::Face(face),
             (Some(round), _) => Beyond::Round(round),
-            (None, Some(face)) if edge.is_convex => Beyond::Face(face),
             (None, _) if edge.is_convex => Beyond::Level(region),
             (None, _) => Beyond::Floor(region),
         },
@@ -158,9 +159,14 @@ fn beyond(work: &Work<'_>, edges: &[Edge]) -> Beyond {
     }
 }
 
-/// The plane of an end: that of the outer face where it opens in one, or of the region beyond it.
+/// The plane of an end: that of the outer face where it opens in one, or of the region beyond it. On a cylinder it has none.
 pub fn plane(work: &Work<'_>, rim: &Rim) -> Option<(Vector, f64)> {
     match rim.beyond {
+        Beyond::Face(face) | Beyond::Partly(face)
+            if work.outer.cylinders[face as usize].is_some() =>
+        {
+            None
+        }
         Beyond::Face(_) | Beyond::Level(_) | Beyond::Floor(_) => {
             let region = &work.regions.all[rim.edges.first()?.across as usize];
             Some((region.normal, region.offset))

@@ -143,9 +143,12 @@ pub fn notes(part: &Part, row: &Row) -> String {
     notes.join(", ")
 }
 
-/// By how many degrees a row leans from the normal of its face, if it does.
+/// By how many degrees a row leans from the normal of its face, if it does; of a round face that is not told.
 pub fn lean(part: &Part, row: &Row) -> Option<f64> {
     let face = &part.faces[row.face?];
+    if face.is_round {
+        return None;
+    }
     let cosine = dot(face.normal, scale(row.axis, -1.0)).clamp(-1.0, 1.0);
     let lean = cosine.acos().to_degrees();
     (lean > LEANS).then_some(lean)

@@ -85,6 +85,8 @@ pub struct Work<'a> {
     pub owner: Vec<u32>,
     /// The rows so far.
     pub drafts: Vec<Draft>,
+    /// Whether nothing of the part lies before a point, in a direction.
+    pub sight: &'a dyn Fn(Vector, Vector) -> bool,
 }
 
 /// An edge of a loop: between which regions, where, and whether the surface is bent outwards there.
@@ -174,7 +176,7 @@ impl Work<'_> {
     /// The outer face that looks most against a direction, and how far a point lies below it.
     pub fn face_against(&self, axis: Vector, point: Vector) -> Option<(u32, f64)> {
         let faces = self.outer.faces.iter().enumerate();
-        let flat = faces.filter(|(_, face)| face.radius.is_none());
+        let flat = faces.filter(|(_, face)| !face.is_round);
         let best = flat.max_by(|a, b| dot(b.1.normal, axis).total_cmp(&dot(a.1.normal, axis)))?;
         let (place, face) = best;
         let against = dot(face.normal, axis) < -0.5;

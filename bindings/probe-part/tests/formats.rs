@@ -5,9 +5,8 @@ use board::{board as made, circle, rounded, Cut, Side};
 use probe_part::corner::from_corner;
 use probe_part::csv::csv;
 use probe_part::deflate::zlib;
-use probe_part::dxf::{dxf, layer};
 use probe_part::json::json;
-use probe_part::model::{End, Outline, Report, Row};
+use probe_part::model::{Outline, Report, Row};
 use probe_part::recognise::{recognise, Options};
 use probe_part::shape::Shape;
 use probe_part::tables::Listing;
@@ -176,111 +175,6 @@ fn a_feature_joins_a_stepped_bore() {
     features.sort_unstable();
     features.dedup();
     assert_eq!(features.len(), rows.len() - 1);
-}
-
-/// A drawing's groups: code and value.
-fn groups(text: &str) -> Vec<(u32, &str)> {
-    let mut lines = text.lines();
-    let mut groups = Vec::new();
-    while let Some(code) = lines.next() {
-        groups.push((code.trim().parse().unwrap(), lines.next().unwrap()));
-    }
-    groups
-}
-
-/// An entity: its kind, and its groups.
-fn entities(text: &str) -> Vec<(String, Vec<(u32, String)>)> {
-    let groups = groups(text);
-    assert_eq!(groups.last(), Some(&(0, "EOF")));
-    let start = groups
-        .iter()
-        .position(|&group| group == (2, "ENTITIES"))
-        .unwrap();
-    let mut all: Vec<(String, Vec<(u32, String)>)> = Vec::new();
-    for &(code, value) in &groups[start + 1..] {
-        match (code, all.last_mut()) {
-            (0, _) => all.push((value.into(), Vec::new())),
-            (code, Some(entity)) => entity.1.push((code, value.into())),
-            _ => panic!("a group before the first entity"),
-        }
-    }
-    all
-}
-
-fn value(entity: &(String, Vec<(u32, String)>), code: u32) -> &str {
-    &entity.1.iter().find(|group| group.0 == code).unwrap().1
-}
-
-#[test]
-fn dxf_has_circles_on_layers() {
-    let report = report();
-    let part = &report.parts[0];
-    // the bottom is seen from below: what is drawn to its right is the lesser x
-    let seen = |face: &str, [x, y, z]: [f64; 3]| match face {
-        "top" => [x - 7.0, y + 3.0],
-        "bottom" => [SIZE[0] - (x - 7.0), y + 3.0],
-        "left" => [SIZE[1] - (y + 3.0), z - 11.0],
-        other => panic!("{other}"),
-    };
-    let mut circles = 0;
-    for (place, face) in part.faces.iter().enumerate() {
-        let text = dxf(part, place);
-        assert!(groups(&text).contains(&(1, "AC1009")));
-        let drawn = entities(&text);
-        let mut drawn = drawn.iter().filter(|entity| entity.0 == "CIRCLE");
-        let rows = part.rows.iter().filter(|row| row.face == Some(place));
-        for row in rows.filter(|row| diameter(row) > 0.0) {
-            let circle = drawn.next().unwrap();
-            let number = |code: u32| value(circle, code).parse::<f64>().unwrap();
-            let [x, y] = seen(&face.name, row.centre);
-            let off = [
-                number(10) - x,
-                number(20) - y,
-                number(40) - diameter(row) / 2.0,
-            ];
-            assert!(off.iter().all(|off| off.abs() < 1e-4), "{off:?}");
-            assert_eq!(value(circle, 8), layer(row));
-            circles += 1;
-        }
-        assert_eq!(drawn.next(), None);
-    }
-    assert_eq!(circles, 5);
-    let mut layers: Vec<String> = part.rows.iter().map(layer).collect();
-    layers.sort();
-    let known = [
-        "BORE-D15-Z12_7",
-        "BORE-D20-Z5",
-        "BORE-D8-Z30",
-        "BORE-D8-Z7-E5",
-        "BORE-D8_5-Z12_25",
-        "POCKET-Z6",
-    ];
-    assert_eq!(layers, known);
-}
-
-#[test]
-fn dxf_layers_are_declared() {
-    let report = report();
-    let part = &report.parts[0];
-    let text = dxf(part, 0);
-    let groups = groups(&text);
-    let declared: Vec<&str> = groups
-        .windows(2)
-        .filter(|pair| pair[0] == (0, "LAYER") && pair[1].0 == 2)
-        .map(|pair| pair[1].1)
-        .collect();
-    for entity in entities(&text).iter().filter(|entity| !entity.1.is_empty()) {
-        let layer = value(entity, 8);
-        assert!(declared.contains(&layer), "{layer}");
-        let letter =
-            |byte: u8| byte.is_ascii_uppercase() || byte.is_ascii_digit() || b"$-_".contains(&byte);
-        assert!(layer.len() <= 31 && layer.bytes().all(letter), "{layer}");
-    }
-    let through = Row {
-        end: End::Through,
-        ..part.rows[0].clone()
-    };
-    assert!(layer(&through).ends_with("-THROUGH"));
 }
 
 /// Bytes of chance, of few letters, of one letter, of long repeats near and far, and none: what zlib unpacks is what was

@@ -343,10 +343,7 @@ fn every_ray_into_a_board_hits() {
     let (status, out, _) = said(&["cast", &file, "--rays", "-"], rays.as_bytes());
     assert_eq!((status, out.lines().count()), (0, 2502));
     for line in out.lines().skip(1) {
-        assert!(
-            line.contains(": hit at 12.000 mm"),
-            "{line}"
-        );
+        assert!(line.contains(": hit at 12.000 mm"), "{line}");
     }
 }
 
@@ -361,10 +358,7 @@ fn a_quarter_of_a_million_rays() {
         )
     };
     let text: String = (0..count).map(ray).collect();
-    let (status, out, _) = said(
-        &["cast", PANEL, "--rays", "-"],
-        text.as_bytes(),
-    );
+    let (status, out, _) = said(&["cast", PANEL, "--rays", "-"], text.as_bytes());
     assert_eq!(status, 0);
     let lines: Vec<&str> = out.lines().skip(1).collect();
     assert_eq!(lines.len(), count as usize);

@@ -817,3 +817,110 @@ fn all_of_the_surface_is_accounted_for() {
     assert!((areas - part.area).abs() < 1e-6 * part.area);
     assert!(part.rows.iter().all(|row| row.check == Check::Confirmed));
 }
+
+/// A bore from the left side that ends in the wall of a pocket is entered from the side, whichever way it is drawn; so are
+/// two of one axis that open into a pocket in the edge from above and from below.
+#[test]
+fn bores_that_open_in_walls() {
+    // a pocket of 100 by 100, 12 deep, whose left wall has the bore's mouth
+    let mut solid = board::Solid::default();
+    let round = |x: f64| -> Vec<Point> {
+        let places = circle([150.0, 12.0], 6.0, 24);
+        places.iter().map(|[y, z]| [x, *y, *z]).collect()
+    };
+    let wall = [
+        [200.0, 100.0, 6.0],
+        [200.0, 200.0, 6.0],
+        [200.0, 200.0, 18.0],
+        [200.0, 100.0, 18.0],
+    ];
+    solid.flat(&[wall.to_vec(), round(200.0)], [1.0, 0.0, 0.0]);
+    let left = [
+        [0.0, 0.0, 0.0],
+        [0.0, 400.0, 0.0],
+        [0.0, 400.0, 18.0],
+        [0.0, 0.0, 18.0],
+    ];
+    solid.flat(&[left.to_vec(), round(0.0)], [-1.0, 0.0, 0.0]);
+    let mut entry = [round(0.0), round(200.0)];
+    entry.iter_mut().for_each(|ring| ring.reverse());
+    solid.walls(&entry[0], &entry[1]);
+    let cut = Cut::new(
+        Side::Top,
+        rectangle([250.0, 150.0], [100.0, 100.0]),
+        [250.0, 150.0],
+        12.0,
+    );
+    let plain = made(BOARD, &[cut]);
+    let is_there = |facet: &&Corners| {
+        let at = |x: f64| facet.iter().all(|corner| corner[0] == x);
+        !at(0.0) && !at(200.0)
+    };
+    solid.facets.extend(plain.iter().filter(is_there));
+    let found = report(&solid.facets);
+    assert!(found.is_certain(), "{found:#?}");
+    let [pocket, bore] = found.parts[0].rows.as_slice() else {
+        panic!("{found:#?}")
+    };
+    assert_eq!((pocket.kind, pocket.end), (Kind::Pocket, End::Floor));
+    assert_eq!(found.parts[0].faces[bore.face.unwrap()].name, "left");
+    assert_eq!((bore.end, bore.within), (End::OpensInto(0), None));
+    assert!((bore.depth - 200.0).abs() < 0.01 && bore.entry_depth == 0.0);
+    assert!((bore.centre[0]).abs() < 0.01, "{bore:?}");
+}
+
+/// A round table top: its edge is one face, whose sides across the axes belong to it; a bore into the edge is entered from
+/// there, and its depth counts from the circle. The file's axes are kept, since no side of it says how it lies.
+#[test]
+fn a_round_top_with_a_bore_in_its_edge() {
+    let edge = circle([0.0, 0.0], 600.0, 120);
+    let facets = extruded(&edge, &[circle([100.0, 50.0], 35.0, 48)], 25.0);
+    let found = report(&facets);
+    assert!(found.is_certain(), "{found:#?}");
+    let part = &found.parts[0];
+    assert!(part.frame.is_as_drawn(), "{:?}", part.frame);
+    let names: Vec<&str> = part.faces.iter().map(|face| face.name.as_str()).collect();
+    assert_eq!(names, ["top", "bottom", "round 1"]);
+    let round = &part.faces[2];
+    assert!(round.is_round && (round.radius.unwrap() - 300.0).abs() < 0.01);
+    assert_eq!(round.triangles, 240);
+
+    // a dowel bore of 8, 40 deep, in the middle of the side between the corners 0 and 1
+    let [a, b] = [edge[0], edge[1]];
+    let [x, y] = [(a[0] + b[0]) / 2.0, (a[1] + b[1]) / 2.0];
+    let flat = x.hypot(y);
+    let (sine, cosine) = (y / flat, x / flat);
+    let at = |depth: f64, [v, z]: Place| {
+        let r = flat - depth;
+        [r * cosine - v * sine, r * sine + v * cosine, z]
+    };
+    let mouth = circle([0.0, 12.0], 8.0, 24);
+    let ring = |depth: f64| -> Vec<Point> { mouth.iter().map(|&p| at(depth, p)).collect() };
+    let mut solid = board::Solid::default();
+    let is_side = |facet: &&Corners| {
+        let on = |corner: &Point| {
+            let away = corner[0] * cosine + corner[1] * sine;
+            (away - flat).abs() < 1e-6
+        };
+        !facet.iter().all(on)
+    };
+    solid.facets = facets.iter().filter(is_side).copied().collect();
+    assert_eq!(solid.facets.len(), facets.len() - 2);
+    let half = (b[0] - a[0]).hypot(b[1] - a[1]) / 2.0;
+    let side: Vec<Point> = [[-half, 0.0], [half, 0.0], [half, 25.0], [-half, 25.0]]
+        .iter()
+        .map(|&p| at(0.0, p))
+        .collect();
+    solid.flat(&[side, ring(0.0)], [1.0, 0.0, 0.0]);
+    solid.walls(&ring(0.0), &ring(40.0));
+    solid.flat(&[ring(40.0)], [1.0, 0.0, 0.0]);
+    let found = report(&solid.facets);
+    assert!(found.is_certain(), "{found:#?}");
+    let part = &found.parts[0];
+    let bore = part.rows.iter().find(|row| row.end == End::Floor).unwrap();
+    assert_eq!(part.faces[bore.face.unwrap()].name, "round 1");
+    // from the circle, which lies before the side's middle
+    let wanted = 40.0 + 300.0 - flat;
+    assert!((bore.depth - wanted).abs() < 0.01, "{bore:?}");
+    assert_eq!(bore.entry_depth, 0.0);
+}

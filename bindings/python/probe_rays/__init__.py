@@ -14,7 +14,7 @@ A cast answers a hit, or None where no surface is met, or raises Refused: nothin
   True
   >>> square.cast(probe_rays.Ray((1, 3, 5), (0, 0, -2), 10))
   Traceback (most recent call last):
-  probe_rays.answers.Refused: refused 1, invalid input: a ray or a query's box that is not admitted
+  probe_rays.answers.Refused: refused 1, invalid input: the direction's length is not 1
 
 Vertices, rays, heights and values may be any rows of numbers, or a buffer such as a numpy array or an array.array. What
 comes back in arrays is a memoryview, which numpy.asarray takes as it is.

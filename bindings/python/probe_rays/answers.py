@@ -3,8 +3,9 @@ import math
 from array import array
 from typing import NamedTuple, Tuple
 
-from ._arrays import read_only, shaped
+from ._arrays import lent, read_only, shaped, zeros
 from ._library import HIT, NONE, REFUSALS
+from .faults import fault_of
 
 _WORDS = {
     "INVALID_INPUT": "invalid input: a ray or a query's box that is not admitted",
@@ -22,22 +23,22 @@ _WORDS = {
 }
 
 
-_NO_NORMAL = array("d", [math.nan] * 3)
-
-
 class NotAdmitted(Exception):
     """What every exception of this module is one of."""
 
 
 class Refused(NotAdmitted):
     """A call refused: nothing is known of the surface. `number` is that of the header's table, `ray` the ray's index in a
-    batch, and `spent` the nodes that a cabinet's cast has spent; else they are None."""
+    batch, `spent` the nodes that a cabinet's cast has spent, and `fault` the test of refusal 1 that the ray fails; else they
+    are None."""
 
-    def __init__(self, number, ray=None, spent=None):
+    def __init__(self, number, ray=None, spent=None, fault=None):
         name = REFUSALS.get(number)
         words = _WORDS.get(name) or (name.lower().replace("_", " ") if name else "a refusal that this module does not know")
+        if fault is not None:
+            words = f"invalid input: {fault}"
         super().__init__(f"refused {number}, {words}" + ("" if ray is None else f" (ray {ray})"))
-        self.number, self.ray, self.spent = number, ray, spent
+        self.number, self.ray, self.spent, self.fault = number, ray, spent, fault
 
 
 class TreeDoesNotFit(NotAdmitted):
@@ -77,13 +78,19 @@ class Possible(NamedTuple):
     cell: int
 
 
-def settled(answer, hit, spent=None):
-    """The hit of a call that answers one, None where there is none; raises Refused."""
+def refusal_of(answer, numbers, ray=None, spent=None):
+    """The refusal of a cast of a ray of these numbers, with the test that it fails where that is why."""
+    fault = fault_of(numbers) if REFUSALS.get(answer) == "INVALID_INPUT" else None
+    return Refused(answer, ray, spent, fault)
+
+
+def settled(answer, numbers, hit, spent=None):
+    """The hit of a call that answers one for a ray of these numbers, None where there is none; raises Refused."""
     if answer == HIT:
         return hit()
     if answer == NONE:
         return None
-    raise Refused(answer, spent=spent)
+    raise refusal_of(answer, numbers, spent=spent)
 
 
 class Casts:
@@ -91,13 +98,18 @@ class Casts:
 
     As a sequence it has a MeshHit or None for each ray, and raises Refused at a ray that was refused. The arrays are views:
     `answers` has the numbers that the calls answered; `distances` is infinite where there is none and NaN where the ray was
-    refused; `normals` has three numbers a ray, NaN where there is no hit; `triangles` is NO_TRIANGLE there.
+    refused; `normals` has three numbers a ray, NaN where there is no hit; `triangles` is NO_TRIANGLE there. `refused` lists the
+    indices of the rays that were refused.
     """
 
     NO_TRIANGLE = 2**32 - 1
 
-    def __init__(self, answers, distances, normals, triangles):
+    def __init__(self, answers, distances, normals, triangles, rays):
         self._answers, self._distances, self._normals, self._triangles = answers, distances, normals, triangles
+        self._rays = rays  # eight numbers a ray
+        # every refusal is below the codes
+        some = bool(answers) and min(answers) < HIT
+        self.refused = [ray for ray, answer in enumerate(answers) if answer < HIT] if some else []
         self.answers, self.distances = read_only(answers), read_only(distances)
         self.normals, self.triangles = shaped(normals, 3), read_only(triangles)
 
@@ -110,17 +122,31 @@ class Casts:
         if answer == NONE:
             return None
         if answer != HIT:
-            raise Refused(answer, ray=ray)
+            raise refusal_of(answer, self._rays[8 * ray : 8 * ray + 8], ray)
         return MeshHit(self._distances[ray], tuple(self._normals[3 * ray : 3 * ray + 3]), self._triangles[ray])
 
-    @property
-    def refused(self):
-        """The indices of the rays that were refused."""
-        return [ray for ray, answer in enumerate(self._answers) if answer != HIT and answer != NONE]
 
-    @staticmethod
-    def fill(answer, places, index):
-        """Distance, normal and triangle of one answer."""
+class Results:
+    """Where a call of many rays writes its answers: a code and an index a ray, and four numbers."""
+
+    def __init__(self, count):
+        # what a ray has that meets nothing: the library writes a hit's places alone
+        self.codes, self.hits = zeros("I", count), array("d", [math.nan, math.nan, math.nan, math.inf]) * count
+        self.indices = array("I", [Casts.NO_TRIANGLE]) * count
+        self.lent = (*lent(self.codes), *lent(self.hits), *lent(self.indices))
+
+    def put(self, ray, answer, hit, index):
+        """The answer of a single call, as a call of many rays has it."""
+        self.codes[ray] = answer
         if answer == HIT:
-            return places[3], places[:3], index[0]
-        return (math.inf if answer == NONE else math.nan), _NO_NORMAL, Casts.NO_TRIANGLE
+            self.hits[4 * ray : 4 * ray + 4], self.indices[ray] = hit, index
+
+    def casts(self, rays):
+        """The answers of these rays, eight numbers each."""
+        normals, distances = zeros("d", 3 * len(self.codes)), self.hits[3::4]
+        for axis in range(3):
+            normals[axis::3] = self.hits[axis::4]
+        casts = Casts(self.codes, distances, normals, self.indices, rays)
+        for ray in casts.refused:
+            distances[ray] = math.nan
+        return casts

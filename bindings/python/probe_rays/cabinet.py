@@ -101,9 +101,10 @@ class Cabinet:
         limit = NO_LIMIT if limit is None else whole(limit, 64, "limit")
         listed, stack = zeros("I", shared.largest), zeros("I", shared.most_nodes + 1)
         hit, index, part, spent = zeros("d", 4), zeros("I", 1), zeros("Q", 1), zeros("Q", 1)
+        numbers = ray.numbers()
         answer = library.probe_ray_cabinet(
-            *ray.numbers(), *shared.fixed, limit, *lent(listed), *lent(stack),
+            *numbers, *shared.fixed, limit, *lent(listed), *lent(stack),
             *lent(hit), *lent(index), *lent(part), *lent(spent),
         )
-        met = settled(answer, lambda: PartHit(hit[3], tuple(hit[:3]), index[0], part[0]), spent=spent[0])
+        met = settled(answer, numbers, lambda: PartHit(hit[3], tuple(hit[:3]), index[0], part[0]), spent=spent[0])
         return CabinetCast(met, spent[0])

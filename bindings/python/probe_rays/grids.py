@@ -1,7 +1,7 @@
 """Height grids, heights within ranges, and distance grids."""
 from ._arrays import lent, owned, whole, zeros
 from ._library import CLEAR, POSSIBLE, library
-from .answers import Possible, Refused
+from .answers import Possible, refusal_of
 from .ray import cast_at_shape
 
 
@@ -36,15 +36,15 @@ class HeightRanges:
     def cast(self, ray):
         """None where the height cast is none on every grid within the ranges, else Possible, the first cell in which one may
         be met. Raises Refused with 1, 2, 6 or 9."""
-        cell = zeros("I", 1)
+        cell, numbers = zeros("I", 1), ray.numbers()
         answer = library.probe_ray_height_ranges(
-            *ray.numbers(), *self._shape, *lent(self._lows), *lent(self._highs), *lent(cell)
+            *numbers, *self._shape, *lent(self._lows), *lent(self._highs), *lent(cell)
         )
         if answer == CLEAR:
             return None
         if answer == POSSIBLE:
             return Possible(cell[0])
-        raise Refused(answer)
+        raise refusal_of(answer, numbers)
 
 
 class LevelSet:

@@ -1,11 +1,10 @@
 """Meshes, with a tree and without."""
 import threading
-from array import array
 from typing import NamedTuple
 
 from ._arrays import lent, owned, read_only, shaped, whole, zeros
-from ._library import DONE, HIT, MAX_COUNT, NO, NONE, YES, library
-from .answers import Casts, MeshHit, Refused, TreeDoesNotFit, settled
+from ._library import DONE, MAX_COUNT, NO, YES, library
+from .answers import MeshHit, Refused, Results, TreeDoesNotFit, refusal_of, settled
 from .stl import read_stl
 
 
@@ -83,7 +82,7 @@ class _Place:
 
 
 def _rays(origins, directions, max_distance, near_distance):
-    """Eight numbers a ray, of arrays of which any may be one for all rays."""
+    """Eight numbers a ray, one ray after the other, of arrays of which any may be one for all rays."""
     columns = []
     for values, width, what in (
         (origins, 3, "origins"), (directions, 3, "directions"), (max_distance, 1, "maxima"), (near_distance, 1, "near distances")
@@ -94,14 +93,15 @@ def _rays(origins, directions, max_distance, near_distance):
         columns.append((column, width, len(column) // width, what))
     counts = [many for _, _, many, _ in columns]
     count = max(counts) if all(counts) else 0
-    for _, _, many, what in columns:
+    rays, place = zeros("d", 8 * count), 0
+    for column, width, many, what in columns:
         if many not in (1, count):
             raise ValueError(f"{count} rays, and {many} {what}: as many are asked for, or one")
-    (starts, _, _, _), (ways, _, _, _), (maxima, _, _, _), (nears, _, _, _) = columns
-    start, way, maximum, near = (many > 1 for many in counts)
-    for ray in range(count):
-        at, to = 3 * ray * start, 3 * ray * way
-        yield (*starts[at : at + 3], *ways[to : to + 3], maxima[ray * maximum], nears[ray * near])
+        for part in range(width if count else 0):
+            # one number for each ray, or the same for all; a slice of an array is copied without a turn of the interpreter
+            rays[place + part :: 8] = column[part::width] * (count if many == 1 else 1)
+        place += width
+    return rays
 
 
 class PlainMesh:
@@ -114,9 +114,9 @@ class PlainMesh:
 
     def cast(self, ray):
         """The nearest MeshHit, of equally near ones that of the lowest index, or None. Raises Refused with 1, 2, 5, 6 or 7."""
-        place = _Place()
-        answer = library.probe_ray_mesh_plain(*ray.numbers(), *self._fixed, *place.lent)
-        return settled(answer, place.met)
+        place, numbers = _Place(), ray.numbers()
+        answer = library.probe_ray_mesh_plain(*numbers, *self._fixed, *place.lent)
+        return settled(answer, numbers, place.met)
 
     def cast_exact(self, ray):
         """The first MeshHit, decided in whole numbers, or None, which is certain: a ray down a side, through a corner or along a
@@ -130,9 +130,9 @@ class PlainMesh:
 
         Raises Refused with 12 where the origin or a corner of a triangle of the mesh is not a number from -8,192 to 8,192, or near
         or the maximum is above 32,768; with 1, 2 or 5 as `cast` does."""
-        place = _Place()
-        answer = library.probe_ray_mesh_exact_plain(*ray.numbers(), *self._fixed, *place.lent)
-        return settled(answer, place.met)
+        place, numbers = _Place(), ray.numbers()
+        answer = library.probe_ray_mesh_exact_plain(*numbers, *self._fixed, *place.lent)
+        return settled(answer, numbers, place.met)
 
     def build(self):
         """The same mesh with a tree."""
@@ -210,11 +210,11 @@ class Mesh:
         With a pose it casts at those vertices, as many as the mesh's (else 4, or 2): the tree's boxes stay those of the mesh's
         own, and only triangles whose box there touches that of the ray's segment are cast at."""
         pose = self._vertices if pose is None else owned(pose, "d", 3, "pose")
-        place = _Place()
+        place, numbers = _Place(), ray.numbers()
         answer = library.probe_ray_mesh_near(
-            *ray.numbers(), *self._mesh, *lent(pose), *self._areas, *self._scratch().lent, *place.lent
+            *numbers, *self._mesh, *lent(pose), *self._areas, *self._scratch().lent, *place.lent
         )
-        return settled(answer, place.met)
+        return settled(answer, numbers, place.met)
 
     def cast_exact(self, ray, pose=None):
         """What PlainMesh.cast_exact answers, through the tree: that the two agree is proved for a mesh without a NaN. A mesh is
@@ -228,34 +228,58 @@ class Mesh:
 
         Raises Refused with 1, or with 12 where the origin or a corner of a triangle of the mesh is not a number from -8,192 to
         8,192, or near or the maximum is above 32,768."""
-        place = _Place()
+        place, numbers = _Place(), ray.numbers()
         if pose is None and not self._has_numbers:
-            return settled(library.probe_ray_mesh_exact_plain(*ray.numbers(), *self._mesh, *place.lent), place.met)
+            return settled(library.probe_ray_mesh_exact_plain(*numbers, *self._mesh, *place.lent), numbers, place.met)
         pose = self._vertices if pose is None else owned(pose, "d", 3, "pose")
         answer = library.probe_ray_mesh_exact(
-            *ray.numbers(), *self._mesh, *lent(pose), *self._areas, *self._scratch().walk, *place.lent
+            *numbers, *self._mesh, *lent(pose), *self._areas, *self._scratch().walk, *place.lent
         )
-        return settled(answer, place.met)
+        return settled(answer, numbers, place.met)
 
     def cast_many(self, origins, directions, max_distance, near_distance=0.0, refused="raise"):
-        """Casts many rays: Casts. Origins, directions, maxima and near distances are one for each ray, or one for all.
+        """The `cast` of many rays by one call of the library: Casts. Origins, directions, maxima and near distances are one for
+        each ray, or one for all.
 
-        A ray that is refused raises Refused with its index; with refused="keep" it stands among the answers."""
+        A ray that is refused raises Refused with its index; with refused="keep" it stands among the answers.
+
+        >>> from probe_rays import Mesh
+        >>> part = Mesh([(0, 0, 0), (4, 0, 0), (0, 4, 0)], [(0, 1, 2)])
+        >>> casts = part.cast_many([(1, 1, 5), (3, 3, 5)], (0, 0, -1), 10)
+        >>> casts.distances.tolist(), casts[1]
+        ([5.0, inf], None)
+        """
+        work = self._scratch().lent
+        return self._cast_each(_rays(origins, directions, max_distance, near_distance), refused, library.probe_ray_mesh_many, work)
+
+    def cast_exact_many(self, origins, directions, max_distance, near_distance=0.0, refused="raise"):
+        """The `cast_exact` of many rays by one call of the library, in the same way."""
+        call = library.probe_ray_mesh_exact_many if self._has_numbers else None
+        work = self._scratch().walk
+        return self._cast_each(_rays(origins, directions, max_distance, near_distance), refused, call, work)
+
+    def _cast_each(self, rays, refused, call, work):
+        """The answers of rays of eight numbers each, by one call, or without a tree where there is none."""
         if refused not in ("raise", "keep"):
             raise ValueError("refused: 'raise' or 'keep'")
-        place, call = _Place(), library.probe_ray_mesh_near
-        fixed = (*self._mesh, *lent(self._vertices), *self._areas, *self._scratch().lent, *place.lent)
-        answers, distances, normals, triangles = array("I"), array("d"), array("d"), array("I")
-        for ray, numbers in enumerate(_rays(origins, directions, max_distance, near_distance)):
-            answer = call(*numbers, *fixed)
-            if answer != HIT and answer != NONE and refused == "raise":
-                raise Refused(answer, ray=ray)
-            distance, normal, triangle = Casts.fill(answer, place.hit, place.index)
-            answers.append(answer)
-            distances.append(distance)
-            normals.extend(normal)
-            triangles.append(triangle)
-        return Casts(answers, distances, normals, triangles)
+        results = Results(len(rays) // 8)
+        if call is None:
+            self._cast_without_tree(rays, results)
+        else:
+            answer = call(*lent(rays), *self._mesh, *lent(self._vertices), *self._areas, *work, *results.lent)
+            if answer != DONE:
+                raise Refused(answer)
+        casts = results.casts(rays)
+        if refused == "raise" and casts.refused:
+            casts[casts.refused[0]]  # raises
+        return casts
+
+    def _cast_without_tree(self, rays, results):
+        """The exact cast of each ray, for a mesh with a NaN."""
+        place = _Place()
+        for ray in range(len(rays) // 8):
+            answer = library.probe_ray_mesh_exact_plain(*rays[8 * ray : 8 * ray + 8], *self._mesh, *place.lent)
+            results.put(ray, answer, place.hit, place.index[0])
 
     def cast_all(self, ray, pose=None):
         """Every triangle that a ray hits, each once, in order of depth, as a list of MeshHit; that of `cast` is the first.
@@ -263,12 +287,13 @@ class Mesh:
         pose = self._vertices if pose is None else owned(pose, "d", 3, "pose")
         n = len(self._triangles) // 3
         indices, numbers, found = zeros("I", n), zeros("d", 4 * n), zeros("Q", 1)
+        numbers_of_ray = ray.numbers()
         answer = library.probe_ray_mesh_all(
-            *ray.numbers(), *self._mesh, *lent(pose), *self._areas, *self._scratch().lent,
+            *numbers_of_ray, *self._mesh, *lent(pose), *self._areas, *self._scratch().lent,
             *lent(indices), *lent(numbers), *lent(found),
         )
         if answer != DONE:
-            raise Refused(answer)
+            raise refusal_of(answer, numbers_of_ray)
         places = (numbers[4 * k : 4 * k + 4] for k in range(found[0]))
         return [MeshHit(place[0], tuple(place[1:]), index) for place, index in zip(places, indices)]
 

@@ -5,6 +5,7 @@ from typing import NamedTuple, Sequence
 from ._arrays import lent, zeros
 from ._library import library
 from .answers import Hit, settled
+from .faults import fault_of
 
 
 class Ray(NamedTuple):
@@ -36,6 +37,15 @@ class Ray(NamedTuple):
         dx, dy, dz = self.direction
         return (x, y, z, dx, dy, dz, self.max_distance, self.near_distance)
 
+    def fault(self):
+        """Which test of refusal 1 the ray fails, in words, or None where it is admitted.
+
+        >>> from probe_rays import Ray
+        >>> Ray((0, 0, 0), (0, 0, 2), 5).fault()
+        "the direction's length is not 1"
+        """
+        return fault_of(self.numbers())
+
 
 def plain(places):
     """A hit from its four places."""
@@ -45,9 +55,9 @@ def plain(places):
 
 def cast_at_shape(call, ray, *shape):
     """The Hit of a call at a shape of these parameters, or None; raises Refused."""
-    places = zeros("d", 4)
-    answer = call(*ray.numbers(), *shape, *lent(places))
-    return settled(answer, lambda: plain(places))
+    places, numbers = zeros("d", 4), ray.numbers()
+    answer = call(*numbers, *shape, *lent(places))
+    return settled(answer, numbers, lambda: plain(places))
 
 
 def ray_plane(ray, normal, distance):

@@ -78,6 +78,21 @@ impl Batch {
         T: Sync,
         A: Send,
     {
+        self.run_shares(items, |share, scratch| {
+            share.iter().map(|item| answer(item, scratch)).collect()
+        })
+    }
+
+    /// What `answer` gives for each share of the items, one after the other: as many answers as the share has items.
+    fn run_shares<T, A>(
+        &self,
+        items: &[T],
+        answer: impl Fn(&[T], &mut Scratch) -> Vec<A> + Sync,
+    ) -> Vec<A>
+    where
+        T: Sync,
+        A: Send,
+    {
         let mut line = self
             .label
             .as_ref()
@@ -93,7 +108,7 @@ impl Batch {
             let mut scratch = Scratch::new();
             let mut answers = Vec::with_capacity(items.len());
             for share in items.chunks(at_once) {
-                answers.extend(share.iter().map(|item| answer(item, &mut scratch)));
+                answers.extend(answer(share, &mut scratch));
                 show(answers.len());
             }
             return answers;
@@ -112,8 +127,7 @@ impl Batch {
                         let Some(share) = items.chunks(at_once).nth(number) else {
                             return;
                         };
-                        let answers = share.iter().map(|item| answer(item, &mut scratch));
-                        if sender.send((number, answers.collect::<Vec<A>>())).is_err() {
+                        if sender.send((number, answer(share, &mut scratch))).is_err() {
                             return;
                         }
                     }
@@ -218,12 +232,14 @@ impl Mesh {
     /// The [`cast`](Mesh::cast) of each ray, in the order of the rays, over as many threads as the machine runs at
     /// once. [`Batch`] chooses the threads and shows progress.
     pub fn cast_many(&self, rays: &[Ray]) -> Vec<Cast<MeshHit>> {
-        Batch::new().run(rays, |ray, scratch| self.cast_with(ray, scratch))
+        Batch::new().run_shares(rays, |share, scratch| self.cast_many_with(share, scratch))
     }
 
     /// The [`cast_exact`](Mesh::cast_exact) of each ray, in the same way.
     pub fn cast_exact_many(&self, rays: &[Ray]) -> Vec<Cast<MeshHit>> {
-        Batch::new().run(rays, |ray, scratch| self.cast_exact_with(ray, scratch))
+        Batch::new().run_shares(rays, |share, scratch| {
+            self.cast_exact_many_with(share, scratch)
+        })
     }
 
     /// The [`cast_all`](Mesh::cast_all) of each ray, in the same way.

@@ -367,6 +367,102 @@ pub fn ray_mesh_exact(
     }
 }
 
+/// The mesh cast of many rays, eight numbers each (origin, direction, maximum, near); `codes` and `indices` have a place a
+/// ray, `hits` four.
+#[allow(clippy::too_many_arguments)]
+#[inline]
+pub fn ray_mesh_many(
+    rays: &[f64],
+    vertices: &[f64],
+    triangles: &[u32],
+    pose: &[f64],
+    tree: &TreeRef<'_>,
+    list: &mut [u32],
+    stack: &mut [u32],
+    codes: &mut [u32],
+    hits: &mut [f64],
+    indices: &mut [u32],
+) -> u32 {
+    // SAFETY: every pointer and length is a slice's, and Rust lets no mutable one overlap another.
+    unsafe {
+        sys::probe_ray_mesh_many(
+            rays.as_ptr(),
+            rays.len(),
+            vertices.as_ptr(),
+            vertices.len(),
+            triangles.as_ptr(),
+            triangles.len(),
+            pose.as_ptr(),
+            pose.len(),
+            tree.nodes,
+            tree.node_boxes.as_ptr(),
+            tree.node_boxes.len(),
+            tree.triangle_boxes.as_ptr(),
+            tree.triangle_boxes.len(),
+            tree.node_words.as_ptr(),
+            tree.node_words.len(),
+            tree.order.as_ptr(),
+            tree.order.len(),
+            list.as_mut_ptr(),
+            list.len(),
+            stack.as_mut_ptr(),
+            stack.len(),
+            codes.as_mut_ptr(),
+            codes.len(),
+            hits.as_mut_ptr(),
+            hits.len(),
+            indices.as_mut_ptr(),
+            indices.len(),
+        )
+    }
+}
+
+/// The exact mesh cast of many rays, in the same way.
+#[allow(clippy::too_many_arguments)]
+#[inline]
+pub fn ray_mesh_exact_many(
+    rays: &[f64],
+    vertices: &[f64],
+    triangles: &[u32],
+    pose: &[f64],
+    tree: &TreeRef<'_>,
+    stack: &mut [u32],
+    codes: &mut [u32],
+    hits: &mut [f64],
+    indices: &mut [u32],
+) -> u32 {
+    // SAFETY: every pointer and length is a slice's, and Rust lets no mutable one overlap another.
+    unsafe {
+        sys::probe_ray_mesh_exact_many(
+            rays.as_ptr(),
+            rays.len(),
+            vertices.as_ptr(),
+            vertices.len(),
+            triangles.as_ptr(),
+            triangles.len(),
+            pose.as_ptr(),
+            pose.len(),
+            tree.nodes,
+            tree.node_boxes.as_ptr(),
+            tree.node_boxes.len(),
+            tree.triangle_boxes.as_ptr(),
+            tree.triangle_boxes.len(),
+            tree.node_words.as_ptr(),
+            tree.node_words.len(),
+            tree.order.as_ptr(),
+            tree.order.len(),
+            stack.as_mut_ptr(),
+            stack.len(),
+            codes.as_mut_ptr(),
+            codes.len(),
+            hits.as_mut_ptr(),
+            hits.len(),
+            indices.as_mut_ptr(),
+            indices.len(),
+        )
+    }
+}
+
 /// The build; `nodes` has one place, the node count.
 #[inline]
 pub fn build(

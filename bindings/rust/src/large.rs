@@ -44,6 +44,16 @@ struct Piece {
     numbers: Vec<u32>,
 }
 
+impl Piece {
+    /// A hit of the piece with the triangle's number in the whole.
+    fn numbered(&self, hit: MeshHit) -> MeshHit {
+        MeshHit {
+            triangle: self.numbers[hit.triangle as usize],
+            ..hit
+        }
+    }
+}
+
 impl LargeMesh {
     /// Builds the trees of these vertices and triangles, each of three vertex indices.
     ///
@@ -169,10 +179,7 @@ impl LargeMesh {
             let hit = match piece.mesh.cast_exact_with(ray, scratch) {
                 Cast::Refused(refusal) => return Cast::Refused(refusal),
                 Cast::None => continue,
-                Cast::Hit(hit) => MeshHit {
-                    triangle: piece.numbers[hit.triangle as usize],
-                    ..hit
-                },
+                Cast::Hit(hit) => piece.numbered(hit),
             };
             let key = |hit: &MeshHit| (hit.distance, hit.triangle);
             if nearest
@@ -211,6 +218,49 @@ impl LargeMesh {
         }
     }
 
+    /// Every triangle that a ray hits, by the rounded cast ([`Mesh::cast_all`]), in order of depth, then of number, with the
+    /// mesh's own work areas. Refuses as [`Mesh::cast_all`] does.
+    ///
+    /// ```
+    /// use probe_rays::{LargeMesh, Ray, Refusal};
+    ///
+    /// // two squares, one 2 above the other, cut into four pieces
+    /// let square = |z: f64| [[0.0, 0.0, z], [4.0, 0.0, z], [4.0, 4.0, z], [0.0, 4.0, z]];
+    /// let vertices = [square(0.0), square(2.0)].concat();
+    /// let triangles = [[0, 1, 2], [0, 2, 3], [4, 5, 6], [4, 6, 7]];
+    /// let mut large = LargeMesh::in_pieces(vertices, triangles, 1)?;
+    /// let hits = large.cast_all(&Ray::new([3.0, 1.0, 5.0], [0.0, 0.0, -1.0], 10.0))?;
+    /// let depths: Vec<(f64, u32)> = hits.iter().map(|hit| (hit.distance, hit.triangle)).collect();
+    /// assert_eq!(depths, [(3.0, 2), (5.0, 0)]);
+    /// # Ok::<(), Refusal>(())
+    /// ```
+    pub fn cast_all(&mut self, ray: &Ray) -> Result<Vec<MeshHit>, Refusal> {
+        let mut scratch = std::mem::take(&mut self.scratch);
+        let hits = self.cast_all_with(ray, &mut scratch);
+        self.scratch = scratch;
+        hits
+    }
+
+    /// The same with work areas of the caller's.
+    pub fn cast_all_with(&self, ray: &Ray, scratch: &mut Scratch) -> Result<Vec<MeshHit>, Refusal> {
+        if let [piece] = self.meshes.as_slice() {
+            return piece.mesh.cast_all_with(ray, scratch);
+        }
+        let mut all = Vec::new();
+        for piece in &self.meshes {
+            let hits = piece.mesh.cast_all_with(ray, scratch)?;
+            all.extend(hits.into_iter().map(|hit| piece.numbered(hit)));
+        }
+        // a distance is a number, and 0 and -0 are equal depths
+        let depth = |hit: &MeshHit| hit.distance + 0.0;
+        all.sort_by(|a, b| {
+            depth(a)
+                .total_cmp(&depth(b))
+                .then(a.triangle.cmp(&b.triangle))
+        });
+        Ok(all)
+    }
+
     /// The vertices.
     pub fn vertices(&self) -> &[[f64; 3]] {
         &self.vertices
@@ -224,5 +274,11 @@ impl LargeMesh {
     /// How many meshes it consists of.
     pub fn pieces(&self) -> usize {
         self.meshes.len()
+    }
+
+    /// How many nodes the trees have together.
+    pub fn nodes(&self) -> usize {
+        let nodes = |piece: &Piece| piece.mesh.tree().nodes;
+        self.meshes.iter().map(nodes).sum()
     }
 }

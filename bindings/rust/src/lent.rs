@@ -298,6 +298,92 @@ pub fn ray_mesh_exact(
     Cast::of(answer, || mesh_hit(&places, &index))
 }
 
+/// Where a call of many rays writes its answers: a place of `codes` and `indices` a ray, four of `hits`.
+#[derive(Debug)]
+pub struct CastAreas<'a> {
+    /// What the single call answers for each ray: a code of [`sys`], or a refusal's number.
+    pub codes: &'a mut [u32],
+    /// A hit's normal and distance; unchanged where the ray has no hit.
+    pub hits: &'a mut [f64],
+    /// The index of the triangle hit; unchanged where the ray has no hit.
+    pub indices: &'a mut [u32],
+}
+
+impl CastAreas<'_> {
+    /// The answer of the ray at an index.
+    ///
+    /// Panics where an area has no place for it.
+    pub fn cast(&self, ray: usize) -> Cast<MeshHit> {
+        let place: Places = std::array::from_fn(|k| self.hits[4 * ray + k]);
+        Cast::of(self.codes[ray], || mesh_hit(&place, &[self.indices[ray]]))
+    }
+}
+
+/// Casts many rays at a mesh through its tree, in one call: the answer of each is that of [`ray_mesh`], at the ray's own
+/// places of the areas. `rays` has eight numbers a ray ([`Ray::numbers`]).
+///
+/// Refuses with 2 (a limit of the mesh, or a length of `rays` that eight does not divide), then 3, then 4, tested once and
+/// before the first ray; nothing is written then. A ray that is refused has its number among the codes, and the others are
+/// cast all the same.
+#[allow(clippy::too_many_arguments)]
+pub fn ray_mesh_many(
+    rays: &[f64],
+    vertices: &[f64],
+    triangles: &[u32],
+    pose: &[f64],
+    tree: &TreeRef<'_>,
+    list: &mut [u32],
+    stack: &mut [u32],
+    areas: &mut CastAreas<'_>,
+) -> Result<(), Refusal> {
+    let answer = calls::ray_mesh_many(
+        rays,
+        vertices,
+        triangles,
+        pose,
+        tree,
+        list,
+        stack,
+        areas.codes,
+        areas.hits,
+        areas.indices,
+    );
+    done(answer)
+}
+
+/// The exact cast of many rays, in the same way: the answer of each is that of [`ray_mesh_exact`]. The stack is the only work
+/// area.
+pub fn ray_mesh_exact_many(
+    rays: &[f64],
+    vertices: &[f64],
+    triangles: &[u32],
+    pose: &[f64],
+    tree: &TreeRef<'_>,
+    stack: &mut [u32],
+    areas: &mut CastAreas<'_>,
+) -> Result<(), Refusal> {
+    let answer = calls::ray_mesh_exact_many(
+        rays,
+        vertices,
+        triangles,
+        pose,
+        tree,
+        stack,
+        areas.codes,
+        areas.hits,
+        areas.indices,
+    );
+    done(answer)
+}
+
+/// Whether a call that writes areas did so.
+fn done(answer: u32) -> Result<(), Refusal> {
+    match answer {
+        sys::DONE => Ok(()),
+        number => Err(Refusal::from_number(number)),
+    }
+}
+
 /// Glues two boards into one and gives its node count: the first's vertices, triangles, nodes, triangle boxes and order,
 /// then the second's moved up, and a new root over both trees unless one has no triangles. Places past the result are
 /// unchanged. The areas are as long as for a mesh of both together, and `marks` is [`marks_length`] of its triangles.

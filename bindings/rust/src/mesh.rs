@@ -1,6 +1,6 @@
 //! A mesh that owns its tree.
 use crate::answer::{Cast, MeshHit, Refusal};
-use crate::lent::{self, BoardRef, TreeAreas, TreeRef};
+use crate::lent::{self, BoardRef, CastAreas, TreeAreas, TreeRef};
 use crate::{Ray, MAX_COUNT};
 use std::error::Error;
 use std::fmt;
@@ -50,9 +50,12 @@ impl Tree {
 pub struct Scratch {
     pub(crate) list: Vec<u32>,
     pub(crate) stack: Vec<u32>,
-    /// The hit area of a listing, which only a listing asks for.
+    /// The hit area of a listing, and the results of many rays; only these ask for it.
     indices: Vec<u32>,
     numbers: Vec<f64>,
+    /// The numbers and the codes of many rays.
+    rays: Vec<[f64; 8]>,
+    codes: Vec<u32>,
 }
 
 impl Scratch {
@@ -68,6 +71,17 @@ impl Scratch {
         }
         if self.stack.len() < lent::stack_length(nodes) {
             self.stack.resize(lent::stack_length(nodes), 0);
+        }
+    }
+
+    /// The numbers of many rays, and room for their answers.
+    fn fit_many(&mut self, rays: &[Ray], n: usize, nodes: usize) {
+        self.fit(n, nodes);
+        self.fit_hits(rays.len());
+        self.rays.clear();
+        self.rays.extend(rays.iter().map(Ray::numbers));
+        if self.codes.len() < rays.len() {
+            self.codes.resize(rays.len(), 0);
         }
     }
 
@@ -355,6 +369,67 @@ impl Mesh {
         )
     }
 
+    /// The [`cast`](Mesh::cast) of each ray, in the order of the rays, by one call of the library and on this thread.
+    /// [`cast_many`](Mesh::cast_many) does it over threads.
+    ///
+    /// ```
+    /// use probe_rays::{Cast, Mesh, Ray, Refusal, Scratch};
+    ///
+    /// let square = [[0.0, 0.0, 0.0], [4.0, 0.0, 0.0], [4.0, 4.0, 0.0], [0.0, 4.0, 0.0]];
+    /// let mesh = Mesh::build(square, [[0, 1, 2], [0, 2, 3]])?;
+    /// let down = |x, maximum| Ray::new([x, 3.0, 5.0], [0.0, 0.0, -1.0], maximum);
+    /// // a hit, a none, and a ray that is refused: the others are cast all the same
+    /// let casts = mesh.cast_many_with(&[down(1.0, 10.0), down(-1.0, 10.0), down(1.0, -1.0)], &mut Scratch::new());
+    /// assert!(matches!(casts[0], Cast::Hit(hit) if hit.distance == 5.0 && hit.triangle == 1));
+    /// assert_eq!(casts[1..], [Cast::None, Cast::Refused(Refusal::InvalidInput)]);
+    /// # Ok::<(), Refusal>(())
+    /// ```
+    pub fn cast_many_with(&self, rays: &[Ray], scratch: &mut Scratch) -> Vec<Cast<MeshHit>> {
+        scratch.fit_many(rays, self.triangles.len(), self.tree.nodes);
+        let (vertices, triangles) = (self.vertices.as_flattened(), self.triangles.as_flattened());
+        let mut areas = CastAreas {
+            codes: &mut scratch.codes,
+            hits: &mut scratch.numbers,
+            indices: &mut scratch.indices,
+        };
+        let answer = lent::ray_mesh_many(
+            scratch.rays.as_flattened(),
+            vertices,
+            triangles,
+            vertices,
+            &self.tree.as_lent(),
+            &mut scratch.list,
+            &mut scratch.stack,
+            &mut areas,
+        );
+        read_many(answer, rays.len(), &areas)
+    }
+
+    /// The [`cast_exact`](Mesh::cast_exact) of each ray, in the same way.
+    pub fn cast_exact_many_with(&self, rays: &[Ray], scratch: &mut Scratch) -> Vec<Cast<MeshHit>> {
+        if !self.has_numbers {
+            let casts = rays.iter().map(|ray| self.cast_exact_with(ray, scratch));
+            return casts.collect();
+        }
+        scratch.fit_many(rays, self.triangles.len(), self.tree.nodes);
+        let (vertices, triangles) = (self.vertices.as_flattened(), self.triangles.as_flattened());
+        let mut areas = CastAreas {
+            codes: &mut scratch.codes,
+            hits: &mut scratch.numbers,
+            indices: &mut scratch.indices,
+        };
+        let answer = lent::ray_mesh_exact_many(
+            scratch.rays.as_flattened(),
+            vertices,
+            triangles,
+            vertices,
+            &self.tree.as_lent(),
+            &mut scratch.stack,
+            &mut areas,
+        );
+        read_many(answer, rays.len(), &areas)
+    }
+
     /// Every triangle that a ray hits, with the mesh's own work areas: each once, in order of depth, of equally near
     /// ones the lower index first. The hit of [`cast`](Mesh::cast) is the first of them, and there are none exactly
     /// where it answers none. Refuses with 1, 6 or 7.
@@ -464,6 +539,18 @@ impl Mesh {
     /// The vertices, the triangles and the tree.
     pub fn into_parts(self) -> (Vec<[f64; 3]>, Vec<[u32; 3]>, Tree) {
         (self.vertices, self.triangles, self.tree)
+    }
+}
+
+/// The answers of many rays. The areas are as long as the call asks and the mesh is admitted, so that it does not refuse.
+fn read_many(
+    answer: Result<(), Refusal>,
+    count: usize,
+    areas: &CastAreas<'_>,
+) -> Vec<Cast<MeshHit>> {
+    match answer {
+        Ok(()) => (0..count).map(|ray| areas.cast(ray)).collect(),
+        Err(refusal) => vec![Cast::Refused(refusal); count],
     }
 }
 

@@ -116,6 +116,12 @@ impl Ray {
             .map(|&(_, words)| words)
     }
 
+    /// The eight numbers of a ray as the calls of many rays take it: origin, direction, maximum and near distance.
+    pub fn numbers(&self) -> [f64; 8] {
+        let ([x, y, z], [dx, dy, dz]) = (self.origin, self.direction);
+        [x, y, z, dx, dy, dz, self.max_distance, self.near_distance]
+    }
+
     /// The point at a distance along the ray.
     pub fn at(&self, distance: f64) -> [f64; 3] {
         std::array::from_fn(|axis| self.origin[axis] + self.direction[axis] * distance)

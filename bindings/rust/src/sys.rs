@@ -219,6 +219,66 @@ extern "C" {
         index_length: usize,
     ) -> u32;
 
+    /// Casts many rays at a mesh through its tree, each answer at its own places.
+    pub fn probe_ray_mesh_many(
+        rays: *const f64,
+        rays_length: usize,
+        vertices: *const f64,
+        vertices_length: usize,
+        triangles: *const u32,
+        triangles_length: usize,
+        pose: *const f64,
+        pose_length: usize,
+        nodes: usize,
+        node_boxes: *const f64,
+        node_boxes_length: usize,
+        triangle_boxes: *const f64,
+        triangle_boxes_length: usize,
+        node_words: *const u32,
+        node_words_length: usize,
+        order: *const u32,
+        order_length: usize,
+        list: *mut u32,
+        list_length: usize,
+        stack: *mut u32,
+        stack_length: usize,
+        codes: *mut u32,
+        codes_length: usize,
+        hits: *mut f64,
+        hits_length: usize,
+        indices: *mut u32,
+        indices_length: usize,
+    ) -> u32;
+
+    /// Casts many rays at a mesh on a grid of 2^-15 mm, through its tree.
+    pub fn probe_ray_mesh_exact_many(
+        rays: *const f64,
+        rays_length: usize,
+        vertices: *const f64,
+        vertices_length: usize,
+        triangles: *const u32,
+        triangles_length: usize,
+        pose: *const f64,
+        pose_length: usize,
+        nodes: usize,
+        node_boxes: *const f64,
+        node_boxes_length: usize,
+        triangle_boxes: *const f64,
+        triangle_boxes_length: usize,
+        node_words: *const u32,
+        node_words_length: usize,
+        order: *const u32,
+        order_length: usize,
+        stack: *mut u32,
+        stack_length: usize,
+        codes: *mut u32,
+        codes_length: usize,
+        hits: *mut f64,
+        hits_length: usize,
+        indices: *mut u32,
+        indices_length: usize,
+    ) -> u32;
+
     /// Lists every triangle of a mesh that a ray hits.
     pub fn probe_ray_mesh_all(
         origin_x: f64,

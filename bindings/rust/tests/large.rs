@@ -63,6 +63,37 @@ fn the_rounded_cast_has_the_same_distances() {
     }
 }
 
+/// Two floors, one 10 below the other: at a side or a corner a ray hits several triangles of each.
+#[test]
+fn every_hit_of_the_pieces_is_one_of_the_whole_mesh() {
+    let (mut vertices, mut triangles) = floor(6);
+    let count = vertices.len() as u32;
+    vertices.extend_from_within(..);
+    for vertex in &mut vertices[..count as usize] {
+        vertex[2] -= 10.0;
+    }
+    triangles.extend_from_within(..);
+    for corner in triangles[72..].as_flattened_mut() {
+        *corner += count;
+    }
+    let mut whole = Mesh::build(vertices.clone(), triangles.clone()).unwrap();
+    for most in [1, 12, 144] {
+        let mut large = LargeMesh::in_pieces(vertices.clone(), triangles.clone(), most).unwrap();
+        let mut hits = 0;
+        for mut ray in rays(6) {
+            ray.max_distance = 30.0;
+            let expected = whole.cast_all(&ray).unwrap();
+            assert_eq!(large.cast_all(&ray).unwrap(), expected, "{ray:?}");
+            hits += expected.len();
+        }
+        // two floors, at least one triangle of each; more on sides
+        assert!(hits > 2 * 25 * 25, "{hits}");
+        assert!(large.nodes() >= large.pieces());
+    }
+    let one = LargeMesh::build(vertices, triangles).unwrap();
+    assert_eq!((one.pieces(), one.nodes()), (1, whole.tree().nodes));
+}
+
 /// The first triangle stands at the larger x, so that the pieces have them in the other order.
 #[test]
 fn of_equally_near_triangles_the_lowest_number_is_the_answer() {

@@ -19,6 +19,7 @@ use Rattle.arithmetic.proofs.Order.{lt-irreflexive}
 use Rattle.arithmetic.proofs.SignBit.{absolute-fits}
 use Rattle.arithmetic.proofs.Patterns.{endless, endless-is, inUnits, pattern-value, patterns-le, patterns-lt, patterns-back}
 use Rattle.arithmetic.proofs.Patterns.{pattern-most, pattern-finite}
+use Rattle.arithmetic.proofs.Sizes.{number-neg}
 
 abbrev none : Float
 none = ofBits binary64 0
@@ -93,12 +94,6 @@ lt-neg (fin true m e) (fin false n d) =
     let e : n * up d * down e + m * up e * down d ≡ m * up e * down d + n * up d * down e = omega arith in ap (ltb 0) e
 lt-neg (fin false m e) (fin true n d) = refl
 lt-neg (fin false m e) (fin false n d) = refl
-
-pub number-neg : (x : Float) → isNan (neg x) ≡ isNan x
-unfolding isNan neg
-number-neg nan = refl
-number-neg (inf s) = refl
-number-neg (fin s m e) = refl
 
 pub le-neg : (x y : Float) → isNan x ≡ false → isNan y ≡ false → le x y ≡ true → le (neg y) (neg x) ≡ true
 le-neg x y p q h = le-of-not-lt (neg y) (neg x) (number-neg y ∙ q) (number-neg x ∙ p) (lt-neg y x ∙ not-lt-of-le x y h)

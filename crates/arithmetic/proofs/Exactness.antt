@@ -18,6 +18,14 @@ pub ofInt-is : (f : Format) (n : ℕ) → ofInt f (pos n) ≡ round f false n 1
 unfolding ofInt
 ofInt-is f n = refl
 
+pub ofInt-below : (f : Format) (n : ℕ) → ofInt f (negsuc n) ≡ round f true (suc n) 1
+unfolding ofInt
+ofInt-below f n = refl
+
+pub round-one : round binary64 false 1 1 ≡ fin false 1 (pos 0)
+unfolding round
+round-one = refl
+
 -- up to 2^53 a whole number is a float as it stands
 pub small-in-float : (n : ℕ) → n ≤ 2 ^ 53 → T (inFloat binary64 (pos n))
 unfolding inFloat

@@ -1,9 +1,10 @@
 -- The order of floats, for every value: `le` is transitive, total off NaN and the negation of the reversed `lt`; `lt` is irreflexive and
 -- transitive, also mixed with `le`; a NaN is below, equal to and at most nothing. Assumes nothing.
-use mathlib.Core.Path.{_≡_, refl, sym, ap, _∙_}
+use mathlib.Core.Path.{_≡_, refl, sym, ap, subst, _∙_}
 use mathlib.Core.Bool.{Bool, true, false, not, _&&_, _||_, true≢false, false≢true, and-false, or-true}
 use Prim.Native.Nat.{_*_}
 use native.Mathlib.Omega.{arith}
+use lib.Dec.{T}
 use lib.Ieee.{Float, nan, inf, fin, up, down, lt, le, eq, ne, isNan}
 use lib.Ieee.Fits.{down-pos}
 use borrow.Author.Tests.{le-ltb, eq-eqb, not-true, not-false}
@@ -109,6 +110,12 @@ ne-self-is-nan (inf false) = refl
 ne-self-is-nan (inf true) = refl
 ne-self-is-nan (fin false m e) = ap (λ (b : Bool). not (b && true)) (eq-eqb (m * up e * down e) (m * up e * down e) refl)
 ne-self-is-nan (fin true m e) = ap (λ (b : Bool). not (b && true)) (eq-eqb (m * up e * down e) (m * up e * down e) refl)
+
+pub ne-self-number : (x : Float) → ne x x ≡ false → isNan x ≡ false
+ne-self-number x h = sym (ne-self-is-nan x) ∙ h
+
+pub ne-self-passes : (x : Float) → ne x x ≡ false → T (not (isNan x))
+ne-self-passes x h = subst (λ (b : Bool). T (not b)) (sym (ne-self-number x h)) tt
 
 -- ---- two values
 pub lt-asymmetric : (x y : Float) → lt x y ≡ true → lt y x ≡ false

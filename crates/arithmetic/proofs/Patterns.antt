@@ -163,7 +163,7 @@ pattern-most x f n =
     let k : b % 0x8000_0000_0000_0000 ≤ endless = ltb-false endless (b % 0x8000_0000_0000_0000) c in
     omega arith
 
-absolute-finite : (x : Float) → isFinite (absolute x) ≡ isFinite x
+pub absolute-finite : (x : Float) → isFinite (absolute x) ≡ isFinite x
 unfolding absolute isFinite
 absolute-finite nan = refl
 absolute-finite (inf s) = refl

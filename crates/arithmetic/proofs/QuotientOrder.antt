@@ -20,6 +20,7 @@ use Rattle.arithmetic.proofs.SignedOrder.{plus, less, plus-times, less-
 use Rattle.arithmetic.proofs.OwnRounding.{own-rounding}
 use Rattle.arithmetic.proofs.RoundedOrder.{AtMost, plain-mono, zero-rounds, rounding-mono}
 use Rattle.arithmetic.proofs.SumOrder.{le-parts, nothing}
+use Rattle.arithmetic.proofs.ValueOrder.{unlike-false}
 
 -- ---- quotients by a positive number keep the order
 pub data Positive : Float → Type 0 where
@@ -33,10 +34,6 @@ positive-of (fin true n d) p h = absurd (false≢true h)
 positive-of (fin false zero d) p h = let l = ltb-true (0 * down d) (0 * up d * 1) h in absurd (omega arith)
 positive-of (fin false (suc n) d) p h = positive (suc n) d (omega arith)
 
-with-sign : (s : Bool) → unlike s false ≡ s
-with-sign true = refl
-with-sign false = refl
-
 quotient-is : (s : Bool) (m : ℕ) (e : ℤ) (n : ℕ) (d : ℤ) → 0 < n
     → div binary64 (fin s m e) (fin false n d) ≡ round binary64 s (m * up e * down d) (n * up d * down e)
 unfolding div
@@ -44,7 +41,7 @@ quotient-is s m e n d l =
     ap (λ (b : Bool). cond b (cond (eqb m 0) nan (inf (unlike s false)))
     (round binary64 (unlike s false) (m * up e * down d) (n * up d * down e)))
     (ne-eqb n 0 (λ z. omega arith))
-    ∙ ap (λ (t : Bool). round binary64 t (m * up e * down d) (n * up d * down e)) (with-sign s)
+    ∙ ap (λ (t : Bool). round binary64 t (m * up e * down d) (n * up d * down e)) (unlike-false s)
 
 quotients-ordered : (px lx py ly x y n d : ℕ) → px * y + ly * x ≤ py * x + lx * y
     → px * d * (n * y) + ly * d * (n * x) ≤ py * d * (n * x) + lx * d * (n * y)

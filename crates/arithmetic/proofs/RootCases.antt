@@ -11,6 +11,7 @@ use lib.Ieee.{Float, nan, inf, fin, binary64, up, down, odd, ofFields, ofBits, t
 use lib.Ieee.Fits.{up-pos}
 use lib.Ieee.Bits.{ofBits-toBits}
 use borrow.Author.Tests.{leb-false, lt-ltb, eqb-true}
+use Rattle.lists.proofs.JoinedTests.{and-first}
 use Rattle.arithmetic.specs.Root.{rootOf}
 use Rattle.arithmetic.proofs.RootPatterns.{positive-fields, signed-fields, top-field}
 
@@ -107,10 +108,6 @@ highest-is-root x f h l =
 size-pos : (m : ℕ) (e : ℤ) → 0 < suc m * up e * 1
 size-pos m e = mul-pos (mul-pos (zero-lt-suc m) (up-pos e)) (zero-lt-suc 0)
 
-and-true : (a b : Bool) → (a && b) ≡ true → a ≡ true
-and-true true b h = refl
-and-true false b h = h
-
 zero-root : (x : Float) → eq x none ≡ true → x ≡ rootOf x
 unfolding eq rootOf
 zero-root nan h = absurd (false≢true h)
@@ -118,7 +115,7 @@ zero-root (inf s) h = absurd (false≢true h)
 zero-root (fin s zero e) h = refl
 zero-root (fin s (suc m) e) h =
     let z : suc m * up e * 1 ≡ 0 * down e = eqb-true (suc m * up e * 1) (0 * down e)
-    (and-true (eqb (suc m * up e * 1) (0 * down e)) (Bool·beq s false || eqb (suc m * up e * 1) 0) h) in
+    (and-first (eqb (suc m * up e * 1) (0 * down e)) (Bool·beq s false || eqb (suc m * up e * 1) 0) h) in
     absurd (lt-irrefl 0 (subst (λ (k : ℕ). 0 < k) (z ∙ zero-mul (down e)) (size-pos m e)))
 
 pub zero-is-root : (x : Float) → eq x (ofBits binary64 0) ≡ true → x ≡ rootOf x
@@ -151,11 +148,11 @@ no-root (fin s zero e) h k = absurd (false≢true (sym k ∙ zero-equal s e))
 no-root (fin true (suc m) e) h k = refl
 no-root (fin false (suc m) e) h k = absurd (false≢true (sym h ∙ positive-above m e))
 
-nan-quotient : div binary64 (ofBits binary64 0) (ofBits binary64 0) ≡ nan
+pub zero-over-zero : div binary64 (ofBits binary64 0) (ofBits binary64 0) ≡ nan
 unfolding div ofBits
-nan-quotient = refl
+zero-over-zero = refl
 
 pub quotient-is-root : (x : Float) → lt (ofBits binary64 0) x ≡ false → eq x (ofBits binary64 0) ≡ false → div binary64 (ofBits binary64 0)
     (ofBits binary64 0) ≡ rootOf x
-quotient-is-root x h k = nan-quotient ∙ no-root x (subst (λ (z : Float). lt z x ≡ false) zero-pattern h)
+quotient-is-root x h k = zero-over-zero ∙ no-root x (subst (λ (z : Float). lt z x ≡ false) zero-pattern h)
     (subst (λ (z : Float). eq x z ≡ false) zero-pattern k)

@@ -1,8 +1,7 @@
--- What else a caller may want of `rootOf`: it fits its format, is above zero where its argument is, is not negative where its argument is
--- not,
--- and grows with its argument. Assumes nothing.
+-- What else a caller may want of `rootOf`: it fits its format, is above zero where its argument is, and grows with its argument. Assumes
+-- nothing.
 use mathlib.Core.Path.{_≡_, refl, sym, ap, _∙_, subst}
-use Prim.Native.Nat.{ℕ, zero, suc, _+_, _*_, _^_, _≤_, _<_, zero-le}
+use Prim.Native.Nat.{ℕ, zero, suc, _+_, _*_, _^_, _≤_, _<_}
 use native.Mathlib.Nat.{le-add-left, add-comm, mul-comm, mul-assoc, mul-right-comm, mul-pos, mul-le-mul-right, mul-lt-mul-of-pos-right}
 use native.Mathlib.Nat.{zero-mul, zero-lt-suc, lt-irrefl, lt-of-lt-of-le}
 use native.Mathlib.Omega.{arith}
@@ -12,8 +11,6 @@ use lib.Dec.{T, leb, eqb, ltb, lt→ltb, ltb→lt, eqb→eq}
 use lib.Pow.{pow-pos}
 use lib.Ieee.{Float, nan, inf, fin, binary64, up, down, fits, lt, le}
 use lib.Ieee.Fits.{nan-fits, inf-fits, up-pos, down-pos, and-l}
-use lib.Ieee.Exact.{HasValue}
-use lib.Ieee.Order.{le-of-values}
 use lib.Ieee.Positive.{num, den, den-pos, positive, positive-of-value, le→cross, cross→le, above, above-of-le}
 use borrow.Author.Tests.{leb-true, leb-false}
 use Rattle.arithmetic.specs.Root.{rootOf}
@@ -37,28 +34,13 @@ root-positive x p f =
     positive-of-value (rootOf x) (R .2 * 2 ^ R .1) (2 ^ 1074) (R .3 .result)
     (mul-pos (lt-of-lt-of-le (pow-pos 52) (R .3 .digits)) (pow-pos (R .1)))
 
--- ---- not negative
+-- ---- a negative number
 below-zero : (m : ℕ) (e : ℤ) → T (le none (fin true (suc m) e)) → ⊥
 unfolding le
 below-zero m e h =
     let z : 0 * 1 * down e ≡ suc m * up e * 1 = eqb→eq (0 * 1 * down e) (suc m * up e * 1)
     (and-l (eqb (0 * 1 * down e) (suc m * up e * 1)) (false || eqb (0 * 1 * down e) 0) h) in
     lt-irrefl 0 (subst (λ (k : ℕ). 0 < k) (sym z ∙ zero-mul (down e)) (mul-pos (mul-pos (zero-lt-suc m) (up-pos e)) (zero-lt-suc 0)))
-
-zero-under : (x : Float) (a c : ℕ) → 0 < c → HasValue x false a c → T (le none x)
-zero-under x a c C v = le-of-values none x 0 1 a c (zero-lt-suc 0) C (refl, refl) v
-    (subst (λ (k : ℕ). k ≤ a * 1) (sym (zero-mul c)) zero-le)
-
-pub root-not-negative : (x : Float) → T (fits binary64 x) → T (le none x) → T (le none (rootOf x))
-unfolding rootOf
-root-not-negative nan f h = h
-root-not-negative (inf true) f h = absurd (unfold le in h)
-root-not-negative (inf false) f h = h
-root-not-negative (fin s zero e) f h = h
-root-not-negative (fin true (suc m) e) f h = absurd (below-zero m e h)
-root-not-negative (fin false (suc m) e) f h =
-    let R = root-form (fin false (suc m) e) (lt→ltb 0 (suc m) (zero-lt-suc m)) f in
-    zero-under (rootOf (fin false (suc m) e)) (R .2 * 2 ^ R .1) (2 ^ 1074) (pow-pos 1074) (R .3 .result)
 
 -- ---- growing with the argument
 pub positive-unsigned : (x : Float) → T (positive x) → T (unsigned x)

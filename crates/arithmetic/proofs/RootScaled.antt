@@ -21,7 +21,7 @@ use Rattle.arithmetic.specs.Root.{wholeRoot, rootRound, rootOf, NearestR
 use Rattle.arithmetic.proofs.RootWhole.{nearest-kept}
 
 -- ---- the digits of N * 4 ^ k
-size-above : (n j : ℕ) → 2 ^ j ≤ n → j < size n
+pub size-above : (n j : ℕ) → 2 ^ j ≤ n → j < size n
 size-above n j h = lt-of-not-le (λ (g : size n ≤ j). not-le-of-lt (lt-of-lt-of-le (size-lt n) (pow-mono g)) h)
 
 pow-twice : (a k : ℕ) → 2 ^ (a + (k + k)) ≡ 2 ^ a * (2 ^ k * 2 ^ k)
@@ -98,7 +98,7 @@ pub units-odd : (r k : ℕ) → r * 2 ^ k < 2 ^ 2098 → units binary64 false r 
 unfolding units
 units-odd r k h = ap (λ (b : Bool). cond b (odd 54 false r k 1074) (inf false)) (lt-ltb (r * 2 ^ k) (2 ^ 2098) h)
 
-digits : (z k : ℕ) → 52 + k < z → z ≤ 53 + k → z - 53 ≡ k
+pub digits : (z k : ℕ) → 52 + k < z → z ≤ 53 + k → z - 53 ≡ k
 digits z k a b = omega arith
 
 size-shifted : (r k : ℕ) → 2 ^ 52 ≤ r → r < 2 ^ 53 → size (r * 2 ^ k) - 53 ≡ k

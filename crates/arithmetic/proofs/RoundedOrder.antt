@@ -10,12 +10,13 @@ use lib.Ieee.{Float, nan, inf, fin, binary64, isNan, neg, round, lt, le}
 use lib.Ieee.Bits.{is-true}
 use lib.Ieee.Order.{round-mono}
 use Rattle.arithmetic.specs.Basic.{negative}
-use Rattle.arithmetic.proofs.BelowLaws.{le-neg, number-neg}
+use Rattle.arithmetic.proofs.BelowLaws.{le-neg}
 use Rattle.arithmetic.proofs.Exactness.{neg-round}
 use Rattle.arithmetic.proofs.Order.{le-transitive, le-of-not-lt}
 use Rattle.arithmetic.proofs.RoundedNumbers.{round-number}
 use Rattle.arithmetic.proofs.RoundedSigns.{round-not-negative}
 use Rattle.arithmetic.proofs.SignedOrder.{plus, less}
+use Rattle.arithmetic.proofs.Sizes.{number-neg}
 
 -- ---- ±a / c ≤ ±b / d
 abbrev pub AtMost : Bool → ℕ → ℕ → Bool → ℕ → ℕ → Type 0

@@ -1,17 +1,16 @@
 -- What `scaled` computes, in units of 2^-1074: its products are the one rounded power of two. What comes of it is below 2. Assumes nothing.
 use mathlib.Core.Path.{_≡_, refl, sym, ap, _∙_, subst}
-use mathlib.Core.Logic.{inl, inr}
 use mathlib.Core.Bool.{Bool, true, false, not, true≢false, false≢true}
 use Prim.Native.Nat.{ℕ, zero, suc, _+_, _-_, _*_, _/_, _%_, _^_, _≤_, _<_}
 use native.Mathlib.Nat.{le-trans, le-of-eq, le-antisymm, le-of-lt, lt-of-lt-of-le, lt-of-le-of-lt, lt-of-not-le, not-le-of-lt, mul-one}
-use native.Mathlib.Nat.{one-mul, zero-mul, mul-assoc, mul-comm, mul-left-comm, mul-right-comm, mul-mul-mul-comm, mul-pos, mul-le-mul-right}
-use native.Mathlib.Nat.{mul-lt-mul-of-pos-right, lt-of-mul-lt-mul-right, le-of-mul-le-mul-right, mul-div-cancel, zero-lt-suc, pow-succ'}
+use native.Mathlib.Nat.{zero-mul, mul-assoc, mul-comm, mul-left-comm, mul-right-comm, mul-pos, mul-le-mul-right}
+use native.Mathlib.Nat.{mul-lt-mul-of-pos-right, lt-of-mul-lt-mul-right, le-of-mul-le-mul-right, mul-div-cancel, pow-succ'}
 use native.Mathlib.Nat.{le-of-suc-le-suc}
 use native.Mathlib.Omega.{arith}
 use lib.Dec.{T, ltb, lit<, lit≤}
 use lib.IntN.{pos}
-use lib.Pow.{pow-add, pow-pos, pow-lt, pow-mono}
-use lib.Ieee.{Float, nan, inf, fin, binary64, ofBits, toBits, up, down, size, below, round, mul, lt, le, eq, fits, isNan, nanBits, unlike}
+use lib.Pow.{pow-add, pow-pos, pow-mono}
+use lib.Ieee.{Float, nan, inf, fin, binary64, ofBits, toBits, up, down, size, below, round, mul, lt, le, eq, fits, nanBits}
 use lib.Ieee.Digits.{size-lt, size-reaches, size-le}
 use lib.Ieee.Fits.{down-pos}
 use lib.Ieee.Bits.{ofBits-toBits, nanBits-is, is-true}
@@ -28,6 +27,7 @@ use Rattle.arithmetic.proofs.RootPatterns.{subnormal-value, normal-valu
 use Rattle.arithmetic.proofs.RoundedSigns.{absolute-round}
 use Rattle.arithmetic.proofs.Order.{lt-of-le-lt}
 use Rattle.arithmetic.proofs.ValueOrder.{value-by, value-number, value-finite, absolute-value, lt-values, le-values, mul-values}
+use Rattle.arithmetic.proofs.ValueOrder.{unlike-false}
 
 -- ---- the unit
 pub unit-pos : 0 < unit
@@ -111,10 +111,6 @@ scaled-by-value d (fin t m e) s n v =
     ∙ round-same binary64 s (m * up e * (2 * unit)) (down e * 2 ^ d) (2 * n) (2 ^ d) (mul-pos (down-pos e) (pow-pos d)) (pow-pos d)
     (ap (λ (z : ℕ). z * 2 ^ d) (mul-left-comm (m * up e) 2 unit ∙ ap (λ (z : ℕ). 2 * z) (v .1) ∙ sym (mul-assoc 2 n (down e)))
     ∙ mul-assoc (2 * n) (down e) (2 ^ d))
-
-unlike-false : (s : Bool) → unlike s false ≡ s
-unlike-false true = refl
-unlike-false false = refl
 
 -- one product
 pub product-is-scaled : (d : ℕ) (x y : Float) (s : Bool) (n : ℕ) → HasValue x s n unit → HasValue y false (2 * unit) (2 ^ d)

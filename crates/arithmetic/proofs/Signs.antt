@@ -1,6 +1,6 @@
 -- What a comparison with zero says of the sign. Assumes nothing.
-use mathlib.Core.Path.{_≡_, refl, sym, _∙_}
-use mathlib.Core.Bool.{Bool, true, false, not, _&&_, _||_, Bool·beq, false≢true}
+use mathlib.Core.Path.{_≡_, refl, sym}
+use mathlib.Core.Bool.{Bool, true, false, _&&_, _||_, Bool·beq, false≢true}
 use Prim.Native.Nat.{ℕ, zero, suc, _+_, _*_, _^_, _≤_, _<_}
 use native.Mathlib.Nat.{mul-pos, zero-lt-suc, pow-succ'}
 use native.Mathlib.Omega.{arith}
@@ -10,6 +10,7 @@ use lib.IntN.{ℤ, pos, negsuc}
 use lib.Pow.{pow-pos}
 use lib.Ieee.{Float, nan, inf, fin, binary64, up, down, lt, eq, div, fits}
 use lib.Ieee.Fits.{up-pos}
+use Rattle.lists.proofs.JoinedTests.{and-first}
 use Rattle.arithmetic.specs.Basic.{negative, signPositive}
 
 abbrev pub plusZero : Float
@@ -22,26 +23,23 @@ one = fin false 1 (pos 0)
 not-below : (a d : ℕ) → ltb a (0 * d) ≡ true → ⊥
 not-below a d h = let l : a < 0 * d = ltb-true a (0 * d) h in omega arith
 
-first-of : (a b : Bool) → (a && b) ≡ true → a ≡ true
-first-of true b h = refl
-first-of false b h = h
-
 -- only a zero equals zero
 not-level : (m : ℕ) (e : ℤ) (b : Bool) → (eqb (suc m * up e * 1) (0 * down e) && b) ≡ true → ⊥
 not-level m e b h =
-    let q : suc m * up e * 1 ≡ 0 * down e = eqb-true (suc m * up e * 1) (0 * down e) (first-of (eqb (suc m * up e * 1) (0 * down e)) b h) in
+    let first = and-first (eqb (suc m * up e * 1) (0 * down e)) b h in
+    let q : suc m * up e * 1 ≡ 0 * down e = eqb-true (suc m * up e * 1) (0 * down e) first in
     let p : 0 < suc m * up e = mul-pos (zero-lt-suc m) (up-pos e) in
     omega arith
 
 -- a zero that fits has the exponent 0
-flat : (e : ℤ) → up e * down e ≡ 1 → e ≡ pos 0
-flat (pos zero) h = refl
-flat (pos (suc k)) h = let p : 0 < 2 ^ k = pow-pos k in absurd (omega (arith, simp (pow-succ' 2 k) at h))
-flat (negsuc k) h = let p : 0 < 2 ^ k = pow-pos k in absurd (omega (arith, simp (pow-succ' 2 k) at h))
+pub zero-exponent : (e : ℤ) → up e * down e ≡ 1 → e ≡ pos 0
+zero-exponent (pos zero) h = refl
+zero-exponent (pos (suc k)) h = let p : 0 < 2 ^ k = pow-pos k in absurd (omega (arith, simp (pow-succ' 2 k) at h))
+zero-exponent (negsuc k) h = let p : 0 < 2 ^ k = pow-pos k in absurd (omega (arith, simp (pow-succ' 2 k) at h))
 
 pub zero-exp : (s : Bool) (e : ℤ) → T (fits binary64 (fin s zero e)) → e ≡ pos 0
 unfolding fits
-zero-exp s e t = flat e (eqb→eq (up e * down e) 1 t)
+zero-exp s e t = zero-exponent e (eqb→eq (up e * down e) 1 t)
 
 -- a value below zero: its sign is not positive
 pub below-zero-negative : (x : Float) → lt x plusZero ≡ true → false ≡ signPositive x

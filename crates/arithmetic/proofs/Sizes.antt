@@ -1,6 +1,6 @@
 -- The absolute value and the negative of a float: which are numbers, and that each number is at most its absolute value. Assumes nothing.
 use mathlib.Core.Path.{_≡_, refl}
-use mathlib.Core.Bool.{Bool, true, false, true≢false}
+use mathlib.Core.Bool.{true, false, true≢false}
 use lib.Ieee.{Float, nan, inf, fin, neg, lt, le, isNan}
 use Rattle.arithmetic.specs.Basic.{absolute}
 use Rattle.arithmetic.proofs.Order.{le-of-not-lt, le-reflexive}

@@ -1,8 +1,8 @@
 -- The steps that cut, raise and round a number between 0 and 2^52, where every cast is exact. Assumes nothing.
 use mathlib.Core.Path.{_≡_, refl, sym, ap, _∙_, subst}
-use mathlib.Core.Bool.{Bool, true, false, true≢false, false≢true}
+use mathlib.Core.Bool.{true, false, true≢false, false≢true}
 use Prim.Native.Nat.{ℕ, _+_, _-_, _*_, _/_, _%_, _^_, _≤_, _<_}
-use native.Mathlib.Nat.{lt-of-lt-of-le, mul-one, one-mul, mul-comm, mul-right-comm, mul-lt-mul-of-pos-right, mul-le-mul-right, add-mul}
+use native.Mathlib.Nat.{lt-of-lt-of-le, mul-one, one-mul, mul-comm, mul-right-comm, mul-le-mul-right, add-mul}
 use native.Mathlib.Nat.{div-lt-iff-lt-mul, div-add-mod', mod-lt, div-mul-le-self, div-div-eq-div-mul, add-div-right}
 use native.Mathlib.Omega.{arith}
 use lib.Dec.{T, ltb, lit≤}
@@ -12,11 +12,12 @@ use lib.Ieee.{Float, nan, inf, fin, Format, binary64, up, down, round, mul, lt, 
 use lib.Ieee.Fits.{down-pos}
 use lib.Ieee.Exact.{HasValue}
 use lib.Ieee.Positive.{num, den, den-pos}
-use borrow.Author.Tests.{ltb-true, ltb-false, lt-ltb, le-ltb}
+use borrow.Author.Tests.{ltb-true, ltb-false}
 use Rattle.arithmetic.specs.Rounding.{towardNegative, tiesAway, wholeOf}
 use Rattle.arithmetic.proofs.Exactness.{ofInt-value, scaled-exact}
 use Rattle.arithmetic.proofs.Casts.{none, in-range, cast-is}
 use Rattle.arithmetic.proofs.WholeNumbers.{large}
+use Rattle.arithmetic.proofs.ValueOrder.{ltb-scale}
 
 -- ---- the number, its cast and its double
 pub own-value : (a : Float) → lt none a ≡ true → lt a large ≡ true → HasValue a false (num a) (den a)
@@ -55,13 +56,6 @@ doubled-value (fin false m e) f h k =
     (scaled-exact binary64 false m e 1 f (lt-of-lt-of-le room (mul-le-mul-right (down e) (lit≤ tt)))))
 
 -- ---- a whole number below another
-ltb-scale : (a b k : ℕ) → 0 < k → ltb (a * k) (b * k) ≡ ltb a b
-ltb-scale a b k K = go (ltb a b) refl
-  where
-    go : (t : Bool) → ltb a b ≡ t → ltb (a * k) (b * k) ≡ ltb a b
-    go true h = lt-ltb (a * k) (b * k) (mul-lt-mul-of-pos-right (ltb-true a b h) K) ∙ sym h
-    go false h = le-ltb (a * k) (b * k) (mul-le-mul-right k (ltb-false a b h)) ∙ sym h
-
 pub whole-below-is : (x y : Float) (w : ℕ) → HasValue x false w 1 → HasValue y false (num y) (den y) → lt x y ≡ ltb (w * den y) (num y)
 unfolding lt
 whole-below-is nan y w v u = absurd v

@@ -1,4 +1,4 @@
--- `totalOrder` is reflexive, total and transitive, and antisymmetric among the values that an f64 holds. And where two numbers are equal it
+-- `totalOrder` is total and transitive, and antisymmetric among the values that an f64 holds. And where two numbers are equal it
 -- goes by their bit patterns. Assumes nothing.
 use mathlib.Core.Path.{_≡_, refl, sym, ap, _∙_, subst}
 use mathlib.Core.Logic.{_⊎_, inl, inr}
@@ -16,7 +16,7 @@ use borrow.Author.Tests.{ltb-false, leb-true, le-leb, lt-leb}
 use Rattle.arithmetic.specs.Basic.{negative}
 use Rattle.arithmetic.specs.Ordering.{totalOrder}
 use Rattle.arithmetic.proofs.Order.{lt-nan-false, nan-lt-false, le-left-number, le-right-number, le-of-lt, le-of-not-lt}
-use Rattle.arithmetic.proofs.Order.{not-lt-of-le, le-transitive, lt-asymmetric, lt-of-lt-le, lt-of-le-lt, le-reflexive, is-nan}
+use Rattle.arithmetic.proofs.Order.{not-lt-of-le, le-transitive, lt-asymmetric, lt-of-lt-le, lt-of-le-lt, is-nan}
 
 -- ---- equal numbers of one sign have one bit pattern
 toBits-is : (f : Format) (s : Bool) (m : ℕ) (e : ℤ)
@@ -88,10 +88,6 @@ bits-order-is (fin true m e) (fin false n d) p q h k =
     le-leb (toBits binary64 (fin false n d)) (toBits binary64 (fin true m e)) (omega arith)
 
 -- ---- the order's laws
-either-way : (b : Bool) → (b || not b) ≡ true
-either-way true = refl
-either-way false = refl
-
 pub before-nan : (x : Float) → totalOrder x nan ≡ true
 unfolding totalOrder
 before-nan x = simp (lt-nan-false x, nan-lt-false x) (unfold isNan in refl)
@@ -147,13 +143,6 @@ before-number-is x y q h = go (parts (lt x y) (lt y x) (isNan y) (isNan x) (nega
 
 pub le-of-before : (x y : Float) → isNan y ≡ false → totalOrder x y ≡ true → le x y ≡ true
 le-of-before x y q h = elim (before-number-is x y q h) [ inl a ↦ le-of-lt x y a | inr w ↦ w .0 ]
-
-pub totalOrder-reflexive : (x : Float) → totalOrder x x ≡ true
-totalOrder-reflexive x = go (isNan x) refl
-  where
-    go : (b : Bool) → isNan x ≡ b → totalOrder x x ≡ true
-    go true h = subst (λ (y : Float). totalOrder x y ≡ true) (sym (is-nan x h)) (before-nan x)
-    go false h = at-most-before x x (le-reflexive x h) (either-way (negative x))
 
 one-sign : (p q : Bool) → ((p || not q) ≡ true) ⊎ ((q || not p) ≡ true)
 one-sign true q = inl refl

@@ -1,7 +1,7 @@
 -- Floats by the fractions that they equal: other fractions of the same size, comparisons, and products. Assumes nothing.
 use mathlib.Core.Path.{_≡_, refl, sym, ap, _∙_}
 use mathlib.Core.Bool.{Bool, true, false, not}
-use Prim.Native.Nat.{ℕ, _+_, _*_, _≤_, _<_}
+use Prim.Native.Nat.{ℕ, _+_, _*_, _<_}
 use native.Mathlib.Nat.{mul-assoc, mul-comm, mul-left-comm, mul-right-comm, mul-pos, add-mul, mul-le-mul-right, mul-lt-mul-of-pos-right}
 use native.Mathlib.Nat.{zero-mul, mul-mul-mul-comm, eq-of-mul-eq-mul-right}
 use lib.Dec.{ltb}
@@ -46,8 +46,13 @@ value-by (fin t m e) s a c b d C h v = (
       ∙ mul-right-comm b c (down e)),
 )
 
+-- ---- the sign of a product or a quotient by a positive number
+pub unlike-false : (s : Bool) → unlike s false ≡ s
+unlike-false true = refl
+unlike-false false = refl
+
 -- ---- comparisons
-ltb-scale : (a b k : ℕ) → 0 < k → ltb (a * k) (b * k) ≡ ltb a b
+pub ltb-scale : (a b k : ℕ) → 0 < k → ltb (a * k) (b * k) ≡ ltb a b
 ltb-scale a b k K = go (ltb a b) refl
   where
     go : (t : Bool) → ltb a b ≡ t → ltb (a * k) (b * k) ≡ ltb a b

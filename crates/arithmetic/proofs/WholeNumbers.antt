@@ -1,5 +1,5 @@
--- Rounding to a whole number by a rule that leaves whole numbers alone: what the tests of the code tell of it, that the result is exact and
--- an f64, that a cast of the floor is the cast of the number, and that a rounded number above zero is cast to one or more. Assumes nothing.
+-- Rounding to a whole number by a rule that leaves whole numbers alone: what the tests of the code tell of it, that the result is
+-- exact, that a cast of the floor is the cast of the number, and that a rounded number above zero is cast to one or more. Assumes nothing.
 use mathlib.Core.Path.{_≡_, refl, sym, ap, _∙_, subst}
 use mathlib.Core.Bool.{Bool, true, false, false≢true}
 use Prim.Native.Nat.{ℕ, zero, suc, _+_, _-_, _*_, _/_, _^_, _≤_, _<_, zero-le}
@@ -11,7 +11,7 @@ use lib.Arith.{digits-div}
 use lib.Pow.{pow-pos}
 use lib.IntN.{ℤ, pos, negsuc}
 use lib.Ieee.{Float, nan, inf, fin, binary64, up, down, round, neg, lt, ofInt, fits, toUnsigned}
-use lib.Ieee.Fits.{down-pos, round-fits, nan-fits, inf-fits}
+use lib.Ieee.Fits.{down-pos, round-fits}
 use lib.Ieee.Exact.{HasValue}
 use lib.Ieee.Back.{round-whole, whole-unique}
 use lib.Ieee.Nearest.{div-mono}
@@ -89,12 +89,6 @@ zero-kept rule exact s m e f h =
     (refl, mul-one (m * up e) ∙ h ∙ sym (zero-mul (down e)))
 
 -- ---- the result is an f64, and of a number that fits it is the rule's whole number exactly
-wholeBy-fits : (rule : Bool → ℕ → ℕ → ℕ) (x : Float) → T (fits binary64 (wholeBy rule x))
-unfolding wholeBy
-wholeBy-fits rule nan = nan-fits binary64
-wholeBy-fits rule (inf s) = inf-fits binary64 s
-wholeBy-fits rule (fin s m e) = round-fits binary64 s (rule s (m * up e) (down e)) 1
-
 wholeBy-value : (rule : Bool → ℕ → ℕ → ℕ) → Exact rule → Near rule → (s : Bool) (m : ℕ) (e : ℤ) → T (fits binary64 (fin s m e)) → HasValue
     (wholeBy rule (fin s m e)) s (rule s (m * up e) (down e)) 1
 unfolding wholeBy
@@ -153,14 +147,6 @@ module _ (rule : Bool → ℕ → ℕ → ℕ) (exact : Exact rule) where
   kept-off-order (fin true m e) f h k = let g = ltb-false (0 * down e) (m * up e * 1) k in zero-kept rule exact true m e f (omega arith)
 
 -- ---- floor and round
-pub floorOf-fits : (x : Float) → T (fits binary64 (floorOf x))
-unfolding floorOf
-floorOf-fits x = wholeBy-fits towardNegative x
-
-pub roundOf-fits : (x : Float) → T (fits binary64 (roundOf x))
-unfolding roundOf
-roundOf-fits x = wholeBy-fits tiesAway x
-
 pub floorOf-value : (s : Bool) (m : ℕ) (e : ℤ) → T (fits binary64 (fin s m e)) → HasValue (floorOf (fin s m e)) s
     (towardNegative s (m * up e) (down e)) 1
 unfolding floorOf

@@ -1,9 +1,9 @@
 -- Floats that are whole numbers, by value, so that -0 counts as 0: their sums and products are exact up to 2^53. Assumes nothing.
 use mathlib.Core.Path.{_≡_, refl, sym, ap, _∙_, subst}
-use mathlib.Core.Bool.{Bool, true, false, _&&_, cond, true≢false, false≢true}
-use Prim.Native.Nat.{ℕ, zero, suc, _+_, _-_, _*_, _^_, _≤_, _<_}
-use native.Mathlib.Nat.{mul-one, one-mul, mul-assoc, mul-comm, mul-left-comm, mul-right-comm, mul-pos, zero-lt-suc, zero-mul}
-use native.Mathlib.Nat.{le-of-mul-le-mul-right, mul-le-mul-right, add-mul, eq-of-mul-eq-mul-right}
+use mathlib.Core.Bool.{Bool, true, false, cond, true≢false, false≢true}
+use Prim.Native.Nat.{ℕ, _+_, _-_, _*_, _^_, _≤_, _<_}
+use native.Mathlib.Nat.{mul-one, mul-pos, zero-lt-suc, zero-mul}
+use native.Mathlib.Nat.{le-of-mul-le-mul-right, add-mul}
 use native.Mathlib.Omega.{arith}
 use lib.Dec.{ltb, eqb}
 use lib.IntN.{pos}
@@ -13,6 +13,7 @@ use lib.Ieee.Exact.{HasValue}
 use lib.Ieee.Back.{round-whole}
 use lib.Ieee.Scale.{round-same}
 use borrow.Author.Tests.{ltb-true, ltb-false, eqb-true}
+use Rattle.lists.proofs.JoinedTests.{and-first}
 use Rattle.arithmetic.proofs.RootCases.{zero-pattern}
 use Rattle.arithmetic.proofs.SignedOrder.{plus, less, plus-times, less-times}
 
@@ -158,16 +159,12 @@ both-parts : (s : Bool) (a c : ℕ) → a ≡ 0 → plus s a + c ≡ c + less s 
 both-parts false a c p = omega arith
 both-parts true a c p = omega arith
 
-first-test : (a b : Bool) → (a && b) ≡ true → a ≡ true
-first-test true b h = refl
-first-test false b h = h
-
 zero-at : (x : Float) → eq x (fin false 0 (pos 0)) ≡ true → Is x 0 0
 unfolding eq
 zero-at nan h = absurd (false≢true h)
 zero-at (inf s) h = absurd (false≢true h)
 zero-at (fin s m e) h =
-    let z = eqb-true (m * up e * 1) (0 * down e) (first-test (eqb (m * up e * 1) (0 * down e)) _ h) in
+    let z = eqb-true (m * up e * 1) (0 * down e) (and-first (eqb (m * up e * 1) (0 * down e)) _ h) in
     both-parts s (m * up e) (0 * down e) (sym (mul-one (m * up e)) ∙ z ∙ zero-mul (down e))
 
 pub zero-is : (x : Float) → eq x (ofBits binary64 0) ≡ true → Is x 0 0

@@ -41,7 +41,7 @@ pub fn lesser(x: f64, y: f64) -> f64
     x
 }
 
-// The maximum where the first operand is no NaN, and again none. Callers show that the first is none.
+// The maximum where the first operand is no NaN, and again none.
 pub fn greater(x: f64, y: f64) -> f64
     requires { ⌜ isNan x ≡ false ⌝ }
     ensures { λ r. ⌜ (r ≡ maximumOf x y) × (isNan r ≡ false) ⌝ }

@@ -8,7 +8,7 @@ ghost use Rattle.arithmetic.specs.Rounding.{floorOf, roundOf, wholeOf, t
 // 2^52: from here on every float is whole.
 const WHOLE: f64 = 4503599627370496.0;
 
-// The whole part of a number between 0 and 2^52. Callers show that it lies there.
+// The whole part of a number between 0 and 2^52.
 fn cut(a: f64) -> f64
     requires { ⌜ lt (fin false 0 (pos 0)) a ≡ true ⌝ ∗ ⌜ lt a (fin false 1 (pos 52)) ≡ true ⌝ }
     ensures { λ r. ⌜ r ≡ ofInt binary64 (pos (towardNegative false (num a) (den a))) ⌝ }
@@ -16,7 +16,7 @@ fn cut(a: f64) -> f64
     std::num::truncating_f64_to_u64(a) as f64
 }
 
-// The least whole number at or above a number between 0 and 2^52. Callers show that it lies there.
+// The least whole number at or above a number between 0 and 2^52.
 fn raised(a: f64) -> f64
     requires { ⌜ lt (fin false 0 (pos 0)) a ≡ true ⌝ ∗ ⌜ lt a (fin false 1 (pos 52)) ≡ true ⌝ }
     ensures { λ r. ⌜ r ≡ ofInt binary64 (pos (towardNegative true (num a) (den a))) ⌝ }
@@ -28,7 +28,7 @@ fn raised(a: f64) -> f64
     whole as f64
 }
 
-// The nearest whole number to a number between 0 and 2^52, half way the larger. Callers show that it lies there.
+// The nearest whole number to a number between 0 and 2^52, half way the larger.
 fn nearest(a: f64) -> f64
     requires { ⌜ lt (fin false 0 (pos 0)) a ≡ true ⌝ ∗ ⌜ lt a (fin false 1 (pos 52)) ≡ true ⌝ }
     ensures { λ r. ⌜ r ≡ ofInt binary64 (pos (tiesAway false (num a) (den a))) ⌝ }

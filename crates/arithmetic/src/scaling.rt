@@ -23,9 +23,8 @@ fn power_for(x: f64) -> f64
     f64::from_bits(2251799813685248)
 }
 
-// x times the power of two that brings largest to at least 1 and below 2, rounded once. Callers show that largest is finite, above 0 and
-// not below x in size.
-// Below 1 both are lifted first, which is exact, since 2^1074 is no float.
+// x times the power of two that brings largest to at least 1 and below 2, rounded once. Below 1 both are lifted first, which is exact,
+// since 2^1074 is no float.
 pub fn scaled(x: f64, largest: f64) -> f64
     requires { ⌜ lt (ofBits binary64 0) largest ≡ true ⌝ ∗ ⌜ isFinite largest ≡ true ⌝ ∗ ⌜ le (absolute x) largest ≡ true ⌝ }
     ensures { λ r. ⌜ r ≡ scaledBy (digitsOf largest) x ⌝ }

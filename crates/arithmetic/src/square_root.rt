@@ -6,7 +6,7 @@ ghost use lib.Ieee.{Float, binary64, ofBits};
 ghost use lib.Ieee.Exact.{HasValue};
 ghost use Rattle.arithmetic.specs.Root.{rootOf, NearestRoot, CloseRoot, RootGuessed};
 
-// Whether t * t is at most m * 2^54. The halves of t keep each product within 64 digits. Callers show that t is no larger.
+// Whether t * t is at most m * 2^54. The halves of t keep each product within 64 digits.
 fn square_at_most(t: u64, m: u64) -> bool
     requires { ⌜ t ≤ 2 ^ 54 ⌝ }
     ensures { λ r. ⌜ r ≡ leb (t * t) (m * 2 ^ 54) ⌝ }
@@ -20,7 +20,6 @@ fn square_at_most(t: u64, m: u64) -> bool
 }
 
 // The whole number nearest to the root of m * 2^52, by halving an interval that holds the root of m * 2^54, which is twice as large.
-// Callers show that m has 53 or 54 digits.
 fn halved_root(m: u64) -> u64
     requires { ⌜ (2 ^ 52 ≤ m) × (m < 2 ^ 54) ⌝ }
     ensures { λ r. ⌜ NearestRoot (m * 2 ^ 52) r ⌝ }
@@ -39,7 +38,6 @@ fn halved_root(m: u64) -> u64
 }
 
 // The root of the float whose value is m * 2^52 * 4^k in units of 2^-2148. The leading digit of the root adds one to the exponent's field.
-// Callers show that m has 53 or 54 digits and that the root is a float.
 fn scaled_root(m: u64, k: u64) -> f64
     requires { ⌜ (2 ^ 52 ≤ m) × (m ≤ 2 ^ 54 - 2) × (k ≤ 1533) ⌝ }
     ensures { λ r. ⌜ ((x : Float) → HasValue x false (m * 2 ^ 52 * (2 ^ k * 2 ^ k)) (2 ^ 2148) → r ≡ rootOf x) ⌝ }
@@ -47,7 +45,7 @@ fn scaled_root(m: u64, k: u64) -> f64
     f64::from_bits(k * 4503599627370496 + halved_root(m))
 }
 
-// The root of the subnormal number with the pattern b. Callers show that it is one.
+// The root of the subnormal number with the pattern b.
 fn subnormal_root(b: u64) -> f64
     requires { ⌜ (0 < b) × (b < 2 ^ 52) ⌝ }
     ensures { λ r. ⌜ r ≡ rootOf (ofBits binary64 b) ⌝ }
@@ -62,7 +60,6 @@ fn subnormal_root(b: u64) -> f64
 }
 
 // The digits of a normal number, the leading one included, twice if the lowest digit of its exponent, the highest of c, is set.
-// Callers show that c has at most 53 digits.
 fn even_digits(c: u64) -> u64
     requires { ⌜ c < 2 ^ 53 ⌝ }
     ensures { λ r. ⌜ r ≡ (c % 2 ^ 52 + 2 ^ 52) * (1 + c / 2 ^ 52) ⌝ }
@@ -75,7 +72,6 @@ fn even_digits(c: u64) -> u64
 
 // The root of the number with the pattern b, by halving. With 1021 added to the exponent's field of a normal number, half of that is the
 // root's.
-// Callers show that the number is above 0 and finite.
 fn careful_root(b: u64) -> f64
     requires { ⌜ (0 < b) × (b < 2047 * 2 ^ 52) ⌝ }
     ensures { λ r. ⌜ r ≡ rootOf (ofBits binary64 b) ⌝ }
@@ -166,7 +162,7 @@ fn near_parabola(piece: u64) -> Parabola {
 
 // A guess at the root of the float x, from 1 to 4, with the pattern b. h is near 1/(2 * sqrt(x)). t is near the root and has 26 digits, so
 // that its square is exact, and so is the rest; two terms of the series in the rest mend it. Of a hundred thousand guesses one or two are
-// not the float nearest to the root. Nothing rests on that. Callers show that x lies there.
+// not the float nearest to the root. Nothing rests on that.
 fn guessed_root(b: u64) -> f64
     requires { ⌜ (0x3ff0_0000_0000_0000 ≤ b) × (b < 0x3ff0_0000_0000_0000 + 2 ^ 53) ⌝ }
 {
@@ -183,7 +179,7 @@ fn guessed_root(b: u64) -> f64
 }
 
 // Whether q is the whole number nearest to the root of m * 2^52: rest, m * 2^52 - q * q, lies from 1 - q to q. Its lowest 64 digits are
-// enough, since q is close, and the halves of q keep each product within them. Callers show that q is close, and not 0.
+// enough, since q is close, and the halves of q keep each product within them.
 fn is_nearest(m: u64, q: u64) -> bool
     requires { ⌜ (0 < q) × CloseRoot m q ⌝ }
     ensures { λ r. ⌜ (r ≡ true → NearestRoot (m * 2 ^ 52) q) ⌝ }
@@ -197,7 +193,6 @@ fn is_nearest(m: u64, q: u64) -> bool
 
 // Whether a guess is the root of the float with the pattern b, which is m * 2^-52, from 1 to 4. Its square, rounded, must be less than
 // 2^-43 from that, which 2^-86 tells of the distance's square; then its digits tell. From 1 to 2 they are the pattern less 1022 * 2^52.
-// Callers show that m and b are the digits and the pattern of one float from 1 to 4.
 fn is_root(m: u64, b: u64, guess: f64) -> bool
     requires { ⌜ (2 ^ 52 ≤ m) × (m < 2 ^ 54) × (0x3ff0_0000_0000_0000 ≤ b) × (b < 0x3ff0_0000_0000_0000 + 2 ^ 53)
         × HasValue (ofBits binary64 b) false m (2 ^ 52) ⌝ }
@@ -215,7 +210,6 @@ fn is_root(m: u64, b: u64, guess: f64) -> bool
 
 // The root of the normal number with the pattern b: a guess, and with care where that fails. A jump tells that the guess is the root, and a
 // product with a power of two is exact, so that what is divided by the root waits for neither the test nor the pattern.
-// Callers show that it is a normal number.
 fn normal_root(b: u64) -> f64
     requires { ⌜ (2 ^ 52 ≤ b) × (b < 2047 * 2 ^ 52) ⌝ }
     ensures { λ r. ⌜ r ≡ rootOf (ofBits binary64 b) ⌝ }

@@ -9,6 +9,7 @@ pub mod LookTests
 pub mod Idle
 pub mod LastAnswer
 pub mod Passes
-pub mod CabinetExamples
 pub mod NearestParts
 pub mod PartAnswers
+pub mod PartWalks
+pub mod Roots

@@ -9,13 +9,14 @@ use borrow.Author.Tests.{le-leb, lt-leb, leb-true, leb-false}
 use lib.Dec.{leb}
 use Rattle.geometry.specs.Segment.{rayAdmitted}
 use Rattle.geometry.specs.declared.ray.Ray.{Ray}
+use Rattle.casts.specs.Answer.{limitReached}
 use Rattle.nearest_hit.specs.Nearest.{Indexed, stopped}
 use Rattle.cabinet.specs.declared.part.Part.{Part}
 use Rattle.cabinet.specs.declared.part.Found.{Found}
 use Rattle.cabinet.specs.declared.part.Found.the-variants.{Nothing, Hit, Refused}
 use Rattle.cabinet.specs.declared.part.Progress.{Progress}
 use Rattle.cabinet.specs.Parts.{Areas, meshOf, treeOfPart}
-use Rattle.cabinet.specs.PartCast.{Costed, costing, limitReached, castMoved, ownCast, limited}
+use Rattle.cabinet.specs.PartCast.{Costed, costing, castMoved, ownCast, limited}
 use Rattle.cabinet.specs.Cabinet.{Answer, refusedAfter, answerOf, isRefused, foundNext, nextPart, afterPart, castPart, castParts}
 use Rattle.cabinet.specs.Cabinet.{ownPart, ownParts}
 use Rattle.cabinet.proofs.PartLimits.{limited-within, limited-past, part-limited}

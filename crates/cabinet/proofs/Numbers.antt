@@ -17,8 +17,8 @@ use Rattle.vectors.specs.declared.vec3.Checked.the-variants.{Value, Overflow}
 use Rattle.vectors.specs.declared.vec3.Normalized.{Normalized}
 use Rattle.vectors.specs.declared.vec3.Normalized.the-variants.{Unit as UnitOf, Degenerate}
 use Rattle.geometry.specs.declared.ray.Ray.{Ray}
-use Rattle.casts.specs.Answer.{Answer, hit, none, refused, withValue, withNormal, noRoom, noNormal, outOfBounds, overflow}
-use Rattle.casts.specs.Surface.{outOfRange, facing}
+use Rattle.casts.specs.Answer.{Answer, hit, none, refused, withValue, withNormal, noRoom, noNormal, outOfBounds, overflow, limitReached}
+use Rattle.casts.specs.Surface.{offSegment, facing}
 use Rattle.triangle_cast.specs.Triangle.{flat, triangleNormal, triangleAbove, triangleAt, triangleOf}
 use Rattle.nearest_hit.specs.Nearest.{Indexed, hitAt, noHit, stopped, nextOf, foldFrom}
 use Rattle.tree.specs.Layout.{Tree}
@@ -30,7 +30,7 @@ use Rattle.cabinet.specs.declared.part.Found.{Found}
 use Rattle.cabinet.specs.declared.part.Found.the-variants.{Nothing, Hit, Refused}
 use Rattle.cabinet.specs.declared.part.Progress.{Progress}
 use Rattle.cabinet.specs.Parts.{Areas, meshOf, treeOfPart}
-use Rattle.cabinet.specs.PartCast.{Costed, costing, limitReached, movedRay, needOf, ownCast}
+use Rattle.cabinet.specs.PartCast.{Costed, costing, movedRay, needOf, ownCast}
 use Rattle.cabinet.specs.Cabinet.{isRefused, foundNext, afterPart, ownPart, ownParts}
 use Rattle.cabinet.proofs.Limits.{after-refused, after-begun}
 
@@ -65,7 +65,7 @@ unfolding triangleAbove
 above-plain r offset a b inverse u =
     either (lt (dotOf (r .direction) (crossOf offset a) *ᶠ inverse) zeroᶠ) none _ refl
     (either (lt oneᶠ (u +ᶠ (dotOf (r .direction) (crossOf offset a) *ᶠ inverse))) none _ refl
-    (either (outOfRange r (dotOf b (crossOf offset a) *ᶠ inverse)) none _ refl
+    (either (offSegment r (dotOf b (crossOf offset a) *ᶠ inverse)) none _ refl
     (either (isNan (dotOf b (crossOf offset a) *ᶠ inverse)) (refused overflow) _ refl
     (triangle-normal-plain r a b (dotOf b (crossOf offset a) *ᶠ inverse)))))
 

@@ -13,7 +13,7 @@ use Rattle.vectors.specs.declared.vec3.Vec3.{Vec3}
 use Rattle.geometry.specs.Segment.{rayAdmitted, segmentEnd}
 use Rattle.geometry.specs.declared.ray.Ray.{Ray}
 use Rattle.casts.specs.Answer as Casts
-use Rattle.casts.specs.Answer.{invalidInput, badShape, noRoom, wrongPose, overflow}
+use Rattle.casts.specs.Answer.{invalidInput, badShape, noRoom, wrongPose, overflow, limitReached}
 use Rattle.casts.proofs.AnswerLists.{IsNumber}
 use Rattle.nearest_hit.specs.Nearest.{Indexed, hitAt, noHit, stopped, nearestOf, withoutIndex}
 use Rattle.nearest_hit.proofs.IndexedCases.{hit-not-stopped}
@@ -34,7 +34,7 @@ use Rattle.cabinet.specs.declared.part.Part.{Part}
 use Rattle.cabinet.specs.declared.part.Found.{Found}
 use Rattle.cabinet.specs.declared.part.Found.the-variants.{Nothing, Hit, Refused}
 use Rattle.cabinet.specs.Parts.{Areas, meshOf, treeOfPart, shapeFits, roomFits}
-use Rattle.cabinet.specs.PartCast.{limitReached, movedRay}
+use Rattle.cabinet.specs.PartCast.{movedRay}
 use Rattle.cabinet.specs.Cabinet.{Answer, hitIn, noneAfter, refused, refusedAfter, answerWith, answerOf, beginning, castParts}
 use Rattle.cabinet.specs.Cabinet.{allParts, castCabinet, withResults}
 use Rattle.cabinet.specs.Promises.{nearestPart, alone, Passes, needed, answerAt}

@@ -14,7 +14,7 @@ use Rattle.geometry.specs.Segment.{unitLength, rangeAdmitted, rayAdmitted, segm
 use Rattle.vectors.specs.declared.vec3.Vec3.{Vec3}
 use Rattle.geometry.specs.declared.ray.Ray.{Ray}
 use Rattle.geometry.proofs.BoxLaws.{segment-box-valid}
-use Rattle.casts.specs.Answer.{overflow}
+use Rattle.casts.specs.Answer.{overflow, limitReached}
 use Rattle.nearest_hit.specs.Nearest.{Indexed, stopped}
 use Rattle.tree.specs.Layout.{Tree}
 use Rattle.tree.specs.Mesh.{Mesh, thirds}
@@ -23,7 +23,7 @@ use Rattle.tree_walk.specs.Walk.{walkOf}
 use Rattle.tree_walk.specs.Looking.{Looked, looked, usedUp, nodesLooked, walkWithin}
 use Rattle.tree_walk.proofs.Limits.{within-is}
 use Rattle.mesh.specs.MeshCast.{overWalk, meshCast}
-use Rattle.cabinet.specs.PartCast.{Costed, costing, limitReached, afterLook, castWithin, movedRay, castMoved, needOf, ownCast}
+use Rattle.cabinet.specs.PartCast.{Costed, costing, afterLook, castWithin, movedRay, castMoved, needOf, ownCast}
 use Rattle.cabinet.specs.PartCast.{limited}
 
 -- a ray moved to a finite origin is admitted as it was

@@ -10,14 +10,13 @@ use lib.Ieee.{Float}
 use Rattle.vectors.specs.declared.vec3.Vec3.{Vec3}
 use Rattle.geometry.specs.Segment.{rayAdmitted}
 use Rattle.geometry.specs.declared.ray.Ray.{Ray}
-use Rattle.casts.specs.Answer.{invalidInput, badShape, noRoom}
+use Rattle.casts.specs.Answer.{invalidInput, badShape, noRoom, limitReached}
 use Rattle.lists.proofs.JoinedTests.{and-both, and-first, and-second}
 use Rattle.cabinet.specs.declared.part.Part.{Part}
 use Rattle.cabinet.specs.declared.part.Found.{Found}
 use Rattle.cabinet.specs.declared.part.Found.the-variants.{Nothing, Hit, Refused}
 use Rattle.cabinet.specs.declared.part.Progress.{Progress}
 use Rattle.cabinet.specs.Parts.{Areas, shapeFits, roomFits}
-use Rattle.cabinet.specs.PartCast.{limitReached}
 use Rattle.cabinet.specs.Cabinet.{Answer, hitIn, noneAfter, refused, refusedAfter, answerWith, answerOf, beginning, castParts}
 use Rattle.cabinet.specs.Cabinet.{ownParts, allParts, castCabinet}
 use Rattle.cabinet.specs.Promises.{spentOf, nodesOf, AllChecked, Passes, needed, answerAt, LimitPromises}
@@ -51,13 +50,13 @@ answer-plain (Hit part index normal distance) spent = refl
 answer-plain (Refused number) spent = refl
 
 -- refusals 1, 2 and 3 come before the first part, and from it on a number above them that is at most the limit's
-abbrev pub toldApart : Answer → Bool
-toldApart (refused number) = leb number noRoom
-toldApart (refusedAfter number spent) = ltb noRoom number && leb number limitReached
-toldApart (noneAfter spent) = true
-toldApart (hitIn part triangle normal distance spent) = true
+abbrev pub returnedApart : Answer → Bool
+returnedApart (refused number) = leb number noRoom
+returnedApart (refusedAfter number spent) = ltb noRoom number && leb number limitReached
+returnedApart (noneAfter spent) = true
+returnedApart (hitIn part triangle normal distance spent) = true
 
-found-apart : (f : Found) (spent : ℕ) → plainFound f ≡ true → toldApart (answerWith f spent) ≡ true
+found-apart : (f : Found) (spent : ℕ) → plainFound f ≡ true → returnedApart (answerWith f spent) ≡ true
 found-apart Nothing spent e = refl
 found-apart (Hit part index normal distance) spent e = refl
 found-apart (Refused number) spent e =
@@ -106,14 +105,14 @@ module _ (r : Ray) (a : Areas) (list stack : ℕ) (parts : List Part) (p : Passe
           absurd (true≢false (sym p' ∙ sym (answer-plain (ownParts r a beginning parts .found) (ownParts r a beginning parts .spent)) ∙
           ap notTen own))
 
-  apart-past : (limit : ℕ) → toldApart (answerOf (castParts r a limit beginning parts)) ≡ true
+  apart-past : (limit : ℕ) → returnedApart (answerOf (castParts r a limit beginning parts)) ≡ true
   apart-past limit = go (leb (needed r a list stack parts) limit) refl
     where
-      go : (b : Bool) → leb (needed r a list stack parts) limit ≡ b → toldApart (answerOf (castParts r a limit beginning parts)) ≡ true
+      go : (b : Bool) → leb (needed r a list stack parts) limit ≡ b → returnedApart (answerOf (castParts r a limit beginning parts)) ≡ true
       go true e =
-          ap (λ (s : Progress). toldApart (answerOf s)) (bound limit .suffices (leb-true (needed r a list stack parts) limit e))
+          ap (λ (s : Progress). returnedApart (answerOf s)) (bound limit .suffices (leb-true (needed r a list stack parts) limit e))
           ∙ found-apart (ownParts r a beginning parts .found) (needed r a list stack parts) (parts-plain r a beginning parts refl)
-      go false e = ap toldApart (bound limit .used-up (leb-false (needed r a list stack parts) limit e))
+      go false e = ap returnedApart (bound limit .used-up (leb-false (needed r a list stack parts) limit e))
 
   few : AllChecked a parts → needed r a list stack parts ≤ nodesOf parts
   few c = omega (arith, own-parts-few r a list stack beginning parts c)
@@ -146,15 +145,16 @@ module _ (r : Ray) (a : Areas) (list stack : ℕ) (parts : List Part) (p : Passe
 pub limits-hold : LimitsHold
 limits-hold = promises
 
-pub told-apart : (r : Ray) (a : Areas) (list stack limit : ℕ) (parts : List Part)
-    → toldApart (castCabinet r a list stack limit parts) ≡ true
+pub returned-apart : (r : Ray) (a : Areas) (list stack limit : ℕ) (parts : List Part)
+    → returnedApart (castCabinet r a list stack limit parts) ≡ true
 unfolding castCabinet
-told-apart r a list stack limit parts = go (rayAdmitted r) refl (allParts (shapeFits a) parts) refl (allParts (roomFits a list stack) parts)
+returned-apart r a list stack limit parts = go (rayAdmitted r) refl (allParts (shapeFits a) parts) refl
+    (allParts (roomFits a list stack) parts)
     refl
   where
     go : (b : Bool) → rayAdmitted r ≡ b → (c : Bool) → allParts (shapeFits a) parts ≡ c → (d : Bool)
         → allParts (roomFits a list stack) parts ≡ d
-        → toldApart (cond b (cond c (cond d (answerOf (castParts r a limit beginning parts)) (refused noRoom)) (refused badShape))
+        → returnedApart (cond b (cond c (cond d (answerOf (castParts r a limit beginning parts)) (refused noRoom)) (refused badShape))
         (refused invalidInput)) ≡ true
     go true e true f true g = apart-past r a list stack parts (record { ray = e; shapes = f; rooms = g }) limit
     go true e true f false g = refl

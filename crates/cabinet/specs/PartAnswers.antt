@@ -7,11 +7,12 @@ use lib.Ieee.{Float, lt, le}
 use lib.ListN.{length, getD}
 use Rattle.vectors.specs.declared.vec3.Vec3.{Vec3}
 use Rattle.geometry.specs.declared.ray.Ray.{Ray}
+use Rattle.casts.specs.Answer.{limitReached}
 use Rattle.nearest_hit.specs.Nearest.{Indexed, hitAt, noHit, stopped}
 use Rattle.mesh.specs.Demand3.{PassesCheck, NearestHit}
 use Rattle.cabinet.specs.declared.part.Part.{Part}
 use Rattle.cabinet.specs.Parts.{Areas, meshOf, treeOfPart}
-use Rattle.cabinet.specs.PartCast.{limitReached, movedRay}
+use Rattle.cabinet.specs.PartCast.{movedRay}
 use Rattle.cabinet.specs.Cabinet.{Answer, hitIn, noneAfter, refusedAfter}
 use Rattle.cabinet.specs.Promises.{alone}
 use Rattle.cabinet.specs.Steps.{noPart}

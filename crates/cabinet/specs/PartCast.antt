@@ -8,16 +8,12 @@ use Rattle.vectors.specs.Vector.{finiteVec, subOf}
 use Rattle.geometry.specs.Segment.{segmentEnd, segmentBox}
 use Rattle.vectors.specs.declared.vec3.Vec3.{Vec3}
 use Rattle.geometry.specs.declared.ray.Ray.{Ray}
-use Rattle.casts.specs.Answer.{overflow}
+use Rattle.casts.specs.Answer.{overflow, limitReached}
 use Rattle.nearest_hit.specs.Nearest.{Indexed, stopped}
 use Rattle.tree.specs.Layout.{Tree}
 use Rattle.tree.specs.Mesh.{Mesh, thirds}
 use Rattle.tree_walk.specs.Looking.{Looked, looked, usedUp, nodesLooked, walkWithin}
 use Rattle.mesh.specs.MeshCast.{overWalk, meshCast}
-
--- the table's number for a limit that is used up
-abbrev pub limitReached : ℕ
-limitReached = 10
 
 -- an answer with the nodes spent on it
 pub record Costed : Type 0 where

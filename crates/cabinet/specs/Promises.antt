@@ -8,7 +8,7 @@ use Rattle.vectors.specs.Vector.{finiteVec, subOf}
 use Rattle.geometry.specs.Segment.{rayAdmitted}
 use Rattle.vectors.specs.declared.vec3.Vec3.{Vec3}
 use Rattle.geometry.specs.declared.ray.Ray.{Ray}
-use Rattle.casts.specs.Answer.{overflow}
+use Rattle.casts.specs.Answer.{overflow, limitReached}
 use Rattle.nearest_hit.specs.Nearest.{Indexed, stopped}
 use Rattle.tree.specs.Layout.{Tree}
 use Rattle.tree.specs.Mesh.{Mesh}
@@ -18,7 +18,7 @@ use Rattle.cabinet.specs.declared.part.Part.{Part}
 use Rattle.cabinet.specs.declared.part.Found.{Found}
 use Rattle.cabinet.specs.declared.part.Found.the-variants.{Nothing}
 use Rattle.cabinet.specs.Parts.{Areas, meshOf, treeOfPart, shapeFits, roomFits}
-use Rattle.cabinet.specs.PartCast.{limitReached, movedRay}
+use Rattle.cabinet.specs.PartCast.{movedRay}
 use Rattle.cabinet.specs.Cabinet.{Answer, hitIn, noneAfter, refused, refusedAfter, answerWith, answerOf, foundNext, nextPart}
 use Rattle.cabinet.specs.Cabinet.{beginning, castParts, ownParts, allParts, castCabinet}
 

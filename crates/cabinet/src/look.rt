@@ -58,7 +58,7 @@ fn shape_fits(p: Part, s: Look) -> bool
     ranges::shape_admitted(p.vertices.length, p.triangles.length, p.nodes)
 }
 
-// Refusal 3 of a part. Callers show that its triangles are few, so that no product wraps.
+// Refusal 3 of a part.
 fn room_fits(p: Part, s: Look) -> bool
     requires { ⌜ thirds (p .triangles .length) ≤ 65536 ⌝ }
     ensures { λ r. ⌜ r ≡ lookRoom s p ⌝ }

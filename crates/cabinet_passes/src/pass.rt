@@ -1,5 +1,4 @@
 use crate::step::cast_part;
-use cabinet::look;
 use cabinet::look::look_part;
 use cabinet::part::Found;
 use cabinet::part::Look;
@@ -10,7 +9,7 @@ use casts::answer;
 use geometry::ray::Ray;
 ghost use mathlib.Core.Path.{_≡_};
 ghost use lib.ListN.{length};
-ghost use Rattle.cabinet.specs.Steps.{begun, stepParts, passes, areas, Kept, KeptByBoth};
+ghost use Rattle.cabinet.specs.Steps.{begun, stepParts, areas, Kept};
 ghost use Rattle.cabinet.specs.Looks.{lookParts};
 
 // The first pass: all parts are looked at, in list order, before the first is cast at.
@@ -62,53 +61,6 @@ pub fn cast_all(
         i += 1;
     }
     s
-}
-
-// Two passes over the list: nothing of the second is done before the first has seen every part.
-pub fn cast_twice(
-    parts: &[Part],
-    vertices: &[f64],
-    triangles: &[u32],
-    node_boxes: &[f64],
-    triangle_boxes: &[f64],
-    node_words: &[u32],
-    order: &[u32],
-    list: &mut [u32],
-    stack: &mut [u32],
-    start: State,
-) -> State
-    ensures { λ r. ⌜ (r ≡ passes (areas (now (vertices .entry)) (now (triangles .entry)) (now («node_boxes» .entry))
-        (now («triangle_boxes» .entry)) (now («node_words» .entry)) (now (order .entry))) (length (now (list .entry)))
-        (length (now (stack .entry))) start (now (parts .entry)))
-        × KeptByBoth (areas (now (vertices .entry)) (now (triangles .entry)) (now («node_boxes» .entry)) (now («triangle_boxes» .entry))
-        (now («node_words» .entry)) (now (order .entry))) (length (now (list .entry))) (length (now (stack .entry))) start
-        (now (parts .entry)) (now (list .entry)) (now (list .exit)) (now (stack .entry)) (now (stack .exit)) ⌝ }
-{
-    let looking = look::look_from(
-        start,
-        vertices.len(),
-        triangles.len(),
-        node_boxes.len(),
-        triangle_boxes.len(),
-        node_words.len(),
-        order.len(),
-        list.len(),
-        stack.len(),
-    );
-    let looked = look_all(parts, looking);
-    let between = look::turn(start, looked);
-    cast_all(
-        parts,
-        vertices,
-        triangles,
-        node_boxes,
-        triangle_boxes,
-        node_words,
-        order,
-        list,
-        stack,
-        between,
-    )
 }
 
 // Before the first pass: a ray that is not admitted is 1, and result slices that do not fit are 3.

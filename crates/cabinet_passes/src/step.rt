@@ -1,8 +1,8 @@
+use cabinet::own;
 use cabinet::part::Part;
 use cabinet::part::State;
 use cabinet::ranges;
 use cabinet::refusing;
-use cabinet_cast::own;
 use casts::answer;
 ghost use mathlib.Core.Path.{_≡_};
 ghost use lib.ListN.{length};

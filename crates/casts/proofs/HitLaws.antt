@@ -2,8 +2,9 @@
 -- range. Assumes nothing.
 use Prim.Native.Nat.{ℕ}
 use mathlib.Core.Path.{_≡_, refl, subst}
-use mathlib.Core.Bool.{Bool, true, false, _||_, cond}
+use mathlib.Core.Bool.{Bool, true, false, cond}
 use lib.Ieee.{Float, lt, le, isNan}
+use Rattle.lists.proofs.JoinedTests.{neither-first}
 use Rattle.arithmetic.specs.Basic.{isFinite, absolute}
 use Rattle.arithmetic.proofs.Numbers.{finite-number}
 use Rattle.arithmetic.proofs.Order.{le-of-not-lt}
@@ -17,7 +18,7 @@ use Rattle.vectors.specs.declared.vec3.Normalized.{Normalized}
 use Rattle.vectors.specs.declared.vec3.Normalized.the-variants.{Unit as UnitOf, Degenerate}
 use Rattle.geometry.specs.declared.ray.Ray.{Ray}
 use Rattle.casts.specs.Answer.{Answer, hit, none, refused, withValue, withNormal, invalidInput, badShape, overflow}
-use Rattle.casts.specs.Surface.{outOfRange, facing}
+use Rattle.casts.specs.Surface.{offSegment, facing}
 use Rattle.casts.specs.Plane.{parallel, planeAdmitted, planeAt, planeCast, rayPlane}
 use Rattle.casts.specs.declared.plane.Plane.{Plane}
 use Rattle.casts.proofs.AnswerLists.{OfHit, none-not-hit, hit-not-refused}
@@ -54,15 +55,11 @@ module _ (P : Float → Type 0) where
 -- a distance that is a number, not below near and not above the maximum
 pub record Measured (r : Ray) (distance : Float) : Type 0 where
   pub number : isNan distance ≡ false
-  pub in-range : outOfRange r distance ≡ false
-
-neither-first : (a b : Bool) → (a || b) ≡ false → a ≡ false
-neither-first true b h = h
-neither-first false b h = refl
+  pub in-range : offSegment r distance ≡ false
 
 -- "hits from a near distance on"
 pub not-below-near : (r : Ray) (distance : Float) → Measured r distance → lt distance (r .near) ≡ false
-unfolding outOfRange
+unfolding offSegment
 not-below-near r distance m = neither-first (lt distance (r .near)) (lt (r .«max_distance») distance) (m .in-range)
 
 pub from-near-on : (r : Ray) (distance : Float) → isNan (r .near) ≡ false → Measured r distance → le (r .near) distance ≡ true
@@ -74,8 +71,8 @@ module _ (r : Ray) where
   unfolding planeAt
   plane-at-measured plane denominator distance =
       let kept = hit (facing (plane .normal) denominator) distance in
-      of-cond (Measured r) (isFinite distance) (cond (outOfRange r distance) none kept) (refused overflow) (λ finite.
-      of-cond (Measured r) (outOfRange r distance) none kept (λ _. of-none (Measured r)) (λ inside.
+      of-cond (Measured r) (isFinite distance) (cond (offSegment r distance) none kept) (refused overflow) (λ finite.
+      of-cond (Measured r) (offSegment r distance) none kept (λ _. of-none (Measured r)) (λ inside.
       of-hit (Measured r) (facing (plane .normal) denominator) distance
       (record { number = finite-number distance finite; in-range = inside })))
       (λ _. of-refused (Measured r) overflow)

@@ -12,7 +12,7 @@ use Rattle.casts.specs.Answer.{Answer, refused, overflow, withValue}
 use Rattle.casts.specs.Plane.{planeAt}
 use Rattle.casts.specs.declared.plane.Plane.{Plane}
 
-endless-or-nan : (b : Bool) (s : Bool) → isFinite (cond b (inf s) nan) ≡ false
+pub endless-or-nan : (b : Bool) (s : Bool) → isFinite (cond b (inf s) nan) ≡ false
 unfolding isFinite
 endless-or-nan true s = refl
 endless-or-nan false s = refl

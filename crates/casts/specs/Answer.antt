@@ -9,7 +9,7 @@ use Rattle.vectors.specs.declared.vec3.Normalized.the-variants.{Unit as UnitOf,
 use Rattle.casts.specs.declared.answer.Cast.{Cast}
 use Rattle.casts.specs.declared.answer.Cast.the-variants.{Hit, None, Refused}
 
--- the table's numbers
+-- the table's numbers: 1 to 8 are document 01's, 9 to 11 document 02's, 12 is the exact cast's
 abbrev pub invalidInput : ℕ
 invalidInput = 1
 
@@ -33,6 +33,18 @@ noNormal = 7
 
 abbrev pub notConvergent : ℕ
 notConvergent = 8
+
+abbrev pub badRange : ℕ
+badRange = 9
+
+abbrev pub limitReached : ℕ
+limitReached = 10
+
+abbrev pub notHeld : ℕ
+notHeld = 11
+
+abbrev pub outOfRange : ℕ
+outOfRange = 12
 
 -- an answer in document 01's words
 pub data Answer : Type 0 where

@@ -7,7 +7,7 @@ use Rattle.vectors.specs.Vector.{checkedDot}
 use Rattle.geometry.specs.Segment.{closeToUnitLength, rayAdmitted}
 use Rattle.geometry.specs.declared.ray.Ray.{Ray}
 use Rattle.casts.specs.Answer.{Answer, hit, none, refused, withValue, invalidInput, badShape, overflow}
-use Rattle.casts.specs.Surface.{outOfRange, facing}
+use Rattle.casts.specs.Surface.{offSegment, facing}
 use Rattle.casts.specs.declared.plane.Plane.{Plane}
 
 -- 32·EPS, which is 2^-47
@@ -21,7 +21,7 @@ planeAdmitted plane = closeToUnitLength (plane .normal) && isFinite (plane .dist
 -- "a distance that is not finite is 6; below 0 or above the maximum is none", below near in place of 0
 unfoldable pub planeAt : Plane → Ray → Float → Float → Answer
 planeAt plane r denominator distance =
-    cond (isFinite distance) (cond (outOfRange r distance) none (hit (facing (plane .normal) denominator) distance)) (refused overflow)
+    cond (isFinite distance) (cond (offSegment r distance) none (hit (facing (plane .normal) denominator) distance)) (refused overflow)
 
 -- "miss if the absolute denominator is at most 32·EPS": before the origin's dot can refuse
 unfoldable pub planeCast : Plane → Ray → Answer

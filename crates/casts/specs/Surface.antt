@@ -7,8 +7,8 @@ use Rattle.vectors.specs.declared.vec3.Vec3.{Vec3}
 use Rattle.geometry.specs.declared.ray.Ray.{Ray}
 
 -- "Every cast treats a distance below near as it treated one below 0"; "above the maximum" is out of range too, and NaN is neither
-unfoldable pub outOfRange : Ray → Float → Bool
-outOfRange r distance = lt distance (r .near) || lt (r .«max_distance») distance
+unfoldable pub offSegment : Ray → Float → Bool
+offSegment r distance = lt distance (r .near) || lt (r .«max_distance») distance
 
 -- "The normal faces the ray": `along` is its dot with the direction
 unfoldable pub facing : Vec3 → Float → Vec3

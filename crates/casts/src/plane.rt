@@ -33,7 +33,7 @@ fn plane_at(plane: Plane, ray: Ray, denominator: f64, distance: f64) -> Cast
     if !basic::is_finite(distance) {
         return Cast::Refused(answer::OVERFLOW);
     }
-    if surface::out_of_range(ray, distance) {
+    if surface::off_segment(ray, distance) {
         return Cast::None;
     }
     Cast::Hit {

@@ -4,11 +4,11 @@ ghost use mathlib.Core.Path.{_≡_};
 ghost use mathlib.Core.Bool.{cond};
 ghost use lib.Ieee.{lt, neg};
 ghost use Rattle.vectors.specs.Numbers.{zeroᶠ, oneᶠ};
-ghost use Rattle.casts.specs.Surface.{outOfRange, facing};
+ghost use Rattle.casts.specs.Surface.{offSegment, facing};
 
 // Whether a distance is below near or above the maximum; NaN is neither.
-pub fn out_of_range(ray: Ray, distance: f64) -> bool
-    ensures { λ r. ⌜ r ≡ outOfRange ray distance ⌝ }
+pub fn off_segment(ray: Ray, distance: f64) -> bool
+    ensures { λ r. ⌜ r ≡ offSegment ray distance ⌝ }
 {
     if distance < ray.near {
         return true;

@@ -9,17 +9,17 @@ use lib.Dec.{ltb}
 use lib.ListN.{length, drop}
 use lib.Seq.{sets, sets-eq}
 use Rattle.float_forms.specs.declared.forms.Form.{Form}
-use Rattle.record_forms.specs.declared.shape.Plan.{Plan}
-use Rattle.record_forms.specs.declared.shape.Planned.the-variants.{Is, Malformed}
+use Rattle.conversion.specs.declared.shape.Plan.{Plan}
+use Rattle.conversion.specs.declared.shape.Planned.the-variants.{Is, Malformed}
 use Rattle.float_forms.specs.Forms.{sizeOf}
 use Rattle.float_forms.specs.Bytes.{numbersOf}
-use Rattle.record_forms.specs.Records.{bodyLength, saidOf, wellFormed}
+use Rattle.conversion.specs.Records.{bodyLength, saidOf, wellFormed}
 use Rattle.float_forms.specs.Holding.{every, held}
-use Rattle.record_forms.specs.Writing.{everySaid, turned}
+use Rattle.conversion.specs.Writing.{everySaid, turned}
 use Rattle.conversion.specs.Convert.{saidHeld, written, refused, Outcome, converted}
-use Rattle.record_forms.specs.Plans.{planOf, planned, Known, sizeFor}
-use Rattle.record_forms.proofs.Lengths.{turned-length}
-use Rattle.record_forms.proofs.WritingLaws.{Sizes, sizes}
+use Rattle.conversion.specs.Plans.{planOf, planned, Known, sizeFor}
+use Rattle.conversion.proofs.Lengths.{turned-length}
+use Rattle.conversion.proofs.WritingLaws.{Sizes, sizes}
 
 -- ---- the floats
 

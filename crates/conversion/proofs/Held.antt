@@ -12,9 +12,9 @@ use Rattle.float_forms.specs.declared.forms.Form.{Form}
 use Rattle.float_forms.specs.declared.forms.Form.the-variants.{Long, Short}
 use Rattle.float_forms.specs.Forms.{sizeOf, formatOf}
 use Rattle.float_forms.specs.Bytes.{numberOf, numbersOf}
-use Rattle.record_forms.specs.Records.{Said, kindOf, countsOf, manyNumbers, numbersPlace, saidOf}
+use Rattle.conversion.specs.Records.{Said, kindOf, countsOf, manyNumbers, numbersPlace, saidOf}
 use Rattle.float_forms.specs.Holding.{every, isNumber, fitsIn, held}
-use Rattle.record_forms.specs.Writing.{everySaid, saidFits}
+use Rattle.conversion.specs.Writing.{everySaid, saidFits}
 use Rattle.conversion.specs.Convert.{withoutNan, saidHeld}
 use Rattle.float_forms.proofs.Numbers.{number-fits}
 use Rattle.float_forms.proofs.RunLaws.{number-held, fits-held, first-of, rest-of}

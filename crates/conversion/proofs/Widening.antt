@@ -9,13 +9,13 @@ use lib.Ieee.Bits.{is-true}
 use lib.ListN.{length, getD, take, drop, length-drop, List·getD-eq-default}
 use lib.Seq.{sets, sets-eq, take-at, drop-append-le}
 use Rattle.float_forms.specs.declared.forms.Form.the-variants.{Long, Short}
-use Rattle.record_forms.specs.declared.shape.Plan.{Plan}
-use Rattle.record_forms.specs.declared.shape.Planned.the-variants.{Is, Malformed}
-use Rattle.record_forms.specs.Records.{wellFormed}
-use Rattle.record_forms.specs.Writing.{turned}
+use Rattle.conversion.specs.declared.shape.Plan.{Plan}
+use Rattle.conversion.specs.declared.shape.Planned.the-variants.{Is, Malformed}
+use Rattle.conversion.specs.Records.{wellFormed}
+use Rattle.conversion.specs.Writing.{turned}
 use Rattle.conversion.specs.Convert.{widened}
-use Rattle.record_forms.specs.Plans.{planOf, planned, Known, sizeFor}
-use Rattle.record_forms.proofs.WritingLaws.{sizes, size-below}
+use Rattle.conversion.specs.Plans.{planOf, planned, Known, sizeFor}
+use Rattle.conversion.proofs.WritingLaws.{sizes, size-below}
 use Rattle.conversion.proofs.ConvertLaws.{size-is}
 
 pub widened-is : (l : List ℕ) → T (wellFormed Short l) → widened l ≡ turned Short Long l

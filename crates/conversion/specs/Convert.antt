@@ -4,13 +4,14 @@ use mathlib.Core.Bool.{Bool, cond}
 use mathlib.Core.List.{List, [], _++_}
 use lib.Dec.{ltb}
 use lib.ListN.{length, drop}
+use Rattle.casts.specs.Answer.{badShape, noRoom, notHeld}
 use Rattle.float_forms.specs.declared.forms.Form.{Form}
 use Rattle.float_forms.specs.declared.forms.Form.the-variants.{Long, Short}
 use Rattle.float_forms.specs.declared.forms.Converted.{Converted}
 use Rattle.float_forms.specs.declared.forms.Converted.the-variants.{Written, Refused}
-use Rattle.record_forms.specs.Records.{Said, saidOf, wellFormed}
+use Rattle.conversion.specs.Records.{Said, saidOf, wellFormed}
 use Rattle.float_forms.specs.Holding.{isNumber, held}
-use Rattle.record_forms.specs.Writing.{everySaid, turned}
+use Rattle.conversion.specs.Writing.{everySaid, turned}
 
 -- no float is a NaN
 abbrev pub withoutNan : Said → Bool
@@ -39,11 +40,11 @@ pub record Outcome : Type 0 where
 unfoldable pub converted : Form → Form → List ℕ → List ℕ → Outcome
 converted p q bytes area =
     cond (wellFormed p bytes)
-    (cond (ltb (length area) (length (turned p q bytes))) record { answer = refused 3; area = area }
+    (cond (ltb (length area) (length (turned p q bytes))) record { answer = refused noRoom; area = area }
     (cond (saidHeld q (saidOf p bytes))
     record { answer = written (length (turned p q bytes)); area = turned p q bytes ++ drop (length (turned p q bytes)) area }
-    record { answer = refused 11; area = area }))
-    record { answer = refused 2; area = area }
+    record { answer = refused notHeld; area = area }))
+    record { answer = refused badShape; area = area }
 
 -- what `probe` reads: a record of version 3 as one of version 2, a NaN as a NaN; nothing if it is malformed
 unfoldable pub widened : List ℕ → List ℕ

@@ -2,4 +2,3 @@
 pub mod CubicLaws
 pub mod ValueLaws
 pub mod UnitLaws
-pub mod Examples

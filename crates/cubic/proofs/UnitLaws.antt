@@ -1,10 +1,10 @@
 -- The points that the root search asks lie from 0 to 1, so that each value whose sign it asks is no NaN. Assumes nothing.
 use mathlib.Core.Path.{_≡_, refl, sym, ap, subst, _∙_}
 use mathlib.Core.Bool.{Bool, true, false, cond, false≢true, Bool·beq}
-use Prim.Native.Nat.{ℕ, zero, suc, _+_, _*_, _^_, _≤_, _<_}
+use Prim.Native.Nat.{ℕ, _+_, _*_, _≤_, _<_}
 use native.Mathlib.Nat.{mul-pos, mul-le-mul-right, mul-right-comm, mul-comm}
 use native.Mathlib.Omega.{arith}
-use lib.Dec.{T, ltb}
+use lib.Dec.{T}
 use lib.IntN.{ℤ, pos, negsuc}
 use lib.Ieee.{Float, nan, inf, fin, binary64, ofBits, up, down, round, sum, add, mul, fits, isNan, lt, le}
 use lib.Ieee.Fits.{down-pos, mul-fits, add-fits}
@@ -14,7 +14,9 @@ use lib.Ieee.Bits.{is-true}
 use Rattle.arithmetic.specs.Basic.{isFinite, absolute, signPositive}
 use Rattle.arithmetic.proofs.Order.{not-lt-of-le}
 use Rattle.arithmetic.proofs.Bounds.{plain, round-plain}
+use Rattle.arithmetic.proofs.Exactness.{round-one}
 use Rattle.vectors.specs.Numbers.{_+ᶠ_, _*ᶠ_, zeroᶠ, oneᶠ, halfᶠ}
+use Rattle.vectors.proofs.Constants.{zero-is, one-is}
 use Rattle.cubic.specs.Polynomial.{cubicBy, cubicOf, evaluate, finiteCubic}
 use Rattle.cubic.specs.Turns.{betweenEnds}
 use Rattle.cubic.specs.Halving.{middleOf, halveAt, halve}
@@ -49,10 +51,6 @@ half-round : round binary64 false 1 2 ≡ fin false 1 (negsuc 0)
 unfolding round
 half-round = refl
 
-one-round : round binary64 false 1 1 ≡ fin false 1 (pos 0)
-unfolding round
-one-round = refl
-
 rounded-half : (num den : ℕ) → 0 < den → num * 2 ≤ 1 * den → Below 2 (round binary64 false num den)
 rounded-half num den d h =
     let l : le (round binary64 false num den) (round binary64 false 1 2) ≡ true = is-true
@@ -67,7 +65,7 @@ rounded-one num den d h =
     (le (round binary64 false num den) (round binary64 false 1 1)) (round-mono binary64 num den 1 1 d (omega arith) h) in
     below-one (round binary64 false num den) (round-plain num den)
     (not-lt-of-le (round binary64 false num den) (fin false 1 (pos 0))
-    (subst (λ (y : Float). le (round binary64 false num den) y ≡ true) one-round l))
+    (subst (λ (y : Float). le (round binary64 false num den) y ≡ true) round-one l))
 
 -- ---- the middle
 half-is : halfᶠ ≡ fin false 1 (negsuc 0)
@@ -103,14 +101,6 @@ unfolding middleOf
 middle-below p q = sum-below (half-below p) (half-below q)
 
 -- ---- the ends and the points between
-zero-is : zeroᶠ ≡ fin false 0 (pos 0)
-unfolding ofBits
-zero-is = refl
-
-one-is : oneᶠ ≡ fin false 1 (pos 0)
-unfolding ofBits
-one-is = refl
-
 pub zero-below : Below 1 zeroᶠ
 zero-below = subst (Below 1) (sym zero-is) (below {k = 1} 0 (pos 0) (omega arith))
 

@@ -1,5 +1,6 @@
 use arithmetic::basic;
 use arithmetic::extremes;
+use vectors::numbers;
 ghost use mathlib.Core.Path.{_≡_};
 ghost use Rattle.cubic.specs.Polynomial.{cubicOf, finiteCubic, evaluate, rootTolerance};
 
@@ -55,5 +56,5 @@ pub fn root_tolerance(cubic: Cubic) -> f64
     let second = extremes::maximum(first, basic::abs(cubic.b));
     let third = extremes::maximum(second, basic::abs(cubic.c));
     let scale = extremes::maximum(third, basic::abs(cubic.d));
-    scale * 2.220446049250313e-16 * 64.0
+    scale * numbers::EPSILON * 64.0
 }

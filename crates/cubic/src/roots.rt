@@ -56,7 +56,7 @@ fn search_two(cubic: Cubic, tolerance: f64, first: f64, second: f64) -> Root
     search_on(middle, cubic, tolerance, second, 1.0)
 }
 
-// The first root between 0, the points where the cubic turns, and 1. Callers show that these points lie strictly between.
+// The first root between 0, the points where the cubic turns, and 1.
 fn search_turns(cubic: Cubic, tolerance: f64, turns: Turns) -> Root
     requires { ⌜ AllBetween (listed turns) ⌝ }
     ensures { λ r. ⌜ r ≡ searchList cubic tolerance (points (listed turns)) ⌝ }

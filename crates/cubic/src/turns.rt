@@ -2,6 +2,7 @@ use crate::polynomial::Cubic;
 use arithmetic::basic;
 use arithmetic::extremes;
 use arithmetic::square_root;
+use vectors::numbers;
 ghost use mathlib.Core.Path.{_≡_};
 ghost use Rattle.cubic.specs.Turns.{listed, betweenEnds, keptPoints, vertex, turningPoints, extrema};
 
@@ -73,9 +74,7 @@ pub fn extrema(cubic: Cubic) -> Turns
 {
     let derivative_a = 3.0 * cubic.a;
     let derivative_b = 2.0 * cubic.b;
-    if basic::abs(derivative_a)
-        <= 2.220446049250313e-16 * extremes::maximum(basic::abs(cubic.b), 1.0)
-    {
+    if basic::abs(derivative_a) <= numbers::EPSILON * extremes::maximum(basic::abs(cubic.b), 1.0) {
         return vertex(derivative_b, cubic.c);
     }
     turning_points(derivative_a, derivative_b, cubic.c)

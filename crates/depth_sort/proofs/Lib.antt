@@ -2,3 +2,4 @@
 pub mod Copying
 pub mod Merging
 pub mod Sorting
+pub mod OrderLaws

@@ -2,3 +2,6 @@
 
 // The sort of two areas at once.
 pub mod order;
+
+// Which of two hits stands first.
+pub mod ahead;

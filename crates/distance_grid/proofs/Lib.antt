@@ -3,4 +3,4 @@ pub mod GridLaws
 pub mod CellLaws
 pub mod NearLaws
 pub mod PlaceLaws
-pub mod Examples
+pub mod ValuedLaws

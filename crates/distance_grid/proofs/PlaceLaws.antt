@@ -18,7 +18,7 @@ use Rattle.vectors.specs.Vector.{finiteVec}
 use Rattle.lists.proofs.JoinedTests.{and-first, and-second}
 use Rattle.vectors.specs.declared.vec3.Vec3.{Vec3}
 use Rattle.distance_grid.specs.Grid.{whole, lastNode, SideStands, SidesStand}
-use Rattle.distance_grid.specs.Places.{topOf, drawnTo, drawn, stays, inBox, drawnPoint, upTo, floorCell, guessHolds, cellBelow}
+use Rattle.distance_grid.specs.Places.{topOf, clampedTo, clamped, stays, inBox, clampedPoint, upTo, floorCell, guessHolds, cellBelow}
 use Rattle.distance_grid.specs.Places.{placeOf, placeAt, locateAxis, withPlace, locateInside, locate}
 use Rattle.distance_grid.specs.Places.{isFraction, Fractions}
 use Rattle.distance_grid.specs.declared.grid.Sides.{Sides}
@@ -34,8 +34,8 @@ use Rattle.arithmetic.proofs.Numbers.{finite-number}
 use Rattle.cubic.proofs.ValueLaws.{sum-finite-number, value-finite}
 
 -- ---- a point in the box is not drawn
-stays-there : (p o s : Float) (side : ℕ) → stays p o (lastNode o s side) ≡ true → p ≡ drawn p o s side
-unfolding stays drawn drawnTo
+stays-there : (p o s : Float) (side : ℕ) → stays p o (lastNode o s side) ≡ true → p ≡ clamped p o s side
+unfolding stays clamped clampedTo
 stays-there p o s side = go (lt p o) (lt (lastNode o s side) p)
   where
     go : (a b : Bool) → cond a false (cond b false true) ≡ true → p ≡ cond a o (cond b (topOf o s (lastNode o s side)) p)
@@ -43,8 +43,8 @@ stays-there p o s side = go (lt p o) (lt (lastNode o s side) p)
     go false true h = absurd (false≢true h)
     go false false h = refl
 
-pub in-box-stays : (g : Grid) (p : Vec3) → inBox g p ≡ true → p ≡ drawnPoint g p
-unfolding inBox drawnPoint
+pub in-box-stays : (g : Grid) (p : Vec3) → inBox g p ≡ true → p ≡ clampedPoint g p
+unfolding inBox clampedPoint
 in-box-stays g p h =
     let on-x = stays (p .x) (g .origin .x) (lastNode (g .origin .x) (g .spacing .x) (g .sides .x)) in
     let on-y = stays (p .y) (g .origin .y) (lastNode (g .origin .y) (g .spacing .y) (g .sides .y)) in
@@ -110,9 +110,9 @@ cell-kept near last l = go (ltb near last) (ltb-false near last)
 same-place : (raw : Float) (near side : ℕ) → isFinite raw ≡ true → raw ≡ clampTo raw zeroᶠ (whole (side - 1))
     → near ≡ upTo (side - 2) (floorCell raw) → PlaceAt near (clampTo (raw -ᶠ whole near) zeroᶠ oneᶠ) ≡ placeAt raw side
 unfolding placeAt placeOf cellBelow
-same-place raw near side finite clamped cell =
+same-place raw near side finite clamps cell =
     ap (λ (k : ℕ). PlaceAt k (clampTo (raw -ᶠ whole k) zeroᶠ oneᶠ)) cell
-    ∙ ap (λ (x : Float). PlaceAt (upTo (side - 2) (floorCell x)) (clampTo (x -ᶠ whole (upTo (side - 2) (floorCell x))) zeroᶠ oneᶠ)) clamped
+    ∙ ap (λ (x : Float). PlaceAt (upTo (side - 2) (floorCell x)) (clampTo (x -ᶠ whole (upTo (side - 2) (floorCell x))) zeroᶠ oneᶠ)) clamps
     ∙ sym (ap (λ (b : Bool). cond b (placeOf (clampTo raw zeroᶠ (whole (side - 1))) side) NoPlace) finite)
 
 pub guessed-place : (raw : Float) (near side : ℕ) → T (fits binary64 raw) → guessHolds raw near side ≡ true
@@ -190,9 +190,9 @@ unfolding locate locateInside
 locate-settled g p s =
     chosen-settled (finiteVec p)
     (all-found (g .sides)
-    (axis-found (drawnPoint g p .x) (g .origin .x) (g .spacing .x) (g .sides .x) (s .on-x))
-    (axis-found (drawnPoint g p .y) (g .origin .y) (g .spacing .y) (g .sides .y) (s .on-y))
-    (axis-found (drawnPoint g p .z) (g .origin .z) (g .spacing .z) (g .sides .z) (s .on-z)))
+    (axis-found (clampedPoint g p .x) (g .origin .x) (g .spacing .x) (g .sides .x) (s .on-x))
+    (axis-found (clampedPoint g p .y) (g .origin .y) (g .spacing .y) (g .sides .y) (s .on-y))
+    (axis-found (clampedPoint g p .z) (g .origin .z) (g .spacing .z) (g .sides .z) (s .on-z)))
     not-settled
 
 cell-of : {s : Sides} {x y z : ℕ} {tx ty tz : Float} → Settled s (At x tx y ty z tz) → (x + 1 < s .x) × ((y + 1 < s .y) × (z + 1 < s .z))

@@ -11,7 +11,7 @@ use Rattle.vectors.specs.Numbers.{_+ᶠ_, _*ᶠ_}
 use Rattle.vectors.specs.Vector.{finiteVec, minOf, maxOf}
 use Rattle.vectors.specs.declared.vec3.Vec3.{Vec3}
 use Rattle.geometry.specs.declared.aabb.Aabb.{Aabb}
-use Rattle.grids.specs.Spacing.{spacingAdmitted}
+use Rattle.geometry.specs.Spacing.{spacingAdmitted}
 use Rattle.distance_grid.specs.declared.grid.Sides.{Sides}
 use Rattle.distance_grid.specs.declared.grid.Grid.{Grid}
 

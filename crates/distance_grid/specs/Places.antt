@@ -26,11 +26,11 @@ topOf origin spacing last = cond (isFinite ((last -ᶠ origin) /ᶠ spacing)) la
 
 -- "A coordinate that a sample or the hit's gradient would refuse with 5 is drawn onto the box or .. moved to the nearest it admits":
 -- one axis, whose nodes run from the origin to the last one; a coordinate between them stays.
-unfoldable pub drawnTo : Float → Float → Float → Float → Float
-drawnTo point origin spacing last = cond (lt point origin) origin (cond (lt last point) (topOf origin spacing last) point)
+unfoldable pub clampedTo : Float → Float → Float → Float → Float
+clampedTo point origin spacing last = cond (lt point origin) origin (cond (lt last point) (topOf origin spacing last) point)
 
-unfoldable pub drawn : Float → Float → Float → ℕ → Float
-drawn point origin spacing side = drawnTo point origin spacing (lastNode origin spacing side)
+unfoldable pub clamped : Float → Float → Float → ℕ → Float
+clamped point origin spacing side = clampedTo point origin spacing (lastNode origin spacing side)
 
 -- neither before the origin nor behind the last node: such a coordinate stays, and a point of three of them
 unfoldable pub stays : Float → Float → Float → Bool
@@ -42,11 +42,11 @@ inBox g p =
     && (stays (p .y) (g .origin .y) (lastNode (g .origin .y) (g .spacing .y) (g .sides .y))
     && stays (p .z) (g .origin .z) (lastNode (g .origin .z) (g .spacing .z) (g .sides .z)))
 
-unfoldable pub drawnPoint : Grid → Vec3 → Vec3
-drawnPoint g p = record {
-  x = drawn (p .x) (g .origin .x) (g .spacing .x) (g .sides .x);
-  y = drawn (p .y) (g .origin .y) (g .spacing .y) (g .sides .y);
-  z = drawn (p .z) (g .origin .z) (g .spacing .z) (g .sides .z);
+unfoldable pub clampedPoint : Grid → Vec3 → Vec3
+clampedPoint g p = record {
+  x = clamped (p .x) (g .origin .x) (g .spacing .x) (g .sides .x);
+  y = clamped (p .y) (g .origin .y) (g .spacing .y) (g .sides .y);
+  z = clamped (p .z) (g .origin .z) (g .spacing .z) (g .sides .z);
 }
 
 -- ---- the place
@@ -93,7 +93,7 @@ locateInside g p =
 
 -- "a point that is not finite is still 6": before any coordinate is drawn
 unfoldable pub locate : Grid → Vec3 → Located
-locate g p = cond (finiteVec p) (locateInside g (drawnPoint g p)) (Refused overflow)
+locate g p = cond (finiteVec p) (locateInside g (clampedPoint g p)) (Refused overflow)
 
 -- what holds of the place in a cell: from 0 to 1 on each axis
 unfoldable pub isFraction : Float → Bool

@@ -1,5 +1,5 @@
 use geometry::aabb::Aabb;
-use grids::spacing;
+use geometry::spacing;
 use vectors::vec3::Vec3;
 ghost use mathlib.Core.Path.{_≡_};
 ghost use Prim.Native.Nat.{_≤_};
@@ -29,7 +29,7 @@ fn side_admitted(side: u32) -> bool
     false
 }
 
-// How many nodes there are. Callers show that the sides are admitted, so that the product does not wrap.
+// How many nodes there are.
 fn node_count(sides: Sides) -> u64
     requires { ⌜ SidesStand sides ⌝ }
     ensures { λ r. ⌜ r ≡ nodes sides ⌝ }
@@ -72,7 +72,7 @@ pub fn is_admitted(grid: Grid, count: usize) -> bool
     grid.origin.is_finite()
 }
 
-// Where the last node of an axis stands. Callers show that the axis has at least two nodes.
+// Where the last node of an axis stands.
 pub fn last_node(origin: f64, spacing: f64, side: u32) -> f64
     requires { ⌜ 2 ≤ side ⌝ }
     ensures { λ r. ⌜ r ≡ lastNode origin spacing side ⌝ }
@@ -80,7 +80,7 @@ pub fn last_node(origin: f64, spacing: f64, side: u32) -> f64
     origin + spacing * (side - 1) as f64
 }
 
-// Where the last node of all stands. Callers show that the grid's sides are admitted.
+// Where the last node of all stands.
 pub fn last_corner(grid: Grid) -> Vec3
     requires { ⌜ SidesStand (grid .sides) ⌝ }
     ensures { λ r. ⌜ r ≡ lastCorner grid ⌝ }
@@ -92,7 +92,7 @@ pub fn last_corner(grid: Grid) -> Vec3
     }
 }
 
-// The box from the origin to the last node, valid or not. Callers show that the grid's sides are admitted.
+// The box from the origin to the last node, valid or not.
 pub fn local_bounds(grid: Grid) -> Aabb
     requires { ⌜ SidesStand (grid .sides) ⌝ }
     ensures { λ r. ⌜ r ≡ gridBox grid ⌝ }

@@ -8,7 +8,7 @@ use vectors::vec3::Vec3;
 ghost use mathlib.Core.Path.{_≡_};
 ghost use Prim.Native.Nat.{_-_, _≤_};
 ghost use Rattle.distance_grid.specs.Grid.{SidesStand, lastNode};
-ghost use Rattle.distance_grid.specs.Places.{topOf, drawn, stays, inBox, drawnPoint, upTo, floorCell, guessHolds, placeAt};
+ghost use Rattle.distance_grid.specs.Places.{topOf, clamped, stays, inBox, clampedPoint, upTo, floorCell, guessHolds, placeAt};
 ghost use Rattle.distance_grid.specs.Places.{locateAxis, locateInside, locate};
 
 // A cell of one axis and where in it a point lies, or that the coordinate is not finite.
@@ -49,10 +49,10 @@ fn top(origin: f64, spacing: f64, last: f64) -> f64
     below::just_below(last)
 }
 
-// A coordinate drawn onto the box on its axis; one inside stays. Callers show that the axis has at least two nodes.
+// A coordinate drawn onto the box on its axis; one inside stays.
 fn draw(point: f64, origin: f64, spacing: f64, side: u32) -> f64
     requires { ⌜ 2 ≤ side ⌝ }
-    ensures { λ r. ⌜ r ≡ drawn point origin spacing side ⌝ }
+    ensures { λ r. ⌜ r ≡ clamped point origin spacing side ⌝ }
 {
     if point < origin {
         return origin;
@@ -64,10 +64,10 @@ fn draw(point: f64, origin: f64, spacing: f64, side: u32) -> f64
     point
 }
 
-// A point drawn onto the box on each axis. Callers show that the grid's sides are admitted.
+// A point drawn onto the box on each axis.
 fn draw_each(grid: Grid, point: Vec3) -> Vec3
     requires { ⌜ SidesStand (grid .sides) ⌝ }
-    ensures { λ r. ⌜ r ≡ drawnPoint grid point ⌝ }
+    ensures { λ r. ⌜ r ≡ clampedPoint grid point ⌝ }
 {
     Vec3 {
         x: draw(point.x, grid.origin.x, grid.spacing.x, grid.sides.x),
@@ -76,7 +76,7 @@ fn draw_each(grid: Grid, point: Vec3) -> Vec3
     }
 }
 
-// Whether a coordinate lies from the origin to the last node of its axis. Callers show that the axis has at least two nodes.
+// Whether a coordinate lies from the origin to the last node of its axis.
 fn stays(point: f64, origin: f64, spacing: f64, side: u32) -> bool
     requires { ⌜ 2 ≤ side ⌝ }
     ensures { λ r. ⌜ r ≡ stays point origin (lastNode origin spacing side) ⌝ }
@@ -90,7 +90,7 @@ fn stays(point: f64, origin: f64, spacing: f64, side: u32) -> bool
     true
 }
 
-// Whether a point lies in the box. Callers show that the grid's sides are admitted.
+// Whether a point lies in the box.
 fn in_box(grid: Grid, point: Vec3) -> bool
     requires { ⌜ SidesStand (grid .sides) ⌝ }
     ensures { λ r. ⌜ r ≡ inBox grid point ⌝ }
@@ -104,10 +104,10 @@ fn in_box(grid: Grid, point: Vec3) -> bool
     stays(point.z, grid.origin.z, grid.spacing.z, grid.sides.z)
 }
 
-// A point drawn onto the box. One in the box, as most are, stays as it is. Callers show that the grid's sides are admitted.
+// A point drawn onto the box. One in the box, as most are, stays as it is.
 fn draw_point(grid: Grid, point: Vec3) -> Vec3
     requires { ⌜ SidesStand (grid .sides) ⌝ }
-    ensures { λ r. ⌜ r ≡ drawnPoint grid point ⌝ }
+    ensures { λ r. ⌜ r ≡ clampedPoint grid point ⌝ }
 {
     if in_box(grid, point) {
         return point;
@@ -115,7 +115,7 @@ fn draw_point(grid: Grid, point: Vec3) -> Vec3
     draw_each(grid, point)
 }
 
-// The cell with this number on an axis, or the last one. Callers show that the axis has at least two nodes.
+// The cell with this number on an axis, or the last one.
 pub fn up_to_last(whole: u64, side: u32) -> u32
     requires { ⌜ 2 ≤ side ⌝ }
     ensures { λ r. ⌜ r ≡ upTo (side - 2) whole ⌝ }
@@ -150,7 +150,7 @@ fn guess_holds(coordinate: f64, near: u32, side: u32) -> bool
     false
 }
 
-// The cell of one axis at a coordinate, and how far into the cell it lies. Callers show that the axis has at least two nodes.
+// The cell of one axis at a coordinate, and how far into the cell it lies.
 fn place_at(raw: f64, side: u32) -> Place
     requires { ⌜ 2 ≤ side ⌝ }
     ensures { λ r. ⌜ r ≡ placeAt raw side ⌝ }
@@ -167,8 +167,7 @@ fn place_at(raw: f64, side: u32) -> Place
 }
 
 // The cell of one axis at a point, and how far into the cell the point lies. Where two comparisons show that the guess is right, nothing
-// else
-// is asked. Callers show that the axis has at least two nodes.
+// else is asked.
 fn locate_axis(point: f64, origin: f64, spacing: f64, side: u32, near: u32) -> Place
     requires { ⌜ 2 ≤ side ⌝ }
     ensures { λ r. ⌜ r ≡ locateAxis point origin spacing side ⌝ }
@@ -183,7 +182,7 @@ fn locate_axis(point: f64, origin: f64, spacing: f64, side: u32, near: u32) -> P
     place_at(raw, side)
 }
 
-// The cell at a point in the grid's box. Callers show that the grid's sides are admitted.
+// The cell at a point in the grid's box.
 fn locate_inside(grid: Grid, point: Vec3, near: Near) -> Located
     requires { ⌜ SidesStand (grid .sides) ⌝ }
     ensures { λ r. ⌜ r ≡ locateInside grid point ⌝ }
@@ -222,7 +221,7 @@ fn locate_inside(grid: Grid, point: Vec3, near: Near) -> Located
     }
 }
 
-// The cell at any point that is finite, drawn onto the box. Callers show that the grid's sides are admitted.
+// The cell at any point that is finite, drawn onto the box.
 pub fn locate(grid: Grid, point: Vec3, near: Near) -> Located
     requires { ⌜ SidesStand (grid .sides) ⌝ }
     ensures { λ r. ⌜ r ≡ locate grid point ⌝ }

@@ -20,15 +20,15 @@ use Rattle.tree_check.proofs.Answers.{yes-passes}
 use Rattle.mesh.specs.MeshCast.{rayMesh}
 use Rattle.mesh.specs.Demand3.{Candidate}
 use Rattle.mesh_plain.proofs.Agreement.{triangles-fit}
-use Rattle.exact_depth.proofs.Integers.{pp}
-use Rattle.any_direction.specs.Line.{Line}
-use Rattle.any_direction.specs.Grid.{units, gridLine}
-use Rattle.any_direction.specs.Box.{certainBox}
-use Rattle.any_direction.proofs.Touching.{met-touches}
-use Rattle.mesh_grid.specs.GridCast.{rayMeshExactPlain}
-use Rattle.mesh_grid.specs.Certain.{Met}
-use Rattle.mesh_grid.proofs.Ranges.{vector-finite}
-use Rattle.mesh_grid.proofs.Certainty.{certain}
+use Rattle.wide_integers.proofs.Integers.{pp}
+use Rattle.exact_triangle.specs.Line.{Line}
+use Rattle.exact_triangle.specs.Grid.{units, gridLine}
+use Rattle.exact_triangle.specs.Box.{certainBox}
+use Rattle.exact_triangle.proofs.Touching.{met-touches}
+use Rattle.mesh_exact.specs.GridCast.{rayMeshExactPlain}
+use Rattle.mesh_exact.specs.Certain.{Met}
+use Rattle.mesh_exact.proofs.Ranges.{vector-finite}
+use Rattle.mesh_exact.proofs.Certainty.{certain}
 use Rattle.whole_numbers.specs.Board.{Crossing, Within}
 use Rattle.whole_numbers.specs.Board as Board112
 use Rattle.whole_numbers.specs.Boards.{Plan, drawingOf, Boards, Missed, outside, behind, beyond, AtMost, MeshExact}
@@ -155,7 +155,7 @@ module _ (r : Ray) (m : Mesh) (p : Plan) (boards : Boards r m p) (others : Other
       let inner : Closed D' (pos j) (pos k) =
       record { first = not-below-zero j; second = not-below-zero k; sum = leZ-yes (le→leb (j + k) D' whole) } in
       let most : n ≤ F * D' = subst (λ (z : ℕ). n ≤ z) (regroup F D) (leb-true n (units * F * D) (s .most)) in
-      let apart = closed .opposite i c D' (pos j) (pos k) (pos n) x inner in
+      let apart = closed .negate i c D' (pos j) (pos k) (pos n) x inner in
       let before = closed .at-maximum i c D' (pos j) (pos k) (pos n) x inner in
       record {
         candidate = c;

@@ -5,15 +5,15 @@ use mathlib.Core.Path.{_≡_, sym, ap, _∙_}
 use native.Mathlib.Omega.{arith}
 use lib.Dec.{lit<}
 use lib.IntN.{ℤ, pos, _+ℤ_, _-ℤ_, _*ℤ_}
-use Rattle.exact_depth.specs.FirstPoint.{turn}
+use Rattle.wide_integers.specs.Determinant.{determinant}
 use Rattle.exact_depth.specs.Meeting.{mix}
-use Rattle.exact_depth.proofs.Integers.{pp, np}
-use Rattle.exact_depth.proofs.Polynomials.{Rep, own, own-pos, rep-add, rep-sub, rep-mul, equal, ring}
-use Rattle.exact_depth.proofs.Order.{rep-same}
-use Rattle.any_direction.specs.Line.{parts}
-use Rattle.any_direction.specs.Grid.{units}
-use Rattle.any_direction.proofs.Shears.{cancel-left, mix-more}
-use Rattle.any_direction.proofs.Areas.{zero-of-product}
+use Rattle.wide_integers.proofs.Integers.{pp, np}
+use Rattle.wide_integers.proofs.Polynomials.{Rep, own, own-pos, rep-add, rep-sub, rep-mul, equal, ring}
+use Rattle.wide_integers.proofs.Order.{rep-same}
+use Rattle.exact_triangle.specs.Line.{parts}
+use Rattle.exact_triangle.specs.Grid.{units}
+use Rattle.exact_triangle.proofs.Shears.{cancel-left, mix-more}
+use Rattle.exact_triangle.proofs.Areas.{zero-of-product}
 
 -- ---- i (a - o) + j (b - o) + k (c - o) = t d, and (i + j + k) (o - a) + t d = j (b - a) + k (c - a)
 module _ (i j k : ℕ) (A B C O : ℤ) where
@@ -91,16 +91,16 @@ module _ (i j k D : ℕ) (total : i + j + k ≡ D) (a b c o t e : ℤ) where
       regroup S u t e = simp ring
 
 -- ---- a component of the edges' cross that is 0 on the grid is 0
-turn-times : (k a b c a' b' c' : ℤ)
-    → turn (k *ℤ b -ℤ k *ℤ a) (k *ℤ b' -ℤ k *ℤ a') (k *ℤ c -ℤ k *ℤ a) (k *ℤ c' -ℤ k *ℤ a')
-    ≡ k *ℤ (k *ℤ turn (b -ℤ a) (b' -ℤ a') (c -ℤ a) (c' -ℤ a'))
-turn-times k a b c a' b' c' = simp ring
+determinant-times : (k a b c a' b' c' : ℤ)
+    → determinant (k *ℤ b -ℤ k *ℤ a) (k *ℤ b' -ℤ k *ℤ a') (k *ℤ c -ℤ k *ℤ a) (k *ℤ c' -ℤ k *ℤ a')
+    ≡ k *ℤ (k *ℤ determinant (b -ℤ a) (b' -ℤ a') (c -ℤ a) (c' -ℤ a'))
+determinant-times k a b c a' b' c' = simp ring
 
-pub turn-zero : (a b c a' b' c' : ℤ)
-    → turn (pos units *ℤ b -ℤ pos units *ℤ a) (pos units *ℤ b' -ℤ pos units *ℤ a') (pos units *ℤ c -ℤ pos units *ℤ a)
+pub determinant-zero : (a b c a' b' c' : ℤ)
+    → determinant (pos units *ℤ b -ℤ pos units *ℤ a) (pos units *ℤ b' -ℤ pos units *ℤ a') (pos units *ℤ c -ℤ pos units *ℤ a)
     (pos units *ℤ c' -ℤ pos units *ℤ a') ≡ pos 0
-    → turn (b -ℤ a) (b' -ℤ a') (c -ℤ a) (c' -ℤ a') ≡ pos 0
-turn-zero a b c a' b' c' h =
-    let small = turn (b -ℤ a) (b' -ℤ a') (c -ℤ a) (c' -ℤ a') in
+    → determinant (b -ℤ a) (b' -ℤ a') (c -ℤ a) (c' -ℤ a') ≡ pos 0
+determinant-zero a b c a' b' c' h =
+    let small = determinant (b -ℤ a) (b' -ℤ a') (c -ℤ a) (c' -ℤ a') in
     zero-of-product (pos units) small (lit< tt)
-    (zero-of-product (pos units) (pos units *ℤ small) (lit< tt) (sym (turn-times (pos units) a b c a' b' c') ∙ h))
+    (zero-of-product (pos units) (pos units *ℤ small) (lit< tt) (sym (determinant-times (pos units) a b c a' b' c') ∙ h))

@@ -8,4 +8,3 @@ pub mod Sides
 pub mod Ends
 pub mod Touching
 pub mod Agreeing
-pub mod Examples

@@ -5,14 +5,14 @@ use native.Mathlib.Nat.{mul-pos}
 use native.Mathlib.Omega.{arith}
 use lib.Dec.{lit<}
 use lib.IntN.{ℤ, pos, _+ℤ_, _*ℤ_, *ℤ-zero}
-use Rattle.exact_depth.specs.declared.spots.Point.{Point}
-use Rattle.any_direction.specs.Line.{parts, Line}
-use Rattle.any_direction.specs.Grid.{units}
-use Rattle.any_direction.specs.Surface.{Lies, Apart}
+use Rattle.exact_depth.specs.declared.projection.Point.{Point}
+use Rattle.exact_triangle.specs.Line.{parts, Line}
+use Rattle.exact_triangle.specs.Grid.{units}
+use Rattle.exact_triangle.specs.Surface.{Lies, Apart}
 use Rattle.whole_numbers.specs.Points.{crossP}
 use Rattle.whole_numbers.specs.Points as Points
 use Rattle.whole_numbers.specs.Board.{Drawing, Parallel, Crossing, along, firstEdge, secondEdge}
-use Rattle.exact_agreement.proofs.Crossings.{to-millimetres, to-units, turn-zero}
+use Rattle.exact_agreement.proofs.Crossings.{to-millimetres, to-units, determinant-zero}
 
 -- k times a point
 abbrev pub times : ℕ → Points.Point → Point
@@ -81,5 +81,6 @@ module _ (g : Drawing) where
       let a = g .a in
       let b = g .b in
       let c = g .c in
-      f (level (turn-zero (a .y) (b .y) (c .y) (a .z) (b .z) (c .z) (h .x)) (turn-zero (a .z) (b .z) (c .z) (a .x) (b .x) (c .x) (h .y))
-      (turn-zero (a .x) (b .x) (c .x) (a .y) (b .y) (c .y) (h .z)))
+      f (level (determinant-zero (a .y) (b .y) (c .y) (a .z) (b .z) (c .z) (h .x))
+      (determinant-zero (a .z) (b .z) (c .z) (a .x) (b .x) (c .x) (h .y))
+      (determinant-zero (a .x) (b .x) (c .x) (a .y) (b .y) (c .y) (h .z)))

@@ -16,9 +16,9 @@ use Rattle.arithmetic.proofs.ValueOrder.{absolute-value, lt-values, le-values}
 use Rattle.vectors.specs.declared.vec3.Vec3.{Vec3}
 use Rattle.geometry.specs.declared.ray.Ray.{Ray}
 use Rattle.tree.specs.Mesh.{Mesh, lengthsAdmitted, trianglesFit}
-use Rattle.any_direction.specs.Grid.{within, allWithin, furthest, longest}
-use Rattle.any_direction.proofs.Touching.{furthest-is, longest-is}
-use Rattle.mesh_grid.specs.Certain.{OutOfRange, origin, near, maximum, corner, Reason, ray, lengths, triangles, range}
+use Rattle.exact_triangle.specs.Grid.{within, allWithin, furthest, longest}
+use Rattle.exact_triangle.proofs.Touching.{furthest-is, longest-is}
+use Rattle.mesh_exact.specs.Certain.{OutOfRange, origin, near, maximum, corner, Reason, ray, lengths, triangles, range}
 use Rattle.whole_numbers.specs.Points.{Point}
 use Rattle.whole_numbers.specs.Board.{Drawn, DrawnAt}
 use Rattle.whole_numbers.specs.Boards.{Plan, Boards}

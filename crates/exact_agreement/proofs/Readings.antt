@@ -6,12 +6,12 @@ use lib.IntN.{ℤ, pos, natAbs}
 use Rattle.vectors.specs.declared.vec3.Vec3.{Vec3}
 use Rattle.geometry.specs.declared.ray.Ray.{Ray}
 use Rattle.tree.specs.Mesh.{Mesh}
-use Rattle.exact_depth.specs.declared.spots.Point.{Point}
-use Rattle.any_direction.specs.Line.{parts, Line}
-use Rattle.any_direction.specs.Grid.{units, pointTo, gridLine}
-use Rattle.any_direction.specs.Surface.{Surface, Apart}
-use Rattle.any_direction.proofs.Readings.{reads}
-use Rattle.mesh_grid.specs.Certain.{cornerOn}
+use Rattle.exact_depth.specs.declared.projection.Point.{Point}
+use Rattle.exact_triangle.specs.Line.{parts, Line}
+use Rattle.exact_triangle.specs.Grid.{units, pointTo, gridLine}
+use Rattle.exact_triangle.specs.Surface.{Surface, Apart}
+use Rattle.exact_triangle.proofs.Readings.{reads}
+use Rattle.mesh_exact.specs.Certain.{cornerOn}
 use Rattle.whole_numbers.specs.Points as Points
 use Rattle.whole_numbers.specs.Board.{Drawing, DrawnAt, along}
 use Rattle.whole_numbers.specs.Boards.{Plan, drawingOf, Boards}

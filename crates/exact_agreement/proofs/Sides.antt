@@ -12,9 +12,9 @@ use Rattle.arithmetic.proofs.ExtremesOrder.{minimum-below-first, minimum-below-
 use Rattle.arithmetic.proofs.WholeValues.{Is}
 use Rattle.geometry.specs.Box.{touchSide}
 use Rattle.exact_depth.specs.Meeting.{mix}
-use Rattle.exact_depth.proofs.Integers.{pp, np}
-use Rattle.exact_depth.proofs.Polynomials.{own, own-pos, own-neg, rep-mul}
-use Rattle.exact_depth.proofs.Order.{rep-same}
+use Rattle.wide_integers.proofs.Integers.{pp, np}
+use Rattle.wide_integers.proofs.Polynomials.{own, own-pos, own-neg, rep-mul}
+use Rattle.wide_integers.proofs.Order.{rep-same}
 use Rattle.exact_depth.proofs.Standing.{Stands, is-number}
 use Rattle.exact_agreement.proofs.Crossings.{mean-rep}
 use Rattle.exact_agreement.proofs.Means.{greatest-above, least-below}

@@ -15,16 +15,16 @@ use Rattle.geometry.specs.Box.{touchSide, touches}
 use Rattle.geometry.specs.Segment.{segmentEnd, segmentBox}
 use Rattle.geometry.specs.declared.ray.Ray.{Ray}
 use Rattle.tree.specs.Mesh.{Mesh, cornerAt, triangleBox}
-use Rattle.exact_depth.specs.Sizes.{Sized}
+use Rattle.wide_integers.specs.Sizes.{Sized}
 use Rattle.exact_depth.specs.Meeting.{mix}
-use Rattle.exact_depth.proofs.Integers.{pp, np, size-is}
-use Rattle.exact_depth.proofs.Polynomials.{own, own-pos, rep-mul}
-use Rattle.exact_depth.proofs.Order.{rep-le}
+use Rattle.wide_integers.proofs.Integers.{pp, np, size-is}
+use Rattle.wide_integers.proofs.Polynomials.{own, own-pos, rep-mul}
+use Rattle.wide_integers.proofs.Order.{rep-le}
 use Rattle.exact_depth.proofs.Standing.{Stands}
-use Rattle.any_direction.specs.Grid.{units, gridLine}
-use Rattle.any_direction.specs.Surface.{Surface}
-use Rattle.mesh_grid.specs.Certain.{cornerOn}
-use Rattle.mesh_grid.proofs.OneTriangle.{depth-whole}
+use Rattle.exact_triangle.specs.Grid.{units, gridLine}
+use Rattle.exact_triangle.specs.Surface.{Surface}
+use Rattle.mesh_exact.specs.Certain.{cornerOn}
+use Rattle.mesh_exact.proofs.OneTriangle.{depth-whole}
 use Rattle.whole_numbers.specs.Points.{Point}
 use Rattle.whole_numbers.specs.Board.{Axis, east, west, north, south, upward, downward, along}
 use Rattle.whole_numbers.specs.Boards.{Plan, drawingOf, Boards}

@@ -15,10 +15,10 @@ use Rattle.tree.specs.Layout.{Tree}
 use Rattle.tree.specs.Mesh.{Mesh, lengthsAdmitted, cornerAt, triangleBox, triangleCount}
 use Rattle.mesh.specs.MeshCast.{roomFor, rayMesh}
 use Rattle.mesh.specs.Demand3.{PassesCheck, Candidate}
-use Rattle.any_direction.specs.Grid.{units, allWithin, furthest, gridLine}
-use Rattle.any_direction.specs.Box.{certainBox}
-use Rattle.mesh_grid.specs.GridCast.{rayMeshExactPlain}
-use Rattle.mesh_grid.specs.Certain.{LeastDepth}
+use Rattle.exact_triangle.specs.Grid.{units, allWithin, furthest, gridLine}
+use Rattle.exact_triangle.specs.Box.{certainBox}
+use Rattle.mesh_exact.specs.GridCast.{rayMeshExactPlain}
+use Rattle.mesh_exact.specs.Certain.{LeastDepth}
 use Rattle.whole_numbers.specs.Board.{DrawnAt, Parallel, Crossing, Within}
 use Rattle.whole_numbers.specs.Boards.{Plan, drawingOf, Boards}
 
@@ -32,7 +32,7 @@ pub record Closed (D : ℕ) (u v : ℤ) : Type 0 where
 -- 'no candidate's crossing lies on the side opposite its first corner or at the maximum, and no candidate is parallel'
 pub record NoOpenCase (r : Ray) (m : Mesh) (p : Plan) : Type 0 where
   pub parallel : (i : ℕ) → Candidate r m i → Parallel (drawingOf p i) → ⊥
-  pub opposite : (i : ℕ) → Candidate r m i → (D : ℕ) (u v t : ℤ) → Crossing (drawingOf p i) D u v t → Closed D u v
+  pub negate : (i : ℕ) → Candidate r m i → (D : ℕ) (u v t : ℤ) → Crossing (drawingOf p i) D u v t → Closed D u v
       → u +ℤ v ≡ pos D → ⊥
   pub at-maximum : (i : ℕ) → Candidate r m i → (D : ℕ) (u v t : ℤ) → Crossing (drawingOf p i) D u v t → Closed D u v
       → t ≡ pos (p .maximum * D) → ⊥

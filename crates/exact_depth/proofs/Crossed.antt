@@ -1,22 +1,19 @@
 -- The line crosses the plane: the three weights tell whether it does so in the triangle, and how deep. Assumes nothing.
-use mathlib.Core.Path.{_≡_, refl, sym, ap, _∙_, subst}
+use mathlib.Core.Path.{_≡_, refl, sym, ap, _∙_}
 use mathlib.Core.Bool.{Bool, true, false, cond, true≢false}
 use Prim.Native.Nat.{ℕ, _+_, _*_, _<_}
-use native.Mathlib.Nat.{mul-comm}
-use native.Mathlib.Omega.{arith}
-use lib.IntN.{ℤ, pos, negℤ, _+ℤ_, _*ℤ_}
+use lib.IntN.{ℤ, pos, _+ℤ_, _*ℤ_}
 use lib.Signed.{ltZ, leZ}
-use Rattle.exact_depth.specs.declared.spots.Spot.{Spot}
-use Rattle.exact_depth.specs.declared.spots.Fraction.{Fraction}
-use Rattle.exact_depth.specs.declared.spots.Depth.{Depth}
-use Rattle.exact_depth.specs.declared.spots.Depth.the-variants.{At, Miss}
+use Rattle.exact_depth.specs.declared.projection.Projected.{Projected}
+use Rattle.exact_depth.specs.declared.projection.Fraction.{Fraction}
+use Rattle.exact_depth.specs.declared.projection.Depth.the-variants.{At, Miss}
 use Rattle.exact_depth.specs.FirstPoint.{kept, crossing}
-use Rattle.exact_depth.specs.Meeting.{mix, Meets, On, HasArea, Reached, First}
-use Rattle.exact_depth.proofs.Integers.{pp}
+use Rattle.exact_depth.specs.Meeting.{mix, Meets, HasArea, Reached, First}
+use Rattle.wide_integers.proofs.Integers.{pp}
 use Rattle.exact_depth.proofs.Weights.{Weights, weighs}
 use Rattle.exact_depth.proofs.Firsts.{missed, met, not-less, whole-of, nonneg-of, least-same, most-same, no-deeper}
 
-module _ (near far : ℤ) (a b c : Spot) (α β γ : ℤ)
+module _ (near far : ℤ) (a b c : Projected) (α β γ : ℤ)
     (ws : Weights (a .across) (a .up) (b .across) (b .up) (c .across) (c .up) α β γ)
     (W : ℕ) (sum : α +ℤ β +ℤ γ ≡ pos W) (positive : 0 < W) (apart : HasArea a b c) where
   abbrev T : ℤ

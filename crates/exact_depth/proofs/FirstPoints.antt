@@ -2,34 +2,34 @@
 -- nothing.
 use mathlib.Core.Path.{_≡_, refl, sym, ap, _∙_}
 use mathlib.Core.Bool.{Bool, true, false, not, _&&_, cond, true≢false, false≢true}
-use Prim.Native.Nat.{ℕ, suc, _+_, _*_, _<_}
+use Prim.Native.Nat.{ℕ, suc, _*_, _<_}
 use native.Mathlib.Nat.{eq-of-mul-eq-mul-right, zero-lt-suc}
 use native.Mathlib.Omega.{arith}
 use lib.IntN.{ℤ, pos, negsuc, negℤ, _+ℤ_, _*ℤ_}
 use lib.Signed.{ltZ, leZ}
 use borrow.Author.Tests.{lt-ltb}
-use Rattle.exact_depth.specs.declared.spots.Spot.{Spot}
-use Rattle.exact_depth.specs.declared.spots.Depth.{Depth}
-use Rattle.exact_depth.specs.declared.spots.Depth.the-variants.{At, Miss}
-use Rattle.exact_depth.specs.FirstPoint.{isZero, seenTurn, crossing, beside, byWeights, firstPoint}
-use Rattle.exact_depth.specs.Meeting.{Meets, On, HasArea, First}
-use Rattle.exact_depth.proofs.Integers.{pp, np}
-use Rattle.exact_depth.proofs.Polynomials.{own, rep-add, rep-mul, rep-neg, equal, neg-sum, own-pos}
-use Rattle.exact_depth.proofs.Order.{rep-le, rep-lt, rep-nlt, rep-same}
+use Rattle.exact_depth.specs.declared.projection.Projected.{Projected}
+use Rattle.exact_depth.specs.declared.projection.Depth.the-variants.{Miss}
+use Rattle.wide_integers.specs.Determinant.{isZero}
+use Rattle.exact_depth.specs.FirstPoint.{seenDeterminant, crossing, coplanar, byWeights, firstPoint}
+use Rattle.exact_depth.specs.Meeting.{On, First}
+use Rattle.wide_integers.proofs.Integers.{pp, np}
+use Rattle.wide_integers.proofs.Polynomials.{own, rep-add, rep-mul, equal, neg-sum, own-pos}
+use Rattle.wide_integers.proofs.Order.{rep-le, rep-lt, rep-nlt, rep-same}
 use Rattle.exact_depth.proofs.Weights.{Weights, own-weights, negated}
 use Rattle.exact_depth.proofs.Firsts.{missed, positive-of}
 use Rattle.exact_depth.proofs.Crossed.{crossing-tells}
-use Rattle.exact_depth.proofs.Beside.{beside-tells}
+use Rattle.exact_depth.proofs.Coplanar.{coplanar-tells}
 
-module _ (near far : ℤ) (a b c : Spot) where
+module _ (near far : ℤ) (a b c : Projected) where
   abbrev α : ℤ
-  α = seenTurn b c
+  α = seenDeterminant b c
 
   abbrev β : ℤ
-  β = seenTurn c a
+  β = seenDeterminant c a
 
   abbrev γ : ℤ
-  γ = seenTurn a b
+  γ = seenDeterminant a b
 
   ws : Weights (a .across) (a .up) (b .across) (b .up) (c .across) (c .up) α β γ
   ws = own-weights (a .across) (a .up) (b .across) (b .up) (c .across) (c .up)
@@ -109,16 +109,16 @@ module _ (near far : ℤ) (a b c : Spot) where
         let q⁻ = ap np q in
         equal (own γ) (own-pos 0) (omega (arith, e, p⁺, p⁻, q⁺, q⁻))
 
-    level : First near far a b c (cond (isZero α && isZero β) (beside a b c near far) Miss)
+    level : First near far a b c (cond (isZero α && isZero β) (coplanar a b c near far) Miss)
     level = go (isZero α) (isZero β) refl refl
       where
-        go : (p q : Bool) → isZero α ≡ p → isZero β ≡ q → First near far a b c (cond (p && q) (beside a b c near far) Miss)
+        go : (p q : Bool) → isZero α ≡ p → isZero β ≡ q → First near far a b c (cond (p && q) (coplanar a b c near far) Miss)
         go false q p' q' = missed near far a b c (λ h D t o. true≢false (sym (is-zero α (first-none D t o)) ∙ p'))
         go true false p' q' = missed near far a b c (λ h D t o. true≢false (sym (is-zero β (second-none D t o)) ∙ q'))
         go true true p' q' =
             let z = zero-is α p' in
             let y = zero-is β q' in
-            beside-tells near far a b c z y (last-zero z y)
+            coplanar-tells near far a b c z y (last-zero z y)
 
   zero-of : (x : ℤ) → ltZ (pos 0) x ≡ false → ltZ x (pos 0) ≡ false → x ≡ pos 0
   zero-of x h g =
@@ -134,7 +134,7 @@ module _ (near far : ℤ) (a b c : Spot) where
           → First near far a b c
           (cond p (crossing α β γ (a .depth) (b .depth) (c .depth) near far)
           (cond q (crossing (negℤ α) (negℤ β) (negℤ γ) (a .depth) (b .depth) (c .depth) near far)
-          (cond (isZero α && isZero β) (beside a b c near far) Miss)))
+          (cond (isZero α && isZero β) (coplanar a b c near far) Miss)))
       go true q p' q' = left p'
       go false true p' q' = right q'
       go false false p' q' = level (zero-of (α +ℤ β +ℤ γ) p' q')

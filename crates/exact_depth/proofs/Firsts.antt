@@ -1,19 +1,19 @@
 -- What an answer says of the points of the line: a miss has none, a depth is the least. Assumes nothing.
-use mathlib.Core.Path.{_≡_, refl, sym, ap, _∙_, subst}
+use mathlib.Core.Path.{_≡_, refl, ap, subst}
 use mathlib.Core.Bool.{Bool, true, false, true≢false, false≢true}
 use Prim.Native.Nat.{ℕ, _+_, _*_, _≤_, _<_}
 use native.Mathlib.Nat.{le-of-mul-le-mul-right, mul-le-mul-right}
 use native.Mathlib.Omega.{arith}
-use lib.IntN.{ℤ, pos, negsuc, _+ℤ_, _*ℤ_}
+use lib.IntN.{ℤ, pos, negsuc, _*ℤ_}
 use lib.Signed.{ltZ, leZ}
-use Rattle.exact_depth.specs.declared.spots.Spot.{Spot}
-use Rattle.exact_depth.specs.declared.spots.Fraction.{Fraction}
-use Rattle.exact_depth.specs.declared.spots.Depth.{Depth}
-use Rattle.exact_depth.specs.declared.spots.Depth.the-variants.{At, Miss}
+use Rattle.exact_depth.specs.declared.projection.Projected.{Projected}
+use Rattle.exact_depth.specs.declared.projection.Fraction.{Fraction}
+use Rattle.exact_depth.specs.declared.projection.Depth.{Depth}
+use Rattle.exact_depth.specs.declared.projection.Depth.the-variants.{At, Miss}
 use Rattle.exact_depth.specs.Meeting.{On, HasArea, Reached, First}
-use Rattle.exact_depth.proofs.Integers.{pp, np}
-use Rattle.exact_depth.proofs.Polynomials.{Rep, own, rep-mul, own-pos}
-use Rattle.exact_depth.proofs.Order.{rep-le, le-rep, rep-lt, rep-nlt, nlt-rep, rep-same}
+use Rattle.wide_integers.proofs.Integers.{pp, np}
+use Rattle.wide_integers.proofs.Polynomials.{own, rep-mul, own-pos}
+use Rattle.wide_integers.proofs.Order.{rep-le, le-rep, rep-lt, rep-nlt, nlt-rep, rep-same}
 
 -- ---- the two answers
 abbrev pub isAt : Depth → Bool
@@ -24,7 +24,7 @@ abbrev pub depthOf : Depth → Fraction
 depthOf (At f) = f
 depthOf Miss = record { t = pos 0; w = pos 0 }
 
-module _ (near far : ℤ) (a b c : Spot) where
+module _ (near far : ℤ) (a b c : Projected) where
   pub missed : (HasArea a b c → (D : ℕ) (t : ℤ) → On near far a b c D t → ⊥) → First near far a b c Miss
   missed h = record {
     none = λ e. h;

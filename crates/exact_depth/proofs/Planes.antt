@@ -1,24 +1,25 @@
 -- In a plane that the line lies in: which depths are in the triangle, and which is the first of them. Assumes nothing.
-use mathlib.Core.Path.{_≡_, refl, sym, ap, _∙_, subst}
-use mathlib.Core.Bool.{Bool, true, false, not, _&&_, cond, true≢false, false≢true}
-use Prim.Native.Nat.{ℕ, suc, _+_, _*_, _≤_, _<_}
+use mathlib.Core.Path.{_≡_, refl, sym, ap, _∙_}
+use mathlib.Core.Bool.{true, false}
+use Prim.Native.Nat.{ℕ, _+_, _*_, _<_}
 use native.Mathlib.Nat.{mul-comm, zero-lt-suc, eq-of-mul-eq-mul-right}
 use native.Mathlib.Omega.{arith}
-use lib.IntN.{ℤ, pos, negℤ, _+ℤ_, _-ℤ_, _*ℤ_, zero-*ℤ, +ℤ-idr, +ℤ-invr}
+use lib.IntN.{ℤ, pos, _+ℤ_, _-ℤ_, _*ℤ_, zero-*ℤ, +ℤ-idr, +ℤ-invr}
 use lib.Signed.{ltZ, leZ}
-use Rattle.exact_depth.specs.declared.spots.Fraction.{Fraction}
-use Rattle.exact_depth.specs.declared.plane.Plot.{Plot}
-use Rattle.exact_depth.specs.FirstPoint.{turn, sideOf, later, entry, area}
+use Rattle.exact_depth.specs.declared.projection.Fraction.{Fraction}
+use Rattle.exact_depth.specs.declared.plane.PlanePoint.{PlanePoint}
+use Rattle.wide_integers.specs.Determinant.{determinant}
+use Rattle.exact_depth.specs.FirstPoint.{entering, area}
 use Rattle.exact_depth.specs.Meeting.{mix}
-use Rattle.exact_depth.proofs.Integers.{pp, np}
-use Rattle.exact_depth.proofs.Polynomials.{Rep, own, own-pos, rep-add, rep-mul, rep-sub, equal, equal-of-minus, ring, times-assoc}
-use Rattle.exact_depth.proofs.Order.{rep-le, le-rep, rep-same}
-use Rattle.exact_depth.proofs.Weights.{Weights, own-weights, mix-parts, spread}
+use Rattle.wide_integers.proofs.Integers.{pp, np}
+use Rattle.wide_integers.proofs.Polynomials.{own, own-pos, rep-add, rep-mul, rep-sub, equal, equal-of-minus, ring, times-assoc}
+use Rattle.wide_integers.proofs.Order.{rep-le, le-rep, rep-same}
+use Rattle.exact_depth.proofs.Weights.{Weights, own-weights, mix-parts}
 use Rattle.exact_depth.proofs.Firsts.{whole-of, nonneg-of}
-use Rattle.exact_depth.proofs.Later.{rise, Passes, Put, put, for-good, before-trans}
+use Rattle.exact_depth.proofs.Entering.{rise, Passes, Put, put, for-good, before-trans}
 
 -- the line's point at the depth t / D is a mean of the corners
-pub record PlotMeets (a b c : Plot) (D : ℕ) (t : ℤ) : Type 0 where
+pub record PlanePointMeets (a b c : PlanePoint) (D : ℕ) (t : ℤ) : Type 0 where
   pub i : ℕ
   pub j : ℕ
   pub k : ℕ
@@ -27,7 +28,7 @@ pub record PlotMeets (a b c : Plot) (D : ℕ) (t : ℤ) : Type 0 where
   pub depth : mix i j k (a .depth) (b .depth) (c .depth) ≡ t
 
 -- the other way round
-pub swapped : {a b c : Plot} {D : ℕ} {t : ℤ} → PlotMeets a b c D t → PlotMeets a c b D t
+pub swapped : {a b c : PlanePoint} {D : ℕ} {t : ℤ} → PlanePointMeets a b c D t → PlanePointMeets a c b D t
 swapped {a} {b} {c} {D} {t} m = record {
   i = m .i;
   j = m .k;
@@ -45,10 +46,10 @@ swapped {a} {b} {c} {D} {t} m = record {
 abbrev from : ℤ → ℕ → ℤ → ℤ
 from t W d = pos W *ℤ d -ℤ t
 
-rise-turn : (t : ℤ) (W : ℕ) (u d v e : ℤ) → turn u (from t W d) v (from t W e) ≡ rise (turn u d v e) (u -ℤ v) t W
-rise-turn t W u d v e = over t (pos W) u d v e
+rise-determinant : (t : ℤ) (W : ℕ) (u d v e : ℤ) → determinant u (from t W d) v (from t W e) ≡ rise (determinant u d v e) (u -ℤ v) t W
+rise-determinant t W u d v e = over t (pos W) u d v e
   where
-    over : (t W u d v e : ℤ) → turn u (W *ℤ d -ℤ t) v (W *ℤ e -ℤ t) ≡ turn (turn u d v e) (u -ℤ v) t W
+    over : (t W u d v e : ℤ) → determinant u (W *ℤ d -ℤ t) v (W *ℤ e -ℤ t) ≡ determinant (determinant u d v e) (u -ℤ v) t W
     over t W u d v e = simp ring
 
 three-rises : (K L M F G H t : ℤ) (W : ℕ) → F +ℤ G +ℤ H ≡ pos 0
@@ -57,7 +58,8 @@ three-rises K L M F G H t W h =
     over K L M F G H t (pos W) ∙ ap (λ (z : ℤ). (K +ℤ L +ℤ M) *ℤ pos W -ℤ z *ℤ t) h
     ∙ ap (λ (z : ℤ). (K +ℤ L +ℤ M) *ℤ pos W -ℤ z) (zero-*ℤ t) ∙ +ℤ-idr ((K +ℤ L +ℤ M) *ℤ pos W)
   where
-    over : (K L M F G H t W : ℤ) → turn K F t W +ℤ turn L G t W +ℤ turn M H t W ≡ (K +ℤ L +ℤ M) *ℤ W -ℤ (F +ℤ G +ℤ H) *ℤ t
+    over : (K L M F G H t W : ℤ) → determinant K F t W +ℤ determinant L G t W +ℤ determinant M H t W ≡ (K +ℤ L +ℤ M) *ℤ W -ℤ (F +ℤ G +ℤ H)
+        *ℤ t
     over K L M F G H t W = simp ring
 
 falls : (x y z : ℤ) → (y -ℤ z) +ℤ (z -ℤ x) +ℤ (x -ℤ y) ≡ pos 0
@@ -75,16 +77,16 @@ times-cancel W x y p h =
     let g : (pp x + np y) * W ≡ (pp y + np x) * W = omega (arith, e) in
     equal (own x) (own y) (eq-of-mul-eq-mul-right W p (pp x + np y) (pp y + np x) g)
 
-module _ (a b c : Plot) (S : ℕ) (turned : area a b c ≡ pos S) where
+module _ (a b c : PlanePoint) (S : ℕ) (turned : area a b c ≡ pos S) where
   -- levels and falls of the three sides
   abbrev pub L₁ : ℤ
-  L₁ = turn (b .u) (b .depth) (c .u) (c .depth)
+  L₁ = determinant (b .u) (b .depth) (c .u) (c .depth)
 
   abbrev pub L₂ : ℤ
-  L₂ = turn (c .u) (c .depth) (a .u) (a .depth)
+  L₂ = determinant (c .u) (c .depth) (a .u) (a .depth)
 
   abbrev pub L₃ : ℤ
-  L₃ = turn (a .u) (a .depth) (b .u) (b .depth)
+  L₃ = determinant (a .u) (a .depth) (b .u) (b .depth)
 
   abbrev pub F₁ : ℤ
   F₁ = b .u -ℤ c .u
@@ -101,22 +103,22 @@ module _ (a b c : Plot) (S : ℕ) (turned : area a b c ≡ pos S) where
 
   module _ (t : ℤ) (W : ℕ) where
     abbrev h₁ : ℤ
-    h₁ = turn (b .u) (from t W (b .depth)) (c .u) (from t W (c .depth))
+    h₁ = determinant (b .u) (from t W (b .depth)) (c .u) (from t W (c .depth))
 
     abbrev h₂ : ℤ
-    h₂ = turn (c .u) (from t W (c .depth)) (a .u) (from t W (a .depth))
+    h₂ = determinant (c .u) (from t W (c .depth)) (a .u) (from t W (a .depth))
 
     abbrev h₃ : ℤ
-    h₃ = turn (a .u) (from t W (a .depth)) (b .u) (from t W (b .depth))
+    h₃ = determinant (a .u) (from t W (a .depth)) (b .u) (from t W (b .depth))
 
     first-rise : h₁ ≡ rise L₁ F₁ t W
-    first-rise = rise-turn t W (b .u) (b .depth) (c .u) (c .depth)
+    first-rise = rise-determinant t W (b .u) (b .depth) (c .u) (c .depth)
 
     second-rise : h₂ ≡ rise L₂ F₂ t W
-    second-rise = rise-turn t W (c .u) (c .depth) (a .u) (a .depth)
+    second-rise = rise-determinant t W (c .u) (c .depth) (a .u) (a .depth)
 
     third-rise : h₃ ≡ rise L₃ F₃ t W
-    third-rise = rise-turn t W (a .u) (a .depth) (b .u) (b .depth)
+    third-rise = rise-determinant t W (a .u) (a .depth) (b .u) (b .depth)
 
     heights : h₁ +ℤ h₂ +ℤ h₃ ≡ pos (S * W)
     heights =
@@ -128,7 +130,7 @@ module _ (a b c : Plot) (S : ℕ) (turned : area a b c ≡ pos S) where
     seen = own-weights (a .u) (from t W (a .depth)) (b .u) (from t W (b .depth)) (c .u) (from t W (c .depth))
 
   -- ---- a depth in the triangle passes every side
-  module _ (D : ℕ) (t : ℤ) (p : 0 < D) (m : PlotMeets a b c D t) where
+  module _ (D : ℕ) (t : ℤ) (p : 0 < D) (m : PlanePointMeets a b c D t) where
     abbrev i : ℕ
     i = m .i
 
@@ -164,8 +166,8 @@ module _ (a b c : Plot) (S : ℕ) (turned : area a b c ≡ pos S) where
     not-below : (h x : ℤ) → h ≡ x → ltZ x (pos 0) ≡ false → h ≡ pos (pp h)
     not-below h x e l = whole-of h (ap (λ (z : ℤ). ltZ z (pos 0)) e ∙ l)
 
-    weighed : (x y z : ℤ) → mix (pp (h₁ t W)) (pp (h₂ t W)) (pp (h₃ t W)) x y z ≡ h₁ t W *ℤ x +ℤ h₂ t W *ℤ y +ℤ h₃ t W *ℤ z
-    weighed x y z =
+    weighted : (x y z : ℤ) → mix (pp (h₁ t W)) (pp (h₂ t W)) (pp (h₃ t W)) x y z ≡ h₁ t W *ℤ x +ℤ h₂ t W *ℤ y +ℤ h₃ t W *ℤ z
+    weighted x y z =
         λ s. sym (not-below (h₁ t W) (rise L₁ F₁ t W) (first-rise t W) p) s *ℤ x
         +ℤ sym (not-below (h₂ t W) (rise L₂ F₂ t W) (second-rise t W) q) s *ℤ y
         +ℤ sym (not-below (h₃ t W) (rise L₃ F₃ t W) (third-rise t W) r) s *ℤ z
@@ -186,16 +188,16 @@ module _ (a b c : Plot) (S : ℕ) (turned : area a b c ≡ pos S) where
         (sym (shifted (pos i) (pos j) (pos k) (pos W) t x y z) ∙ h)
         ∙ ap (λ (q : ℕ). pos q *ℤ t) (n ∙ mul-comm S W) ∙ times-assoc (pos W) (pos S) t)
 
-    pub plot-meets : PlotMeets a b c (S * W) (pos S *ℤ t)
-    plot-meets = record {
+    pub point-meets : PlanePointMeets a b c (S * W) (pos S *ℤ t)
+    point-meets = record {
       i = pp (h₁ t W);
       j = pp (h₂ t W);
       k = pp (h₃ t W);
       total = all;
-      u = weighed (a .u) (b .u) (c .u) ∙ seen t W .across;
+      u = weighted (a .u) (b .u) (c .u) ∙ seen t W .across;
       depth =
           own-depth (pp (h₁ t W)) (pp (h₂ t W)) (pp (h₃ t W)) (a .depth) (b .depth) (c .depth)
-          (weighed (from t W (a .depth)) (from t W (b .depth)) (from t W (c .depth)) ∙ seen t W .up) all;
+          (weighted (from t W (a .depth)) (from t W (b .depth)) (from t W (c .depth)) ∙ seen t W .up) all;
     }
 
   -- ---- the entry
@@ -204,17 +206,13 @@ module _ (a b c : Plot) (S : ℕ) (turned : area a b c ≡ pos S) where
     f₀ = record { t = near; w = pos 1 }
 
     abbrev pub f₁ : Fraction
-    f₁ = later f₀ (record { level = L₁; fall = F₁ })
+    f₁ = entering f₀ (record { level = L₁; fall = F₁ })
 
     abbrev pub f₂ : Fraction
-    f₂ = later f₁ (record { level = L₂; fall = F₂ })
+    f₂ = entering f₁ (record { level = L₂; fall = F₂ })
 
     abbrev pub f₃ : Fraction
-    f₃ = later f₂ (record { level = L₃; fall = F₃ })
-
-    pub entry-is : entry a b c near ≡ f₃
-    unfolding entry sideOf
-    entry-is = refl
+    f₃ = entering f₂ (record { level = L₃; fall = F₃ })
 
     pub put₁ : Put L₁ F₁ f₀ 1 f₁
     put₁ = put L₁ F₁ f₀ 1 (zero-lt-suc 0) refl
@@ -245,7 +243,7 @@ module _ (a b c : Plot) (S : ℕ) (turned : area a b c ≡ pos S) where
         le-rep (rep-mul (own near) (own-pos U)) (own (f₃ .t)) (omega (arith, m))
 
     -- no depth in the triangle from near on is before it, and where there is one it passes every side
-    module _ (D : ℕ) (τ : ℤ) (p : 0 < D) (l : leZ (near *ℤ pos D) τ ≡ true) (m : PlotMeets a b c D τ) where
+    module _ (D : ℕ) (τ : ℤ) (p : 0 < D) (l : leZ (near *ℤ pos D) τ ≡ true) (m : PlanePointMeets a b c D τ) where
       start : leZ (near *ℤ pos D) (τ *ℤ pos 1) ≡ true
       start =
           let q = rep-le (rep-mul (own near) (own-pos D)) (own τ) l in

@@ -13,11 +13,11 @@ use lib.Ieee.Fits.{down-pos}
 use lib.Ieee.Exact.{HasValue}
 use lib.Ieee.Back.{round-whole}
 use Rattle.lists.proofs.JoinedTests.{and-first, and-second}
-use Rattle.arithmetic.specs.Basic.{isFinite}
 use Rattle.arithmetic.proofs.Order.{le-of-not-lt}
 use Rattle.arithmetic.proofs.SignedOrder.{plus, less, below-not}
 use Rattle.arithmetic.proofs.WholeValues.{Is, signed}
-use Rattle.exact_depth.proofs.Integers.{pp, np, no-factor}
+use Rattle.arithmetic.proofs.Exactness.{ofInt-is, ofInt-below}
+use Rattle.wide_integers.proofs.Integers.{pp, np, no-factor}
 
 -- x is the whole number z
 abbrev pub Stands : Float → ℤ → Type 0
@@ -62,18 +62,12 @@ eq-is (fin s m e) (fin r i d) t n v h =
           zero-of s m e t n c (no-factor n (down e) (down-pos e) (sym b ∙ c))
     ]
 
-of-pos : (n : ℕ) → ofInt binary64 (pos n) ≡ round binary64 false n 1
-unfolding ofInt
-of-pos n = refl
-
-of-negsuc : (n : ℕ) → ofInt binary64 (negsuc n) ≡ round binary64 true (suc n) 1
-unfolding ofInt
-of-negsuc n = refl
-
 pub stands : (x : Float) (z : ℤ) → natAbs z ≤ 2 ^ 53 → eq x (ofInt binary64 z) ≡ true → Stands x z
-stands x (pos n) l h = eq-is x (round binary64 false n 1) false n (round-whole binary64 false n l) (ap (eq x) (sym (of-pos n)) ∙ h)
+stands x (pos n) l h =
+    eq-is x (round binary64 false n 1) false n (round-whole binary64 false n l) (ap (eq x) (sym (ofInt-is binary64 n)) ∙ h)
 stands x (negsuc n) l h =
-    eq-is x (round binary64 true (suc n) 1) true (suc n) (round-whole binary64 true (suc n) l) (ap (eq x) (sym (of-negsuc n)) ∙ h)
+    eq-is x (round binary64 true (suc n) 1) true (suc n) (round-whole binary64 true (suc n) l)
+    (ap (eq x) (sym (ofInt-below binary64 n)) ∙ h)
 
 -- ---- finite, and in order
 pub is-number : (x : Float) (p n : ℕ) → Is x p n → isNan x ≡ false
@@ -81,12 +75,6 @@ unfolding isNan
 is-number nan p n v = absurd v
 is-number (inf s) p n v = absurd v
 is-number (fin s m e) p n v = refl
-
-pub is-finite : (x : Float) (p n : ℕ) → Is x p n → isFinite x ≡ true
-unfolding isFinite
-is-finite nan p n v = absurd v
-is-finite (inf s) p n v = absurd v
-is-finite (fin s m e) p n v = refl
 
 order : (x⁺ x⁻ y⁺ y⁻ p n q k d e : ℕ) → x⁺ + n * d ≡ p * d + x⁻ → y⁺ + k * e ≡ q * e + y⁻ → p + k ≤ q + n
     → x⁺ * e + y⁻ * d ≤ y⁺ * d + x⁻ * e

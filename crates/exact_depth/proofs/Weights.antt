@@ -1,14 +1,14 @@
 -- The weights of a point inside a triangle are as its three determinants. Assumes nothing.
-use mathlib.Core.Path.{_≡_, refl, sym, ap, _∙_}
+use mathlib.Core.Path.{_≡_, sym, ap, _∙_}
 use Prim.Native.Nat.{ℕ, _+_, _*_}
 use native.Mathlib.Omega.{arith}
-use lib.IntN.{ℤ, pos, negℤ, _+ℤ_, _-ℤ_, _*ℤ_, *ℤ-zero}
-use Rattle.exact_depth.specs.FirstPoint.{turn}
+use lib.IntN.{ℤ, pos, negℤ, _+ℤ_, _*ℤ_, *ℤ-zero}
+use Rattle.wide_integers.specs.Determinant.{determinant}
 use Rattle.exact_depth.specs.Meeting.{mix}
-use Rattle.exact_depth.proofs.Integers.{pp, np}
-use Rattle.exact_depth.proofs.Polynomials.{Rep, own, own-pos, rep-add, rep-mul, ring, times-assoc, times-left-comm, times-plus}
-use Rattle.exact_depth.proofs.Polynomials.{plus-times, times-neg, neg-times, sum-comm, sum-assoc, neg-sum}
-use Rattle.exact_depth.proofs.Polynomials.{diff-minus, diff-add, diff-left, diff-right, diff-equal, diff-zero, cancel}
+use Rattle.wide_integers.proofs.Integers.{pp, np}
+use Rattle.wide_integers.proofs.Polynomials.{Rep, own, own-pos, rep-add, rep-mul, ring, times-assoc, times-left-comm, times-plus}
+use Rattle.wide_integers.proofs.Polynomials.{plus-times, times-neg, neg-times, sum-comm, sum-assoc, neg-sum}
+use Rattle.wide_integers.proofs.Polynomials.{diff-minus, diff-add, diff-left, diff-right, diff-equal, diff-zero, cancel}
 
 -- ---- sums with weights
 pub mix-parts : (i j k : ℕ) (x y z : ℤ)
@@ -26,7 +26,7 @@ mix-turned i j k x y z v h = rotate (pos i *ℤ x) (pos j *ℤ y) (pos k *ℤ z)
 -- ---- the corners (p, q), (r, s) and (v, w), and the origin their mean with the weights i, j and k
 -- i (C × A) = j (B × C)
 swap-of : (i j k p q r s v w : ℤ) → i *ℤ p +ℤ j *ℤ r +ℤ k *ℤ v ≡ pos 0 → i *ℤ q +ℤ j *ℤ s +ℤ k *ℤ w ≡ pos 0
-    → i *ℤ turn v w p q ≡ j *ℤ turn r s v w
+    → i *ℤ determinant v w p q ≡ j *ℤ determinant r s v w
 swap-of i j k p q r s v w h g =
     diff-equal (diff-left i (diff-minus (v *ℤ q) (w *ℤ p))) (diff-left j (diff-minus (r *ℤ w) (s *ℤ v)))
     (cancel (k *ℤ (v *ℤ w)) (i *ℤ (v *ℤ q) +ℤ j *ℤ (s *ℤ v)) (j *ℤ (r *ℤ w) +ℤ i *ℤ (w *ℤ p))
@@ -41,20 +41,20 @@ swap-of i j k p q r s v w h g =
     spread-out i j k p r v w = simp ring
 
 pub swap : (i j k : ℕ) (p q r s v w : ℤ) → mix i j k p r v ≡ pos 0 → mix i j k q s w ≡ pos 0
-    → pos i *ℤ turn v w p q ≡ pos j *ℤ turn r s v w
+    → pos i *ℤ determinant v w p q ≡ pos j *ℤ determinant r s v w
 swap i j k p q r s v w h g = swap-of (pos i) (pos j) (pos k) p q r s v w h g
 
 -- the corners' own turns: B × C, C × A and A × B, and their sum
 abbrev pub spread : ℤ → ℤ → ℤ → ℤ → ℤ → ℤ → ℤ
-spread p q r s v w = turn r s v w +ℤ turn v w p q +ℤ turn p q r s
+spread p q r s v w = determinant r s v w +ℤ determinant v w p q +ℤ determinant p q r s
 
 -- (i + j + k) (B × C) = i (B × C + C × A + A × B)
 pub share : (i j k : ℕ) (p q r s v w : ℤ) → mix i j k p r v ≡ pos 0 → mix i j k q s w ≡ pos 0
-    → pos (i + j + k) *ℤ turn r s v w ≡ pos i *ℤ spread p q r s v w
+    → pos (i + j + k) *ℤ determinant r s v w ≡ pos i *ℤ spread p q r s v w
 share i j k p q r s v w h g =
-    let α = turn r s v w in
-    let β = turn v w p q in
-    let γ = turn p q r s in
+    let α = determinant r s v w in
+    let β = determinant v w p q in
+    let γ = determinant p q r s in
     let second : pos j *ℤ α ≡ pos i *ℤ β = sym (swap i j k p q r s v w h g) in
     let third : pos k *ℤ α ≡ pos i *ℤ γ =
     swap k i j v w p q r s (mix-turned i j k p r v (pos 0) h) (mix-turned i j k q s w (pos 0) g) in
@@ -65,14 +65,14 @@ share i j k p q r s v w h g =
     ∙ sym (times-plus (pos i) (α +ℤ β) γ)
 
 -- α A + β B + γ C = 0
-pub closes : (p q r s v w : ℤ) → turn r s v w *ℤ p +ℤ turn v w p q *ℤ r +ℤ turn p q r s *ℤ v ≡ pos 0
+pub closes : (p q r s v w : ℤ) → determinant r s v w *ℤ p +ℤ determinant v w p q *ℤ r +ℤ determinant p q r s *ℤ v ≡ pos 0
 closes p q r s v w =
     diff-zero
     (diff-add
     (diff-add (diff-right (diff-minus (r *ℤ w) (s *ℤ v)) p) (diff-right (diff-minus (v *ℤ q) (w *ℤ p)) r))
     (diff-right (diff-minus (p *ℤ s) (q *ℤ r)) v)) (simp ring)
 
-pub closes-up : (p q r s v w : ℤ) → turn r s v w *ℤ q +ℤ turn v w p q *ℤ s +ℤ turn p q r s *ℤ w ≡ pos 0
+pub closes-up : (p q r s v w : ℤ) → determinant r s v w *ℤ q +ℤ determinant v w p q *ℤ s +ℤ determinant p q r s *ℤ w ≡ pos 0
 closes-up p q r s v w =
     diff-zero
     (diff-add
@@ -90,11 +90,11 @@ pub record Weights (p q r s v w : ℤ) (α β γ : ℤ) : Type 0 where
 turned-sum : (i j k : ℕ) → k + i + j ≡ i + j + k
 turned-sum i j k = omega arith
 
-pub own-weights : (p q r s v w : ℤ) → Weights p q r s v w (turn r s v w) (turn v w p q) (turn p q r s)
+pub own-weights : (p q r s v w : ℤ) → Weights p q r s v w (determinant r s v w) (determinant v w p q) (determinant p q r s)
 own-weights p q r s v w =
-    let α = turn r s v w in
-    let β = turn v w p q in
-    let γ = turn p q r s in
+    let α = determinant r s v w in
+    let β = determinant v w p q in
+    let γ = determinant p q r s in
     record {
       first = λ i j k h g. share i j k p q r s v w h g;
       second = λ i j k h g.

@@ -1,4 +1,6 @@
 -- The first point of a segment in a closed triangle, over the whole numbers. Definitions only. Assumes nothing.
-pub mod Sizes
 pub mod FirstPoint
 pub mod Meeting
+pub mod Answer
+pub mod Sizes
+pub mod Sides

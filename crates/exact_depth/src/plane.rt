@@ -1,5 +1,5 @@
 // A corner in a plane that the line lies in: the line is u = 0.
-pub struct Plot {
+pub struct PlanePoint {
     pub u: i64,
     pub depth: i64,
 }

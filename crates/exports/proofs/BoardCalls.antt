@@ -10,59 +10,59 @@ use lib.ListN.{length}
 use lib.Seq.{sets, getD-set-same}
 use Rattle.casts.specs.Answer.{badShape, noRoom}
 use Rattle.tree.specs.Layout.{wordAt}
-use Rattle.board_tests.specs.Merge.{Answer, nodes, refused, Board, Areas, Outcome, shapesAdmitted, testsPass, mergeOf}
-use Rattle.board_glue.specs.Promises.{Glued}
-use Rattle.board_glue.proofs.MergePasses.{merged-trees-pass}
-use Rattle.board_glue.proofs.MergeCasts.{merged-casts-glue}
+use Rattle.merge.specs.Merge.{Answer, nodes, refused, Board, Areas, Outcome, shapesAdmitted, testsPass, mergeOf}
+use Rattle.merge.specs.Promises.{Glued}
+use Rattle.merge.proofs.MergePasses.{merged-trees-pass}
+use Rattle.merge.proofs.MergeCasts.{merged-casts-glue}
 use Rattle.results.specs.Results.{Counted, doneCode}
 use Rattle.exports.proofs.Codes.{refusals-below-codes}
-use Rattle.exports.specs.Boards.{toldMerged, MergeTold, mergeRefused, mergeTold}
+use Rattle.exports.specs.Boards.{returnedMerged, MergeReturned, mergeRefused, mergeReturned}
 
 -- the node count as its place holds it
-count-told : (place : List ℕ) (count : ℕ) → 1 ≤ length place → wordAt (sets place 0 (count ∷ [])) 0 ≡ count
-count-told [] count there = absurd (omega arith)
-count-told (x ∷ place) count there = refl
+count-returned : (place : List ℕ) (count : ℕ) → 1 ≤ length place → wordAt (sets place 0 (count ∷ [])) 0 ≡ count
+count-returned [] count there = absurd (omega arith)
+count-returned (x ∷ place) count there = refl
 
 module _ (a b : Board) (old : Areas) (marks : ℕ) where
   module _ (place : List ℕ) where
     -- done: the result passes the check, and casts on it are glued
-    glued-where-done : 1 ≤ length place → (x : Answer) → mergeOf a b old marks .answer ≡ x → toldMerged x place .number ≡ doneCode
-        → Glued a b (wordAt (toldMerged x place .count) 0) (mergeOf a b old marks .after)
-    unfolding toldMerged
+    glued-where-done : 1 ≤ length place → (x : Answer) → mergeOf a b old marks .answer ≡ x → returnedMerged x place .number ≡ doneCode
+        → Glued a b (wordAt (returnedMerged x place .count) 0) (mergeOf a b old marks .after)
+    unfolding returnedMerged
     glued-where-done there (nodes count) e h =
-        subst (λ (k : ℕ). Glued a b k (mergeOf a b old marks .after)) (sym (count-told place count there))
+        subst (λ (k : ℕ). Glued a b k (mergeOf a b old marks .after)) (sym (count-returned place count there))
         (record { passes = λ m long. merged-trees-pass a b old marks count m e long; casts = merged-casts-glue a b old marks count e })
     glued-where-done there (refused number) e h = absurd (omega (arith, refusals-below-codes .merge a b old marks number e))
 
-    abbrev Told : MergeTold → Type 0
-    Told told =
-        (told ≡ mergeTold a b old marks place)
-        × (told .told .number ≡ doneCode → Glued a b (wordAt (told .told .count) 0) (told .after))
+    abbrev Returned : MergeReturned → Type 0
+    Returned returned =
+        (returned ≡ mergeReturned a b old marks place)
+        × (returned .returned .number ≡ doneCode → Glued a b (wordAt (returned .returned .count) 0) (returned .after))
 
-    refused-told : (number : ℕ) → number < 256 → mergeRefused number old place ≡ mergeTold a b old marks place
-        → Told (mergeRefused number old place)
-    refused-told number small e = (e, λ h. absurd (omega arith))
+    refused-returned : (number : ℕ) → number < 256 → mergeRefused number old place ≡ mergeReturned a b old marks place
+        → Returned (mergeRefused number old place)
+    refused-returned number small e = (e, λ h. absurd (omega arith))
 
-    pub told-bad : shapesAdmitted a b ≡ false → Told (mergeRefused badShape old place)
-    unfolding mergeTold
-    told-bad h = refused-told badShape (omega arith) (simp h)
+    pub returned-bad : shapesAdmitted a b ≡ false → Returned (mergeRefused badShape old place)
+    unfolding mergeReturned
+    returned-bad h = refused-returned badShape (omega arith) (simp h)
 
     module _ (s : shapesAdmitted a b ≡ true) where
-      pub told-short : length place < 1 → Told (mergeRefused noRoom old place)
-      unfolding mergeTold
-      told-short h = refused-told noRoom (omega arith) (simp (s, lt-leb 1 (length place) h))
+      pub returned-short : length place < 1 → Returned (mergeRefused noRoom old place)
+      unfolding mergeReturned
+      returned-short h = refused-returned noRoom (omega arith) (simp (s, lt-leb 1 (length place) h))
 
-      pub told-merged : 1 ≤ length place → (answer : Answer) (after : Areas) (told : Counted)
-          → record { answer = answer; after = after } ≡ mergeOf a b old marks → told ≡ toldMerged answer place
-          → Told (record { told = told; after = after })
-      unfolding mergeTold
-      told-merged there answer after told e t =
+      pub returned-merged : 1 ≤ length place → (answer : Answer) (after : Areas) (returned : Counted)
+          → record { answer = answer; after = after } ≡ mergeOf a b old marks → returned ≡ returnedMerged answer place
+          → Returned (record { returned = returned; after = after })
+      unfolding mergeReturned
+      returned-merged there answer after returned e t =
           let same : answer ≡ mergeOf a b old marks .answer = ap (λ (o : Outcome). o .answer) e in
           let areas : after ≡ mergeOf a b old marks .after = ap (λ (o : Outcome). o .after) e in (
             simp (s, le-leb 1 (length place) there, t, same, areas),
             λ h.
                 subst (λ (k : Counted). Glued a b (wordAt (k .count) 0) after) (sym t)
-                (subst (λ (z : Areas). Glued a b (wordAt (toldMerged answer place .count) 0) z) (sym areas)
+                (subst (λ (z : Areas). Glued a b (wordAt (returnedMerged answer place .count) 0) z) (sym areas)
                 (glued-where-done there answer (sym same) (sym (ap (λ (k : Counted). k .number) t) ∙ h))),
           )
 

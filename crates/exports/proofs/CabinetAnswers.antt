@@ -7,6 +7,7 @@ use mathlib.Core.List.{List, [], _∷_}
 use borrow.Author.Tests.{leb-true}
 use lib.Dec.{leb, eqb}
 use lib.Ieee.{Float}
+use lib.ListN.{length}
 use lib.Seq.{sets}
 use Rattle.lists.proofs.JoinedTests.{and-first, and-second}
 use Rattle.vectors.specs.declared.vec3.Vec3.{Vec3}
@@ -17,12 +18,14 @@ use Rattle.cabinet.specs.declared.part.Found.{Found}
 use Rattle.cabinet.specs.declared.part.Found.the-variants.{Nothing, Hit, Refused}
 use Rattle.cabinet.specs.declared.part.Progress.{Progress}
 use Rattle.cabinet.specs.declared.part.State.{State}
+use Rattle.cabinet.specs.declared.part.Look.{Look}
 use Rattle.cabinet.specs.Parts.{Areas}
+use Rattle.cabinet.specs.Looks.{lookFrom, lookParts, turnedBy}
 use Rattle.cabinet.specs.Cabinet.{Answer, hitIn, noneAfter, refused, refusedAfter, castCabinet, testsPass, withResults}
-use Rattle.cabinet.specs.Steps.{isIdle, KeptByBoth, begun, between, passes, lastAnswer}
+use Rattle.cabinet.specs.Steps.{isIdle, Kept, begun, between, passes, stepParts, lastAnswer}
 use Rattle.cabinet.proofs.Passes.{tests-keep, passes-are-cabinet}
 use Rattle.results.specs.Results.{hitCode, noneCode}
-use Rattle.exports.specs.CabinetResults.{cabinetFits, CabinetTold, cabinetTold, toldCabinet}
+use Rattle.exports.specs.CabinetResults.{cabinetFits, CabinetReturned, cabinetReturned, returnedCabinet}
 
 -- ---- result slices that fit have their places
 pub record Places (a b c d : ℕ) : Type 0 where
@@ -45,45 +48,58 @@ places-there hit index part spent h =
 
 -- ---- what is written of the last state
 module _ (s : Progress) (hit : List Float) (index part spent : List ℕ) where
-  abbrev told : Bool → CabinetTold
-  told fits = toldCabinet (withResults fits (lastAnswer s)) hit index part spent
+  abbrev returned : Bool → CabinetReturned
+  returned fits = returnedCabinet (withResults fits (lastAnswer s)) hit index part spent
 
-  pub none-short : (fits : Bool) → fits ≡ false → s .found ≡ Nothing → cabinetTold noRoom hit index part spent ≡ told fits
-  unfolding toldCabinet withResults lastAnswer
+  pub none-short : (fits : Bool) → fits ≡ false → s .found ≡ Nothing → cabinetReturned noRoom hit index part spent ≡ returned fits
+  unfolding returnedCabinet withResults lastAnswer
   none-short fits f e = simp (f, e)
 
-  pub none-told : (fits : Bool) → fits ≡ true → s .found ≡ Nothing
-      → cabinetTold noneCode hit index part (sets spent 0 (s .spent ∷ [])) ≡ told fits
-  unfolding toldCabinet withResults lastAnswer
-  none-told fits f e = simp (f, e)
+  pub none-returned : (fits : Bool) → fits ≡ true → s .found ≡ Nothing
+      → cabinetReturned noneCode hit index part (sets spent 0 (s .spent ∷ [])) ≡ returned fits
+  unfolding returnedCabinet withResults lastAnswer
+  none-returned fits f e = simp (f, e)
 
   module _ (p triangle : ℕ) (n : Vec3) (d : Float) (e : s .found ≡ Hit p triangle n d) where
-    pub hit-short : (fits : Bool) → fits ≡ false → cabinetTold noRoom hit index part spent ≡ told fits
-    unfolding toldCabinet withResults lastAnswer
+    pub hit-short : (fits : Bool) → fits ≡ false → cabinetReturned noRoom hit index part spent ≡ returned fits
+    unfolding returnedCabinet withResults lastAnswer
     hit-short fits f = simp (f, e)
 
     pub hit-told : (fits : Bool) → fits ≡ true
-        → cabinetTold hitCode (sets hit 0 (n .x ∷ n .y ∷ n .z ∷ d ∷ [])) (sets index 0 (triangle ∷ [])) (sets part 0 (p ∷ []))
+        → cabinetReturned hitCode (sets hit 0 (n .x ∷ n .y ∷ n .z ∷ d ∷ [])) (sets index 0 (triangle ∷ [])) (sets part 0 (p ∷ []))
         (sets spent 0 (s .spent ∷ []))
-        ≡ told fits
-    unfolding toldCabinet withResults lastAnswer
+        ≡ returned fits
+    unfolding returnedCabinet withResults lastAnswer
     hit-told fits f = simp (f, e)
 
   module _ (number : ℕ) (e : s .found ≡ Refused number) where
     -- before a part was begun
-    pub refused-early : (fits : Bool) → eqb (s .part) 0 ≡ true → cabinetTold number hit index part spent ≡ told fits
-    unfolding toldCabinet withResults lastAnswer
+    pub refused-early : (fits : Bool) → eqb (s .part) 0 ≡ true → cabinetReturned number hit index part spent ≡ returned fits
+    unfolding returnedCabinet withResults lastAnswer
     refused-early true z = simp (e, z)
     refused-early false z = simp (e, z)
 
-    pub refused-short : (fits : Bool) → fits ≡ false → eqb (s .part) 0 ≡ false → cabinetTold noRoom hit index part spent ≡ told fits
-    unfolding toldCabinet withResults lastAnswer
+    pub refused-short : (fits : Bool) → fits ≡ false → eqb (s .part) 0 ≡ false → cabinetReturned noRoom hit index part spent ≡ returned fits
+    unfolding returnedCabinet withResults lastAnswer
     refused-short fits f z = simp (f, e, z)
 
-    pub refused-told : (fits : Bool) → fits ≡ true → eqb (s .part) 0 ≡ false
-        → cabinetTold number hit index part (sets spent 0 (s .spent ∷ [])) ≡ told fits
-    unfolding toldCabinet withResults lastAnswer
-    refused-told fits f z = simp (f, e, z)
+    pub refused-returned : (fits : Bool) → fits ≡ true → eqb (s .part) 0 ≡ false
+        → cabinetReturned number hit index part (sets spent 0 (s .spent ∷ [])) ≡ returned fits
+    unfolding returnedCabinet withResults lastAnswer
+    refused-returned fits f z = simp (f, e, z)
+
+-- ---- the two passes, one after the other
+module _ (a : Areas) (m k : ℕ) (start : State) (parts : List Part) where
+  pub starts-second : (s : State) (i l : Look)
+      → i ≡ lookFrom start (length (a .vertices)) (length (a .triangles)) (length (a .nodeBoxes)) (length (a .triangleBoxes))
+      (length (a .nodeWords)) (length (a .order)) m k
+      → l ≡ lookParts i parts → s ≡ turnedBy start l → s ≡ between a m k start parts
+  unfolding between
+  starts-second s i l e f g = g ∙ ap (turnedBy start) (f ∙ ap (λ (z : Look). lookParts z parts) e)
+
+  pub ends-second : (s r : State) → s ≡ between a m k start parts → r ≡ stepParts a m k s parts → r ≡ passes a m k start parts
+  unfolding passes
+  ends-second s r e f = f ∙ ap (λ (z : State). stepParts a m k z parts) e
 
 -- ---- the whole call
 -- the result slices are asked once
@@ -103,15 +119,15 @@ module _ (r : Ray) (a : Areas) (m k limit : ℕ) (fits : Bool) (parts : List Par
       ∙ passes-are-cabinet a m k r limit fits parts
 
   pub cabinet-answers : (f s : State) → f ≡ begun r limit fits → s ≡ passes a m k f parts
-      → (hit : List Float) (index part spent : List ℕ) (x : CabinetTold)
-      → x ≡ toldCabinet (withResults fits (lastAnswer (s .at))) hit index part spent
-      → x ≡ toldCabinet (withResults fits (castCabinet r a m k limit parts)) hit index part spent
+      → (hit : List Float) (index part spent : List ℕ) (x : CabinetReturned)
+      → x ≡ returnedCabinet (withResults fits (lastAnswer (s .at))) hit index part spent
+      → x ≡ returnedCabinet (withResults fits (castCabinet r a m k limit parts)) hit index part spent
   cabinet-answers f s e g hit index part spent x h =
       h
-      ∙ ap (λ (answer : Answer). toldCabinet answer hit index part spent)
+      ∙ ap (λ (answer : Answer). returnedCabinet answer hit index part spent)
       (ap (withResults fits) (last-is f s e g) ∙ results-twice fits (castCabinet r a m k limit parts))
 
   pub cabinet-keeps : (f : State) → f ≡ begun r limit fits → (list list' stack stack' : List ℕ)
-      → KeptByBoth a m k f parts list list' stack stack' → testsPass r a m k fits parts ≡ false → (list' ≡ list) × (stack' ≡ stack)
+      → Kept (between a m k f parts) list list' stack stack' → testsPass r a m k fits parts ≡ false → (list' ≡ list) × (stack' ≡ stack)
   cabinet-keeps f e list list' stack stack' kept h =
       kept (ap (λ (x : State). isIdle (between a m k x parts)) e ∙ tests-keep a m k r limit fits parts h)

@@ -9,7 +9,7 @@ use Rattle.height_ranges.specs.Answer as Clearance
 use Rattle.tree_build.specs.Build as Build
 use Rattle.tree_query.specs.Query as Query
 use Rattle.tree_check.specs.Verdict as Verdict
-use Rattle.board_tests.specs.Merge as Merge
+use Rattle.merge.specs.Merge as Merge
 use Rattle.mesh_hits.proofs.RefusalNumbers.{refusals-small}
 use Rattle.cabinet.specs.Cabinet as Cabinet
 use Rattle.slice_casts.specs.Slices.{planeOfSlices, triangleOfSlices}
@@ -17,6 +17,7 @@ use Rattle.exports.specs.Codes.{RefusalsBelowCodes}
 use Rattle.exports.proofs.RefusalNumbers.{is-small, small-below, answerNumber, plane-small, ray-triangle-small, slices-small}
 use Rattle.exports.proofs.RefusalNumbers.{indexedNumber, mesh-small, plain-small}
 use Rattle.exports.proofs.ExactNumbers.{exact-plain-small, exact-tree-small}
+use Rattle.exports.proofs.ManyNumbers.{many-small}
 use Rattle.exports.proofs.GridNumbers.{height-field-small, clearanceNumber, ranges-small, level-set-small}
 use Rattle.exports.proofs.TreeNumbers.{buildNumber, build-small, queryNumber, query-small, checkNumber, check-small}
 use Rattle.exports.proofs.TreeNumbers.{mergeNumber, merge-small, convertedNumber, converted-small, cabinetNumber, cabinet-small}
@@ -36,6 +37,7 @@ refusals-below-codes = record {
   plain = λ r m. small-below indexedNumber stopped (λ n. refl) _ (plain-small r m);
   exact = λ r m pose t stack. small-below indexedNumber stopped (λ n. refl) _ (exact-tree-small r m pose t stack);
   exact-plain = λ r m. small-below indexedNumber stopped (λ n. refl) _ (exact-plain-small r m);
+  many = many-small;
   build = λ m a work. small-below buildNumber Build.refused (λ n. refl) _ (is-small (build-small m a work .below));
   query = λ box n t list stack. small-below queryNumber Query.refused (λ n. refl) _ (is-small (query-small box n t list stack .below));
   check = λ m t marks. small-below checkNumber Verdict.refused (λ n. refl) _ (check-small m t marks);

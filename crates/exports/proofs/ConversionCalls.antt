@@ -10,14 +10,14 @@ use lib.ListN.{length}
 use lib.Seq.{sets}
 use Rattle.casts.specs.Answer.{badShape, noRoom}
 use Rattle.float_forms.specs.declared.forms.Form.{Form}
-use Rattle.record_forms.specs.declared.shape.Plan.{Plan}
-use Rattle.record_forms.specs.declared.shape.Planned.{Planned}
-use Rattle.record_forms.specs.declared.shape.Planned.the-variants.{Is, Malformed}
-use Rattle.record_forms.specs.Records.{wellFormed}
+use Rattle.conversion.specs.declared.shape.Plan.{Plan}
+use Rattle.conversion.specs.declared.shape.Planned.{Planned}
+use Rattle.conversion.specs.declared.shape.Planned.the-variants.{Is, Malformed}
+use Rattle.conversion.specs.Records.{wellFormed}
 use Rattle.conversion.specs.Convert.{Answer, Outcome, converted}
-use Rattle.record_forms.specs.Plans.{planOf, planned}
+use Rattle.conversion.specs.Plans.{planOf, planned}
 use Rattle.results.specs.Results.{Counted, doneCode}
-use Rattle.exports.specs.Conversions.{toldConverted, withoutPlace, ConvertTold, convertTold}
+use Rattle.exports.specs.Conversions.{returnedConverted, withoutPlace, ConvertReturned, convertReturned}
 
 -- ---- the place is missing
 
@@ -39,21 +39,21 @@ place-shape form l e = go (wellFormed form l) e
 
 -- ---- the two calls
 
-told-of : {a b : Counted} {c d : List ℕ} → a ≡ b → c ≡ d
-    → _≡_ {A = ConvertTold} record { told = a; area = c } record { told = b; area = d }
-told-of p q = cc
+returned-of : {a b : Counted} {c d : List ℕ} → a ≡ b → c ≡ d
+    → _≡_ {A = ConvertReturned} record { returned = a; area = c } record { returned = b; area = d }
+returned-of p q = cc
 
 module _ (p q : Form) (l area place : List ℕ) where
   pub no-place : (number : ℕ) → length place < 1 → number ≡ withoutPlace p l
-      → record { told = record { number = number; count = place }; area = area } ≡ convertTold p q l area place
-  unfolding convertTold
+      → record { returned = record { number = number; count = place }; area = area } ≡ convertReturned p q l area place
+  unfolding convertReturned
   no-place number h e = rw (lt-leb 1 (length place) h, e)
 
-  pub has-place : (answer : Answer) (after : List ℕ) (told : Counted) → 1 ≤ length place
-      → record { answer = answer; area = after } ≡ converted p q l area → told ≡ toldConverted answer place
-      → record { told = told; area = after } ≡ convertTold p q l area place
-  unfolding convertTold
-  has-place answer after told h e t =
+  pub has-place : (answer : Answer) (after : List ℕ) (returned : Counted) → 1 ≤ length place
+      → record { answer = answer; area = after } ≡ converted p q l area → returned ≡ returnedConverted answer place
+      → record { returned = returned; area = after } ≡ convertReturned p q l area place
+  unfolding convertReturned
+  has-place answer after returned h e t =
       let x : answer ≡ converted p q l area .answer = ap (λ (o : Outcome). o .answer) e in
       let y : after ≡ converted p q l area .area = ap (λ (o : Outcome). o .area) e in
-      rw (le-leb 1 (length place) h) (told-of (t ∙ ap (λ (z : Answer). toldConverted z place) x) y)
+      rw (le-leb 1 (length place) h) (returned-of (t ∙ ap (λ (z : Answer). returnedConverted z place) x) y)

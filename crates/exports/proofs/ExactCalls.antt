@@ -10,26 +10,25 @@ use lib.Ieee.{Float}
 use lib.ListN.{length}
 use Rattle.geometry.specs.Segment.{rayAdmitted}
 use Rattle.geometry.specs.declared.ray.Ray.{Ray}
-use Rattle.casts.specs.Answer.{invalidInput, badShape, noRoom}
+use Rattle.casts.specs.Answer.{invalidInput, badShape, noRoom, outOfRange}
 use Rattle.nearest_hit.specs.Nearest.{Indexed, stopped}
 use Rattle.tree.specs.Layout.{Tree}
 use Rattle.tree.specs.Mesh.{Mesh, thirds, lengthsAdmitted}
 use Rattle.tree_check.proofs.Answers.{yes-passes}
-use Rattle.any_direction.specs.Grid.{gridAdmitted}
-use Rattle.grid_triangle.specs.Reach.{outOfRange}
+use Rattle.exact_triangle.specs.Grid.{gridAdmitted}
 use Rattle.mesh.specs.MeshCast.{shapeAdmitted}
 use Rattle.mesh.specs.Demand3.{PassesCheck}
 use Rattle.mesh_plain.proofs.Agreement.{yes-lengths}
-use Rattle.mesh_grid.specs.GridCast.{overTriangles, rayMeshExactPlain}
-use Rattle.mesh_grid.specs.Certain.{CertainMesh}
-use Rattle.mesh_grid.proofs.Certainty.{certain}
-use Rattle.first_cast.specs.Numbers.{NoNaN, hasNumbers}
-use Rattle.first_cast.specs.ExactMesh.{roomFor, exactThrough, rayMeshExact}
-use Rattle.first_cast.proofs.Agreement.{shape-admitted, agrees}
-use Rattle.results.specs.Results.{ToldIndexed, toldIndexed, resultsFit, withRoom, yesCode, noCode}
-use Rattle.exports.specs.Plain.{toldNumber}
+use Rattle.mesh_exact.specs.GridCast.{overTriangles, rayMeshExactPlain}
+use Rattle.mesh_exact.specs.Certain.{CertainMesh}
+use Rattle.mesh_exact.proofs.Certainty.{certain}
+use Rattle.tree_exact.specs.Numbers.{NoNaN, hasNumbers}
+use Rattle.tree_exact.specs.ExactMesh.{roomFor, exactThrough, rayMeshExact}
+use Rattle.tree_exact.proofs.Agreement.{shape-admitted, agrees}
+use Rattle.results.specs.Results.{ReturnedIndexed, returnedIndexed, resultsFit, withRoom, yesCode, noCode}
+use Rattle.exports.specs.Plain.{returnedNumber}
 use Rattle.exports.specs.Reading.{answerRead}
-use Rattle.exports.specs.ExactResults.{exactTold, treeTold, shortExact, ExactPlainCall, ToldAsPlain, NumbersCall}
+use Rattle.exports.specs.ExactResults.{exactReturned, treeReturned, shortExact, ExactPlainCall, ReturnedAsPlain, NumbersCall}
 use Rattle.exports.proofs.Kept.{room-there}
 use Rattle.exports.proofs.Codes.{refusals-below-codes}
 use Rattle.exports.proofs.Reading.{answer-read}
@@ -52,41 +51,41 @@ module _ (r : Ray) (shape : Bool) where
 
 module _ (hit : List Float) (index : List ℕ) where
   -- the tests of 1, 12 and 2 go before the result slices
-  untold-short : (p q s fits : Bool) (rest : Indexed) (number : ℕ) → fits ≡ false
+  unreturned-short : (p q s fits : Bool) (rest : Indexed) (number : ℕ) → fits ≡ false
       → number ≡ cond p (cond q (cond s noRoom badShape) outOfRange) invalidInput
-      → toldNumber number hit index
+      → returnedNumber number hit index
       ≡ withRoom (p && (q && s)) fits
-      (toldIndexed (cond p (cond q (cond s rest (stopped badShape)) (stopped outOfRange)) (stopped invalidInput)) hit index)
-      (toldNumber noRoom hit index)
-  unfolding toldIndexed
-  untold-short true true true fits rest number f e = simp (f, e)
-  untold-short true true false fits rest number f e = simp e
-  untold-short true false s fits rest number f e = simp e
-  untold-short false q s fits rest number f e = simp e
+      (returnedIndexed (cond p (cond q (cond s rest (stopped badShape)) (stopped outOfRange)) (stopped invalidInput)) hit index)
+      (returnedNumber noRoom hit index)
+  unfolding returnedIndexed
+  unreturned-short true true true fits rest number f e = simp (f, e)
+  unreturned-short true true false fits rest number f e = simp e
+  unreturned-short true false s fits rest number f e = simp e
+  unreturned-short false q s fits rest number f e = simp e
 
   -- ---- without a tree
   module _ (r : Ray) (m : Mesh) where
     pub plain-short : (number : ℕ) (shape : Bool) → resultsFit hit index ≡ false
         → shape ≡ lengthsAdmitted (length (m .vertices)) (length (m .triangles)) → number ≡ shortExact r shape
-        → toldNumber number hit index ≡ exactTold r m hit index
-    unfolding exactTold rayMeshExactPlain
+        → returnedNumber number hit index ≡ exactReturned r m hit index
+    unfolding exactReturned rayMeshExactPlain
     plain-short number shape short s e =
-        untold-short (rayAdmitted r) (gridAdmitted r) (lengthsAdmitted (length (m .vertices)) (length (m .triangles)))
+        unreturned-short (rayAdmitted r) (gridAdmitted r) (lengthsAdmitted (length (m .vertices)) (length (m .triangles)))
         (resultsFit hit index) (overTriangles r m) number short (e ∙ ap (λ (b : Bool). shortExact r b) s)
 
-    fitting : resultsFit hit index ≡ true → exactTold r m hit index ≡ toldIndexed (rayMeshExactPlain r m) hit index
-    unfolding exactTold
+    fitting : resultsFit hit index ≡ true → exactReturned r m hit index ≡ returnedIndexed (rayMeshExactPlain r m) hit index
+    unfolding exactReturned
     fitting fits =
         room-there (rayAdmitted r && (gridAdmitted r && lengthsAdmitted (length (m .vertices)) (length (m .triangles))))
         (resultsFit hit index) _ _ fits
 
-    pub plain-told : (told : ToldIndexed) (answer : Indexed) → resultsFit hit index ≡ true → answer ≡ rayMeshExactPlain r m
-        → told ≡ toldIndexed answer hit index → told ≡ exactTold r m hit index
-    plain-told told answer fits e f = f ∙ ap (λ (a : Indexed). toldIndexed a hit index) e ∙ sym (fitting fits)
+    pub plain-returned : (returned : ReturnedIndexed) (answer : Indexed) → resultsFit hit index ≡ true → answer ≡ rayMeshExactPlain r m
+        → returned ≡ returnedIndexed answer hit index → returned ≡ exactReturned r m hit index
+    plain-returned returned answer fits e f = f ∙ ap (λ (a : Indexed). returnedIndexed a hit index) e ∙ sym (fitting fits)
 
     -- both clauses of the call's contract, from the first
-    pub exact-certain : (told : ToldIndexed) → told ≡ exactTold r m hit index → ExactPlainCall r m hit index told
-    exact-certain told e = (
+    pub exact-certain : (returned : ReturnedIndexed) → returned ≡ exactReturned r m hit index → ExactPlainCall r m hit index returned
+    exact-certain returned e = (
       e,
       λ fits.
           let read = answer-read hit index fits (rayMeshExactPlain r m) (refusals-below-codes .exact-plain r m) in
@@ -102,40 +101,41 @@ module _ (hit : List Float) (index : List ℕ) where
         && (lengthsAdmitted (length pose) (length (m .triangles)) && leb (t .nodeCount) (2 * thirds (length (m .triangles))))
 
     pub tree-short : (number : ℕ) (shape : Bool) → resultsFit hit index ≡ false → shape ≡ admitted → number ≡ shortExact r shape
-        → toldNumber number hit index ≡ treeTold r m pose t stack hit index
-    unfolding treeTold rayMeshExact shapeAdmitted
+        → returnedNumber number hit index ≡ treeReturned r m pose t stack hit index
+    unfolding treeReturned rayMeshExact shapeAdmitted
     tree-short number shape short s e =
-        untold-short (rayAdmitted r) (gridAdmitted r) admitted (resultsFit hit index) _ number short
+        unreturned-short (rayAdmitted r) (gridAdmitted r) admitted (resultsFit hit index) _ number short
         (e ∙ ap (λ (b : Bool). shortExact r b) s)
 
-    pub tree-told : (told : ToldIndexed) (answer : Indexed) → resultsFit hit index ≡ true → answer ≡ rayMeshExact r m pose t stack
-        → told ≡ toldIndexed answer hit index → told ≡ treeTold r m pose t stack hit index
-    unfolding treeTold
-    tree-told told answer fits e f =
-        f ∙ ap (λ (a : Indexed). toldIndexed a hit index) e
+    pub tree-returned : (returned : ReturnedIndexed) (answer : Indexed) → resultsFit hit index ≡ true → answer ≡ rayMeshExact r m pose t
+        stack
+        → returned ≡ returnedIndexed answer hit index → returned ≡ treeReturned r m pose t stack hit index
+    unfolding treeReturned
+    tree-returned returned answer fits e f =
+        f ∙ ap (λ (a : Indexed). returnedIndexed a hit index) e
         ∙ sym (room-there (rayAdmitted r && (gridAdmitted r && shapeAdmitted m pose t)) (resultsFit hit index) _ _ fits)
 
   -- with a tree that passes the check, for a mesh without a NaN
   tree-as-plain : (r : Ray) (m : Mesh) (t : Tree) (stack : ℕ) → PassesCheck m t → NoNaN m → roomFor m t stack ≡ true
-      → treeTold r m (m .vertices) t stack hit index ≡ exactTold r m hit index
-  unfolding treeTold exactTold
+      → treeReturned r m (m .vertices) t stack hit index ≡ exactReturned r m hit index
+  unfolding treeReturned exactReturned
   tree-as-plain r m t stack p numbers room =
       let lengths = yes-lengths m t (p .marks) (p .says-yes) in
       let shape = shape-admitted r m t (yes-passes m t (p .marks) (p .says-yes)) lengths in
       simp (shape, lengths, agrees r m t stack p numbers room)
 
   -- the three clauses of the call's contract: what is told, what is kept, and the agreement
-  pub with-agreement : (r : Ray) (m : Mesh) (pose : List Float) (t : Tree) (stack : ℕ) (told : ToldIndexed) (Kept : Type 0)
-      → told ≡ treeTold r m pose t stack hit index → Kept
-      → (told ≡ treeTold r m pose t stack hit index)
-      × (Kept × (pose ≡ m .vertices → ToldAsPlain r m t stack hit index told))
-  with-agreement r m pose t stack told Kept e k = (
+  pub with-agreement : (r : Ray) (m : Mesh) (pose : List Float) (t : Tree) (stack : ℕ) (returned : ReturnedIndexed) (Kept : Type 0)
+      → returned ≡ treeReturned r m pose t stack hit index → Kept
+      → (returned ≡ treeReturned r m pose t stack hit index)
+      × (Kept × (pose ≡ m .vertices → ReturnedAsPlain r m t stack hit index returned))
+  with-agreement r m pose t stack returned Kept e k = (
     e,
     (
       k,
       λ own p numbers room.
-          exact-certain r m told
-          (e ∙ ap (λ (vs : List Float). treeTold r m vs t stack hit index) own ∙ tree-as-plain r m t stack p numbers room),
+          exact-certain r m returned
+          (e ∙ ap (λ (vs : List Float). treeReturned r m vs t stack hit index) own ∙ tree-as-plain r m t stack p numbers room),
     ),
   )
 

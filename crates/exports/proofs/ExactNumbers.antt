@@ -13,7 +13,7 @@ use Rattle.vectors.specs.declared.vec3.Normalized.the-variants.{Unit as UnitOf,
 use Rattle.vectors.specs.Vector.{dotOf}
 use Rattle.geometry.specs.Segment.{rayAdmitted}
 use Rattle.geometry.specs.declared.ray.Ray.{Ray}
-use Rattle.casts.specs.Answer.{Answer, hit, none, refused, withNormal, noNormal, invalidInput, badShape, outOfBounds}
+use Rattle.casts.specs.Answer.{Answer, hit, none, refused, withNormal, noNormal, invalidInput, badShape, outOfBounds, outOfRange}
 use Rattle.casts.specs.Reach.{reachOf}
 use Rattle.casts.specs.Surface.{facing}
 use Rattle.casts.specs.declared.answer.Reach.{Reach}
@@ -22,20 +22,20 @@ use Rattle.nearest_hit.specs.Nearest.{Indexed, hitAt, noHit, stopped}
 use Rattle.nearest_hit.specs.Summary.{Kept, nobody, kept, Found, found, lower, keepOf, Summary, nothing, noteOf, winner, winnerOf, answerAt}
 use Rattle.tree.specs.Layout.{Tree, wordAt, kindAt, firstAt, secondAt}
 use Rattle.tree.specs.Mesh.{Mesh, thirds, triangleCount, lengthsAdmitted, cornersInside, cornersOf, trianglesFit}
-use Rattle.any_direction.specs.Grid.{gridAdmitted, gridLine}
-use Rattle.any_direction.specs.Shear.{depthOf}
-use Rattle.exact_depth.specs.declared.spots.Depth.{Depth}
-use Rattle.exact_depth.specs.declared.spots.Depth.the-variants.{At as Met, Miss as Unmet}
-use Rattle.exact_depth.specs.declared.spots.Point.{Point}
-use Rattle.grid_triangle.specs.Normal.{normalOf}
-use Rattle.grid_triangle.specs.Reach.{outOfRange, cornersRead, reachAt, cornersReach, gridReach}
-use Rattle.grid_triangle.specs.Cast.{gridNormal, reachHit, crossAt, gridTriangle}
-use Rattle.mesh_grid.specs.GridCast.{exactAnswer, overTriangles, rayMeshExactPlain}
-use Rattle.first_walk.specs.FirstWalk.{Seeking, seeking, broken, times, noted, takePlace, takePlaces, atLeaf, atBranch, atNode}
-use Rattle.first_walk.specs.FirstWalk.{takeNode, start, ended, firstOf}
-use Rattle.first_cast.specs.Opening.{opensNode}
-use Rattle.first_cast.specs.Order.{leftFirst}
-use Rattle.first_cast.specs.ExactMesh.{exactThrough, exactTests, rayMeshExact}
+use Rattle.exact_triangle.specs.Grid.{gridAdmitted, gridLine}
+use Rattle.exact_triangle.specs.Shear.{depthOf}
+use Rattle.exact_depth.specs.declared.projection.Depth.{Depth}
+use Rattle.exact_depth.specs.declared.projection.Depth.the-variants.{At as Met, Miss as Unmet}
+use Rattle.exact_depth.specs.declared.projection.Point.{Point}
+use Rattle.exact_triangle.specs.Normal.{normalOf}
+use Rattle.exact_triangle.specs.Reach.{cornersRead, reachAt, cornersReach, gridReach}
+use Rattle.exact_triangle.specs.Cast.{gridNormal, reachHit, crossAt, gridTriangle}
+use Rattle.mesh_exact.specs.GridCast.{exactAnswer, overTriangles, rayMeshExactPlain}
+use Rattle.tree_exact.specs.FirstWalk.{Seeking, seeking, broken, times, noted, takePlace, takePlaces, atLeaf, atBranch, atNode}
+use Rattle.tree_exact.specs.FirstWalk.{takeNode, start, ended, firstOf}
+use Rattle.tree_exact.specs.Opening.{opensNode}
+use Rattle.tree_exact.specs.Order.{leftFirst}
+use Rattle.tree_exact.specs.ExactMesh.{exactThrough, exactTests, rayMeshExact}
 use Rattle.exports.proofs.RefusalNumbers.{Small, is-small, leaf, chosen, smallTests, tested, answerNumber, refuses, misses, hits}
 use Rattle.exports.proofs.RefusalNumbers.{indexedNumber, stops, next-small, nearest-small}
 

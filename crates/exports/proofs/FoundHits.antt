@@ -15,38 +15,38 @@ use Rattle.tree.specs.Layout.{Tree}
 use Rattle.tree.specs.Mesh.{Mesh}
 use Rattle.tree_query.specs.Query.{Listing, count, refused}
 use Rattle.mesh.specs.MeshCast.{shapeAdmitted}
-use Rattle.hit_area.specs.HitArea.{HitArea, Outcome}
+use Rattle.mesh_hits.specs.HitArea.{HitArea, Outcome}
 use Rattle.mesh_hits.specs.Listing.{rayMeshAll}
 use Rattle.mesh_hits.specs.Promise.{KeepsPromises}
-use Rattle.results.specs.Results.{Counted, doneCode, shortOf, toldFound}
-use Rattle.exports.specs.AllHits.{ListingTold, withoutPlace, allTold, foundTold}
+use Rattle.results.specs.Results.{Counted, doneCode, shortOf, returnedFound}
+use Rattle.exports.specs.AllHits.{ListingReturned, withoutPlace, allReturned, foundReturned}
 use Rattle.exports.proofs.Codes.{refusals-below-codes}
 
 module _ (r : Ray) (m : Mesh) (pose : List Float) (t : Tree) (list stack : ℕ) (area : HitArea) (place : List ℕ) where
-  pub short-told : (number : ℕ) → length place < 1 → number ≡ shortOf (rayAdmitted r) (shapeAdmitted m pose t)
-      → record { told = record { number = number; count = place }; area = area } ≡ allTold r m pose t list stack area place
-  unfolding allTold withoutPlace
-  short-told number short e = simp (lt-leb 1 (length place) short, e)
+  pub short-returned : (number : ℕ) → length place < 1 → number ≡ shortOf (rayAdmitted r) (shapeAdmitted m pose t)
+      → record { returned = record { number = number; count = place }; area = area } ≡ allReturned r m pose t list stack area place
+  unfolding allReturned withoutPlace
+  short-returned number short e = simp (lt-leb 1 (length place) short, e)
 
   module _ (there : 1 ≤ length place) (o : Outcome) (is : o ≡ rayMeshAll r m pose t list stack area)
-      (told : Counted) (e : told ≡ toldFound (o .answer) place) where
-    pub all-told : record { told = told; area = o .area } ≡ allTold r m pose t list stack area place
-    unfolding allTold
-    all-told =
-        ap (λ (c : Counted). record { told = c; area = o .area }) e
-        ∙ ap (λ (z : Outcome). record { told = toldFound (z .answer) place; area = z .area }) is
+      (returned : Counted) (e : returned ≡ returnedFound (o .answer) place) where
+    pub all-returned : record { returned = returned; area = o .area } ≡ allReturned r m pose t list stack area place
+    unfolding allReturned
+    all-returned =
+        ap (λ (c : Counted). record { returned = c; area = o .area }) e
+        ∙ ap (λ (z : Outcome). record { returned = returnedFound (z .answer) place; area = z .area }) is
         ∙ simp (le-leb 1 (length place) there)
 
     -- a count stands at its place, and no refusal has the code of a count
-    told-back : (a : Listing) → o .answer ≡ a → foundTold (toldFound a place .number) (toldFound a place .count) ≡ a
-    unfolding foundTold toldFound
-    told-back (count k) h = ap count (getD-set-same place 0 k 0 there)
-    told-back (refused number) h =
+    returned-back : (a : Listing) → o .answer ≡ a → foundReturned (returnedFound a place .number) (returnedFound a place .count) ≡ a
+    unfolding foundReturned returnedFound
+    returned-back (count k) h = ap count (getD-set-same place 0 k 0 there)
+    returned-back (refused number) h =
         let small = refusals-below-codes .listing r m pose t list stack area number (sym (ap (λ (z : Outcome). z .answer) is) ∙ h) in
         simp (ne-eqb number doneCode (λ same. omega arith))
 
-    pub told-promises : KeepsPromises r m pose t list stack o
-        → KeepsPromises r m pose t list stack (record { answer = foundTold (told .number) (told .count); area = o .area })
-    told-promises p =
+    pub returned-promises : KeepsPromises r m pose t list stack o
+        → KeepsPromises r m pose t list stack (record { answer = foundReturned (returned .number) (returned .count); area = o .area })
+    returned-promises p =
         subst (λ (a : Listing). KeepsPromises r m pose t list stack (record { answer = a; area = o .area }))
-        (sym (ap (λ (c : Counted). foundTold (c .number) (c .count)) e ∙ told-back (o .answer) refl)) p
+        (sym (ap (λ (c : Counted). foundReturned (c .number) (c .count)) e ∙ returned-back (o .answer) refl)) p

@@ -20,7 +20,7 @@ use Rattle.geometry.specs.Segment.{rayAdmitted}
 use Rattle.geometry.specs.declared.aabb.Aabb.{Aabb}
 use Rattle.geometry.specs.declared.ray.Ray.{Ray}
 use Rattle.casts.specs.Answer.{Answer, hit, none, refused, withNormal}
-use Rattle.casts.specs.Answer.{invalidInput, badShape, outOfBounds, overflow, notConvergent}
+use Rattle.casts.specs.Answer.{invalidInput, badShape, outOfBounds, overflow, notConvergent, badRange}
 use Rattle.nearest_hit.specs.Nearest.{Indexed, hitAt, noHit, stopped, withoutIndex}
 use Rattle.height_field.specs.declared.field.Field.{Field}
 use Rattle.height_field.specs.Cells.{visitedCells}
@@ -30,18 +30,18 @@ use Rattle.height_field.specs.Cast.{answerOf, castListed, spanFinite, heightCas
 use Rattle.height_ranges.specs.Answer.{clear, possible, refused as notClear}
 use Rattle.height_ranges.specs.Answer.{Answer as Clearance}
 use Rattle.height_ranges.specs.Ranges.{rangesAdmitted, nodesOf, nodeInOrder, nearestHeights}
-use Rattle.height_ranges.specs.RangesCast.{badRange, answerListed, visitedAnswer, rangesCast, rayHeightRanges}
+use Rattle.height_ranges.specs.RangesCast.{answerListed, visitedAnswer, rangesCast, rayHeightRanges}
 use Rattle.distance_grid.specs.declared.grid.Grid.{Grid}
 use Rattle.distance_grid.specs.declared.places.Place.{Place}
 use Rattle.distance_grid.specs.declared.places.Place.the-variants.{At as PlaceAt, Overflow as NoPlace}
 use Rattle.distance_grid.specs.declared.places.Located.{Located}
 use Rattle.distance_grid.specs.declared.places.Located.the-variants.{At as LocatedAt, Refused as NotLocated}
 use Rattle.distance_grid.specs.Grid.{gridAdmitted, gridBox}
-use Rattle.distance_grid.specs.Places.{drawnPoint, locateAxis, withPlace, locateInside, locate}
-use Rattle.grid_samples.specs.declared.sampling.Sampled.{Sampled}
-use Rattle.grid_samples.specs.declared.sampling.Sampled.the-variants.{At as SampledAt, Refused as NotSampled}
-use Rattle.grid_samples.specs.Sampling.{gathered, sampleFaces, sampleCell, withLocated, sample}
-use Rattle.grid_samples.specs.Valued.{valueOf}
+use Rattle.distance_grid.specs.Places.{clampedPoint, locateAxis, withPlace, locateInside, locate}
+use Rattle.distance_grid.specs.declared.sampling.Sampled.{Sampled}
+use Rattle.distance_grid.specs.declared.sampling.Sampled.the-variants.{At as SampledAt, Refused as NotSampled}
+use Rattle.distance_grid.specs.Sampling.{gathered, sampleFaces, sampleCell, withLocated, sample}
+use Rattle.distance_grid.specs.Valued.{valueOf}
 use Rattle.grid_steps.specs.Slab.{rayAabbInterval}
 use Rattle.grid_steps.specs.Cells.{rayCellIndices, nextCellBoundary}
 use Rattle.grid_steps.specs.declared.interval.Interval.{Interval}
@@ -161,7 +161,7 @@ inside-small (PlaceAt x tx) (PlaceAt y ty) (PlaceAt z tz) = leaf locatedNumber (
 located-small : (g : Grid) (p : Vec3) → Small locatedNumber (locate g p)
 unfolding locate locateInside locatedNumber
 located-small g p =
-    let q = drawnPoint g p in
+    let q = clampedPoint g p in
     chosen (finiteVec p)
     (inside-small (locateAxis (q .x) (g .origin .x) (g .spacing .x) (g .sides .x))
     (locateAxis (q .y) (g .origin .y) (g .spacing .y) (g .sides .y)) (locateAxis (q .z) (g .origin .z) (g .spacing .z) (g .sides .z)))

@@ -27,6 +27,6 @@ second-failed true second passed failed = failed
 second-failed false second passed failed = absurd (true≢false (sym passed))
 
 -- where the slices are long enough, what is told is told, whatever the tests of 1 and 2 say
-pub room-there : {A : Type 0} (passed fits : Bool) (told short : A) → fits ≡ true → withRoom passed fits told short ≡ told
-room-there true fits told short h = simp h
-room-there false fits told short h = refl
+pub room-there : {A : Type 0} (passed fits : Bool) (returned short : A) → fits ≡ true → withRoom passed fits returned short ≡ returned
+room-there true fits returned short h = simp h
+room-there false fits returned short h = refl

@@ -2,6 +2,7 @@
 pub mod Kept
 pub mod RefusalNumbers
 pub mod ExactNumbers
+pub mod ManyNumbers
 pub mod GridNumbers
 pub mod TreeNumbers
 pub mod Codes
@@ -9,10 +10,11 @@ pub mod Reading
 pub mod RangeCalls
 pub mod Counts
 pub mod PlainCalls
-pub mod MeshTold
+pub mod MeshReturned
 pub mod CabinetAnswers
 pub mod CabinetReads
 pub mod FoundHits
 pub mod BoardCalls
 pub mod ConversionCalls
 pub mod ExactCalls
+pub mod ManyCalls

@@ -13,62 +13,63 @@ use Rattle.nearest_hit.specs.Nearest.{Indexed, stopped}
 use Rattle.tree.specs.Mesh.{Mesh, lengthsAdmitted}
 use Rattle.mesh_plain.specs.PlainCast.{plainCast, rayMeshPlain}
 use Rattle.mesh_plain.proofs.Agreement.{agrees-with-trees}
-use Rattle.results.specs.Results.{ToldIndexed, toldIndexed, resultsFit}
-use Rattle.exports.specs.Plain.{toldNumber, plainTold, ToldByTrees}
+use Rattle.results.specs.Results.{ReturnedIndexed, returnedIndexed, resultsFit}
+use Rattle.exports.specs.Plain.{returnedNumber, plainReturned, ReturnedByTrees}
 use Rattle.exports.proofs.Kept.{results-fit}
 
 module _ (r : Ray) (m : Mesh) (hit : List Float) (index : List ℕ) where
   -- where the result slices fit, the definition's answer is told
-  plain-told : resultsFit hit index ≡ true → toldIndexed (rayMeshPlain r m) hit index ≡ plainTold r m hit index
-  unfolding plainTold rayMeshPlain toldIndexed
-  plain-told fit = go (rayAdmitted r) (lengthsAdmitted (length (m .vertices)) (length (m .triangles)))
+  plain-returned : resultsFit hit index ≡ true → returnedIndexed (rayMeshPlain r m) hit index ≡ plainReturned r m hit index
+  unfolding plainReturned rayMeshPlain returnedIndexed
+  plain-returned fit = go (rayAdmitted r) (lengthsAdmitted (length (m .vertices)) (length (m .triangles)))
     where
       go : (ray shape : Bool)
-          → toldIndexed (cond ray (cond shape (plainCast r m) (stopped badShape)) (stopped invalidInput)) hit index
+          → returnedIndexed (cond ray (cond shape (plainCast r m) (stopped badShape)) (stopped invalidInput)) hit index
           ≡ cond ray
           (cond shape
-          (cond (resultsFit hit index) (toldIndexed (plainCast r m) hit index) (toldNumber noRoom hit index))
-          (toldNumber badShape hit index))
-          (toldNumber invalidInput hit index)
+          (cond (resultsFit hit index) (returnedIndexed (plainCast r m) hit index) (returnedNumber noRoom hit index))
+          (returnedNumber badShape hit index))
+          (returnedNumber invalidInput hit index)
       go true true = simp fit
       go true false = refl
       go false shape = refl
 
   -- both clauses of the call's contract, from the first
-  told-by-trees : (told : ToldIndexed) → told ≡ plainTold r m hit index
-      → (told ≡ plainTold r m hit index) × ToldByTrees r m hit index told
-  told-by-trees told e = (
+  returned-by-trees : (returned : ReturnedIndexed) → returned ≡ plainReturned r m hit index
+      → (returned ≡ plainReturned r m hit index) × ReturnedByTrees r m hit index returned
+  returned-by-trees returned e = (
     e,
     λ t list stack passes room fit.
-        ap (λ (a : Indexed). toldIndexed a hit index) (agrees-with-trees r m t list stack passes room) ∙ plain-told fit ∙ sym e,
+        ap (λ (a : Indexed). returnedIndexed a hit index) (agrees-with-trees r m t list stack passes room) ∙ plain-returned fit ∙ sym e,
   )
 
-  pub told-invalid : rayAdmitted r ≡ false → toldNumber invalidInput hit index ≡ plainTold r m hit index
-  unfolding plainTold
-  told-invalid h = simp h
+  pub returned-invalid : rayAdmitted r ≡ false → returnedNumber invalidInput hit index ≡ plainReturned r m hit index
+  unfolding plainReturned
+  returned-invalid h = simp h
 
   module _ (v : rayAdmitted r ≡ true) where
-    pub told-bad : lengthsAdmitted (length (m .vertices)) (length (m .triangles)) ≡ false
-        → toldNumber badShape hit index ≡ plainTold r m hit index
-    unfolding plainTold
-    told-bad h = simp (v, h)
+    pub returned-bad : lengthsAdmitted (length (m .vertices)) (length (m .triangles)) ≡ false
+        → returnedNumber badShape hit index ≡ plainReturned r m hit index
+    unfolding plainReturned
+    returned-bad h = simp (v, h)
 
     module _ (s : lengthsAdmitted (length (m .vertices)) (length (m .triangles)) ≡ true) where
-      pub told-short-hit : length hit < 4 → toldNumber noRoom hit index ≡ plainTold r m hit index
-      unfolding plainTold resultsFit
-      told-short-hit h = simp (v, s, lt-leb 4 (length hit) h)
+      pub returned-short-hit : length hit < 4 → returnedNumber noRoom hit index ≡ plainReturned r m hit index
+      unfolding plainReturned resultsFit
+      returned-short-hit h = simp (v, s, lt-leb 4 (length hit) h)
 
-      pub told-short-index : 4 ≤ length hit → length index < 1 → toldNumber noRoom hit index ≡ plainTold r m hit index
-      unfolding plainTold resultsFit
-      told-short-index h k = simp (v, s, le-leb 4 (length hit) h, lt-leb 1 (length index) k)
+      pub returned-short-index : 4 ≤ length hit → length index < 1 → returnedNumber noRoom hit index ≡ plainReturned r m hit index
+      unfolding plainReturned resultsFit
+      returned-short-index h k = simp (v, s, le-leb 4 (length hit) h, lt-leb 1 (length index) k)
 
-      pub told-passed : 4 ≤ length hit → 1 ≤ length index → (told : ToldIndexed) (answer : Indexed)
-          → told ≡ toldIndexed answer hit index → answer ≡ plainCast r m → told ≡ plainTold r m hit index
-      unfolding plainTold
-      told-passed h k told answer e a =
-          e ∙ ap (λ (b : Indexed). toldIndexed b hit index) a ∙ simp (v, s, results-fit hit index h k)
+      pub returned-passed : 4 ≤ length hit → 1 ≤ length index → (returned : ReturnedIndexed) (answer : Indexed)
+          → returned ≡ returnedIndexed answer hit index → answer ≡ plainCast r m → returned ≡ plainReturned r m hit index
+      unfolding plainReturned
+      returned-passed h k returned answer e a =
+          e ∙ ap (λ (b : Indexed). returnedIndexed b hit index) a ∙ simp (v, s, results-fit hit index h k)
 
 -- both clauses for the ray that the call's numbers make
-pub told-for : (made r : Ray) → made ≡ r → (m : Mesh) (hit : List Float) (index : List ℕ) (told : ToldIndexed)
-    → told ≡ plainTold made m hit index → (told ≡ plainTold r m hit index) × ToldByTrees r m hit index told
-told-for made r e m hit index told h = told-by-trees r m hit index told (h ∙ ap (λ (s : Ray). plainTold s m hit index) e)
+pub returned-for : (made r : Ray) → made ≡ r → (m : Mesh) (hit : List Float) (index : List ℕ) (returned : ReturnedIndexed)
+    → returned ≡ plainReturned made m hit index → (returned ≡ plainReturned r m hit index) × ReturnedByTrees r m hit index returned
+returned-for made r e m hit index returned h = returned-by-trees r m hit index returned
+    (h ∙ ap (λ (s : Ray). plainReturned s m hit index) e)

@@ -24,8 +24,8 @@ use Rattle.mesh.specs.MeshCast.{shapeAdmitted, rayMesh}
 use Rattle.mesh.specs.Demand3.{MeetsDemand}
 use Rattle.mesh.proofs.Demand3.{demand3}
 use Rattle.mesh.proofs.BuildPasses.{built-trees-pass}
-use Rattle.results.specs.Results.{ToldIndexed, toldIndexed, resultsFit, answeredMesh, hitCode, noneCode}
-use Rattle.results.specs.Results.{BuildTold, doneCode, yesCode, toldNodes, buildTold, toldVerdict}
+use Rattle.results.specs.Results.{ReturnedIndexed, returnedIndexed, resultsFit, answeredMesh, hitCode, noneCode}
+use Rattle.results.specs.Results.{BuildReturned, doneCode, yesCode, returnedNodes, buildReturned, returnedVerdict}
 use Rattle.exports.specs.Reading.{answerRead, DemandRead, YesRead, BuiltRead}
 use Rattle.exports.specs.Codes.{Below}
 use Rattle.exports.proofs.Kept.{room-there}
@@ -33,8 +33,8 @@ use Rattle.exports.proofs.Codes.{refusals-below-codes}
 
 -- ---- the number and the slices say the answer
 hit-read : (n : Vec3) (d : Float) (i : ℕ) (area : List Float) (place : List ℕ) → 4 ≤ length area → 1 ≤ length place
-    → answerRead (toldIndexed (hitAt n d i) area place) ≡ hitAt n d i
-unfolding answerRead toldIndexed vectorAt
+    → answerRead (returnedIndexed (hitAt n d i) area place) ≡ hitAt n d i
+unfolding answerRead returnedIndexed vectorAt
 hit-read n d i [] place h k = absurd (omega arith)
 hit-read n d i (a ∷ []) place h k = absurd (omega arith)
 hit-read n d i (a ∷ (b ∷ [])) place h k = absurd (omega arith)
@@ -43,8 +43,8 @@ hit-read n d i (a ∷ (b ∷ (c ∷ (e ∷ rest)))) [] h k = absurd (omega arith
 hit-read n d i (a ∷ (b ∷ (c ∷ (e ∷ rest)))) (p ∷ place) h k = refl
 
 module _ (area : List Float) (place : List ℕ) (fits : resultsFit area place ≡ true) where
-  pub answer-read : (x : Indexed) → Below stopped x → answerRead (toldIndexed x area place) ≡ x
-  unfolding resultsFit answerRead toldIndexed
+  pub answer-read : (x : Indexed) → Below stopped x → answerRead (returnedIndexed x area place) ≡ x
+  unfolding resultsFit answerRead returnedIndexed
   answer-read (hitAt n d i) small =
       hit-read n d i area place (leb-true 4 (length area) (and-first (leb 4 (length area)) (leb 1 (length place)) fits))
       (leb-true 1 (length place) (and-second (leb 4 (length area)) (leb 1 (length place)) fits))
@@ -63,10 +63,10 @@ module _ (area : List Float) (place : List ℕ) (r : Ray) (m : Mesh) (pose : Lis
       ∙ answer-read area place fits (rayMesh r m pose t list stack) (refusals-below-codes .mesh r m pose t list stack)
 
   -- the three clauses of the call's contract, from the first two
-  pub with-demand : (told : ToldIndexed) (Kept : Type 0) → told ≡ answeredMesh r m pose t list stack area place → Kept
-      → (told ≡ answeredMesh r m pose t list stack area place)
-      × (Kept × DemandRead r m pose t list stack area place told)
-  with-demand told Kept e k = (
+  pub with-demand : (returned : ReturnedIndexed) (Kept : Type 0) → returned ≡ answeredMesh r m pose t list stack area place → Kept
+      → (returned ≡ answeredMesh r m pose t list stack area place)
+      × (Kept × DemandRead r m pose t list stack area place returned)
+  with-demand returned Kept e k = (
     e,
     (
       k,
@@ -87,29 +87,32 @@ module _ (m : Mesh) (before : Areas) (work : ℕ) (place : List ℕ) (there : 1 
   count-read [] k some = absurd (omega arith)
   count-read (x ∷ p) k some = refl
 
-  nodes-read : (x : Answer) → buildOf m before work .answer ≡ x → toldNodes x place .number ≡ doneCode
-      → buildOf m before work .answer ≡ nodes (wordAt (toldNodes x place .count) 0)
-  unfolding toldNodes
+  nodes-read : (x : Answer) → buildOf m before work .answer ≡ x → returnedNodes x place .number ≡ doneCode
+      → buildOf m before work .answer ≡ nodes (wordAt (returnedNodes x place .count) 0)
+  unfolding returnedNodes
   nodes-read (nodes k) e h = e ∙ ap nodes (sym (count-read place k there))
   nodes-read (refused number) e h = absurd (omega (arith, refusals-below-codes .build m before work number e))
 
-  pub built-read : (told : BuildTold) → told ≡ buildTold m before work place → BuiltRead m told
-  unfolding buildTold
-  built-read told e done marks long =
-      let whole : told ≡ record { told = toldNodes (buildOf m before work .answer) place; after = buildOf m before work .after } =
+  pub built-read : (returned : BuildReturned) → returned ≡ buildReturned m before work place → BuiltRead m returned
+  unfolding buildReturned
+  built-read returned e done marks long =
+      let whole : returned ≡ record {
+        returned = returnedNodes (buildOf m before work .answer) place;
+        after = buildOf m before work .after;
+      } =
       e ∙ room-there (lengthsAdmitted (length (m .vertices)) (length (m .triangles))) (leb 1 (length place)) _ _
       (le-leb 1 (length place) there) in
-      let is = nodes-read (buildOf m before work .answer) refl (sym (ap (λ (b : BuildTold). b .told .number) whole) ∙ done) in
-      ap (λ (b : BuildTold). checkOf m (treeIn (wordAt (b .told .count) 0) (b .after)) marks) whole
+      let is = nodes-read (buildOf m before work .answer) refl (sym (ap (λ (b : BuildReturned). b .returned .number) whole) ∙ done) in
+      ap (λ (b : BuildReturned). checkOf m (treeIn (wordAt (b .returned .count) 0) (b .after)) marks) whole
       ∙ built-trees-pass m before work _ marks is long
 
 -- ---- the check
 module _ (m : Mesh) (t : Tree) (marks : ℕ) where
-  verdict-read : (x : Ruling) → checkOf m t marks ≡ x → toldVerdict x ≡ yesCode → checkOf m t marks ≡ yes
-  unfolding toldVerdict
+  verdict-read : (x : Ruling) → checkOf m t marks ≡ x → returnedVerdict x ≡ yesCode → checkOf m t marks ≡ yes
+  unfolding returnedVerdict
   verdict-read yes e h = e
   verdict-read no e h = absurd (omega arith)
   verdict-read (Verdict.refused number) e h = absurd (omega (arith, refusals-below-codes .check m t marks number e))
 
-  pub yes-read : (number : ℕ) → number ≡ toldVerdict (checkOf m t marks) → YesRead m t number
+  pub yes-read : (number : ℕ) → number ≡ returnedVerdict (checkOf m t marks) → YesRead m t number
   yes-read number e h = record { marks = marks; says-yes = verdict-read (checkOf m t marks) refl (sym e ∙ h) }

@@ -23,7 +23,7 @@ use Rattle.geometry.specs.declared.ray.Ray.{Ray}
 use Rattle.casts.specs.Answer.{Answer, hit, none, refused, withValue}
 use Rattle.casts.specs.Answer.{invalidInput, badShape, outOfBounds, overflow}
 use Rattle.casts.specs.SegmentBox.{withSegmentBox}
-use Rattle.casts.specs.Surface.{outOfRange}
+use Rattle.casts.specs.Surface.{offSegment}
 use Rattle.casts.specs.Plane.{parallel, planeAdmitted, planeAt, planeCast, rayPlane}
 use Rattle.casts.specs.declared.plane.Plane.{Plane}
 use Rattle.triangle_cast.specs.Triangle.{triangleCast, rayTriangle}
@@ -103,7 +103,7 @@ by-refusals (refused k) h = is-small (h k refl)
 
 at-small : (s : Plane) (r : Ray) (x y : Float) → Small answerNumber (planeAt s r x y)
 unfolding planeAt
-at-small s r x y = chosen (isFinite y) (chosen (outOfRange r y) misses (hits _ _)) (refuses overflow refl)
+at-small s r x y = chosen (isFinite y) (chosen (offSegment r y) misses (hits _ _)) (refuses overflow refl)
 
 pub plane-small : (s : Plane) (r : Ray) → Small answerNumber (rayPlane s r)
 unfolding rayPlane planeCast

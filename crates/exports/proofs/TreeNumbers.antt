@@ -13,7 +13,7 @@ use Rattle.vectors.specs.declared.vec3.Vec3.{Vec3}
 use Rattle.geometry.specs.Segment.{rayAdmitted, segmentEnd, segmentBox}
 use Rattle.geometry.specs.declared.aabb.Aabb.{Aabb}
 use Rattle.geometry.specs.declared.ray.Ray.{Ray}
-use Rattle.casts.specs.Answer.{invalidInput, badShape, noRoom, outOfBounds, overflow}
+use Rattle.casts.specs.Answer.{invalidInput, badShape, noRoom, outOfBounds, overflow, limitReached}
 use Rattle.nearest_hit.specs.Nearest.{Indexed, hitAt, noHit, stopped}
 use Rattle.tree.specs.Layout.{Tree, Areas}
 use Rattle.tree.specs.Mesh.{Mesh, thirds, triangleCount, trianglesFit, boxesWritten}
@@ -24,10 +24,10 @@ use Rattle.tree_build.specs.Build as Build
 use Rattle.tree_query.specs.Query as Query
 use Rattle.tree_check.specs.Check.{treePasses}
 use Rattle.tree_check.specs.Verdict as Verdict
-use Rattle.board_tests.specs.Merge as Merge
+use Rattle.merge.specs.Merge as Merge
 use Rattle.float_forms.specs.declared.forms.Form.{Form}
-use Rattle.record_forms.specs.Records.{saidOf, wellFormed}
-use Rattle.record_forms.specs.Writing.{turned}
+use Rattle.conversion.specs.Records.{saidOf, wellFormed}
+use Rattle.conversion.specs.Writing.{turned}
 use Rattle.conversion.specs.Convert.{saidHeld, Answer as Converted, written, refused as notConverted, Outcome, converted}
 use Rattle.tree_walk.specs.Looking.{Looked, looked, usedUp, walkWithin}
 use Rattle.cabinet.specs.declared.part.Part.{Part}
@@ -35,7 +35,7 @@ use Rattle.cabinet.specs.declared.part.Found.{Found}
 use Rattle.cabinet.specs.declared.part.Found.the-variants.{Nothing, Hit, Refused as NotFound}
 use Rattle.cabinet.specs.declared.part.Progress.{Progress}
 use Rattle.cabinet.specs.Parts.{Areas as CabinetAreas, meshOf, treeOfPart, shapeFits, roomFits}
-use Rattle.cabinet.specs.PartCast.{limitReached, Costed, costing, afterLook, castWithin, movedRay, castMoved}
+use Rattle.cabinet.specs.PartCast.{Costed, costing, afterLook, castWithin, movedRay, castMoved}
 use Rattle.cabinet.specs.Cabinet.{foundNext, isRefused, afterPart, beginning, castPart, castParts, answerWith, allParts, castCabinet}
 use Rattle.cabinet.specs.Cabinet as Cabinet
 use Rattle.exports.proofs.RefusalNumbers.{Small, leaf, chosen, tested, smallTests, indexedNumber, stops, over-walk-small}

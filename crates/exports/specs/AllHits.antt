@@ -12,13 +12,13 @@ use Rattle.tree.specs.Layout.{Tree, wordAt}
 use Rattle.tree.specs.Mesh.{Mesh}
 use Rattle.tree_query.specs.Query as Query
 use Rattle.mesh.specs.MeshCast.{shapeAdmitted}
-use Rattle.hit_area.specs.HitArea.{HitArea}
+use Rattle.mesh_hits.specs.HitArea.{HitArea}
 use Rattle.mesh_hits.specs.Listing.{rayMeshAll}
-use Rattle.results.specs.Results.{doneCode, Counted, toldFound}
+use Rattle.results.specs.Results.{doneCode, Counted, returnedFound}
 
 -- the number and the slice of the count, and the hit area
-pub record ListingTold : Type 0 where
-  pub told : Counted
+pub record ListingReturned : Type 0 where
+  pub returned : Counted
   pub area : HitArea
 
 -- without the place of the count: "1 is tested before 2, 2 before 3"
@@ -26,15 +26,15 @@ unfoldable pub withoutPlace : Ray → Bool → ℕ
 withoutPlace r shaped = cond (rayAdmitted r) (cond shaped noRoom badShape) invalidInput
 
 -- "index, distance and normal of every hit .. and their count"
-unfoldable pub allTold : Ray → Mesh → List Float → Tree → ℕ → ℕ → HitArea → List ℕ → ListingTold
-allTold r m pose t list stack area place =
+unfoldable pub allReturned : Ray → Mesh → List Float → Tree → ℕ → ℕ → HitArea → List ℕ → ListingReturned
+allReturned r m pose t list stack area place =
     cond (leb 1 (length place))
     record {
-      told = toldFound (rayMeshAll r m pose t list stack area .answer) place;
+      returned = returnedFound (rayMeshAll r m pose t list stack area .answer) place;
       area = rayMeshAll r m pose t list stack area .area;
     }
-    record { told = record { number = withoutPlace r (shapeAdmitted m pose t); count = place }; area = area }
+    record { returned = record { number = withoutPlace r (shapeAdmitted m pose t); count = place }; area = area }
 
 -- what the number and the count's slice say together
-unfoldable pub foundTold : ℕ → List ℕ → Query.Listing
-foundTold number place = cond (eqb number doneCode) (Query.count (wordAt place 0)) (Query.refused number)
+unfoldable pub foundReturned : ℕ → List ℕ → Query.Listing
+foundReturned number place = cond (eqb number doneCode) (Query.count (wordAt place 0)) (Query.refused number)

@@ -2,6 +2,7 @@
 -- Assumes nothing.
 use Prim.Native.Nat.{ℕ, _<_}
 use mathlib.Core.Path.{_≡_}
+use mathlib.Core.Bool.{Bool}
 use mathlib.Core.List.{List}
 use lib.Ieee.{Float}
 use Rattle.vectors.specs.declared.vec3.Vec3.{Vec3}
@@ -13,7 +14,7 @@ use Rattle.casts.specs.Answer.{Answer, refused}
 use Rattle.casts.specs.Plane.{rayPlane}
 use Rattle.casts.specs.declared.plane.Plane.{Plane}
 use Rattle.triangle_cast.specs.Triangle.{rayTriangle}
-use Rattle.nearest_hit.specs.Nearest.{stopped}
+use Rattle.nearest_hit.specs.Nearest.{Indexed, stopped}
 use Rattle.height_field.specs.declared.field.Field.{Field}
 use Rattle.height_field.specs.Cast.{rayHeightField}
 use Rattle.height_ranges.specs.Answer as Clearance
@@ -27,16 +28,17 @@ use Rattle.tree_query.specs.Query as Query
 use Rattle.tree_check.specs.Verdict as Verdict
 use Rattle.mesh.specs.MeshCast.{rayMesh}
 use Rattle.mesh_plain.specs.PlainCast.{rayMeshPlain}
-use Rattle.mesh_grid.specs.GridCast.{rayMeshExactPlain}
-use Rattle.first_cast.specs.ExactMesh.{rayMeshExact}
-use Rattle.board_tests.specs.Merge as Merge
-use Rattle.hit_area.specs.HitArea.{HitArea}
+use Rattle.mesh_exact.specs.GridCast.{rayMeshExactPlain}
+use Rattle.tree_exact.specs.ExactMesh.{rayMeshExact}
+use Rattle.many_casts.specs.Many.{Places, manyReturned}
+use Rattle.merge.specs.Merge as Merge
+use Rattle.mesh_hits.specs.HitArea.{HitArea}
 use Rattle.mesh_hits.specs.Listing.{rayMeshAll}
 use Rattle.cabinet.specs.declared.part.Part.{Part}
 use Rattle.cabinet.specs.Parts.{Areas as CabinetAreas}
 use Rattle.cabinet.specs.Cabinet as Cabinet
 use Rattle.slice_casts.specs.Slices.{planeOfSlices, triangleOfSlices}
-use Rattle.results.specs.Results.{hitCode}
+use Rattle.results.specs.Results.{hitCode, doneCode}
 
 -- if an answer is a refusal, its number is below the first code
 abbrev pub Below : {A : Type 0} → (ℕ → A) → A → Type 0
@@ -54,6 +56,9 @@ pub record RefusalsBelowCodes : Type 0 where
   pub plain : (r : Ray) (m : Mesh) → Below stopped (rayMeshPlain r m)
   pub exact : (r : Ray) (m : Mesh) (pose : List Float) (t : Tree) (stack : ℕ) → Below stopped (rayMeshExact r m pose t stack)
   pub exact-plain : (r : Ray) (m : Mesh) → Below stopped (rayMeshExactPlain r m)
+  -- many rays, by either cast: the call's number, where it is not 'done'; each ray's number is one of the two casts above
+  pub many : (answer : Ray → Indexed) (rays : List Float) (m : Mesh) (pose : List Float) (t : Tree) (room : Bool) (p : Places)
+      → (manyReturned answer rays m pose t room p .number ≡ doneCode → ⊥) → manyReturned answer rays m pose t room p .number < hitCode
   pub build : (m : Mesh) (a : Areas) (work : ℕ) → Below Build.refused (Build.buildOf m a work .answer)
   pub query : (box : Aabb) (n : ℕ) (t : Tree) (list : List ℕ) (stack : ℕ) → Below Query.refused (Query.queryOf box n t list stack .answer)
   pub check : (m : Mesh) (t : Tree) (marks : ℕ) → Below Verdict.refused (Verdict.checkOf m t marks)

@@ -7,26 +7,26 @@ use lib.ListN.{length}
 use lib.Seq.{sets}
 use Rattle.casts.specs.Answer.{badShape, noRoom}
 use Rattle.float_forms.specs.declared.forms.Form.{Form}
-use Rattle.record_forms.specs.Records.{wellFormed}
+use Rattle.conversion.specs.Records.{wellFormed}
 use Rattle.conversion.specs.Convert.{Answer, written, refused, converted}
 use Rattle.results.specs.Results.{Counted, doneCode}
 
-unfoldable pub toldConverted : Answer → List ℕ → Counted
-toldConverted (written count) place = record { number = doneCode; count = sets place 0 (count ∷ []) }
-toldConverted (refused number) place = record { number = number; count = place }
+unfoldable pub returnedConverted : Answer → List ℕ → Counted
+returnedConverted (written count) place = record { number = doneCode; count = sets place 0 (count ∷ []) }
+returnedConverted (refused number) place = record { number = number; count = place }
 
 -- "2 before 3", where the length has no place
 unfoldable pub withoutPlace : Form → List ℕ → ℕ
 withoutPlace form bytes = cond (wellFormed form bytes) noRoom badShape
 
 -- the number and the length written, and the output area
-pub record ConvertTold : Type 0 where
-  pub told : Counted
+pub record ConvertReturned : Type 0 where
+  pub returned : Counted
   pub area : List ℕ
 
 -- the converter from the form p to the form q; the last is the place of the length
-unfoldable pub convertTold : Form → Form → List ℕ → List ℕ → List ℕ → ConvertTold
-convertTold p q bytes area place =
+unfoldable pub convertReturned : Form → Form → List ℕ → List ℕ → List ℕ → ConvertReturned
+convertReturned p q bytes area place =
     cond (leb 1 (length place))
-    record { told = toldConverted (converted p q bytes area .answer) place; area = converted p q bytes area .area }
-    record { told = record { number = withoutPlace p bytes; count = place }; area = area }
+    record { returned = returnedConverted (converted p q bytes area .answer) place; area = converted p q bytes area .area }
+    record { returned = record { number = withoutPlace p bytes; count = place }; area = area }

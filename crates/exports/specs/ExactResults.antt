@@ -7,45 +7,45 @@ use lib.Ieee.{Float}
 use lib.ListN.{length}
 use Rattle.geometry.specs.Segment.{rayAdmitted}
 use Rattle.geometry.specs.declared.ray.Ray.{Ray}
-use Rattle.casts.specs.Answer.{invalidInput, badShape, noRoom}
+use Rattle.casts.specs.Answer.{invalidInput, badShape, noRoom, outOfRange}
 use Rattle.tree.specs.Layout.{Tree}
 use Rattle.tree.specs.Mesh.{Mesh, lengthsAdmitted}
-use Rattle.any_direction.specs.Grid.{gridAdmitted}
-use Rattle.grid_triangle.specs.Reach.{outOfRange}
+use Rattle.exact_triangle.specs.Grid.{gridAdmitted}
 use Rattle.mesh.specs.MeshCast.{shapeAdmitted}
 use Rattle.mesh.specs.Demand3.{PassesCheck}
-use Rattle.mesh_grid.specs.GridCast.{rayMeshExactPlain}
-use Rattle.first_cast.specs.Numbers.{NoNaN, hasNumbers}
-use Rattle.first_cast.specs.ExactMesh.{roomFor, rayMeshExact}
-use Rattle.results.specs.Results.{ToldIndexed, toldIndexed, resultsFit, withRoom, yesCode, noCode}
-use Rattle.exports.specs.Plain.{toldNumber}
+use Rattle.mesh_exact.specs.GridCast.{rayMeshExactPlain}
+use Rattle.tree_exact.specs.Numbers.{NoNaN, hasNumbers}
+use Rattle.tree_exact.specs.ExactMesh.{roomFor, rayMeshExact}
+use Rattle.results.specs.Results.{ReturnedIndexed, returnedIndexed, resultsFit, withRoom, yesCode, noCode}
+use Rattle.exports.specs.Plain.{returnedNumber}
 use Rattle.exports.specs.Reading.{CertainRead}
 
 -- the result slices' 3 comes after 1, 12 of the ray and 2
-unfoldable pub exactTold : Ray → Mesh → List Float → List ℕ → ToldIndexed
-exactTold r m hit index =
+unfoldable pub exactReturned : Ray → Mesh → List Float → List ℕ → ReturnedIndexed
+exactReturned r m hit index =
     withRoom (rayAdmitted r && (gridAdmitted r && lengthsAdmitted (length (m .vertices)) (length (m .triangles)))) (resultsFit hit index)
-    (toldIndexed (rayMeshExactPlain r m) hit index)
-    (toldNumber noRoom hit index)
+    (returnedIndexed (rayMeshExactPlain r m) hit index)
+    (returnedNumber noRoom hit index)
 
 -- through a tree; the length of the stack stands before the result slices
-unfoldable pub treeTold : Ray → Mesh → List Float → Tree → ℕ → List Float → List ℕ → ToldIndexed
-treeTold r m pose t stack hit index =
+unfoldable pub treeReturned : Ray → Mesh → List Float → Tree → ℕ → List Float → List ℕ → ReturnedIndexed
+treeReturned r m pose t stack hit index =
     withRoom (rayAdmitted r && (gridAdmitted r && shapeAdmitted m pose t)) (resultsFit hit index)
-    (toldIndexed (rayMeshExact r m pose t stack) hit index)
-    (toldNumber noRoom hit index)
+    (returnedIndexed (rayMeshExact r m pose t stack) hit index)
+    (returnedNumber noRoom hit index)
 
 -- the number where a result slice is too short
 abbrev pub shortExact : Ray → Bool → ℕ
 shortExact r shape = cond (rayAdmitted r) (cond (gridAdmitted r) (cond shape noRoom badShape) outOfRange) invalidInput
 
 -- what the call without a tree promises: its answer, and that what is read back is certain
-abbrev pub ExactPlainCall : Ray → Mesh → List Float → List ℕ → ToldIndexed → Type 0
-ExactPlainCall r m hit index told = (told ≡ exactTold r m hit index) × CertainRead r m hit index told
+abbrev pub ExactPlainCall : Ray → Mesh → List Float → List ℕ → ReturnedIndexed → Type 0
+ExactPlainCall r m hit index returned = (returned ≡ exactReturned r m hit index) × CertainRead r m hit index returned
 
 -- through any tree that passes the check, for a mesh without a NaN, the same holds
-abbrev pub ToldAsPlain : Ray → Mesh → Tree → ℕ → List Float → List ℕ → ToldIndexed → Type 0
-ToldAsPlain r m t stack hit index told = PassesCheck m t → NoNaN m → roomFor m t stack ≡ true → ExactPlainCall r m hit index told
+abbrev pub ReturnedAsPlain : Ray → Mesh → Tree → ℕ → List Float → List ℕ → ReturnedIndexed → Type 0
+ReturnedAsPlain r m t stack hit index returned = PassesCheck m t → NoNaN m → roomFor m t stack ≡ true → ExactPlainCall r m hit index
+    returned
 
 -- whether a mesh is without a NaN: a yes says so
 abbrev pub NumbersCall : Mesh → ℕ → Type 0

@@ -9,3 +9,4 @@ pub mod Boards
 pub mod Conversions
 pub mod ExactResults
 pub mod Calls
+pub mod ManyRays

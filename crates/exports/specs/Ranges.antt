@@ -23,14 +23,14 @@ abbrev pub possibleCode : ℕ
 possibleCode = 262
 
 -- the number, and the slice of the cell
-pub record ToldCell : Type 0 where
+pub record ReturnedCell : Type 0 where
   pub number : ℕ
   pub cell : List ℕ
 
-unfoldable pub toldCell : Answer → List ℕ → ToldCell
-toldCell clear place = record { number = clearCode; cell = place }
-toldCell (possible c) place = record { number = possibleCode; cell = sets place 0 (c ∷ []) }
-toldCell (refused number) place = record { number = number; cell = place }
+unfoldable pub returnedCell : Answer → List ℕ → ReturnedCell
+returnedCell clear place = record { number = clearCode; cell = place }
+returnedCell (possible c) place = record { number = possibleCode; cell = sets place 0 (c ∷ []) }
+returnedCell (refused number) place = record { number = number; cell = place }
 
 -- "1 is tested before 2, 2 before 3": where the cell has no place it is 3, unless the cast is refused with 1 or 2
 unfoldable pub shortNumber : Answer → ℕ
@@ -39,15 +39,15 @@ shortNumber (possible c) = noRoom
 shortNumber (refused number) = cond (leb number badShape) number noRoom
 
 -- nothing is written then
-unfoldable pub answeredCell : Answer → List ℕ → ToldCell
-answeredCell answer place = cond (leb 1 (length place)) (toldCell answer place) record { number = shortNumber answer; cell = place }
+unfoldable pub answeredCell : Answer → List ℕ → ReturnedCell
+answeredCell answer place = cond (leb 1 (length place)) (returnedCell answer place) record { number = shortNumber answer; cell = place }
 
 -- what the number and the cell's slice say together
-unfoldable pub readCell : ToldCell → Answer
-readCell told =
-    cond (eqb (told .number) clearCode) clear
-    (cond (eqb (told .number) possibleCode) (possible (wordAt (told .cell) 0)) (refused (told .number)))
+unfoldable pub readCell : ReturnedCell → Answer
+readCell returned =
+    cond (eqb (returned .number) clearCode) clear
+    (cond (eqb (returned .number) possibleCode) (possible (wordAt (returned .cell) 0)) (refused (returned .number)))
 
 -- with a place for the cell, what is read meets the promise
-abbrev pub KeepsPromise : Ray → Field → List Float → List Float → List ℕ → ToldCell → Type 0
-KeepsPromise r f lows highs place told = 1 ≤ length place → MeetsPromise r f lows highs (readCell told)
+abbrev pub KeepsPromise : Ray → Field → List Float → List Float → List ℕ → ReturnedCell → Type 0
+KeepsPromise r f lows highs place returned = 1 ≤ length place → MeetsPromise r f lows highs (readCell returned)

@@ -13,30 +13,30 @@ use Rattle.tree.specs.Layout.{Tree, treeIn, wordAt, numberAt, vectorAt}
 use Rattle.tree.specs.Mesh.{Mesh, thirds}
 use Rattle.tree_check.specs.Verdict.{yes, checkOf}
 use Rattle.mesh.specs.Demand3.{PassesCheck, Admitted, MeetsDemand}
-use Rattle.mesh_grid.specs.Certain.{CertainMesh}
-use Rattle.results.specs.Results.{ToldIndexed, BuildTold, resultsFit, hitCode, noneCode, yesCode, doneCode}
+use Rattle.mesh_exact.specs.Certain.{CertainMesh}
+use Rattle.results.specs.Results.{ReturnedIndexed, BuildReturned, resultsFit, hitCode, noneCode, yesCode, doneCode}
 
 -- a cast's answer: what the number and the slices of the hit and of the index say together
-unfoldable pub answerRead : ToldIndexed → Indexed
+unfoldable pub answerRead : ReturnedIndexed → Indexed
 answerRead t =
     cond (eqb (t .number) hitCode) (hitAt (vectorAt (t .hit) 0) (numberAt (t .hit) 3) (wordAt (t .index) 0))
     (cond (eqb (t .number) noneCode) noHit (stopped (t .number)))
 
 -- demand 3, at the mesh's own vertices, for what the demand admits and result slices that are long enough
-abbrev pub DemandRead : Ray → Mesh → List Float → Tree → ℕ → ℕ → List Float → List ℕ → ToldIndexed → Type 0
-DemandRead r m pose t list stack hit index told =
-    pose ≡ m .vertices → Admitted r m t list stack → resultsFit hit index ≡ true → MeetsDemand r m (answerRead told)
+abbrev pub DemandRead : Ray → Mesh → List Float → Tree → ℕ → ℕ → List Float → List ℕ → ReturnedIndexed → Type 0
+DemandRead r m pose t list stack hit index returned =
+    pose ≡ m .vertices → Admitted r m t list stack → resultsFit hit index ≡ true → MeetsDemand r m (answerRead returned)
 
 -- the exact cast without a tree, or with one that passes the check at the mesh's own vertices: a none is certain, and a hit is the first
-abbrev pub CertainRead : Ray → Mesh → List Float → List ℕ → ToldIndexed → Type 0
-CertainRead r m hit index told = resultsFit hit index ≡ true → CertainMesh r m (answerRead told)
+abbrev pub CertainRead : Ray → Mesh → List Float → List ℕ → ReturnedIndexed → Type 0
+CertainRead r m hit index returned = resultsFit hit index ≡ true → CertainMesh r m (answerRead returned)
 
 -- where the check's number says yes, the tree passes
 abbrev pub YesRead : Mesh → Tree → ℕ → Type 0
 YesRead m t number = number ≡ yesCode → PassesCheck m t
 
 -- where the build's number says done, the check says yes to the tree that stands in the areas, with every mark area that is long enough
-abbrev pub BuiltRead : Mesh → BuildTold → Type 0
-BuiltRead m told =
-    told .told .number ≡ doneCode → (marks : ℕ) → 3 * thirds (length (m .triangles)) ≤ marks
-    → checkOf m (treeIn (wordAt (told .told .count) 0) (told .after)) marks ≡ yes
+abbrev pub BuiltRead : Mesh → BuildReturned → Type 0
+BuiltRead m returned =
+    returned .returned .number ≡ doneCode → (marks : ℕ) → 3 * thirds (length (m .triangles)) ≤ marks
+    → checkOf m (treeIn (wordAt (returned .returned .count) 0) (returned .after)) marks ≡ yes

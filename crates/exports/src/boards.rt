@@ -1,22 +1,22 @@
-use board_tests::merged::Merged;
-use board_tests::testing;
 use casts::answer;
+use merge::merged::Merged;
 use merge::merging;
+use merge::testing;
 ghost use mathlib.Core.Path.{_≡_};
 ghost use mathlib.Core.Bool.{false, _&&_};
 ghost use Prim.Native.Nat.{_≤_};
 ghost use lib.Dec.{leb};
 ghost use lib.ListN.{length};
 ghost use Rattle.tree.specs.Layout.{wordAt};
-ghost use Rattle.board_tests.specs.Merge.{says, boardOf, areasOf, testsPass};
-ghost use Rattle.board_glue.specs.Promises.{Glued};
+ghost use Rattle.merge.specs.Merge.{says, boardOf, areasOf, testsPass};
+ghost use Rattle.merge.specs.Promises.{Glued};
 ghost use Rattle.results.specs.Results.{doneCode};
-ghost use Rattle.exports.specs.Boards.{toldMerged, mergeTold};
+ghost use Rattle.exports.specs.Boards.{returnedMerged, mergeReturned};
 
-// The merge's answer as its number, the node count written. Callers show that its place is there.
+// The merge's answer as its number, the node count written.
 fn put_merged(merged: Merged, nodes: &mut [usize]) -> u32
     requires { ⌜ 1 ≤ length (now nodes) ⌝ }
-    ensures { λ r. ⌜ record { number = r; count = now (nodes .exit) } ≡ toldMerged (says merged) (now (nodes .entry)) ⌝ }
+    ensures { λ r. ⌜ record { number = r; count = now (nodes .exit) } ≡ returnedMerged (says merged) (now (nodes .entry)) ⌝ }
 {
     match merged {
         Merged::Nodes(count) => {
@@ -58,11 +58,11 @@ pub extern "C" fn probe_merge(
     nodes: &mut [usize],
 ) -> u32
     ensures { λ r. ⌜ record {
-      told = record { number = r; count = now (nodes .exit) };
+      returned = record { number = r; count = now (nodes .exit) };
       after = (areasOf (now (vertices .exit)) (now (triangles .exit)) (now («node_boxes» .exit)) (now («triangle_boxes» .exit))
           (now («node_words» .exit)) (now (order .exit)));
     }
-        ≡ mergeTold (boardOf (now («first_vertices» .entry)) (now («first_triangles» .entry)) «first_nodes»
+        ≡ mergeReturned (boardOf (now («first_vertices» .entry)) (now («first_triangles» .entry)) «first_nodes»
         (now («first_node_boxes» .entry)) (now («first_triangle_boxes» .entry)) (now («first_node_words» .entry))
         (now («first_order» .entry))) (boardOf (now («second_vertices» .entry)) (now («second_triangles» .entry)) «second_nodes»
         (now («second_node_boxes» .entry)) (now («second_triangle_boxes» .entry)) (now («second_node_words» .entry))

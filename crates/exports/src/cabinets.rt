@@ -1,3 +1,4 @@
+use cabinet::look;
 use cabinet::part::Found;
 use cabinet::part::Part;
 use cabinet::part::State;
@@ -10,7 +11,7 @@ ghost use lib.ListN.{length};
 ghost use Rattle.cabinet.specs.Cabinet.{withResults};
 ghost use Rattle.cabinet.specs.Steps.{areas, begun, lastAnswer};
 ghost use Rattle.results.specs.Results.{rayFrom};
-ghost use Rattle.exports.specs.CabinetResults.{cabinetFits, cabinetTold, toldCabinet, CabinetCall};
+ghost use Rattle.exports.specs.CabinetResults.{cabinetFits, cabinetReturned, returnedCabinet, CabinetCall};
 
 // Whether the result slices, by their lengths, hold an answer.
 fn results_fit(hit: usize, index: usize, part: usize, spent: usize) -> bool
@@ -73,8 +74,8 @@ fn put_cabinet(
     part: &mut [usize],
     spent: &mut [usize],
 ) -> u32
-    ensures { λ r. ⌜ cabinetTold r (now (hit .exit)) (now (index .exit)) (now (part .exit)) (now (spent .exit))
-        ≡ toldCabinet (withResults (cabinetFits (length (now (hit .entry))) (length (now (index .entry))) (length (now (part .entry)))
+    ensures { λ r. ⌜ cabinetReturned r (now (hit .exit)) (now (index .exit)) (now (part .exit)) (now (spent .exit))
+        ≡ returnedCabinet (withResults (cabinetFits (length (now (hit .entry))) (length (now (index .entry))) (length (now (part .entry)))
         (length (now (spent .entry)))) (lastAnswer (end .at))) (now (hit .entry)) (now (index .entry)) (now (part .entry))
         (now (spent .entry)) ⌝ }
 {
@@ -151,7 +152,7 @@ pub extern "C" fn probe_ray_cabinet(
         (now («node_words» .entry)) (now (order .entry))) limit (now (parts .entry))
         (now (list .entry)) (now (list .exit)) (now (stack .entry)) (now (stack .exit))
         (now (hit .entry)) (now (index .entry)) (now (part .entry)) (now (spent .entry))
-        (cabinetTold r (now (hit .exit)) (now (index .exit)) (now (part .exit)) (now (spent .exit))) ⌝ }
+        (cabinetReturned r (now (hit .exit)) (now (index .exit)) (now (part .exit)) (now (spent .exit))) ⌝ }
 {
     let start = begin(
         origin_x,
@@ -168,7 +169,20 @@ pub extern "C" fn probe_ray_cabinet(
         part.len(),
         spent.len(),
     );
-    let end = pass::cast_twice(
+    let looking = look::look_from(
+        start,
+        vertices.len(),
+        triangles.len(),
+        node_boxes.len(),
+        triangle_boxes.len(),
+        node_words.len(),
+        order.len(),
+        list.len(),
+        stack.len(),
+    );
+    let looked = pass::look_all(parts, looking);
+    let between = look::turn(start, looked);
+    let end = pass::cast_all(
         parts,
         vertices,
         triangles,
@@ -178,7 +192,7 @@ pub extern "C" fn probe_ray_cabinet(
         order,
         list,
         stack,
-        start,
+        between,
     );
     put_cabinet(end, hit, index, part, spent)
 }

@@ -1,14 +1,14 @@
 use casts::answer;
 use conversion::convert;
+use conversion::shape;
+use conversion::shape::Planned;
 use float_forms::forms::Converted;
 use float_forms::forms::Form;
-use record_forms::shape;
-use record_forms::shape::Planned;
 ghost use mathlib.Core.Path.{_≡_};
 ghost use Prim.Native.Nat.{_≤_};
 ghost use lib.ListN.{length};
 ghost use Rattle.conversion.specs.Convert.{says};
-ghost use Rattle.exports.specs.Conversions.{withoutPlace, toldConverted, convertTold};
+ghost use Rattle.exports.specs.Conversions.{withoutPlace, returnedConverted, convertReturned};
 
 // The number where the place of the length is missing: 2 goes before 3.
 fn without_place(form: Form, bytes: &[u8]) -> u32
@@ -21,10 +21,10 @@ fn without_place(form: Form, bytes: &[u8]) -> u32
     }
 }
 
-// The converter's answer as its number, the length written. Callers show that its place is there.
+// The converter's answer as its number, the length written.
 fn put_converted(converted: Converted, written: &mut [usize]) -> u32
     requires { ⌜ 1 ≤ length (now written) ⌝ }
-    ensures { λ r. ⌜ record { number = r; count = now (written .exit) } ≡ toldConverted (says converted) (now (written .entry)) ⌝ }
+    ensures { λ r. ⌜ record { number = r; count = now (written .exit) } ≡ returnedConverted (says converted) (now (written .entry)) ⌝ }
 {
     match converted {
         Converted::Written(count) => {
@@ -40,8 +40,8 @@ fn put_converted(converted: Converted, written: &mut [usize]) -> u32
 // Writes a record of version 2 as version 3, and how many bytes it has. Nothing is written where it refuses.
 #[no_mangle]
 pub extern "C" fn probe_record_to_short(bytes: &[u8], out: &mut [u8], written: &mut [usize]) -> u32
-    ensures { λ r. ⌜ record { told = record { number = r; count = now (written .exit) }; area = now (out .exit) }
-        ≡ convertTold Form.Long Form.Short (now (bytes .entry)) (now (out .entry)) (now (written .entry)) ⌝ }
+    ensures { λ r. ⌜ record { returned = record { number = r; count = now (written .exit) }; area = now (out .exit) }
+        ≡ convertReturned Form.Long Form.Short (now (bytes .entry)) (now (out .entry)) (now (written .entry)) ⌝ }
 {
     if written.len() < 1 {
         return without_place(Form::Long, bytes);
@@ -53,8 +53,8 @@ pub extern "C" fn probe_record_to_short(bytes: &[u8], out: &mut [u8], written: &
 // Writes a record of version 3 as version 2, in the same way.
 #[no_mangle]
 pub extern "C" fn probe_record_to_long(bytes: &[u8], out: &mut [u8], written: &mut [usize]) -> u32
-    ensures { λ r. ⌜ record { told = record { number = r; count = now (written .exit) }; area = now (out .exit) }
-        ≡ convertTold Form.Short Form.Long (now (bytes .entry)) (now (out .entry)) (now (written .entry)) ⌝ }
+    ensures { λ r. ⌜ record { returned = record { number = r; count = now (written .exit) }; area = now (out .exit) }
+        ≡ convertReturned Form.Short Form.Long (now (bytes .entry)) (now (out .entry)) (now (written .entry)) ⌝ }
 {
     if written.len() < 1 {
         return without_place(Form::Short, bytes);

@@ -1,12 +1,11 @@
 use casts::answer;
-use first_cast::cast as tree_cast;
-use first_cast::numbers;
+use exact_triangle::view;
 use geometry::ray::Ray;
-use grid_triangle::cast as triangle;
-use grid_triangle::sight;
 use mesh::cast as mesh_cast;
-use mesh_grid::cast;
+use mesh_exact::cast;
 use tree::mesh as triangle_mesh;
+use tree_exact::cast as tree_cast;
+use tree_exact::numbers;
 use vectors::vec3::Vec3;
 ghost use mathlib.Core.Path.{_≡_};
 ghost use Rattle.tree.specs.Mesh.{mesh};
@@ -22,8 +21,8 @@ fn short_exact(ray: Ray, shape: bool) -> u32
     if !ray.validate() {
         return answer::INVALID_INPUT;
     }
-    if !sight::admitted(ray) {
-        return triangle::OUT_OF_RANGE;
+    if !view::admitted(ray) {
+        return answer::OUT_OF_RANGE;
     }
     if !shape {
         return answer::BAD_SHAPE;

@@ -16,6 +16,8 @@ pub mod meshes;
 pub mod plain;
 // The exact cast at a mesh, without a tree and through one.
 pub mod exact;
+// Many rays at a mesh in one call: the mesh cast and the exact cast.
+pub mod many;
 // The cast at heights known only within ranges.
 pub mod ranges;
 // The cast at a cabinet of many parts.

@@ -4,9 +4,9 @@ use results::short;
 use vectors::vec3::Vec3;
 ghost use Rattle.tree.specs.Mesh.{mesh};
 ghost use Rattle.tree.specs.Layout.{treeOf};
-ghost use Rattle.hit_area.specs.HitArea.{hitArea};
+ghost use Rattle.mesh_hits.specs.HitArea.{hitArea};
 ghost use Rattle.results.specs.Results.{rayFrom};
-ghost use Rattle.exports.specs.Calls.{ListingCall, listedTold};
+ghost use Rattle.exports.specs.Calls.{ListingCall, listedReturned};
 
 // Every hit of a ray at a mesh: indices and numbers are the hit area, and the count is written into found.
 // The list and the stack are work areas: unchanged until the place of the count and refusals 1 to 4 have let the call pass, and then they
@@ -42,7 +42,7 @@ pub extern "C" fn probe_ray_mesh_all(
         (treeOf nodes (now («node_boxes» .entry)) (now («triangle_boxes» .entry)) (now («node_words» .entry)) (now (order .entry)))
         (now (list .entry)) (now (list .exit)) (now (stack .entry)) (now (stack .exit))
         (hitArea (now (indices .entry)) (now (numbers .entry))) (now (found .entry))
-        (listedTold r (now (found .exit)) (hitArea (now (indices .exit)) (now (numbers .exit)))) ⌝ }
+        (listedReturned r (now (found .exit)) (hitArea (now (indices .exit)) (now (numbers .exit)))) ⌝ }
 {
     let ray = Ray {
         origin: Vec3 {

@@ -13,16 +13,13 @@ ghost use Rattle.tree.specs.Mesh.{mesh};
 ghost use Rattle.tree.specs.Layout.{areas, treeOf};
 ghost use Rattle.tree_query.specs.Query.{countsAdmitted};
 ghost use Rattle.results.specs.Results.{rayFrom, rayOf, boxOf, shortOf};
-ghost use Rattle.exports.specs.Calls.{MeshCall, BuildCall, QueryCall, CheckCall, builtTold};
+ghost use Rattle.exports.specs.Calls.{MeshCall, BuildCall, QueryCall, CheckCall, builtReturned};
 
 // The mesh cast with its answer in the result slices. The list and the stack are unchanged until these and refusals 1 to 4 have let the
-// call pass.
-// One function for both calls: the ray by its numbers and each slice as a part of itself, so that all of them come in registers and on the
-// stack as C hands them over.
-// The number of places for the index stands where C has the address of the mesh's own vertices, which the cast does not read; so nothing
-// moves, and either call is a jump.
-// Callers show that it is their number of places.
-fn told_mesh(
+// call pass. One function for both calls: the ray by its numbers and each slice as a part of itself, so that all of them come in registers
+// and on the stack as C hands them over. The number of places for the index stands where C has the address of the mesh's own vertices,
+// which the cast does not read; so nothing moves, and either call is a jump.
+fn answer_mesh(
     places: usize,
     origin_x: f64,
     origin_y: f64,
@@ -116,7 +113,7 @@ pub extern "C" fn probe_ray_mesh(
         (now (list .entry)) (now (list .exit)) (now (stack .entry)) (now (stack .exit)) (now (hit .entry)) (now (index .entry))
         (record { number = r; hit = now (hit .exit); index = now (index .exit) }) ⌝ }
 {
-    told_mesh(
+    answer_mesh(
         index.len(),
         origin_x,
         origin_y,
@@ -172,7 +169,7 @@ pub extern "C" fn probe_ray_mesh_near(
         (now (list .entry)) (now (list .exit)) (now (stack .entry)) (now (stack .exit)) (now (hit .entry)) (now (index .entry))
         (record { number = r; hit = now (hit .exit); index = now (index .exit) }) ⌝ }
 {
-    told_mesh(
+    answer_mesh(
         index.len(),
         origin_x,
         origin_y,
@@ -214,7 +211,7 @@ pub extern "C" fn probe_build(
     ensures { λ r. ⌜ BuildCall (mesh (now (vertices .entry)) (now (triangles .entry)))
         (areas (now («node_boxes» .entry)) (now («triangle_boxes» .entry)) (now («node_words» .entry)) (now (order .entry)))
         (now (work .entry)) (now (work .exit)) (now (nodes .entry))
-        (builtTold r (now (nodes .exit))
+        (builtReturned r (now (nodes .exit))
         (areas (now («node_boxes» .exit)) (now («triangle_boxes» .exit)) (now («node_words» .exit)) (now (order .exit)))) ⌝ }
 {
     if nodes.len() < 1 {
@@ -268,7 +265,7 @@ pub extern "C" fn probe_query(
     ensures { λ r. ⌜ QueryCall (boxOf «min_x» «min_y» «min_z» «max_x» «max_y» «max_z») triangles
         (treeOf nodes (now («node_boxes» .entry)) (now («triangle_boxes» .entry)) (now («node_words» .entry)) (now (order .entry)))
         (now (list .entry)) (now (stack .entry)) (now (stack .exit)) (now (found .entry))
-        (record { told = record { number = r; count = now (found .exit) }; list = now (list .exit) }) ⌝ }
+        (record { returned = record { number = r; count = now (found .exit) }; list = now (list .exit) }) ⌝ }
 {
     let bounds = Aabb {
         min: Vec3 {

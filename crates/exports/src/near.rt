@@ -17,7 +17,7 @@ ghost use Rattle.results.specs.Results.{rayFrom, planeOf, cornersOf, fieldOf, g
 // The cast by its numbers, the near distance among them: one function for both calls, so that the cast is compiled into it.
 // No two numbers stand side by side here that do so in the calls: they would be handed on by pairs, and a read of a pair waits for its two
 // writes.
-pub fn told_plane(
+pub fn answer_plane(
     origin_x: f64,
     origin_y: f64,
     origin_z: f64,
@@ -80,7 +80,7 @@ pub extern "C" fn probe_ray_plane_near(
         (rayFrom «origin_x» «origin_y» «origin_z» «direction_x» «direction_y» «direction_z» «max_distance» «near_distance»))
         (now (hit .entry)) ⌝ }
 {
-    told_plane(
+    answer_plane(
         origin_x,
         origin_y,
         origin_z,
@@ -98,8 +98,8 @@ pub extern "C" fn probe_ray_plane_near(
 }
 
 // The cast by its numbers, the near distance among them: one function for both calls, so that the cast is compiled into it.
-// As in `told_plane` no two numbers stand side by side that do so in the calls.
-pub fn told_triangle(
+// As in `answer_plane` no two numbers stand side by side that do so in the calls.
+pub fn answer_triangle(
     origin_x: f64,
     origin_y: f64,
     origin_z: f64,
@@ -177,7 +177,7 @@ pub extern "C" fn probe_ray_triangle_near(
         ≡ answered (rayTriangle (rayFrom «origin_x» «origin_y» «origin_z» «direction_x» «direction_y» «direction_z» «max_distance»
         «near_distance») (cornersOf «a_x» «a_y» «a_z» «b_x» «b_y» «b_z» «c_x» «c_y» «c_z»)) (now (hit .entry)) ⌝ }
 {
-    told_triangle(
+    answer_triangle(
         origin_x,
         origin_y,
         origin_z,
@@ -200,7 +200,7 @@ pub extern "C" fn probe_ray_triangle_near(
 }
 
 // The cast by its numbers, the near distance among them: one function for both calls, so that the cast is compiled into it.
-pub fn told_height_field(
+pub fn answer_height_field(
     origin_x: f64,
     origin_y: f64,
     origin_z: f64,
@@ -261,7 +261,7 @@ pub extern "C" fn probe_ray_height_field_near(
         ≡ answered (rayHeightField (rayFrom «origin_x» «origin_y» «origin_z» «direction_x» «direction_y» «direction_z» «max_distance»
         «near_distance») (fieldOf rows columns «spacing_x» «spacing_y») (now (heights .entry))) (now (hit .entry)) ⌝ }
 {
-    told_height_field(
+    answer_height_field(
         origin_x,
         origin_y,
         origin_z,
@@ -280,7 +280,7 @@ pub extern "C" fn probe_ray_height_field_near(
 }
 
 // The cast by its numbers, the near distance among them: one function for both calls, so that the cast is compiled into it.
-pub fn told_level_set(
+pub fn answer_level_set(
     origin_x: f64,
     origin_y: f64,
     origin_z: f64,
@@ -364,7 +364,7 @@ pub extern "C" fn probe_ray_level_set_near(
         «near_distance») (gridOf «side_x» «side_y» «side_z» «grid_x» «grid_y» «grid_z» «spacing_x» «spacing_y» «spacing_z»)
         (now (values .entry))) (now (hit .entry)) ⌝ }
 {
-    told_level_set(
+    answer_level_set(
         origin_x,
         origin_y,
         origin_z,

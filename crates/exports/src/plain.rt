@@ -4,7 +4,7 @@ use tree::mesh as triangle_mesh;
 ghost use mathlib.Core.Path.{_≡_};
 ghost use Rattle.tree.specs.Mesh.{mesh};
 ghost use Rattle.results.specs.Results.{rayFrom};
-ghost use Rattle.exports.specs.Plain.{plainTold, ToldByTrees};
+ghost use Rattle.exports.specs.Plain.{plainReturned, ReturnedByTrees};
 
 // The mesh cast without a tree, and without a work area.
 // The second clause: what the mesh cast through any tree that passes the check would tell is the same.
@@ -24,9 +24,9 @@ pub extern "C" fn probe_ray_mesh_plain(
     index: &mut [u32],
 ) -> u32
     ensures { λ r. ⌜ record { number = r; hit = now (hit .exit); index = now (index .exit) }
-        ≡ plainTold (rayFrom «origin_x» «origin_y» «origin_z» «direction_x» «direction_y» «direction_z» «max_distance» «near_distance»)
+        ≡ plainReturned (rayFrom «origin_x» «origin_y» «origin_z» «direction_x» «direction_y» «direction_z» «max_distance» «near_distance»)
         (mesh (now (vertices .entry)) (now (triangles .entry))) (now (hit .entry)) (now (index .entry)) ⌝ }
-    ensures { λ r. ⌜ ToldByTrees (rayFrom «origin_x» «origin_y» «origin_z» «direction_x» «direction_y» «direction_z» «max_distance»
+    ensures { λ r. ⌜ ReturnedByTrees (rayFrom «origin_x» «origin_y» «origin_z» «direction_x» «direction_y» «direction_z» «max_distance»
         «near_distance») (mesh (now (vertices .entry)) (now (triangles .entry))) (now (hit .entry)) (now (index .entry))
         (record { number = r; hit = now (hit .exit); index = now (index .exit) }) ⌝ }
 {

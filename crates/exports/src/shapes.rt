@@ -34,7 +34,7 @@ pub extern "C" fn probe_ray_plane(
         ≡ answered (rayPlane (planeOf «normal_x» «normal_y» «normal_z» distance)
         (rayOf «origin_x» «origin_y» «origin_z» «direction_x» «direction_y» «direction_z» «max_distance»)) (now (hit .entry)) ⌝ }
 {
-    near::told_plane(
+    near::answer_plane(
         origin_x,
         origin_y,
         origin_z,
@@ -77,7 +77,7 @@ pub extern "C" fn probe_ray_triangle(
         ≡ answered (rayTriangle (rayOf «origin_x» «origin_y» «origin_z» «direction_x» «direction_y» «direction_z» «max_distance»)
         (cornersOf «a_x» «a_y» «a_z» «b_x» «b_y» «b_z» «c_x» «c_y» «c_z»)) (now (hit .entry)) ⌝ }
 {
-    near::told_triangle(
+    near::answer_triangle(
         origin_x,
         origin_y,
         origin_z,
@@ -120,7 +120,7 @@ pub extern "C" fn probe_ray_height_field(
         ≡ answered (rayHeightField (rayOf «origin_x» «origin_y» «origin_z» «direction_x» «direction_y» «direction_z» «max_distance»)
         (fieldOf rows columns «spacing_x» «spacing_y») (now (heights .entry))) (now (hit .entry)) ⌝ }
 {
-    near::told_height_field(
+    near::answer_height_field(
         origin_x,
         origin_y,
         origin_z,
@@ -165,7 +165,7 @@ pub extern "C" fn probe_ray_level_set(
         (gridOf «side_x» «side_y» «side_z» «grid_x» «grid_y» «grid_z» «spacing_x» «spacing_y» «spacing_z») (now (values .entry)))
         (now (hit .entry)) ⌝ }
 {
-    near::told_level_set(
+    near::answer_level_set(
         origin_x,
         origin_y,
         origin_z,

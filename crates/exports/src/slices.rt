@@ -10,7 +10,7 @@ pub extern "C" fn probe_ray_plane_slices(ray: &[f64], plane: &[f64], hit: &mut [
     ensures { λ r. ⌜ record { number = r; hit = now (hit .exit) }
         ≡ answered (planeOfSlices (now (ray .entry)) (now (plane .entry))) (now (hit .entry)) ⌝ }
 {
-    at_plane::told_plane(ray, plane, hit)
+    at_plane::answer_plane(ray, plane, hit)
 }
 
 // The cast at a triangle of nine numbers, of a ray of eight.
@@ -19,5 +19,5 @@ pub extern "C" fn probe_ray_triangle_slices(ray: &[f64], triangle: &[f64], hit: 
     ensures { λ r. ⌜ record { number = r; hit = now (hit .exit) }
         ≡ answered (triangleOfSlices (now (ray .entry)) (now (triangle .entry))) (now (hit .entry)) ⌝ }
 {
-    at_triangle::told_triangle(ray, triangle, hit)
+    at_triangle::answer_triangle(ray, triangle, hit)
 }

@@ -7,10 +7,11 @@ use lib.Dec.{T}
 use lib.Ieee.{Float, nan, top, binary32, binary64, isNan, fits, ne, toBits}
 use lib.Ieee.Bits.{is-true, toBits-lt}
 use lib.Ieee.Fits.{and-i}
-use Rattle.short_floats.specs.declared.Short.the-variants as shorts
-use Rattle.short_floats.specs.Short.{shortOf}
-use Rattle.short_floats.specs.Short as said
-use Rattle.short_floats.proofs.Shorts.{number, nan-number}
+use Rattle.arithmetic.proofs.Order.{ne-self-passes}
+use Rattle.float_forms.specs.declared.short.Short.the-variants as shorts
+use Rattle.float_forms.specs.Short.{shortOf}
+use Rattle.float_forms.specs.Short as said
+use Rattle.float_forms.proofs.Shorts.{nan-number}
 use Rattle.float_forms.specs.declared.forms.Form.{Form}
 use Rattle.float_forms.specs.declared.forms.Form.the-variants.{Long, Short}
 use Rattle.float_forms.specs.declared.holding.Pattern.{Pattern}
@@ -29,9 +30,9 @@ nan-unheld form x h = rw (nan-number x h)
 
 pub long-bits : (x : Float) → T (fits binary64 x) → ne x x ≡ false → Bits (toBits binary64 x) ≡ patternFor Long x
 unfolding patternFor held
-long-bits x f h = rw (is-true (not (isNan x)) (number x h), is-true (fits binary64 x) f)
+long-bits x f h = rw (is-true (not (isNan x)) (ne-self-passes x h), is-true (fits binary64 x) f)
 
--- ---- in four: `short_floats::short_of` says the same
+-- ---- in four: `float_forms::short::short_of` says the same
 
 short-is : (x : Float) → patternFor Short x ≡ cond (said.held x) (Bits (toBits binary32 x)) Unheld
 unfolding patternFor held said.held
@@ -100,7 +101,7 @@ module _ (form : Form) (x : Float) (bits : ℕ) (f : fitsIn form x ≡ true) whe
 
   number-fits-held : ne x x ≡ false → held form x ≡ true
   unfolding held
-  number-fits-held h = rw (is-true (not (isNan x)) (number x h), f)
+  number-fits-held h = rw (is-true (not (isNan x)) (ne-self-passes x h), f)
 
   pub number-stands : ne x x ≡ false → patternFor form x ≡ Bits bits → (bits ≡ toBits (formatOf form) x) × (bits < 2 * top (formatOf form))
   number-stands h e = held-bits form x bits (number-fits-held h) e

@@ -4,3 +4,5 @@ pub mod PlaceLaws
 pub mod RunLaws
 pub mod RunSteps
 pub mod HoldLaws
+pub mod Narrow
+pub mod Shorts

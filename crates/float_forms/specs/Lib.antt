@@ -2,3 +2,4 @@
 pub mod Forms
 pub mod Bytes
 pub mod Holding
+pub mod Short

@@ -1,4 +1,5 @@
 use crate::forms::Form;
+use crate::short;
 ghost use mathlib.Core.Path.{_≡_};
 ghost use Prim.Native.Nat.{_+_, _*_, _<_, _≤_};
 ghost use lib.ListN.{length, getD, drop};
@@ -7,7 +8,7 @@ ghost use lib.Ieee.{top};
 ghost use Rattle.float_forms.specs.Forms.{sizeOf, formatOf};
 ghost use Rattle.float_forms.specs.Bytes.{wordOf, wordBytes, patternBytes, numberOf};
 
-// The byte at a place, as a wide number. Callers show that there is one.
+// The byte at a place, as a wide number.
 fn byte_at(bytes: &[u8], place: usize) -> u64
     requires { ⌜ place < length (now bytes) ⌝ }
     ensures { λ r. ⌜ (r ≡ getD (now (bytes .entry)) place 0) × (r < 256) ⌝ }
@@ -15,7 +16,7 @@ fn byte_at(bytes: &[u8], place: usize) -> u64
     bytes[place] as u64
 }
 
-// The u32 whose four bytes begin at a place. Callers show that they are there.
+// The u32 whose four bytes begin at a place.
 pub fn word_at(bytes: &[u8], place: usize) -> u64
     requires { ⌜ place + 4 ≤ length (now bytes) ⌝ }
     ensures { λ r. ⌜ (r ≡ wordOf (drop place (now (bytes .entry)))) × (r < 4294967296) ⌝ }
@@ -25,7 +26,7 @@ pub fn word_at(bytes: &[u8], place: usize) -> u64
     high * 65536 + low
 }
 
-// The float whose eight bytes begin at a place. A NaN pattern has no from_bits: it is made by 0/0. Callers show that they are there.
+// The float whose eight bytes begin at a place. A NaN pattern has no from_bits: it is made by 0/0.
 fn long_at(bytes: &[u8], place: usize) -> f64
     requires { ⌜ place + 8 ≤ length (now bytes) ⌝ }
     ensures { λ r. ⌜ r ≡ numberOf Form.Long (drop place (now (bytes .entry))) ⌝ }
@@ -37,16 +38,16 @@ fn long_at(bytes: &[u8], place: usize) -> f64
     f64::from_bits(bits)
 }
 
-// The float whose four bytes begin at a place. Callers show that they are there.
+// The float whose four bytes begin at a place.
 fn short_at(bytes: &[u8], place: usize) -> f64
     requires { ⌜ place + 4 ≤ length (now bytes) ⌝ }
     ensures { λ r. ⌜ r ≡ numberOf Form.Short (drop place (now (bytes .entry))) ⌝ }
 {
     let word = word_at(bytes, place);
-    short_floats::float_of(word as u32)
+    short::float_of(word as u32)
 }
 
-// The float that begins at a place. Callers show that its bytes are there.
+// The float that begins at a place.
 pub fn number_at(form: Form, bytes: &[u8], place: usize) -> f64
     requires { ⌜ place + sizeOf form ≤ length (now bytes) ⌝ }
     ensures { λ r. ⌜ r ≡ numberOf form (drop place (now (bytes .entry))) ⌝ }
@@ -57,7 +58,7 @@ pub fn number_at(form: Form, bytes: &[u8], place: usize) -> f64
     }
 }
 
-// A u32's four bytes from a place on; the rest stays as it was. Callers show that they are there and that the word is a u32.
+// A u32's four bytes from a place on; the rest stays as it was.
 pub fn put_word(out: &mut [u8], place: usize, word: u64)
     requires { ⌜ (place + 4 ≤ length (now out)) × (word < 4294967296) ⌝ }
     ensures { λ r. ⌜ now (out .exit) ≡ sets (now (out .entry)) place (wordBytes word) ⌝ }
@@ -68,7 +69,7 @@ pub fn put_word(out: &mut [u8], place: usize, word: u64)
     out[place + 3] = (word % 256) as u8;
 }
 
-// A float's eight bytes from a place on, from its pattern. Callers show that they are there.
+// A float's eight bytes from a place on, from its pattern.
 fn put_long(out: &mut [u8], place: usize, bits: u64)
     requires { ⌜ place + 8 ≤ length (now out) ⌝ }
     ensures { λ r. ⌜ now (out .exit) ≡ sets (now (out .entry)) place (patternBytes Form.Long bits) ⌝ }
@@ -77,7 +78,7 @@ fn put_long(out: &mut [u8], place: usize, bits: u64)
     put_word(out, place + 4, bits % 4294967296);
 }
 
-// A float's bytes from a place on. Callers show that they are there and that the pattern is of the form's size.
+// A float's bytes from a place on.
 pub fn put_pattern(form: Form, out: &mut [u8], place: usize, bits: u64)
     requires { ⌜ (place + sizeOf form ≤ length (now out)) × (bits < 2 * top (formatOf form)) ⌝ }
     ensures { λ r. ⌜ now (out .exit) ≡ sets (now (out .entry)) place (patternBytes form bits) ⌝ }

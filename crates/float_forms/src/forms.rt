@@ -1,9 +1,6 @@
 ghost use mathlib.Core.Path.{_≡_};
 ghost use Rattle.float_forms.specs.Forms.{sizeOf, versionOf};
 
-// A float is NaN, or the form does not hold it.
-pub const NOT_HELD: u32 = 11;
-
 // How a record writes its floats: version 2 in 8 bytes, version 3 in 4.
 pub enum Form {
     Long,
@@ -14,7 +11,7 @@ pub enum Form {
 pub enum Converted {
     // The whole record written is so many bytes long, the four of its length among them.
     Written(usize),
-    // 2 malformed, 3 no room, or NOT_HELD.
+    // 2 malformed, 3 no room, or 11, a float that is not held.
     Refused(u32),
 }
 

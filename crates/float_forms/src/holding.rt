@@ -1,4 +1,5 @@
 use crate::forms::Form;
+use crate::short;
 ghost use mathlib.Core.Path.{_≡_};
 ghost use mathlib.Core.Bool.{true};
 ghost use Prim.Native.Nat.{_*_, _<_};
@@ -26,8 +27,8 @@ fn long_for(x: f64) -> Pattern
 fn short_for(x: f64) -> Pattern
     ensures { λ r. ⌜ r ≡ patternFor Form.Short x ⌝ }
 {
-    let short = short_floats::short_of(x);
-    let short_floats::Short::Pattern(bits) = short else {
+    let short = short::short_of(x);
+    let short::Short::Pattern(bits) = short else {
         return Pattern::Unheld;
     };
     Pattern::Bits(bits as u64)
@@ -62,7 +63,7 @@ fn nan_bits(form: Form) -> u64
     }
 }
 
-// The pattern of a float of the form's format. Callers show that it is of it.
+// The pattern of a float of the form's format.
 pub fn bits_for(form: Form, x: f64) -> u64
     requires { ⌜ fitsIn form x ≡ true ⌝ }
     ensures { λ r. ⌜ (r ≡ toBits (formatOf form) x) × (r < 2 * top (formatOf form)) ⌝ }

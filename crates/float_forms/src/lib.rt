@@ -8,3 +8,6 @@ pub mod bytes;
 pub mod holding;
 // Runs of floats and of u32.
 pub mod runs;
+
+// A float of four bytes, and the float of eight bytes that it is.
+pub mod short;

@@ -11,7 +11,7 @@ ghost use Rattle.float_forms.specs.Forms.{sizeOf};
 ghost use Rattle.float_forms.specs.Bytes.{numbersOf, numbersBytes, wordsOf, wordsBytes};
 ghost use Rattle.float_forms.specs.Holding.{every, held, fitsIn};
 
-// Whether the form q holds each of so many floats of the form p, from a place on. Callers show that they are there.
+// Whether the form q holds each of so many floats of the form p, from a place on.
 pub fn floats_held(p: Form, q: Form, source: &[u8], place: usize, count: usize) -> bool
     requires { ⌜ place + sizeOf p * count ≤ length (now source) ⌝ }
     ensures { λ r. ⌜ r ≡ every (held q) (numbersOf p count (drop place (now (source .entry)))) ⌝ }
@@ -29,8 +29,7 @@ pub fn floats_held(p: Form, q: Form, source: &[u8], place: usize, count: usize) 
     true
 }
 
-// So many floats, each of the form q's format, from one record's place to another's. Callers show that both places are there and that each
-// is.
+// So many floats, each of the form q's format, from one record's place to another's.
 pub fn put_floats(
     p: Form,
     q: Form,
@@ -60,7 +59,7 @@ pub fn put_floats(
     }
 }
 
-// So many u32. Callers show that both places are there.
+// So many u32.
 pub fn put_words(source: &[u8], place: usize, count: usize, out: &mut [u8], at: usize)
     requires { ⌜ place + 4 * count ≤ length (now source) ⌝ }
     requires { ⌜ at + 4 * count ≤ length (now out) ⌝ }

@@ -2,18 +2,17 @@
 -- greatest corners; and the boxes of finite corners and of a segment with finite ends are valid. Each is shown on one side and then on all.
 -- Assumes nothing.
 use mathlib.Core.Path.{_≡_, refl, sym, ap, _∙_}
-use mathlib.Core.Bool.{Bool, true, false, _&&_, _||_, Bool·beq, not, false≢true}
+use mathlib.Core.Bool.{Bool, true, false, _&&_, _||_, Bool·beq, false≢true}
 use mathlib.Core.List.{List}
 use Prim.Native.Nat.{ℕ, _*_}
 use borrow.Author.Tests.{eqb-true, eq-eqb}
 use lib.Dec.{eqb}
-use lib.Ieee.{Float, nan, inf, fin, up, down, lt, le, eq, level}
+use lib.Ieee.{Float, nan, inf, fin, up, down, le, eq, level}
 use Rattle.arithmetic.specs.Basic.{isFinite}
 use Rattle.arithmetic.specs.Extremes.{minimumOf, maximumOf}
 use Rattle.arithmetic.proofs.Numbers.{finite-number}
 use Rattle.arithmetic.proofs.Order.{le-of-eq, le-transitive}
 use Rattle.arithmetic.proofs.ExtremesOrder.{minimum-finite, maximum-finite, minimum-below-second, maximum-above-second}
-use Rattle.vectors.specs.Numbers.{zeroᶠ}
 use Rattle.vectors.specs.Vector.{finiteVec, minOf, maxOf}
 use Rattle.geometry.specs.Box.{everySides, validSide, validBox, touchSide, touches, withinSide, encloses, sameSide, sameBox, unionOf}
 use Rattle.geometry.specs.Box.{corner, cornersBox}
@@ -21,7 +20,7 @@ use Rattle.geometry.specs.Segment.{rayAdmitted, rangeAdmitted, unitLengt
 use Rattle.vectors.specs.declared.vec3.Vec3.{Vec3}
 use Rattle.geometry.specs.declared.aabb.Aabb.{Aabb}
 use Rattle.geometry.specs.declared.ray.Ray.{Ray}
-use Rattle.lists.proofs.JoinedTests.{and-both, and-first, and-second, and-three}
+use Rattle.lists.proofs.JoinedTests.{and-both, and-first, and-second, and-three, alike}
 use Rattle.vectors.proofs.FiniteVectors.{finite-x, finite-y, finite-z, min-finite, max-finite}
 
 -- ---- equal numbers are at most the same, and at least the same
@@ -121,12 +120,6 @@ unfolding encloses sameBox
 encloses-of-same-reversed b c h =
     sides-of-two sameSide sameSide withinSide b c b c c b
     (λ axis s t. within-of-same-reversed (axis (b .min)) (axis (b .max)) (axis (c .min)) (axis (c .max)) s) h h
-
--- two tests that pass alike are equal
-alike : (a b : Bool) → (a ≡ true → b ≡ true) → (b ≡ true → a ≡ true) → a ≡ b
-alike true b f g = sym (f refl)
-alike false true f g = g refl
-alike false false f g = refl
 
 pub touches-of-same : (b c d : Aabb) → sameBox b c ≡ true → touches b d ≡ touches c d
 touches-of-same b c d h =

@@ -1,5 +1,5 @@
 -- The range of a ray by three tests: near from 0 to the maximum, and the maximum finite. Assumes nothing.
-use mathlib.Core.Path.{_≡_, refl, sym, ap, _∙_}
+use mathlib.Core.Path.{_≡_, refl, sym, ap}
 use mathlib.Core.Bool.{Bool, true, false, not, _&&_, false≢true, true≢false}
 use lib.Ieee.{Float, nan, inf, fin, ofBits, lt, le, isNan}
 use Rattle.arithmetic.specs.Basic.{isFinite}

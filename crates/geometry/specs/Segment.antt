@@ -1,6 +1,6 @@
 -- Rays: which are admitted, and the segment up to the maximum. Definitions only. Assumes nothing.
 use mathlib.Core.Bool.{Bool, _&&_, not}
-use lib.Ieee.{Float, lt, le}
+use lib.Ieee.{lt, le}
 use Rattle.arithmetic.specs.Basic.{isFinite, absolute}
 use Rattle.vectors.specs.Numbers.{_-ᶠ_, zeroᶠ, oneᶠ, tolerance}
 use Rattle.vectors.specs.Vector.{finiteVec, lengthOf, addOf, scaleOf, minOf, maxOf}

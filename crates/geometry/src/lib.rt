@@ -4,3 +4,6 @@
 pub mod aabb;
 // Ray, its validation, and its segment.
 pub mod ray;
+
+// Which spacings are admitted.
+pub mod spacing;

@@ -72,7 +72,7 @@ impl Ray {
         self.origin.add(self.direction.scale(self.max_distance))
     }
 
-    // The box of origin and end, for a ray whose origin is finite and whose end is known. Callers show both.
+    // The box of origin and end, for a ray whose origin is finite and whose end is known.
     pub fn segment_box(self, end: Vec3) -> Aabb
         requires { ⌜ finiteVec (self .origin) ≡ true ⌝ ∗ ⌜ end ≡ segmentEnd self ⌝ }
         ensures { λ r. ⌜ r ≡ segmentBox self ⌝ }

@@ -19,7 +19,7 @@ use Rattle.vectors.specs.Numbers.{_+ᶠ_, _*ᶠ_, zeroᶠ}
 use Rattle.vectors.specs.Vector.{finiteVec, minOf, maxOf}
 use Rattle.geometry.specs.Box.{validSide, validBox}
 use Rattle.lists.proofs.JoinedTests.{and-first, and-second}
-use Rattle.grids.specs.Spacing.{spacingAdmitted}
+use Rattle.geometry.specs.Spacing.{spacingAdmitted}
 use Rattle.distance_grid.specs.Grid.{whole, lastNode, lastCorner, gridBox, sidesAdmitted, gridAdmitted, SideStands}
 use Rattle.grid_laws.specs.Drawing.{AxisStands, AxesStand, Held}
 use Rattle.distance_grid.specs.declared.grid.Grid.{Grid}

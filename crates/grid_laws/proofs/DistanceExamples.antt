@@ -15,16 +15,16 @@ use Rattle.geometry.specs.Box.{validSide, validBox}
 use Rattle.geometry.specs.Segment.{unitLength, rayAdmitted}
 use Rattle.geometry.specs.declared.ray.Ray.{Ray}
 use Rattle.casts.specs.Answer.{hit, refused, notConvergent}
-use Rattle.grids.specs.Spacing.{spacingAdmitted}
+use Rattle.geometry.specs.Spacing.{spacingAdmitted}
 use Rattle.distance_grid.specs.Grid.{sideAdmitted, sidesAdmitted, gridAdmitted, lastNode, lastCorner, gridBox}
 use Rattle.grid_steps.specs.Slab.{kept, cut, slabFrom, slab, started, rayAabbInterval}
 use Rattle.grid_steps.specs.Cells.{slack, leavesNode, wholeCell, cellAt, cellOnAxis, rayCellIndices, nodeAhead}
 use Rattle.grid_steps.specs.Cells.{boundaryDistance, boundaryBy, axisBoundary, nextCellBoundary}
-use Rattle.distance_grid.specs.Places.{upTo, floorCell, topOf, drawnTo, drawn, drawnPoint, cellBelow, placeOf, placeAt, locateAxis}
+use Rattle.distance_grid.specs.Places.{upTo, floorCell, topOf, clampedTo, clamped, clampedPoint, cellBelow, placeOf, placeAt, locateAxis}
 use Rattle.distance_grid.specs.Places.{locateInside, locate}
-use Rattle.grid_samples.specs.Faces.{valueAt, faceAt}
-use Rattle.grid_samples.specs.Steps.{checked, blend, lerp, checkedDifference, over, lerpFace, valueOn, slopeOn}
-use Rattle.grid_samples.specs.Sampling.{gathered, sampleFaces, sampleCell, sample}
+use Rattle.distance_grid.specs.Faces.{valueAt, faceAt}
+use Rattle.distance_grid.specs.Steps.{checked, blend, lerp, checkedDifference, over, lerpFace, valueOn, slopeOn}
+use Rattle.distance_grid.specs.Sampling.{gathered, sampleFaces, sampleCell, sample}
 use Rattle.cubic.specs.Polynomial.{twoᶠ, threeᶠ, cubicBy, cubicOf, finiteCubic, evaluate, rootTolerance}
 use Rattle.cubic.specs.Turns.{betweenEnds, keptPoint, keptPoints, vertex, turningBy, turningPoints, extrema}
 use Rattle.cubic.specs.Halving.{middleOf, halveAt, halve, halvings, settled}
@@ -69,7 +69,8 @@ unfolding ofBits div neg add sub mul lt le eq ne isNan ofInt toUnsigned isFinite
     normalizable zeroVec dotTells scaledToOne overLength tryNormalize digitsOf scaledBy unit validSide validBox unitLength rayAdmitted
     sideAdmitted spacingAdmitted sidesAdmitted gridAdmitted lastNode lastCorner gridBox kept cut slabFrom slab started rayAabbInterval upTo
     slack floorCell leavesNode wholeCell cellAt cellOnAxis rayCellIndices nodeAhead boundaryDistance boundaryBy axisBoundary
-    nextCellBoundary topOf drawnTo drawn drawnPoint cellBelow placeOf placeAt locateAxis locateInside locate valueAt faceAt checked blend
+    nextCellBoundary topOf clampedTo clamped clampedPoint cellBelow placeOf placeAt locateAxis locateInside locate valueAt faceAt checked
+    blend
     lerp checkedDifference over lerpFace valueOn slopeOn gathered sampleFaces sampleCell sample cubicBy cubicOf finiteCubic evaluate
     rootTolerance betweenEnds keptPoint keptPoints vertex turningBy turningPoints extrema insert sorted points middleOf halveAt halve
     halvings settled rootBetween searchOn searchFrom searchList rootOfCubic firstCubicRoot pointAt along hitWith hitAlong touchAt valueAlong
@@ -89,7 +90,8 @@ unfolding ofBits div neg add sub mul lt le eq ne isNan ofInt toUnsigned isFinite
     normalizable zeroVec dotTells scaledToOne overLength tryNormalize digitsOf scaledBy unit validSide validBox unitLength rayAdmitted
     sideAdmitted spacingAdmitted sidesAdmitted gridAdmitted lastNode lastCorner gridBox kept cut slabFrom slab started rayAabbInterval upTo
     slack floorCell leavesNode wholeCell cellAt cellOnAxis rayCellIndices nodeAhead boundaryDistance boundaryBy axisBoundary
-    nextCellBoundary topOf drawnTo drawn drawnPoint cellBelow placeOf placeAt locateAxis locateInside locate valueAt faceAt checked blend
+    nextCellBoundary topOf clampedTo clamped clampedPoint cellBelow placeOf placeAt locateAxis locateInside locate valueAt faceAt checked
+    blend
     lerp checkedDifference over lerpFace valueOn slopeOn gathered sampleFaces sampleCell sample cubicBy cubicOf finiteCubic evaluate
     rootTolerance betweenEnds keptPoint keptPoints vertex turningBy turningPoints extrema insert sorted points middleOf halveAt halve
     halvings settled rootBetween searchOn searchFrom searchList rootOfCubic firstCubicRoot pointAt along hitWith hitAlong touchAt valueAlong

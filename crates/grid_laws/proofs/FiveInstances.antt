@@ -1,42 +1,38 @@
 -- M-103's theorems at computed casts: 5 at a grid whose box is not valid, and a cast that M-103 left as it was. Assumes nothing.
 use mathlib.Core.Path.{_≡_, refl}
 use mathlib.Core.List.{List, [], _∷_}
-use lib.Ieee.{Float, binary64, ofBits, toBits, div, neg, add, sub, mul, lt, le, eq, ne, isNan, ofInt, toUnsigned}
+use lib.Ieee.{Float, binary64, ofBits, div, neg, add, sub, mul, lt, le, eq, ne, isNan, ofInt, toUnsigned}
 use Rattle.arithmetic.specs.Basic.{isFinite, absolute, signPositive, clampTo, negative}
-use Rattle.arithmetic.specs.Below.{justBelow}
 use Rattle.arithmetic.specs.Extremes.{minimumOf, maximumOf}
 use Rattle.arithmetic.specs.Ordering.{totalOrder}
 use Rattle.arithmetic.specs.Root.{rootOf, rootRound, wholeRoot, rootDigits}
 use Rattle.arithmetic.specs.Rounding.{wholeBy, floorOf, roundOf}
-use Rattle.vectors.specs.Numbers.{_/ᶠ_, zeroᶠ, oneᶠ, halfᶠ}
+use Rattle.vectors.specs.Numbers.{zeroᶠ, oneᶠ}
 use Rattle.arithmetic.specs.Scaling.{unit, digitsOf, scaledBy}
 use Rattle.vectors.specs.Vector.{finiteVec, addOf, scaleOf, minOf, maxOf, dotOf, lengthOf, normalizable, zeroVec, dotTells, scaledToOne}
 use Rattle.vectors.specs.Vector.{overLength, tryNormalize}
 use Rattle.geometry.specs.Box.{validSide, validBox}
 use Rattle.geometry.specs.Segment.{unitLength, rayAdmitted}
-use Rattle.geometry.specs.declared.ray.Ray.{Ray}
 use Rattle.casts.specs.Answer.{hit, refused, outOfBounds}
-use Rattle.grids.specs.Spacing.{spacingAdmitted}
+use Rattle.geometry.specs.Spacing.{spacingAdmitted}
 use Rattle.distance_grid.specs.Grid.{sideAdmitted, sidesAdmitted, gridAdmitted, lastNode, lastCorner, gridBox}
 use Rattle.grid_steps.specs.Slab.{kept, cut, slabFrom, slab, started, rayAabbInterval}
 use Rattle.grid_steps.specs.Cells.{slack, leavesNode, wholeCell, cellAt, cellOnAxis, rayCellIndices, nodeAhead}
 use Rattle.grid_steps.specs.Cells.{boundaryDistance, boundaryBy, axisBoundary, nextCellBoundary}
-use Rattle.distance_grid.specs.Places.{upTo, floorCell, topOf, drawnTo, drawn, drawnPoint, cellBelow, placeOf, placeAt, locateAxis}
-use Rattle.distance_grid.specs.Places.{locateInside, locate}
-use Rattle.grid_samples.specs.Faces.{valueAt, faceAt}
-use Rattle.grid_samples.specs.Steps.{checked, blend, lerp, checkedDifference, over, lerpFace, valueOn, slopeOn}
-use Rattle.grid_samples.specs.Sampling.{gathered, sampleFaces, sampleCell, sample}
-use Rattle.cubic.specs.Polynomial.{twoᶠ, threeᶠ, cubicBy, cubicOf, finiteCubic, evaluate, rootTolerance}
+use Rattle.distance_grid.specs.Places.{upTo, floorCell, topOf, clampedTo, clamped, clampedPoint, cellBelow, placeOf, placeAt, locateAxis}
+use Rattle.distance_grid.specs.Places.{locateInside}
+use Rattle.distance_grid.specs.Faces.{valueAt, faceAt}
+use Rattle.distance_grid.specs.Steps.{checked, blend, lerp, checkedDifference, over, lerpFace, valueOn, slopeOn}
+use Rattle.distance_grid.specs.Sampling.{gathered, sampleFaces, sampleCell, sample}
+use Rattle.cubic.specs.Polynomial.{cubicBy, cubicOf, finiteCubic, evaluate, rootTolerance}
 use Rattle.cubic.specs.Turns.{betweenEnds, keptPoint, keptPoints, vertex, turningBy, turningPoints, extrema}
 use Rattle.cubic.specs.Halving.{middleOf, halveAt, halve, halvings, settled}
 use Rattle.cubic.specs.Roots.{insert, sorted, points, rootBetween, searchOn, searchFrom, searchList, rootOfCubic, firstCubicRoot}
-use Rattle.level_set.specs.Hits.{third, twoThirds, pointAt, along, hitWith, hitAlong, touchAt, valueAlong, samplesOf, samplesAlong}
+use Rattle.level_set.specs.Hits.{pointAt, along, hitWith, hitAlong, touchAt, valueAlong, samplesOf, samplesAlong}
 use Rattle.level_set.specs.Walk.{goesOn, cellBy, cellCast, goesTo, walkStep, cellLimit, walkFrom, levelSetCast, rayLevelSet}
 use Rattle.distance_grid.specs.declared.grid.Grid.{Grid}
 use Rattle.grid_laws.specs.Refusing.{outsideSide, outside, locateRefusing, sampleRefusing, hitBy, touchBy, valueBy, samplesBy}
 use Rattle.grid_laws.specs.Refusing.{cellCastBy, goesToBy, walkStepBy, walkBy, castBy, rayLevelSetRefusing}
-use Rattle.distance_grid.specs.declared.places.Place.the-variants.{Overflow as NoPlace}
-use Rattle.casts.specs.Answer.{Answer}
 use Rattle.casts.proofs.AnswerLists.{hit-not-refused}
 use Rattle.vectors.specs.declared.vec3.Vec3.{Vec3}
 use Rattle.grid_laws.proofs.DistanceExamples.{ray₁₃, grid₁₃, values₁₃}
@@ -60,7 +56,8 @@ unfolding ofBits div neg add sub mul lt le eq ne isNan ofInt toUnsigned isFinite
     normalizable zeroVec dotTells scaledToOne overLength tryNormalize digitsOf scaledBy unit validSide validBox unitLength rayAdmitted
     sideAdmitted spacingAdmitted sidesAdmitted gridAdmitted lastNode lastCorner gridBox kept cut slabFrom slab started rayAabbInterval upTo
     slack floorCell leavesNode wholeCell cellAt cellOnAxis rayCellIndices nodeAhead boundaryDistance boundaryBy axisBoundary
-    nextCellBoundary topOf drawnTo drawn drawnPoint cellBelow placeOf placeAt locateAxis locateInside valueAt faceAt checked blend lerp
+    nextCellBoundary topOf clampedTo clamped clampedPoint cellBelow placeOf placeAt locateAxis locateInside valueAt faceAt checked blend
+    lerp
     checkedDifference over lerpFace valueOn slopeOn gathered sampleFaces sampleCell sample cubicBy cubicOf finiteCubic evaluate
     rootTolerance betweenEnds keptPoint keptPoints vertex turningBy turningPoints extrema insert sorted points middleOf halveAt halve
     halvings settled rootBetween searchOn searchFrom searchList rootOfCubic firstCubicRoot pointAt along outsideSide outside locateRefusing
@@ -84,7 +81,8 @@ unfolding ofBits div neg add sub mul lt le eq ne isNan ofInt toUnsigned isFinite
     normalizable zeroVec dotTells scaledToOne overLength tryNormalize digitsOf scaledBy unit validSide validBox unitLength rayAdmitted
     sideAdmitted spacingAdmitted sidesAdmitted gridAdmitted lastNode lastCorner gridBox kept cut slabFrom slab started rayAabbInterval upTo
     slack floorCell leavesNode wholeCell cellAt cellOnAxis rayCellIndices nodeAhead boundaryDistance boundaryBy axisBoundary
-    nextCellBoundary topOf drawnTo drawn drawnPoint cellBelow placeOf placeAt locateAxis locateInside valueAt faceAt checked blend lerp
+    nextCellBoundary topOf clampedTo clamped clampedPoint cellBelow placeOf placeAt locateAxis locateInside valueAt faceAt checked blend
+    lerp
     checkedDifference over lerpFace valueOn slopeOn gathered sampleFaces sampleCell sample cubicBy cubicOf finiteCubic evaluate
     rootTolerance betweenEnds keptPoint keptPoints vertex turningBy turningPoints extrema insert sorted points middleOf halveAt halve
     halvings settled rootBetween searchOn searchFrom searchList rootOfCubic firstCubicRoot pointAt along outsideSide outside locateRefusing

@@ -24,9 +24,9 @@ use Rattle.cubic.specs.declared.roots.Root.the-variants.{At as RootAt, None as 
 use Rattle.distance_grid.specs.Grid.{gridAdmitted, gridBox}
 use Rattle.grid_steps.specs.Slab.{rayAabbInterval}
 use Rattle.grid_steps.specs.Cells.{rayCellIndices, nextCellBoundary}
-use Rattle.distance_grid.specs.Places.{withPlace, locateAxis, drawnPoint, locateInside, locate}
-use Rattle.grid_samples.specs.Sampling.{gathered, sampleFaces, sampleCell, withLocated, sample}
-use Rattle.grid_samples.specs.Valued.{valueOf}
+use Rattle.distance_grid.specs.Places.{withPlace, locateAxis, clampedPoint, locateInside, locate}
+use Rattle.distance_grid.specs.Sampling.{gathered, sampleFaces, sampleCell, withLocated, sample}
+use Rattle.distance_grid.specs.Valued.{valueOf}
 use Rattle.level_set.specs.Hits.{pointAt, along, withSample, hitWith, hitAlong, touchAt, valueAlong, samplesOf, samplesAlong}
 use Rattle.level_set.specs.Walk.{Turn, done, on, goesOn, rootTurn, cellBy, cellCast, goesTo, withSamples, withBoundary}
 use Rattle.level_set.specs.Walk.{withCells, walkStep, follow, cellLimit, walkFrom, withInterval, levelSetCast, rayLevelSet}
@@ -41,10 +41,10 @@ use Rattle.distance_grid.specs.declared.places.Place.{Place}
 use Rattle.distance_grid.specs.declared.places.Place.the-variants.{At as PlaceAt, Overflow as NoPlace}
 use Rattle.distance_grid.specs.declared.places.Located.{Located}
 use Rattle.distance_grid.specs.declared.places.Located.the-variants.{At as LocatedAt, Refused as NotLocated}
-use Rattle.grid_samples.specs.declared.sampling.Sampled.{Sampled}
-use Rattle.grid_samples.specs.declared.sampling.Sampled.the-variants.{At as SampledAt, Refused as SampleRefused}
-use Rattle.grid_samples.specs.declared.valued.Valued.{Valued}
-use Rattle.grid_samples.specs.declared.valued.Valued.the-variants.{At as ValuedAt, Refused as NoValue}
+use Rattle.distance_grid.specs.declared.sampling.Sampled.{Sampled}
+use Rattle.distance_grid.specs.declared.sampling.Sampled.the-variants.{At as SampledAt, Refused as SampleRefused}
+use Rattle.distance_grid.specs.declared.valued.Valued.{Valued}
+use Rattle.distance_grid.specs.declared.valued.Valued.the-variants.{At as ValuedAt, Refused as NoValue}
 use Rattle.level_set.specs.declared.hits.Samples.{Samples}
 use Rattle.level_set.specs.declared.hits.Samples.the-variants.{All, Refused as SamplesRefused}
 
@@ -81,9 +81,9 @@ locate-found : (g : Grid) (p : Vec3) → FoundPlace (locate g p)
 unfolding locate locateInside
 locate-found g p =
     place-chosen (finiteVec p)
-    (places-found (locateAxis (drawnPoint g p .x) (g .origin .x) (g .spacing .x) (g .sides .x))
-    (locateAxis (drawnPoint g p .y) (g .origin .y) (g .spacing .y) (g .sides .y))
-    (locateAxis (drawnPoint g p .z) (g .origin .z) (g .spacing .z) (g .sides .z)))
+    (places-found (locateAxis (clampedPoint g p .x) (g .origin .x) (g .spacing .x) (g .sides .x))
+    (locateAxis (clampedPoint g p .y) (g .origin .y) (g .spacing .y) (g .sides .y))
+    (locateAxis (clampedPoint g p .z) (g .origin .z) (g .spacing .z) (g .sides .z)))
     no-place
 
 sample-chosen : (t : Bool) {a b : Sampled} → FoundSample a → FoundSample b → FoundSample (cond t a b)

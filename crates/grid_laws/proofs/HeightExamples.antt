@@ -1,5 +1,4 @@
 -- Casts at height grids computed from the definition alone. Assumes nothing.
-use Prim.Native.Nat.{ℕ}
 use mathlib.Core.Path.{_≡_, refl}
 use mathlib.Core.Bool.{false}
 use mathlib.Core.List.{[], _∷_}
@@ -17,11 +16,11 @@ use Rattle.geometry.specs.Box.{validSide, validBox, touchSide, touches, corners
 use Rattle.geometry.specs.Segment.{unitLength, rayAdmitted, segmentEnd, segmentBox}
 use Rattle.geometry.specs.declared.ray.Ray.{Ray}
 use Rattle.casts.specs.Answer.{hit, none, refused}
-use Rattle.casts.specs.Surface.{outOfRange, facing}
+use Rattle.casts.specs.Surface.{offSegment, facing}
 use Rattle.triangle_cast.specs.Triangle.{flat, triangleNormal, triangleAbove, triangleAt, triangleOf}
 use Rattle.nearest_hit.specs.Nearest.{nextOf, foldFrom, withoutIndex}
 use Rattle.height_field.specs.declared.field.Field.{Field}
-use Rattle.grids.specs.Spacing.{spacingAdmitted}
+use Rattle.geometry.specs.Spacing.{spacingAdmitted}
 use Rattle.height_field.specs.Grid.{sideAdmitted, fieldAdmitted, floatOf, vertexAt, cellAt, cellRow, cellColumn, cornersAt, featureCorners}
 use Rattle.height_field.specs.Cells.{spanOf, scaledRange, cellRange, run, rangeCells, gridCells, columnRange, rowRange, visitedCells}
 use Rattle.height_field.specs.Listing.{both, listAll, allFinite, cellFinite, featureBox, listCell, gridListing}
@@ -81,7 +80,7 @@ pub answers-agree :
 unfolding span climb size odd units round neg sum add sub mul div lt eq le ofInt toUnsigned isNan ofFields ofBits isFinite absolute clampTo
     minimumOf maximumOf rootDigits wholeRoot rootRound rootOf wholeBy floorOf finiteVec addOf subOf negOf scaleOf minOf maxOf absOf
     maxElement dotOf checkedDot crossOf lengthOf normalizable zeroVec dotTells scaledToOne overLength tryNormalize digitsOf scaledBy unit
-    validSide validBox touchSide touches cornersBox unitLength rayAdmitted segmentEnd segmentBox outOfRange facing flat triangleNormal
+    validSide validBox touchSide touches cornersBox unitLength rayAdmitted segmentEnd segmentBox offSegment facing flat triangleNormal
     triangleAbove triangleAt triangleOf nextOf foldFrom withoutIndex sideAdmitted spacingAdmitted fieldAdmitted floatOf vertexAt cellAt
     cellRow cellColumn cornersAt featureCorners spanOf scaledRange cellRange run rangeCells gridCells columnRange rowRange visitedCells both
     listAll keep allFinite cellFinite featureBox listCell gridListing answerOf castListed spanFinite heightCast rayHeightField

@@ -1,8 +1,8 @@
 -- A hit of the distance grid's cast has a distance that is a number and not below near. Assumes nothing.
 use Prim.Native.Nat.{ℕ, zero, suc}
-use mathlib.Core.Path.{_≡_, refl, sym, ap, _∙_, subst}
-use mathlib.Core.Logic.{_⊎_, ⊎-elim}
-use mathlib.Core.Bool.{Bool, true, false, _&&_, not, cond}
+use mathlib.Core.Path.{_≡_, refl, sym, subst}
+use mathlib.Core.Logic.{⊎-elim}
+use mathlib.Core.Bool.{Bool, true, false, not, cond}
 use mathlib.Core.List.{List, [], _∷_}
 use borrow.Author.Tests.{not-true}
 use lib.Dec.{T}
@@ -12,15 +12,15 @@ use lib.Ieee.Fits.{add-fits, div-fits}
 use lib.ListN.{length}
 use Rattle.arithmetic.specs.Basic.{isFinite, absolute}
 use Rattle.arithmetic.specs.Extremes.{minimumOf, maximumOf}
-use Rattle.arithmetic.proofs.ExtremesOrder.{minimum-one, maximum-one, maximum-finite, lesser-first, lesser-second, greater-first}
-use Rattle.arithmetic.proofs.ExtremesOrder.{greater-second}
+use Rattle.arithmetic.proofs.ExtremesOrder.{minimum-one, maximum-one, maximum-finite, lesser-first, lesser-second}
 use Rattle.arithmetic.proofs.Numbers.{finite-number}
 use Rattle.arithmetic.proofs.Order.{le-of-lt, le-of-not-lt, lt-of-not-le, le-reflexive, le-transitive, not-lt-of-le, le-left-number}
 use Rattle.arithmetic.proofs.Order.{le-right-number}
 use Rattle.arithmetic.proofs.QuotientOrder.{between-finite}
 use Rattle.arithmetic.proofs.SumOrder.{nothing}
+use Rattle.arithmetic.proofs.ExtremesLimits.{maximum-from-first}
 use Rattle.geometry.specs.Box.{validBox}
-use Rattle.vectors.specs.Numbers.{_+ᶠ_, _-ᶠ_, _/ᶠ_, zeroᶠ, minPositive}
+use Rattle.vectors.specs.Numbers.{_+ᶠ_, zeroᶠ, minPositive}
 use Rattle.geometry.specs.Segment.{rayAdmitted, unitLength, rangeAdmitted}
 use Rattle.vectors.specs.Vector.{finiteVec, tryNormalize}
 use Rattle.vectors.specs.declared.vec3.Vec3.{Vec3}
@@ -36,7 +36,7 @@ use Rattle.cubic.specs.declared.roots.Root.the-variants.{At as RootAt, None as 
 use Rattle.distance_grid.specs.Grid.{gridAdmitted, gridBox}
 use Rattle.grid_steps.specs.Slab.{kept, cut, slabFrom, slab, started, rayAabbInterval}
 use Rattle.grid_steps.specs.Cells.{rayCellIndices, slack, Axis, boundaryDistance, boundaryBy, axisBoundary, nextCellBoundary}
-use Rattle.grid_samples.specs.Sampling.{sample}
+use Rattle.distance_grid.specs.Sampling.{sample}
 use Rattle.level_set.specs.Hits.{pointAt, along, withSample, hitWith, hitAlong, touchAt, samplesAlong}
 use Rattle.level_set.specs.Walk.{Turn, done, on, goesOn, rootTurn, cellBy, cellCast, goesTo, withSamples, withBoundary}
 use Rattle.level_set.specs.Walk.{withCells, walkStep, follow, cellLimit, walkFrom, withInterval, levelSetCast, rayLevelSet}
@@ -47,21 +47,14 @@ use Rattle.grid_steps.specs.declared.cells.Cells.{Cells}
 use Rattle.grid_steps.specs.declared.cells.Cells.the-variants.{At as CellsAt, Overflow as NoCells}
 use Rattle.grid_steps.specs.declared.cells.Boundary.{Boundary}
 use Rattle.grid_steps.specs.declared.cells.Boundary.the-variants.{At as BoundaryAt, Overflow as NoBoundary}
-use Rattle.grid_samples.specs.declared.sampling.Sampled.{Sampled}
-use Rattle.grid_samples.specs.declared.sampling.Sampled.the-variants.{At as SampledAt, Refused as SampleRefused}
+use Rattle.distance_grid.specs.declared.sampling.Sampled.{Sampled}
+use Rattle.distance_grid.specs.declared.sampling.Sampled.the-variants.{At as SampledAt, Refused as SampleRefused}
 use Rattle.level_set.specs.declared.hits.Samples.{Samples}
 use Rattle.level_set.specs.declared.hits.Samples.the-variants.{All, Refused as SamplesRefused}
-use Rattle.grid_laws.proofs.RootsBetween.{RootWithin, root-at, no-root, root-refused, first-root-within}
+use Rattle.grid_laws.proofs.RootsBetween.{RootWithin, root-at, first-root-within}
 use Rattle.grid_laws.proofs.WayParts.{along-not-before}
 
 -- ---- minimum and maximum where the first operand is a number, whatever the second is
-raised : (x y : Float) → isNan x ≡ false → le x (maximumOf x y) ≡ true
-raised x y n = go (lt x y) refl
-  where
-    go : (b : Bool) → lt x y ≡ b → le x (maximumOf x y) ≡ true
-    go true h = subst (λ (z : Float). le x z ≡ true) (greater-second x y h .0) (le-of-lt x y h)
-    go false h = subst (λ (z : Float). le x z ≡ true) (greater-first x y h n) (le-reflexive x n)
-
 lowered : (x y : Float) → isNan x ≡ false → le (minimumOf x y) x ≡ true
 lowered x y n = go (lt y x) refl
   where
@@ -149,7 +142,7 @@ module _ (r : Ray) (range : Ranged r) where
   cut-spans entry exit first second w e f g =
       let later = maximumOf entry (minimumOf first second) in
       let sooner = minimumOf exit (maximumOf first second) in
-      let up = raised entry (minimumOf first second) (finite-number entry (w .finite)) in
+      let up = maximum-from-first entry (minimumOf first second) (finite-number entry (w .finite)) in
       let down = lowered exit (maximumOf first second) (finite-number exit (e .finite)) in
       kept-spans later sooner (maximum-fits entry (minimumOf first second) (w .held) (minimum-fits first second f g))
       (le-transitive (r .near) entry later (w .from) up)
@@ -181,7 +174,7 @@ module _ (r : Ray) (range : Ranged r) where
       (spans (record {
         finite = maximum-finite entry zeroᶠ (w .finite) zero-finite;
         held = maximum-fits entry zeroᶠ (w .held) (ofBits-fits binary64 0);
-        from = le-transitive (r .near) entry later (w .from) (raised entry zeroᶠ (finite-number entry (w .finite)));
+        from = le-transitive (r .near) entry later (w .from) (maximum-from-first entry zeroᶠ (finite-number entry (w .finite)));
       }) e))
   started-spans Miss furthest missed = missed
 

@@ -7,12 +7,12 @@ pub mod SlabLaws
 pub mod RootsBetween
 pub mod WayParts
 pub mod HitDistances
-pub mod DrawnLaws
-pub mod DrawnPlaces
+pub mod ClampedLaws
 pub mod AxisLaws
+pub mod ClampedPlaces
 pub mod FiveLaws
 pub mod RefusingLaws
 pub mod DistanceExamples
-pub mod DrawnExamples
+pub mod ClampedExamples
 pub mod FiveInstances
 pub mod NearExamples

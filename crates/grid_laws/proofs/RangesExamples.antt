@@ -14,7 +14,7 @@ use Rattle.geometry.specs.Box.{validSide, validBox, touchSide, touches, corners
 use Rattle.geometry.specs.Segment.{unitLength, rayAdmitted, segmentEnd, segmentBox}
 use Rattle.geometry.specs.declared.ray.Ray.{Ray}
 use Rattle.height_field.specs.declared.field.Field.{Field}
-use Rattle.grids.specs.Spacing.{spacingAdmitted}
+use Rattle.geometry.specs.Spacing.{spacingAdmitted}
 use Rattle.height_field.specs.Grid.{sideAdmitted, fieldAdmitted, floatOf, vertexAt, cellAt, cellRow, cellColumn, cornersAt, featureCorners}
 use Rattle.height_field.specs.Cells.{spanOf, scaledRange, cellRange, run, rangeCells, gridCells, columnRange, rowRange, visitedCells}
 use Rattle.height_field.specs.Listing.{both, listAll, allFinite, cellFinite, featureBox, listCell, gridListing}

@@ -1,11 +1,12 @@
 -- Where the cast before M-103 is not 5, the cast is the same. Assumes nothing.
 use mathlib.Core.Path.{_≡_, refl, sym, ap, _∙_}
 use mathlib.Core.Logic.{_⊎_, inl, inr, ⊎-elim}
-use mathlib.Core.Bool.{Bool, true, false, cond, _||_, true≢false}
+use mathlib.Core.Bool.{Bool, true, false, cond, _||_}
 use mathlib.Core.List.{List, [], _∷_}
 use Prim.Native.Nat.{ℕ, zero, suc}
 use lib.Ieee.{Float, lt, le, eq}
 use lib.ListN.{length}
+use Rattle.lists.proofs.JoinedTests.{neither-first, neither-second}
 use Rattle.arithmetic.specs.Extremes.{minimumOf}
 use Rattle.geometry.specs.Box.{validBox}
 use Rattle.vectors.specs.Numbers.{zeroᶠ, oneᶠ}
@@ -20,9 +21,9 @@ use Rattle.cubic.specs.declared.roots.Root.the-variants.{At as RootAt, None as 
 use Rattle.distance_grid.specs.Grid.{lastNode, lastCorner, gridAdmitted, gridBox}
 use Rattle.grid_steps.specs.Slab.{rayAabbInterval}
 use Rattle.grid_steps.specs.Cells.{rayCellIndices, nextCellBoundary}
-use Rattle.distance_grid.specs.Places.{drawnTo, drawn, drawnPoint, locateInside, locate}
-use Rattle.grid_samples.specs.Sampling.{withLocated, sampleCell, sample}
-use Rattle.grid_samples.specs.Valued.{valueOf}
+use Rattle.distance_grid.specs.Places.{clampedTo, clamped, clampedPoint, locateInside, locate}
+use Rattle.distance_grid.specs.Sampling.{withLocated, sampleCell, sample}
+use Rattle.distance_grid.specs.Valued.{valueOf}
 use Rattle.level_set.specs.Hits.{pointAt, along, withSample, hitWith, hitAlong, touchAt, valueAlong, third, twoThirds, samplesOf}
 use Rattle.level_set.specs.Hits.{samplesAlong}
 use Rattle.level_set.specs.Walk.{Turn, done, on, rootTurn, cellBy, cellCast, goesTo, withSamples, withBoundary, withCells}
@@ -38,10 +39,10 @@ use Rattle.grid_steps.specs.declared.cells.Boundary.{Boundary}
 use Rattle.grid_steps.specs.declared.cells.Boundary.the-variants.{At as BoundaryAt, Overflow as NoBoundary}
 use Rattle.distance_grid.specs.declared.places.Located.{Located}
 use Rattle.distance_grid.specs.declared.places.Located.the-variants.{Refused as NotLocated}
-use Rattle.grid_samples.specs.declared.sampling.Sampled.{Sampled}
-use Rattle.grid_samples.specs.declared.sampling.Sampled.the-variants.{Refused as SampleRefused}
-use Rattle.grid_samples.specs.declared.valued.Valued.{Valued}
-use Rattle.grid_samples.specs.declared.valued.Valued.the-variants.{At as ValuedAt, Refused as NoValue}
+use Rattle.distance_grid.specs.declared.sampling.Sampled.{Sampled}
+use Rattle.distance_grid.specs.declared.sampling.Sampled.the-variants.{Refused as SampleRefused}
+use Rattle.distance_grid.specs.declared.valued.Valued.{Valued}
+use Rattle.distance_grid.specs.declared.valued.Valued.the-variants.{At as ValuedAt, Refused as NoValue}
 use Rattle.level_set.specs.declared.hits.Samples.{Samples}
 use Rattle.level_set.specs.declared.hits.Samples.the-variants.{All, Refused as SamplesRefused}
 
@@ -73,35 +74,27 @@ chosen false h k = k
 
 -- ---- a sample
 
-or-first : (a b : Bool) → (a || b) ≡ false → a ≡ false
-or-first false b h = refl
-or-first true b h = h
-
-or-second : (a b : Bool) → (a || b) ≡ false → b ≡ false
-or-second false b h = h
-or-second true b h = absurd (true≢false h)
-
 side-stays : (point origin spacing : Float) (side : ℕ) → outsideSide point origin (lastNode origin spacing side) ≡ false
-    → drawn point origin spacing side ≡ point
-unfolding outsideSide drawn drawnTo
+    → clamped point origin spacing side ≡ point
+unfolding outsideSide clamped clampedTo
 side-stays point origin spacing side h =
     simp (
-      or-first (lt point origin) (lt (lastNode origin spacing side) point) h,
-      or-second (lt point origin)
+      neither-first (lt point origin) (lt (lastNode origin spacing side) point) h,
+      neither-second (lt point origin)
           (lt (lastNode origin spacing side) point) h,
     )
 
 -- a point inside stays
-pub point-stays : (g : Grid) (p : Vec3) → outside p (g .origin) (lastCorner g) ≡ false → drawnPoint g p ≡ p
-unfolding outside lastCorner drawnPoint
+pub point-stays : (g : Grid) (p : Vec3) → outside p (g .origin) (lastCorner g) ≡ false → clampedPoint g p ≡ p
+unfolding outside lastCorner clampedPoint
 point-stays g p h =
     let first = outsideSide (p .x) (g .origin .x) (lastNode (g .origin .x) (g .spacing .x) (g .sides .x)) in
     let second = outsideSide (p .y) (g .origin .y) (lastNode (g .origin .y) (g .spacing .y) (g .sides .y)) in
     let third = outsideSide (p .z) (g .origin .z) (lastNode (g .origin .z) (g .spacing .z) (g .sides .z)) in
-    let a = side-stays (p .x) (g .origin .x) (g .spacing .x) (g .sides .x) (or-first first (second || third) h) in
-    let b = side-stays (p .y) (g .origin .y) (g .spacing .y) (g .sides .y) (or-first second third (or-second first (second || third) h)) in
-    let later = or-second first (second || third) h in
-    let c = side-stays (p .z) (g .origin .z) (g .spacing .z) (g .sides .z) (or-second second third later) in
+    let a = side-stays (p .x) (g .origin .x) (g .spacing .x) (g .sides .x) (neither-first first (second || third) h) in
+    let later = neither-second first (second || third) h in
+    let b = side-stays (p .y) (g .origin .y) (g .spacing .y) (g .sides .y) (neither-first second third later) in
+    let c = side-stays (p .z) (g .origin .z) (g .spacing .z) (g .sides .z) (neither-second second third later) in
     λ i. record { x = a i; y = b i; z = c i }
 
 located-unless : (g : Grid) (p : Vec3) → Unless (NotLocated outOfBounds) (locateRefusing g p) (locate g p)
@@ -109,7 +102,7 @@ unfolding locateRefusing locate
 located-unless g p = chosen (finiteVec p) (go (outside p (g .origin) (lastCorner g)) refl) (inr refl)
   where
     go : (b : Bool) → outside p (g .origin) (lastCorner g) ≡ b
-        → Unless (NotLocated outOfBounds) (cond b (NotLocated outOfBounds) (locateInside g p)) (locateInside g (drawnPoint g p))
+        → Unless (NotLocated outOfBounds) (cond b (NotLocated outOfBounds) (locateInside g p)) (locateInside g (clampedPoint g p))
     go true h = inl refl
     go false h = inr (ap (locateInside g) (sym (point-stays g p h)))
 

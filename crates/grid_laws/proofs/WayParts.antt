@@ -1,12 +1,12 @@
 -- A part of the way from one distance to a later one, each step rounded, does not lie before the first. Assumes nothing.
-use mathlib.Core.Path.{_≡_, refl, sym, ap, _∙_, subst}
-use mathlib.Core.Bool.{Bool, true, false, false≢true}
-use Prim.Native.Nat.{ℕ, _+_, _*_, _≤_, _<_}
-use native.Mathlib.Nat.{mul-comm, mul-pos, mul-le-mul-right, mul-le-mul-left}
+use mathlib.Core.Path.{_≡_, refl, sym, _∙_, subst}
+use mathlib.Core.Bool.{true, false, false≢true}
+use Prim.Native.Nat.{ℕ, _+_, _*_, _≤_}
+use native.Mathlib.Nat.{mul-pos, mul-le-mul-right, mul-le-mul-left}
 use native.Mathlib.Omega.{arith}
 use lib.Dec.{T, lit<}
 use lib.IntN.{ℤ}
-use lib.Ieee.{Float, nan, inf, fin, binary64, up, down, fits, unlike, neg, round, add, sub, mul, lt, le}
+use lib.Ieee.{Float, nan, inf, fin, binary64, up, down, fits, neg, round, add, sub, mul, le}
 use lib.Ieee.Fits.{down-pos, sub-fits}
 use Rattle.arithmetic.specs.Basic.{isFinite}
 use Rattle.arithmetic.proofs.BelowLaws.{le-neg}
@@ -15,11 +15,10 @@ use Rattle.arithmetic.proofs.Order.{le-transitive}
 use Rattle.arithmetic.proofs.OwnRounding.{own-rounding}
 use Rattle.arithmetic.proofs.QuotientOrder.{between-finite}
 use Rattle.arithmetic.proofs.RoundedOrder.{plain-mono, rounding-mono, zero-rounds}
-use Rattle.arithmetic.proofs.SignedOrder.{plus, less}
 use Rattle.arithmetic.proofs.SumOrder.{nothing, upper, lower, under, le-parts, neg-finite, sum-at-most, sum-at-least}
 use Rattle.arithmetic.proofs.SumOrder.{difference-not-negative}
 use Rattle.cubic.proofs.UnitLaws.{Below, below}
-use Rattle.vectors.specs.Numbers.{_+ᶠ_, _-ᶠ_, _*ᶠ_}
+use Rattle.vectors.specs.Numbers.{_-ᶠ_, _*ᶠ_}
 use Rattle.level_set.specs.Hits.{along}
 
 nothing-finite : isFinite nothing ≡ true

@@ -7,9 +7,9 @@ use lib.Ieee.{Float, binary64, fits, lt, le}
 use Rattle.arithmetic.specs.Basic.{isFinite}
 use Rattle.vectors.specs.Numbers.{_-ᶠ_, _/ᶠ_}
 use Rattle.vectors.specs.declared.vec3.Vec3.{Vec3}
-use Rattle.grids.specs.Spacing.{spacingAdmitted}
+use Rattle.geometry.specs.Spacing.{spacingAdmitted}
 use Rattle.distance_grid.specs.Grid.{SideStands, lastNode}
-use Rattle.distance_grid.specs.Places.{drawn, locateAxis}
+use Rattle.distance_grid.specs.Places.{clamped, locateAxis}
 use Rattle.distance_grid.specs.declared.grid.Grid.{Grid}
 use Rattle.distance_grid.specs.declared.places.Place.the-variants.{Overflow as NoPlace}
 
@@ -47,16 +47,16 @@ pub record Nearest (origin spacing last point d : Float) : Type 0 where
   pub behind : lt last point ≡ true → (q : Float) → T (fits binary64 q) → Admitted origin spacing last q
       → (le q d ≡ true) × (le d point ≡ true)
 
-pub record DrawnRight (origin spacing : Float) (side : ℕ) (point : Float) : Type 0 where
+pub record ClampedRight (origin spacing : Float) (side : ℕ) (point : Float) : Type 0 where
   -- a coordinate inside is not moved
-  pub inside : lt point origin ≡ false → lt (lastNode origin spacing side) point ≡ false → drawn point origin spacing side ≡ point
+  pub inside : lt point origin ≡ false → lt (lastNode origin spacing side) point ≡ false → clamped point origin spacing side ≡ point
   -- one outside is moved to the nearest that is admitted
-  pub below : lt point origin ≡ true → Nearest origin spacing (lastNode origin spacing side) point (drawn point origin spacing side)
+  pub below : lt point origin ≡ true → Nearest origin spacing (lastNode origin spacing side) point (clamped point origin spacing side)
   pub above : lt (lastNode origin spacing side) point ≡ true
-      → Nearest origin spacing (lastNode origin spacing side) point (drawn point origin spacing side)
+      → Nearest origin spacing (lastNode origin spacing side) point (clamped point origin spacing side)
   -- and so never refused with 6 in place of 5
   pub located : (lt point origin ≡ false → lt (lastNode origin spacing side) point ≡ false → ⊥)
-      → locateAxis (drawn point origin spacing side) origin spacing side ≡ NoPlace → ⊥
+      → locateAxis (clamped point origin spacing side) origin spacing side ≡ NoPlace → ⊥
 
 -- a coordinate from the origin to the last node whose own place is not finite: as before M-103 it is refused with 6
 pub record RefusedInside (origin spacing : Float) (side : ℕ) (point : Float) : Type 0 where

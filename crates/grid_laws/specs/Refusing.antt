@@ -20,15 +20,15 @@ use Rattle.distance_grid.specs.Grid.{lastCorner, gridAdmitted, gridBox}
 use Rattle.grid_steps.specs.Slab.{rayAabbInterval}
 use Rattle.grid_steps.specs.Cells.{rayCellIndices, nextCellBoundary}
 use Rattle.distance_grid.specs.Places.{locateInside}
-use Rattle.grid_samples.specs.Sampling.{withLocated, sampleCell}
-use Rattle.grid_samples.specs.Valued.{valueOf}
+use Rattle.distance_grid.specs.Sampling.{withLocated, sampleCell}
+use Rattle.distance_grid.specs.Valued.{valueOf}
 use Rattle.level_set.specs.Hits.{pointAt, along, withSample, hitWith, third, twoThirds, samplesOf}
 use Rattle.level_set.specs.Walk.{Turn, done, goesOn, withSamples, withBoundary, withCells, follow, cellLimit, withInterval}
 use Rattle.distance_grid.specs.declared.grid.Grid.{Grid}
 use Rattle.distance_grid.specs.declared.places.Located.{Located}
 use Rattle.distance_grid.specs.declared.places.Located.the-variants.{Refused}
-use Rattle.grid_samples.specs.declared.sampling.Sampled.{Sampled}
-use Rattle.grid_samples.specs.declared.valued.Valued.{Valued}
+use Rattle.distance_grid.specs.declared.sampling.Sampled.{Sampled}
+use Rattle.distance_grid.specs.declared.valued.Valued.{Valued}
 use Rattle.level_set.specs.declared.hits.Samples.{Samples}
 
 -- ---- the sample that refuses

@@ -3,6 +3,7 @@ use arithmetic::extremes;
 use arithmetic::rounding;
 use distance_grid::grid::Grid;
 use distance_grid::places;
+use vectors::numbers;
 use vectors::vec3::Vec3;
 ghost use mathlib.Core.Path.{_≡_};
 ghost use Prim.Native.Nat.{_≤_};
@@ -32,7 +33,7 @@ pub enum Boundary {
 fn slack(size: f64) -> f64
     ensures { λ r. ⌜ r ≡ slack size ⌝ }
 {
-    2.220446049250313e-16 * extremes::maximum(basic::abs(size), 1.0) * 16.0
+    numbers::EPSILON * extremes::maximum(basic::abs(size), 1.0) * 16.0
 }
 
 // The cell at a coordinate. At a node a ray that goes down is in the cell below it.
@@ -52,7 +53,7 @@ fn whole_cell(coordinate: f64, direction: f64) -> u64
     places::floor_cell(coordinate)
 }
 
-// The rule of `ray_cell_indices` on one axis. Callers show that the axis has at least two nodes.
+// The rule of `ray_cell_indices` on one axis.
 fn cell_on_axis(point: f64, direction: f64, origin: f64, spacing: f64, side: u32) -> Cell
     requires { ⌜ 2 ≤ side ⌝ }
     ensures { λ r. ⌜ r ≡ cellOnAxis point direction origin spacing side ⌝ }
@@ -64,7 +65,7 @@ fn cell_on_axis(point: f64, direction: f64, origin: f64, spacing: f64, side: u32
     Cell::At(places::up_to_last(whole_cell(coordinate, direction), side))
 }
 
-// The cell at a point of a ray. Callers show that the grid's sides are admitted.
+// The cell at a point of a ray.
 pub fn ray_cell_indices(grid: Grid, point: Vec3, direction: Vec3) -> Cells
     requires { ⌜ SidesStand (grid .sides) ⌝ }
     ensures { λ r. ⌜ r ≡ rayCellIndices grid point direction ⌝ }

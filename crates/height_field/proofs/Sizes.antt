@@ -1,9 +1,9 @@
 -- An admitted grid is small, and its rows, columns, cells and features are told by their numbers. Assumes nothing.
 use Prim.Native.Nat.{ℕ, _+_, _-_, _*_, _≤_, _<_}
-use mathlib.Core.Path.{_≡_, refl, ap, _∙_}
-use mathlib.Core.Bool.{Bool, true, false, _&&_, false≢true}
+use mathlib.Core.Path.{_≡_, _∙_}
+use mathlib.Core.Bool.{true, _&&_}
 use mathlib.Core.List.{List}
-use native.Mathlib.Nat.{mul-le-mul, mul-le-mul-right, add-mul, one-mul, mul-add-div-right, mul-add-mod-self-right, div-eq-of-lt}
+use native.Mathlib.Nat.{mul-le-mul, mul-add-div-right, mul-add-mod-self-right, div-eq-of-lt}
 use native.Mathlib.Nat.{mod-eq-of-lt}
 use native.Mathlib.Omega.{arith}
 use lib.Dec.{leb, eqb}
@@ -13,7 +13,7 @@ use borrow.Author.Tests.{leb-true, eqb-true}
 use lib.Arith.{digits-lt}
 use Rattle.lists.proofs.JoinedTests.{and-first, and-second}
 use Rattle.height_field.specs.declared.field.Field.{Field}
-use Rattle.grids.specs.Spacing.{spacingAdmitted}
+use Rattle.geometry.specs.Spacing.{spacingAdmitted}
 use Rattle.height_field.specs.Grid.{sideAdmitted, fieldAdmitted, Sized, cellAt, cellRow, cellColumn}
 
 -- ---- admitted

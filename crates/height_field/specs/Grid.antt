@@ -9,7 +9,7 @@ use lib.ListN.{length, getD}
 use lib.Ieee.{Float, nan, binary64, ofInt}
 use Rattle.vectors.specs.Numbers.{_*ᶠ_}
 use Rattle.vectors.specs.declared.vec3.Vec3.{Vec3}
-use Rattle.grids.specs.Spacing.{spacingAdmitted}
+use Rattle.geometry.specs.Spacing.{spacingAdmitted}
 use Rattle.height_field.specs.declared.field.Field.{Field}
 
 -- ---- admitted

@@ -19,7 +19,7 @@ pub fn sum_finite(v00: Vec3, v10: Vec3, v01: Vec3, v11: Vec3) -> bool
     basic::is_finite(sum.x + sum.y + sum.z)
 }
 
-// The box around the vertices of a cell. Callers show that they are finite.
+// The box around the vertices of a cell.
 fn around_cell(v00: Vec3, v10: Vec3, v01: Vec3, v11: Vec3) -> Aabb
     requires { ⌜ allFinite v00 v10 v01 v11 ≡ true ⌝ }
     ensures { λ r. ⌜ r ≡ aroundCell v00 v10 v01 v11 ⌝ }
@@ -30,8 +30,7 @@ fn around_cell(v00: Vec3, v10: Vec3, v01: Vec3, v11: Vec3) -> Aabb
     }
 }
 
-// Whether the box around a cell's vertices touches; where it does not, neither triangle's does. Callers show that the cell is in the grid
-// and that its vertices are finite.
+// Whether the box around a cell's vertices touches; where it does not, neither triangle's does.
 pub fn cell_touches(bounds: Aabb, field: Field, heights: &[f64], row: usize, column: usize) -> bool
     requires { ⌜ Sized field (now heights) ⌝ ∗ ⌜ row + 1 < field .rows ⌝ ∗ ⌜ column + 1 < field .columns ⌝
         ∗ ⌜ cellFinite field (now heights) row column ≡ true ⌝ }

@@ -20,7 +20,7 @@ ghost use Rattle.height_field.specs.Grid.{Sized};
 ghost use Rattle.height_field.specs.Pass.{saysPass, answerOfPass, gridPass};
 ghost use Rattle.height_field.specs.Cast.{spanFinite, heightCast, rayHeightField};
 
-// The pass over the cells that the box visits. Callers show that the grid is admitted.
+// The pass over the cells that the box visits.
 fn grid_pass(ray: Ray, bounds: Aabb, field: Field, heights: &[f64]) -> Pass
     requires { ⌜ Sized field (now heights) ⌝ }
     ensures { λ r. ⌜ saysPass r ≡ gridPass ray bounds field (now (heights .entry)) ⌝ }
@@ -38,7 +38,7 @@ fn grid_pass(ray: Ray, bounds: Aabb, field: Field, heights: &[f64]) -> Pass
     pass::pass_rows(ray, bounds, field, heights, first, last, left, right)
 }
 
-// Whether the grid's extent is finite along both axes. Callers show that the grid is admitted.
+// Whether the grid's extent is finite along both axes.
 pub fn span_finite(field: Field, heights: &[f64]) -> bool
     requires { ⌜ Sized field (now heights) ⌝ }
     ensures { λ r. ⌜ r ≡ spanFinite field ⌝ }
@@ -63,7 +63,7 @@ fn pass_answer(pass: Pass) -> Cast
     }
 }
 
-// The Rust's ray_height_field. Callers show that the ray and the grid are admitted.
+// The Rust's ray_height_field.
 fn height_cast(ray: Ray, field: Field, heights: &[f64]) -> Cast
     requires { ⌜ rayAdmitted ray ≡ true ⌝ ∗ ⌜ Sized field (now heights) ⌝ }
     ensures { λ r. ⌜ says r ≡ heightCast ray field (now (heights .entry)) ⌝ }

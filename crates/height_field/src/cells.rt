@@ -49,7 +49,7 @@ fn scaled_range(low: f64, high: f64, last: usize) -> CellRange
     }
 }
 
-// The extent of some cells. Callers show that there are few.
+// The extent of some cells.
 pub fn span(spacing: f64, count: usize) -> f64
     requires { ⌜ count ≤ 1024 ⌝ }
     ensures { λ r. ⌜ r ≡ spanOf spacing count ⌝ }

@@ -1,4 +1,4 @@
-use grids::spacing;
+use geometry::spacing;
 use vectors::vec3::Vec3;
 ghost use mathlib.Core.Path.{_≡_};
 ghost use Prim.Native.Nat.{_<_, _≤_};
@@ -41,8 +41,7 @@ pub fn is_admitted(field: Field, heights: &[f64]) -> bool
     heights.len() == field.rows * field.columns
 }
 
-// A row, a column or a count of cells as a float, exactly. Callers show that it is small. From the signed form it is one instruction, from
-// the unsigned one six.
+// A row, a column or a count of cells as a float, exactly. From the signed form it is one instruction, from the unsigned one six.
 pub fn float_of(n: usize) -> f64
     requires { ⌜ n ≤ 1024 ⌝ }
     ensures { λ r. ⌜ r ≡ floatOf n ⌝ }
@@ -50,7 +49,7 @@ pub fn float_of(n: usize) -> f64
     (n as i64) as f64
 }
 
-// The vertex of a row and a column, finite or not. Callers show that it is in the grid.
+// The vertex of a row and a column, finite or not.
 pub fn field_vertex(field: Field, heights: &[f64], row: usize, column: usize) -> Vec3
     requires { ⌜ Sized field (now heights) ⌝ ∗ ⌜ row < field .rows ⌝ ∗ ⌜ column < field .columns ⌝ }
     ensures { λ r. ⌜ r ≡ vertexAt field (now (heights .entry)) row column ⌝ }

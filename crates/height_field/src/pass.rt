@@ -57,8 +57,7 @@ fn half(lower: [Vec3; 3], upper: [Vec3; 3], triangle: u32) -> [Vec3; 3]
     upper
 }
 
-// One triangle, which counts where its box touches the segment's box. Callers show that its corners are finite and that their box touches
-// on x and y, so that z decides.
+// One triangle, which counts where its box touches the segment's box.
 fn pass_triangle(
     ray: Ray,
     bounds: Aabb,
@@ -81,7 +80,7 @@ fn pass_triangle(
     best
 }
 
-// The two triangles of a cell in turn. Callers show what each of them asks, and that the feature is small.
+// The two triangles of a cell in turn.
 fn pass_triangles(
     ray: Ray,
     bounds: Aabb,
@@ -103,7 +102,7 @@ fn pass_triangles(
     found
 }
 
-// Whether the vertices of a cell are finite. Callers show that it is in the grid.
+// Whether the vertices of a cell are finite.
 fn cell_finite(field: Field, heights: &[f64], row: usize, column: usize) -> bool
     requires { ⌜ Sized field (now heights) ⌝ ∗ ⌜ row + 1 < field .rows ⌝ ∗ ⌜ column + 1 < field .columns ⌝ }
     ensures { λ r. ⌜ r ≡ cellFinite field (now (heights .entry)) row column ⌝ }
@@ -115,7 +114,7 @@ fn cell_finite(field: Field, heights: &[f64], row: usize, column: usize) -> bool
     all_finite(v00, v10, v01, v11)
 }
 
-// One cell. Callers show that it is in the grid, that its vertices are finite and that the box around them touches.
+// One cell.
 fn pass_cell(
     ray: Ray,
     bounds: Aabb,
@@ -145,7 +144,7 @@ fn pass_cell(
     )
 }
 
-// The cells of one row from the first column to the last. Callers show that they are in the grid.
+// The cells of one row from the first column to the last.
 fn pass_row(
     ray: Ray,
     bounds: Aabb,
@@ -174,7 +173,7 @@ fn pass_row(
     Pass::Going(best)
 }
 
-// The cells of the rows from the first to the last, each from column left to right. Callers show that they are in the grid.
+// The cells of the rows from the first to the last, each from column left to right.
 pub fn pass_rows(
     ray: Ray,
     bounds: Aabb,

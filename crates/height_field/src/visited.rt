@@ -17,7 +17,7 @@ pub enum Visited {
     },
 }
 
-// The cells that a box visits; one outside the grid visits none. Callers show that the grid is admitted.
+// The cells that a box visits; one outside the grid visits none.
 pub fn visited_cells(bounds: Aabb, field: Field, heights: &[f64]) -> Visited
     requires { ⌜ Sized field (now heights) ⌝ }
     ensures { λ r. ⌜ r ≡ visitedRange field bounds ⌝ }

@@ -14,6 +14,7 @@ use lib.Ieee.Order.{round-mono}
 use Rattle.arithmetic.specs.Basic.{isFinite, absolute}
 use Rattle.arithmetic.proofs.Exactness.{ofInt-value}
 use Rattle.arithmetic.proofs.RoundedSigns.{absolute-round}
+use Rattle.arithmetic.proofs.Patterns.{absolute-finite}
 use Rattle.vectors.specs.Numbers.{_*ᶠ_}
 use Rattle.height_field.specs.Grid.{floatOf}
 
@@ -41,15 +42,9 @@ rounded-finite a b c d p q h k =
 
 -- ---- a whole number times a spacing, from either side
 
-size-finite : (x : Float) → isFinite (absolute x) ≡ isFinite x
-unfolding absolute isFinite
-size-finite nan = refl
-size-finite (inf s) = refl
-size-finite (fin s m e) = refl
-
 -- the sign has no say
 either-sign : (s : Bool) (a b : ℕ) → isFinite (round binary64 s a b) ≡ isFinite (round binary64 false a b)
-either-sign s a b = sym (size-finite (round binary64 s a b)) ∙ ap isFinite (absolute-round binary64 s a b)
+either-sign s a b = sym (absolute-finite (round binary64 s a b)) ∙ ap isFinite (absolute-round binary64 s a b)
 
 -- k / d is n, so that k M / (d c) is n M / c
 moved : (k d n M c : ℕ) → k * 1 ≡ n * d → k * M * c ≡ n * M * (d * c)

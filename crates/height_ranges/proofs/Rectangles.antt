@@ -8,6 +8,7 @@ use mathlib.Core.List.{List·Memᴰ·append-cases, Memᴰ·cast, Memᴰ·append-
 use native.Mathlib.Omega.{arith}
 use lib.Dec.{ltb}
 use borrow.Author.Tests.{ltb-true, ltb-false}
+use Rattle.lists.proofs.JoinedTests.{alike}
 use Rattle.height_field.specs.declared.field.Field.{Field}
 use Rattle.height_field.specs.Grid.{cellAt, cellColumn}
 use Rattle.height_field.specs.Cells.{run, gridCells}
@@ -179,11 +180,6 @@ beside-within first last m n h k b =
     (b .is)
 
 -- ---- the two rectangles
-
-alike : (a b : Bool) → (a ≡ true → b ≡ true) → (b ≡ true → a ≡ true) → a ≡ b
-alike true b f g = sym (f refl)
-alike false true f g = g refl
-alike false false f g = refl
 
 module _ (test : ℕ → Bool) (f : Field) (first last left right : ℕ) (someRows : first ≤ last) (someColumns : left ≤ right)
     (within : right + 1 < f .columns) where

@@ -8,6 +8,7 @@ use lib.Ieee.{Float}
 use Rattle.geometry.specs.Segment.{segmentBox}
 use Rattle.geometry.specs.declared.aabb.Aabb.{Aabb}
 use Rattle.geometry.specs.declared.ray.Ray.{Ray}
+use Rattle.casts.specs.Answer.{badRange}
 use Rattle.height_field.specs.declared.field.Field.{Field}
 use Rattle.height_field.specs.declared.visited.Visited.the-variants.{None as NoCells, Cells as Rectangle}
 use Rattle.height_field.specs.Grid.{Sized}
@@ -18,7 +19,7 @@ use Rattle.height_field.proofs.Sizes.{admitted-sized}
 use Rattle.height_ranges.specs.Answer.{clear, refused}
 use Rattle.height_ranges.specs.Ranges.{nodesOf, nodeInOrder, nearestHeights}
 use Rattle.lists.specs.Lists.{every}
-use Rattle.height_ranges.specs.RangesCast.{badRange, answerListed, visitedAnswer}
+use Rattle.height_ranges.specs.RangesCast.{answerListed, visitedAnswer}
 use Rattle.height_ranges.specs.Pass.{cellTouches, firstCell, gridNodes}
 use Rattle.height_ranges.specs.Promise.{Tested}
 use Rattle.height_ranges.proofs.Members.{every-at}

@@ -9,14 +9,13 @@ use Rattle.vectors.specs.Vector.{finiteVec}
 use Rattle.geometry.specs.Box.{touches}
 use Rattle.geometry.specs.Segment.{rayAdmitted, segmentEnd, segmentBox}
 use Rattle.geometry.specs.declared.ray.Ray.{Ray}
-use Rattle.casts.specs.Answer.{none}
+use Rattle.casts.specs.Answer.{none, badRange}
 use Rattle.height_field.specs.declared.field.Field.{Field}
 use Rattle.height_field.specs.Cells.{visitedCells}
 use Rattle.height_field.specs.Listing.{featureBox}
 use Rattle.height_field.specs.Cast.{spanFinite, rayHeightField}
 use Rattle.height_ranges.specs.Answer.{Answer, clear, possible, refused}
 use Rattle.height_ranges.specs.Ranges.{rangesAdmitted, nodesOf, nodeInOrder}
-use Rattle.height_ranges.specs.RangesCast.{badRange}
 
 -- a number stands in a list
 abbrev pub Among : ℕ → List ℕ → Type 0

@@ -1,4 +1,3 @@
-use crate::answer;
 use crate::answer::Clearance;
 use crate::order;
 use crate::touching;
@@ -28,7 +27,7 @@ fn ranges_admitted(field: Field, lows: &[f64], highs: &[f64]) -> bool
     highs.len() == field.rows * field.columns
 }
 
-// The ranges of all visited cells first, then the first cell that touches. Callers show that the tests before them pass.
+// The ranges of all visited cells first, then the first cell that touches.
 fn visited_answer(ray: Ray, bounds: Aabb, field: Field, lows: &[f64], highs: &[f64]) -> Clearance
     requires { ⌜ Tested ray field (now lows) (now highs) ⌝ ∗ ⌜ bounds ≡ segmentBox ray ⌝ }
     ensures { λ r. ⌜ says r ≡ visitedAnswer field (now (lows .entry)) (now (highs .entry)) bounds ⌝ }
@@ -45,12 +44,12 @@ fn visited_answer(ray: Ray, bounds: Aabb, field: Field, lows: &[f64], highs: &[f
     };
     // A cell's nodes reach one row and one column past it.
     if !order::rows_in_order(field, lows, highs, first, last + 1, left, right + 1) {
-        return Clearance::Refused(answer::BAD_RANGE);
+        return Clearance::Refused(refusals::BAD_RANGE);
     }
     touching::first_in_rows(bounds, field, lows, highs, first, last, left, right)
 }
 
-// The cast in the height cast's order. Callers show that the ray and the grid are admitted.
+// The cast in the height cast's order.
 fn ranges_cast(ray: Ray, field: Field, lows: &[f64], highs: &[f64]) -> Clearance
     requires { ⌜ rayAdmitted ray ≡ true ⌝ ∗ ⌜ rangesAdmitted field (now lows) (now highs) ≡ true ⌝ }
     ensures { λ r. ⌜ says r ≡ rangesCast ray field (now (lows .entry)) (now (highs .entry)) ⌝ }

@@ -1,8 +1,8 @@
 -- The definitions give what document 01 says of every entry of the table: computed once, and the rule at each entry from it. Assumes
 -- nothing.
 use mathlib.Core.Path.{_≡_, refl}
-use mathlib.Core.Bool.{Bool, true, false, _&&_}
-use mathlib.Core.List.{List, [], _∷_}
+use mathlib.Core.Bool.{true}
+use mathlib.Core.List.{List, _∷_}
 use lib.Ieee.{span, climb, size, odd, units, round, neg, sum, add, sub, mul, div, lt, eq, le, ne, ofInt, toUnsigned, isNan, ofFields}
 use lib.Ieee.{ofBits, toBits}
 use Rattle.lists.proofs.JoinedTests.{and-first, and-second}
@@ -17,11 +17,11 @@ use Rattle.vectors.specs.Vector.{crossOf, lengthOf, normalizable, zeroVec, dotT
 use Rattle.geometry.specs.Box.{validSide, validBox, touchSide, touches, withinSide, encloses, sameSide, sameBox, unionOf, centre}
 use Rattle.geometry.specs.Box.{cornersBox}
 use Rattle.geometry.specs.Segment.{unitLength, rayAdmitted, segmentEnd, segmentBox}
-use Rattle.casts.specs.Surface.{outOfRange, facing}
+use Rattle.casts.specs.Surface.{offSegment, facing}
 use Rattle.casts.specs.Plane.{planeAdmitted, planeAt, planeCast, rayPlane}
 use Rattle.triangle_cast.specs.Triangle.{flat, triangleNormal, hasNormal, triangleAbove, triangleAt, triangleOf, rayTriangle}
 use Rattle.nearest_hit.specs.Nearest.{nextOf, foldFrom, withoutIndex}
-use Rattle.grids.specs.Spacing.{spacingAdmitted}
+use Rattle.geometry.specs.Spacing.{spacingAdmitted}
 use Rattle.height_field.specs.Grid.{sideAdmitted, fieldAdmitted, floatOf, vertexAt, cellAt, cellRow, cellColumn, cornersAt, featureCorners}
 use Rattle.height_field.specs.Cells.{scaledRange, spanOf, cellRange, run, rangeCells, gridCells, columnRange, rowRange, visitedCells}
 use Rattle.height_field.specs.Listing.{both, listAll, allFinite, cellFinite, featureBox, listCell, gridListing}
@@ -35,12 +35,12 @@ use Rattle.distance_grid.specs.Grid.{sideAdmitted as levelset-sideAdmitted, sid
 use Rattle.grid_steps.specs.Slab.{kept, cut, slabFrom, slab, started, rayAabbInterval}
 use Rattle.grid_steps.specs.Cells.{slack, leavesNode, wholeCell, cellAt as levelset-cellAt, cellOnAxis, rayCellIndices, nodeAhead}
 use Rattle.grid_steps.specs.Cells.{boundaryDistance, boundaryBy, axisBoundary, nextCellBoundary}
-use Rattle.distance_grid.specs.Places.{upTo, floorCell, topOf, drawnTo, drawn, drawnPoint, cellBelow, placeOf, placeAt, locateAxis}
+use Rattle.distance_grid.specs.Places.{upTo, floorCell, topOf, clampedTo, clamped, clampedPoint, cellBelow, placeOf, placeAt, locateAxis}
 use Rattle.distance_grid.specs.Places.{locateInside, locate}
-use Rattle.grid_samples.specs.Faces.{valueAt, faceAt}
-use Rattle.grid_samples.specs.Steps.{checked, blend, lerp, checkedDifference, over, lerpFace, valueOn, slopeOn}
-use Rattle.grid_samples.specs.Sampling.{gathered, sampleFaces, sampleCell, sample}
-use Rattle.grid_samples.specs.Valued.{across, cellValue, smallValue, smallFace, fairSide, fairSpacing}
+use Rattle.distance_grid.specs.Faces.{valueAt, faceAt}
+use Rattle.distance_grid.specs.Steps.{checked, blend, lerp, checkedDifference, over, lerpFace, valueOn, slopeOn}
+use Rattle.distance_grid.specs.Sampling.{gathered, sampleFaces, sampleCell, sample}
+use Rattle.distance_grid.specs.Valued.{across, cellValue, smallValue, smallFace, fairSide, fairSpacing}
 use Rattle.distance_grid.specs.Places.{isFraction}
 use Rattle.level_set.specs.Hits.{pointAt, along, hitWith, hitAlong, touchAt, valueAlong, samplesOf, samplesAlong}
 use Rattle.level_set.specs.Walk.{goesOn, cellBy, cellCast, goesTo, walkStep, cellLimit, walkFrom, levelSetCast, rayLevelSet}
@@ -65,14 +65,15 @@ unfolding table right allRight repeated outcome throughBuilt ofBuilt span climb 
     wholeRoot rootRound rootOf wholeBy floorOf roundOf totalOrder component finiteVec addOf subOf negOf scaleOf minOf maxOf absOf maxElement
     dotOf checkedDot crossOf lengthOf normalizable zeroVec dotTells scaledToOne overLength tryNormalize digitsOf scaledBy unit validSide
     validBox touchSide touches withinSide encloses sameSide sameBox unionOf centre cornersBox unitLength rayAdmitted segmentEnd segmentBox
-    outOfRange facing planeAdmitted planeAt planeCast rayPlane flat triangleNormal hasNormal triangleAbove triangleAt triangleOf rayTriangle
+    offSegment facing planeAdmitted planeAt planeCast rayPlane flat triangleNormal hasNormal triangleAbove triangleAt triangleOf rayTriangle
     nextOf foldFrom withoutIndex sideAdmitted spacingAdmitted fieldAdmitted floatOf vertexAt cellAt cellRow cellColumn cornersAt
     featureCorners scaledRange spanOf cellRange run rangeCells gridCells columnRange rowRange visitedCells both listAll keep allFinite
     cellFinite featureBox listCell gridListing answerOf castListed spanFinite heightCast rayHeightField cubicBy cubicOf finiteCubic evaluate
     rootTolerance betweenEnds keptPoint keptPoints vertex turningBy turningPoints extrema middleOf halveAt halve halvings settled insert
     sorted points rootBetween searchOn searchFrom searchList rootOfCubic firstCubicRoot levelset-sideAdmitted sidesAdmitted gridAdmitted
     lastNode lastCorner gridBox kept cut slabFrom slab started rayAabbInterval upTo slack floorCell leavesNode wholeCell levelset-cellAt
-    cellOnAxis rayCellIndices nodeAhead boundaryDistance boundaryBy axisBoundary nextCellBoundary topOf drawnTo drawn drawnPoint cellBelow
+    cellOnAxis rayCellIndices nodeAhead boundaryDistance boundaryBy axisBoundary nextCellBoundary topOf clampedTo clamped clampedPoint
+    cellBelow
     placeOf placeAt locateAxis locateInside locate valueAt faceAt checked blend lerp checkedDifference over lerpFace valueOn slopeOn
     gathered sampleFaces sampleCell sample across cellValue isFraction smallValue smallFace fairSide fairSpacing pointAt along hitWith
     hitAlong touchAt valueAlong samplesOf samplesAlong goesOn cellBy cellCast goesTo walkStep cellLimit walkFrom levelSetCast rayLevelSet

@@ -1,2 +1,28 @@
--- The one check of the table. Assumes nothing.
+-- The one check of the table, and computed examples. Assumes nothing.
 pub mod Checked
+pub mod CallInstances
+pub mod ListingExamples
+pub mod CabinetInstances
+pub mod ManyInstances
+pub mod MeshExactExamples
+pub mod TreeExactExamples
+pub mod ExactTriangleExamples
+pub mod WideExamples
+pub mod WordExamples
+pub mod CheckExamples
+pub mod CabinetExamples
+pub mod MeshExamples
+pub mod BuilderInstance
+pub mod PlainExamples
+pub mod QueryExamples
+pub mod GlueExamples
+pub mod MergeTestExamples
+pub mod BuildExamples
+pub mod WorkedRecord
+pub mod ShortRecord
+pub mod LookExamples
+pub mod PlaceExamples
+pub mod CubicExamples
+pub mod ManyExamples
+pub mod AgreementExamples
+pub mod WholeMeshExamples

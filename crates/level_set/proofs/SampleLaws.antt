@@ -11,8 +11,8 @@ use Rattle.geometry.specs.declared.ray.Ray.{Ray}
 use Rattle.level_set.specs.Hits.{along, valueAlong, samplesOf, samplesAlong, fractionOf, Remembered}
 use Rattle.level_set.specs.Walk.{Carries, ends, goes, Kept, ended, going}
 use Rattle.distance_grid.specs.declared.grid.Grid.{Grid}
-use Rattle.grid_samples.specs.declared.valued.Valued.{Valued}
-use Rattle.grid_samples.specs.declared.valued.Valued.the-variants.{At, Refused}
+use Rattle.distance_grid.specs.declared.valued.Valued.{Valued}
+use Rattle.distance_grid.specs.declared.valued.Valued.the-variants.{At, Refused}
 use Rattle.level_set.specs.declared.hits.Known.{Known}
 use Rattle.level_set.specs.declared.hits.Samples.{Samples}
 use Rattle.level_set.specs.declared.hits.Samples.the-variants.{All, Refused as SamplesRefused}

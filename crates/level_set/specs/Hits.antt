@@ -9,13 +9,13 @@ use Rattle.vectors.specs.Vector.{addOf, scaleOf, tryNormalize}
 use Rattle.vectors.specs.declared.vec3.Vec3.{Vec3}
 use Rattle.geometry.specs.declared.ray.Ray.{Ray}
 use Rattle.casts.specs.Answer.{Answer, hit, none, refused, withNormal, notConvergent}
-use Rattle.grid_samples.specs.Sampling.{sample}
-use Rattle.grid_samples.specs.Valued.{valueOf}
+use Rattle.distance_grid.specs.Sampling.{sample}
+use Rattle.distance_grid.specs.Valued.{valueOf}
 use Rattle.distance_grid.specs.declared.grid.Grid.{Grid}
-use Rattle.grid_samples.specs.declared.sampling.Sampled.{Sampled}
-use Rattle.grid_samples.specs.declared.sampling.Sampled.the-variants.{At as SampledAt, Refused as SampleRefused}
-use Rattle.grid_samples.specs.declared.valued.Valued.{Valued}
-use Rattle.grid_samples.specs.declared.valued.Valued.the-variants.{At as ValuedAt, Refused as NoValue}
+use Rattle.distance_grid.specs.declared.sampling.Sampled.{Sampled}
+use Rattle.distance_grid.specs.declared.sampling.Sampled.the-variants.{At as SampledAt, Refused as SampleRefused}
+use Rattle.distance_grid.specs.declared.valued.Valued.{Valued}
+use Rattle.distance_grid.specs.declared.valued.Valued.the-variants.{At as ValuedAt, Refused as NoValue}
 use Rattle.level_set.specs.declared.hits.Known.{Known}
 use Rattle.level_set.specs.declared.hits.Samples.{Samples}
 use Rattle.level_set.specs.declared.hits.Samples.the-variants.{All, Refused}

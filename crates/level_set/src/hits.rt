@@ -2,11 +2,11 @@ use casts::answer;
 use casts::answer::Cast;
 use distance_grid::grid::Grid;
 use distance_grid::places::Near;
+use distance_grid::sampling;
+use distance_grid::sampling::Sampled;
+use distance_grid::valued;
+use distance_grid::valued::Valued;
 use geometry::ray::Ray;
-use grid_samples::sampling;
-use grid_samples::sampling::Sampled;
-use grid_samples::valued;
-use grid_samples::valued::Valued;
 use vectors::vec3::Normalized;
 use vectors::vec3::Vec3;
 ghost use mathlib.Core.Path.{_≡_};
@@ -50,7 +50,6 @@ fn hit_with(gradient: Vec3, distance: f64) -> Cast
 }
 
 // The answer where the cell has no length: a hit only at a value of exactly zero.
-// Callers show that the grid is admitted and the values are as many as its nodes.
 pub fn touch_at(ray: Ray, grid: Grid, values: &[f64], distance: f64) -> Cast
     requires { ⌜ Stands grid (now values) ⌝ }
     ensures { λ r. ⌜ says r ≡ touchAt ray grid (now (values .entry)) distance ⌝ }
@@ -75,7 +74,6 @@ pub fn along(current: f64, end: f64, fraction: f64) -> f64
 }
 
 // The value at a distance. What its gradient refuses is refused with it.
-// Callers show that the grid is admitted and the values are as many as its nodes.
 fn value_along(ray: Ray, grid: Grid, values: &[f64], near: Near, distance: f64) -> Valued
     requires { ⌜ Stands grid (now values) ⌝ }
     ensures { λ r. ⌜ r ≡ valueAlong ray grid (now (values .entry)) distance ⌝ }
@@ -94,7 +92,6 @@ fn is_same(x: f64, y: f64) -> bool
 }
 
 // The value at a distance, remembered if it was taken there.
-// Callers show that the grid is admitted, and that what is remembered is the value at its distance.
 fn value_known(
     ray: Ray,
     grid: Grid,
@@ -129,7 +126,6 @@ fn fraction(index: u32) -> f64
 }
 
 // The four values from one distance to another, each moved up when the next is taken; the first that is refused counts.
-// Callers show that the grid is admitted, and that what is remembered is the value at its distance.
 pub fn samples_along(
     ray: Ray,
     grid: Grid,
@@ -169,7 +165,7 @@ pub fn samples_along(
     }
 }
 
-// The hit at a distance, with the gradient there. Callers show that the grid is admitted and the values are as many as its nodes.
+// The hit at a distance, with the gradient there.
 pub fn hit_along(ray: Ray, grid: Grid, values: &[f64], distance: f64) -> Cast
     requires { ⌜ Stands grid (now values) ⌝ }
     ensures { λ r. ⌜ says r ≡ hitAlong ray grid (now (values .entry)) distance ⌝ }

@@ -42,7 +42,6 @@ fn goes_on(end: f64, exit: f64, known: Known) -> Step
 }
 
 // What a cell gives by the values at 0, 1/3, 2/3 and 1 of the way through it.
-// Callers show that the grid is admitted, and that what is remembered is the value at its distance.
 fn cell_by(
     ray: Ray,
     grid: Grid,
@@ -71,7 +70,6 @@ fn cell_by(
 }
 
 // A cell from one distance to another, by four samples.
-// Callers show that the grid is admitted, and that what is remembered is the value at its distance.
 fn cell_cast(
     ray: Ray,
     grid: Grid,
@@ -107,7 +105,7 @@ fn cell_cast(
     }
 }
 
-// From a distance to the next boundary. Callers show that the grid is admitted, and that what is remembered is the value at its distance.
+// From a distance to the next boundary.
 fn goes_to(
     ray: Ray,
     grid: Grid,
@@ -136,7 +134,7 @@ fn goes_to(
     )
 }
 
-// One cell of the walk. Callers show that the grid is admitted, and that what is remembered is the value at its distance.
+// One cell of the walk.
 fn walk_step(ray: Ray, grid: Grid, values: &[f64], current: f64, exit: f64, known: Known) -> Step
     requires { ⌜ Stands grid (now values) ⌝ ∗ ⌜ Remembered ray grid (now values) known ⌝ }
     ensures { λ r. ⌜ tells r ≡ walkStep ray grid (now (values .entry)) current exit ⌝ ∗ ⌜ Kept ray grid (now (values .entry)) r ⌝ }
@@ -165,7 +163,7 @@ fn walk_step(ray: Ray, grid: Grid, values: &[f64], current: f64, exit: f64, know
     )
 }
 
-// How many cells a walk may take. Callers show that the grid's sides are admitted.
+// How many cells a walk may take.
 fn cell_limit(grid: Grid) -> u32
     requires { ⌜ SidesStand (grid .sides) ⌝ }
     ensures { λ r. ⌜ r ≡ cellLimit grid ⌝ }
@@ -173,7 +171,7 @@ fn cell_limit(grid: Grid) -> u32
     grid.sides.x + grid.sides.y + grid.sides.z + 4
 }
 
-// The walk over the cells from the entry on. Callers show that the grid is admitted and the values are as many as its nodes.
+// The walk over the cells from the entry on.
 fn walk_from(ray: Ray, grid: Grid, values: &[f64], entry: f64, exit: f64) -> Cast
     requires { ⌜ Stands grid (now values) ⌝ }
     ensures { λ r. ⌜ says r ≡ walkFrom ray grid (now (values .entry)) exit (cellLimit grid) entry ⌝ }
@@ -198,7 +196,7 @@ fn walk_from(ray: Ray, grid: Grid, values: &[f64], entry: f64, exit: f64) -> Cas
     Cast::Refused(answer::NOT_CONVERGENT)
 }
 
-// The Rust's ray_level_set, with nothing tested before it. Callers show that the grid is admitted.
+// The Rust's ray_level_set, with nothing tested before it.
 fn level_set_cast(ray: Ray, grid: Grid, values: &[f64]) -> Cast
     requires { ⌜ Stands grid (now values) ⌝ }
     ensures { λ r. ⌜ says r ≡ levelSetCast ray grid (now (values .entry)) ⌝ }

@@ -157,6 +157,17 @@ keep-alike p q (y ∷ l) h =
     ap (λ (b : Bool). cond b (y ∷ keep p l) (keep p l)) (h y (omega (arith, count-cons y y l, one-same y y refl)))
     ∙ ap (λ (r : List ℕ). cond (q y) (y ∷ r) r) (keep-alike p q l (λ (x : ℕ) (k : 0 < count x l). h x (omega (arith, count-cons x y l))))
 
+-- those of two lists that pass, one list after the other
+pub keep-append : (p : ℕ → Bool) (l m : List ℕ) → keep p (l ++ m) ≡ keep p l ++ keep p m
+unfolding keep
+keep-append p [] m = refl
+keep-append p (x ∷ l) m = go (p x) (keep-append p l m)
+  where
+    go : (b : Bool) → keep p (l ++ m) ≡ keep p l ++ keep p m
+        → cond b (x ∷ keep p (l ++ m)) (keep p (l ++ m)) ≡ cond b (x ∷ keep p l) (keep p l) ++ keep p m
+    go true e = ap (λ (r : List ℕ). x ∷ r) e
+    go false e = e
+
 -- ---- gathered lists
 pub flatMap-cons : (f : ℕ → List ℕ) (x : ℕ) (l : List ℕ) → flatMap f (x ∷ l) ≡ f x ++ flatMap f l
 unfolding flatMap

@@ -1,7 +1,7 @@
 -- Lists of indices: ranges, counts, tests of all, those that pass a test, sorting; lists written over areas, and folds. Definitions only.
 -- Assumes nothing.
 use Prim.Native.Nat.{ℕ, zero, suc, _+_}
-use mathlib.Core.Bool.{Bool, true, false, _&&_, cond}
+use mathlib.Core.Bool.{Bool, true, _&&_, cond}
 use mathlib.Core.List.{List, [], _∷_, _++_}
 use lib.Dec.{eqb, leb, ltb}
 -- the lists that each gives, one after another

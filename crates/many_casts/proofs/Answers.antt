@@ -16,7 +16,7 @@ use Rattle.lists.proofs.CountLaws.{same-or-other}
 use Rattle.geometry.specs.declared.ray.Ray.{Ray}
 use Rattle.nearest_hit.specs.Nearest.{Indexed, hitAt, noHit, stopped}
 use Rattle.tree.specs.Layout.{numberAt, wordAt}
-use Rattle.results.specs.Results.{ToldIndexed, toldIndexed, hitCode, noneCode}
+use Rattle.results.specs.Results.{ReturnedIndexed, returnedIndexed, hitCode, noneCode}
 use Rattle.many_casts.specs.Many.{rayAt, rayCount, Places, placesFit, answerAt, answersOf, hitOf, readAt}
 use Rattle.many_casts.specs.Many.{EachAsSingle}
 
@@ -97,7 +97,7 @@ pub record Inside (k : ℕ) (p : Places) : Type 0 where
   pub hit : 4 * k + 4 ≤ length (p .hits)
   pub index : k < length (p .indices)
 
-abbrev made : ℕ → List Float → List ℕ → ToldIndexed
+abbrev made : ℕ → List Float → List ℕ → ReturnedIndexed
 made number hit index = record { number = number; hit = hit; index = index }
 
 read-as : (p : Places) (i number : ℕ) (hit : List Float) (index : ℕ) → wordAt (p .codes) i ≡ number → hitOf (p .hits) i ≡ hit
@@ -108,9 +108,9 @@ read-as p i number hit index e f g =
     ∙ ap (λ (h : List Float). made number h (wordAt (p .indices) i ∷ [])) f
     ∙ ap (λ (k : ℕ). made number hit (k ∷ [])) g
 
-read-same : (a : Indexed) (k : ℕ) (p : Places) → Inside k p → readAt (answerAt a k p) k ≡ toldIndexed a (hitOf (p .hits) k)
+read-same : (a : Indexed) (k : ℕ) (p : Places) → Inside k p → readAt (answerAt a k p) k ≡ returnedIndexed a (hitOf (p .hits) k)
     (wordAt (p .indices) k ∷ [])
-unfolding answerAt toldIndexed
+unfolding answerAt returnedIndexed
 read-same (hitAt n d j) k p h =
     let at : ℕ → Float = λ (q : ℕ). getD (four (p .hits) (4 * k) (n .x) (n .y) (n .z) d) q nan in
     read-as (answerAt (hitAt n d j) k p) k hitCode (n .x ∷ n .y ∷ n .z ∷ d ∷ []) j (getD-set-same (p .codes) k hitCode 0 (h .code))
@@ -223,17 +223,18 @@ module _ (answer : Ray → Indexed) (rays : List Float) (p : Places) where
   indices-past zero k h = refl
   indices-past (suc n) k h = index-else (one n) n (after n) k (λ e. omega (arith, e, h)) ∙ indices-past n k (omega (arith, h))
 
-  abbrev single : ℕ → ToldIndexed
-  single i = toldIndexed (one i) (hitOf (p .hits) i) (wordAt (p .indices) i ∷ [])
+  abbrev single : ℕ → ReturnedIndexed
+  single i = returnedIndexed (one i) (hitOf (p .hits) i) (wordAt (p .indices) i ∷ [])
 
   -- the last ray's places
   last : (n : ℕ) → Inside n p → readAt (after (suc n)) n ≡ single n
   unfolding answersOf
   last n h =
-      read-same (one n) n (after n) (insides n n h) ∙ ap (λ (hit : List Float). toldIndexed (one n) hit (wordAt (after n .indices) n ∷ []))
+      read-same (one n) n (after n) (insides n n h) ∙ ap (λ (hit : List Float). returnedIndexed (one n) hit
+      (wordAt (after n .indices) n ∷ []))
       (fours (hits-past n (4 * n) (omega arith)) (hits-past n (4 * n + 1) (omega arith)) (hits-past n (4 * n + 2) (omega arith))
       (hits-past n (4 * n + 3) (omega arith)))
-      ∙ ap (λ (w : ℕ). toldIndexed (one n) (hitOf (p .hits) n) (w ∷ [])) (indices-past n n (omega arith))
+      ∙ ap (λ (w : ℕ). returnedIndexed (one n) (hitOf (p .hits) n) (w ∷ [])) (indices-past n n (omega arith))
 
   each : (n i : ℕ) → i < n → ((k : ℕ) → k < n → Inside k p) → readAt (after n) i ≡ single i
   unfolding answersOf

@@ -1,2 +1,3 @@
 -- What the calls with many rays answer. Definitions only. Assumes nothing.
 pub mod Many
+pub mod Ready

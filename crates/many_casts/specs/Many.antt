@@ -15,8 +15,8 @@ use Rattle.nearest_hit.specs.Nearest.{Indexed, hitAt, noHit, stopped}
 use Rattle.tree.specs.Layout.{Tree, numberAt, wordAt, vectorAt}
 use Rattle.tree.specs.Mesh.{Mesh}
 use Rattle.mesh.specs.MeshCast as Cast
-use Rattle.first_cast.specs.ExactMesh as Exact
-use Rattle.results.specs.Results.{ToldIndexed, hitCode, noneCode, doneCode, toldIndexed}
+use Rattle.tree_exact.specs.ExactMesh as Exact
+use Rattle.results.specs.Results.{ReturnedIndexed, hitCode, noneCode, doneCode, returnedIndexed}
 
 -- ---- the rays
 
@@ -67,18 +67,18 @@ manyTests rays m pose t room p =
     ∷ (refusing noRoom (room && placesFit (rayCount rays) p) ∷ (refusing wrongPose (eqb (length pose) (length (m .vertices))) ∷ []))
 
 -- the call's number, and the result slices
-pub record ToldMany : Type 0 where
+pub record ReturnedMany : Type 0 where
   pub number : ℕ
   pub after : Places
 
-abbrev pub toldMany : ℕ → Places → ToldMany
-toldMany number after = record { number = number; after = after }
+abbrev pub returnedMany : ℕ → Places → ReturnedMany
+returnedMany number after = record { number = number; after = after }
 
 -- nothing is written where the call refuses
-unfoldable pub manyTold : (Ray → Indexed) → List Float → Mesh → List Float → Tree → Bool → Places → ToldMany
-manyTold answer rays m pose t room p =
-    unlessRefused (λ (number : ℕ). toldMany number p) (manyTests rays m pose t room p)
-    (toldMany doneCode (answersOf answer rays (rayCount rays) p))
+unfoldable pub manyReturned : (Ray → Indexed) → List Float → Mesh → List Float → Tree → Bool → Places → ReturnedMany
+manyReturned answer rays m pose t room p =
+    unlessRefused (λ (number : ℕ). returnedMany number p) (manyTests rays m pose t room p)
+    (returnedMany doneCode (answersOf answer rays (rayCount rays) p))
 
 -- ---- what is read at a ray's places
 
@@ -88,13 +88,13 @@ hitOf hits i = numberAt hits (4 * i) ∷ numberAt hits (4 * i + 1) ∷ numberAt 
 
 -- the code, the four numbers and the index that are read at a ray's places are those of the single call, lent these four numbers and
 -- this index
-unfoldable pub readAt : Places → ℕ → ToldIndexed
+unfoldable pub readAt : Places → ℕ → ReturnedIndexed
 readAt p i = record { number = wordAt (p .codes) i; hit = hitOf (p .hits) i; index = wordAt (p .indices) i ∷ [] }
 
 -- where the call is done, each ray's places hold what the single call leaves there, and past the last ray's nothing has changed
 pub record EachAsSingle (answer : Ray → Indexed) (rays : List Float) (before after : Places) : Type 0 where
   pub each : (i : ℕ) → i < rayCount rays → readAt after i
-      ≡ toldIndexed (answer (rayAt rays i)) (hitOf (before .hits) i) (wordAt (before .indices) i ∷ [])
+      ≡ returnedIndexed (answer (rayAt rays i)) (hitOf (before .hits) i) (wordAt (before .indices) i ∷ [])
   pub codes-past : (k : ℕ) → rayCount rays ≤ k → wordAt (after .codes) k ≡ wordAt (before .codes) k
   pub hits-past : (k : ℕ) → 4 * rayCount rays ≤ k → numberAt (after .hits) k ≡ numberAt (before .hits) k
   pub indices-past : (k : ℕ) → rayCount rays ≤ k → wordAt (after .indices) k ≡ wordAt (before .indices) k
@@ -106,18 +106,19 @@ abbrev pub meshAnswer : Mesh → List Float → Tree → ℕ → ℕ → Ray →
 meshAnswer m pose t list stack r = Cast.rayMesh r m pose t list stack
 
 -- its number and slices, its work areas until the tests let the call pass, and what is read back
-abbrev pub ManyCall : List Float → Mesh → List Float → Tree → List ℕ → List ℕ → List ℕ → List ℕ → Places → ToldMany → Type 0
-ManyCall rays m pose t list list' stack stack' p told =
-    (told ≡ manyTold (meshAnswer m pose t (length list) (length stack)) rays m pose t (Cast.roomFor m t (length list) (length stack)) p)
+abbrev pub ManyCall : List Float → Mesh → List Float → Tree → List ℕ → List ℕ → List ℕ → List ℕ → Places → ReturnedMany → Type 0
+ManyCall rays m pose t list list' stack stack' p returned =
+    (returned ≡ manyReturned (meshAnswer m pose t (length list) (length stack)) rays m pose t
+    (Cast.roomFor m t (length list) (length stack)) p)
     × ((allPass (manyTests rays m pose t (Cast.roomFor m t (length list) (length stack)) p) ≡ false → (list' ≡ list) × (stack' ≡ stack))
-    × (told .number ≡ doneCode → EachAsSingle (meshAnswer m pose t (length list) (length stack)) rays p (told .after)))
+    × (returned .number ≡ doneCode → EachAsSingle (meshAnswer m pose t (length list) (length stack)) rays p (returned .after)))
 
 -- the exact cast's answer of one ray
 abbrev pub exactAnswer : Mesh → List Float → Tree → ℕ → Ray → Indexed
 exactAnswer m pose t stack r = Exact.rayMeshExact r m pose t stack
 
-abbrev pub ManyExactCall : List Float → Mesh → List Float → Tree → List ℕ → List ℕ → Places → ToldMany → Type 0
-ManyExactCall rays m pose t stack stack' p told =
-    (told ≡ manyTold (exactAnswer m pose t (length stack)) rays m pose t (Exact.roomFor m t (length stack)) p)
+abbrev pub ManyExactCall : List Float → Mesh → List Float → Tree → List ℕ → List ℕ → Places → ReturnedMany → Type 0
+ManyExactCall rays m pose t stack stack' p returned =
+    (returned ≡ manyReturned (exactAnswer m pose t (length stack)) rays m pose t (Exact.roomFor m t (length stack)) p)
     × ((allPass (manyTests rays m pose t (Exact.roomFor m t (length stack)) p) ≡ false → stack' ≡ stack)
-    × (told .number ≡ doneCode → EachAsSingle (exactAnswer m pose t (length stack)) rays p (told .after)))
+    × (returned .number ≡ doneCode → EachAsSingle (exactAnswer m pose t (length stack)) rays p (returned .after)))

@@ -1,19 +1,17 @@
+use crate::admitted_exact;
 use crate::places;
 use casts::answer;
-use first_cast::cast as exact_cast;
 use mesh::cast;
-use tree_query::query;
+use tree_exact::cast as exact_cast;
 ghost use mathlib.Core.Path.{_≡_};
-ghost use mathlib.Core.Bool.{_&&_};
 ghost use Prim.Native.Nat.{_+_, _*_, _<_, _≤_};
-ghost use lib.Dec.{leb};
 ghost use lib.ListN.{length};
 ghost use Rattle.tree.specs.Mesh.{mesh};
 ghost use Rattle.tree.specs.Layout.{treeOf};
-ghost use Rattle.tree_query.specs.Query.{treeFits};
-ghost use Rattle.many_casts.specs.Many.{rayAt, places, answerAt, answersOf, exactAnswer, toldMany, ManyExactCall};
+ghost use Rattle.many_casts.specs.Many.{rayAt, places, answerAt, answersOf, exactAnswer, returnedMany, ManyExactCall};
+ghost use Rattle.many_casts.specs.Ready.{ReadyExact};
 
-// One ray's cast, its answer at its places. Callers show that the ray and the places are there.
+// One ray's cast, its answer at its places.
 fn cast_at(
     index: usize,
     rays: &[f64],
@@ -31,7 +29,9 @@ fn cast_at(
     indices: &mut [u32],
 )
     requires { ⌜ (8 * index + 8 ≤ length (now rays))
-        × ((index < length (now codes)) × ((4 * index + 4 ≤ length (now hits)) × (index < length (now indices)))) ⌝ }
+        × ((index < length (now codes)) × ((4 * index + 4 ≤ length (now hits)) × (index < length (now indices)))) ⌝
+        ∗ ⌜ ReadyExact (mesh (now vertices) (now triangles)) (now pose)
+        (treeOf nodes (now «node_boxes») (now «triangle_boxes») (now «node_words») (now order)) (length (now stack)) ⌝ }
     ensures { λ _. ⌜ places (now (codes .exit)) (now (hits .exit)) (now (indices .exit))
         ≡ answerAt (exactAnswer (mesh (now (vertices .entry)) (now (triangles .entry))) (now (pose .entry))
         (treeOf nodes (now («node_boxes» .entry)) (now («triangle_boxes» .entry)) (now («node_words» .entry)) (now (order .entry)))
@@ -39,7 +39,7 @@ fn cast_at(
         (places (now (codes .entry)) (now (hits .entry)) (now (indices .entry))) ⌝ }
 {
     let ray = places::ray_at(rays, index);
-    let found = exact_cast::ray_mesh_exact(
+    let found = admitted_exact::cast_ray(
         ray,
         vertices,
         triangles,
@@ -54,7 +54,7 @@ fn cast_at(
     places::put_at(found, index, codes, hits, indices);
 }
 
-// The first rays' casts. Callers show that the rays and the places are there.
+// The first rays' casts.
 fn cast_each(
     count: usize,
     rays: &[f64],
@@ -72,7 +72,9 @@ fn cast_each(
     indices: &mut [u32],
 )
     requires { ⌜ (8 * count ≤ length (now rays))
-        × ((count ≤ length (now codes)) × ((4 * count ≤ length (now hits)) × (count ≤ length (now indices)))) ⌝ }
+        × ((count ≤ length (now codes)) × ((4 * count ≤ length (now hits)) × (count ≤ length (now indices)))) ⌝
+        ∗ ⌜ ReadyExact (mesh (now vertices) (now triangles)) (now pose)
+        (treeOf nodes (now «node_boxes») (now «triangle_boxes») (now «node_words») (now order)) (length (now stack)) ⌝ }
     ensures { λ _. ⌜ places (now (codes .exit)) (now (hits .exit)) (now (indices .exit))
         ≡ answersOf (exactAnswer (mesh (now (vertices .entry)) (now (triangles .entry))) (now (pose .entry))
         (treeOf nodes (now («node_boxes» .entry)) (now («triangle_boxes» .entry)) (now («node_words» .entry)) (now (order .entry)))
@@ -101,26 +103,6 @@ fn cast_each(
     }
 }
 
-// Whether the tree's areas and the stack are long enough. Callers show that the triangles are few, so that no product wraps.
-fn room_fits(
-    count: usize,
-    nodes: usize,
-    node_boxes: &[f64],
-    triangle_boxes: &[f64],
-    node_words: &[u32],
-    order: &[u32],
-    stack: usize,
-) -> bool
-    requires { ⌜ count ≤ 65536 ⌝ }
-    ensures { λ r. ⌜ r ≡ (treeFits count (treeOf nodes (now («node_boxes» .entry)) (now («triangle_boxes» .entry))
-        (now («node_words» .entry)) (now (order .entry))) && leb (nodes + 1) stack) ⌝ }
-{
-    if !query::tree_fits(count, nodes, node_boxes, triangle_boxes, node_words, order) {
-        return false;
-    }
-    nodes < stack
-}
-
 // The exact cast of many rays. Refusals 2 to 4 are tested once; until they have let the call pass every area is unchanged, and then the
 // stack may hold anything.
 // What `ManyExactCall` says last: what is read at a ray's places is what the single call leaves there.
@@ -143,7 +125,7 @@ pub fn ray_mesh_exact_many(
         (treeOf nodes (now («node_boxes» .entry)) (now («triangle_boxes» .entry)) (now («node_words» .entry)) (now (order .entry)))
         (now (stack .entry)) (now (stack .exit))
         (places (now (codes .entry)) (now (hits .entry)) (now (indices .entry)))
-        (toldMany r (places (now (codes .exit)) (now (hits .exit)) (now (indices .exit)))) ⌝ }
+        (returnedMany r (places (now (codes .exit)) (now (hits .exit)) (now (indices .exit)))) ⌝ }
 {
     if rays.len() % 8 != 0 {
         return answer::BAD_SHAPE;
@@ -151,7 +133,7 @@ pub fn ray_mesh_exact_many(
     if !cast::shape_admitted(vertices.len(), triangles.len(), pose.len(), nodes) {
         return answer::BAD_SHAPE;
     }
-    if !room_fits(
+    if !exact_cast::room_fits(
         triangles.len() / 3,
         nodes,
         node_boxes,

@@ -1,3 +1,4 @@
+use crate::admitted;
 use crate::places;
 use casts::answer;
 use mesh::cast;
@@ -7,9 +8,10 @@ ghost use Prim.Native.Nat.{_+_, _*_, _<_, _≤_};
 ghost use lib.ListN.{length};
 ghost use Rattle.tree.specs.Mesh.{mesh};
 ghost use Rattle.tree.specs.Layout.{treeOf};
-ghost use Rattle.many_casts.specs.Many.{rayAt, places, answerAt, answersOf, meshAnswer, toldMany, ManyCall};
+ghost use Rattle.many_casts.specs.Many.{rayAt, places, answerAt, answersOf, meshAnswer, returnedMany, ManyCall};
+ghost use Rattle.many_casts.specs.Ready.{Ready};
 
-// One ray's cast, its answer at its places. Callers show that the ray and the places are there.
+// One ray's cast, its answer at its places.
 fn cast_at(
     index: usize,
     rays: &[f64],
@@ -28,7 +30,9 @@ fn cast_at(
     indices: &mut [u32],
 )
     requires { ⌜ (8 * index + 8 ≤ length (now rays))
-        × ((index < length (now codes)) × ((4 * index + 4 ≤ length (now hits)) × (index < length (now indices)))) ⌝ }
+        × ((index < length (now codes)) × ((4 * index + 4 ≤ length (now hits)) × (index < length (now indices)))) ⌝
+        ∗ ⌜ Ready (mesh (now vertices) (now triangles)) (now pose)
+        (treeOf nodes (now «node_boxes») (now «triangle_boxes») (now «node_words») (now order)) (length (now list)) (length (now stack)) ⌝ }
     ensures { λ _. ⌜ places (now (codes .exit)) (now (hits .exit)) (now (indices .exit))
         ≡ answerAt (meshAnswer (mesh (now (vertices .entry)) (now (triangles .entry))) (now (pose .entry))
         (treeOf nodes (now («node_boxes» .entry)) (now («triangle_boxes» .entry)) (now («node_words» .entry)) (now (order .entry)))
@@ -36,7 +40,7 @@ fn cast_at(
         (places (now (codes .entry)) (now (hits .entry)) (now (indices .entry))) ⌝ }
 {
     let ray = places::ray_at(rays, index);
-    let found = cast::ray_mesh(
+    let found = admitted::cast_ray(
         ray,
         vertices,
         triangles,
@@ -52,7 +56,7 @@ fn cast_at(
     places::put_at(found, index, codes, hits, indices);
 }
 
-// The first rays' casts. Callers show that the rays and the places are there.
+// The first rays' casts.
 fn cast_each(
     count: usize,
     rays: &[f64],
@@ -71,7 +75,9 @@ fn cast_each(
     indices: &mut [u32],
 )
     requires { ⌜ (8 * count ≤ length (now rays))
-        × ((count ≤ length (now codes)) × ((4 * count ≤ length (now hits)) × (count ≤ length (now indices)))) ⌝ }
+        × ((count ≤ length (now codes)) × ((4 * count ≤ length (now hits)) × (count ≤ length (now indices)))) ⌝
+        ∗ ⌜ Ready (mesh (now vertices) (now triangles)) (now pose)
+        (treeOf nodes (now «node_boxes») (now «triangle_boxes») (now «node_words») (now order)) (length (now list)) (length (now stack)) ⌝ }
     ensures { λ _. ⌜ places (now (codes .exit)) (now (hits .exit)) (now (indices .exit))
         ≡ answersOf (meshAnswer (mesh (now (vertices .entry)) (now (triangles .entry))) (now (pose .entry))
         (treeOf nodes (now («node_boxes» .entry)) (now («triangle_boxes» .entry)) (now («node_words» .entry)) (now (order .entry)))
@@ -124,7 +130,7 @@ pub fn ray_mesh_many(
         (treeOf nodes (now («node_boxes» .entry)) (now («triangle_boxes» .entry)) (now («node_words» .entry)) (now (order .entry)))
         (now (list .entry)) (now (list .exit)) (now (stack .entry)) (now (stack .exit))
         (places (now (codes .entry)) (now (hits .entry)) (now (indices .entry)))
-        (toldMany r (places (now (codes .exit)) (now (hits .exit)) (now (indices .exit)))) ⌝ }
+        (returnedMany r (places (now (codes .exit)) (now (hits .exit)) (now (indices .exit)))) ⌝ }
 {
     if rays.len() % 8 != 0 {
         return answer::BAD_SHAPE;

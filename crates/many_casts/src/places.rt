@@ -9,7 +9,7 @@ ghost use lib.ListN.{length};
 ghost use Rattle.nearest_hit.specs.Nearest.{saysIndexed};
 ghost use Rattle.many_casts.specs.Many.{rayAt, places, answerAt};
 
-// The ray at an index, of eight numbers a ray. Callers show that its numbers are there.
+// The ray at an index, of eight numbers a ray.
 pub fn ray_at(rays: &[f64], index: usize) -> Ray
     requires { ⌜ 8 * index + 8 ≤ length (now rays) ⌝ }
     ensures { λ r. ⌜ r ≡ rayAt (now (rays .entry)) index ⌝ }
@@ -23,7 +23,7 @@ pub fn ray_at(rays: &[f64], index: usize) -> Ray
     }
 }
 
-// Whether result slices of these lengths hold the answers of so many rays. Callers show that four numbers a ray do not wrap.
+// Whether result slices of these lengths hold the answers of so many rays.
 pub fn places_fit(count: usize, codes: usize, hits: usize, indices: usize) -> bool
     requires { ⌜ 4 * count < 18446744073709551616 ⌝ }
     ensures { λ r. ⌜ r ≡ (leb count codes && (leb (4 * count) hits && leb count indices)) ⌝ }
@@ -37,7 +37,7 @@ pub fn places_fit(count: usize, codes: usize, hits: usize, indices: usize) -> bo
     count <= indices
 }
 
-// An answer at its ray's places. Callers show that they are there.
+// An answer at its ray's places.
 pub fn put_at(
     answer: IndexedCast,
     index: usize,

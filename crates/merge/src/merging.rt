@@ -1,12 +1,12 @@
-use board_glue::result;
-use board_tests::both;
-use board_tests::merged::Merged;
-use board_tests::testing;
+use crate::both;
+use crate::merged::Merged;
+use crate::result;
+use crate::testing;
 use casts::answer;
 ghost use mathlib.Core.Path.{_≡_};
 ghost use mathlib.Core.Bool.{false};
 ghost use lib.ListN.{length};
-ghost use Rattle.board_tests.specs.Merge.{says, boardOf, areasOf, testsPass, mergeOf};
+ghost use Rattle.merge.specs.Merge.{says, boardOf, areasOf, testsPass, mergeOf};
 
 // Glues two boards into one (M-105). The marks are unchanged after refusals 2 and 3; past their tests nothing is promised of them.
 pub fn merge(

@@ -1,8 +1,8 @@
 -- The union of valid boxes is valid, encloses both and lies within each box that does; so the box of a range of triangles encloses each of
 -- theirs, and the box of any part of it. Each is shown on one axis and then on all. Assumes nothing.
 use Prim.Native.Nat.{ℕ, _<_}
-use mathlib.Core.Path.{_≡_, refl, sym, subst}
-use mathlib.Core.Logic.{_⊎_, inl, inr, ⊎-elim}
+use mathlib.Core.Path.{_≡_, refl}
+use mathlib.Core.Logic.{_⊎_, inl, inr}
 use mathlib.Core.Bool.{Bool, true, false, _&&_}
 use mathlib.Core.List.{List, [], _∷_}
 use native.Mathlib.Omega.{arith}
@@ -11,8 +11,9 @@ use lib.ListN.{length}
 use Rattle.arithmetic.specs.Basic.{isFinite}
 use Rattle.arithmetic.specs.Extremes.{minimumOf, maximumOf}
 use Rattle.arithmetic.proofs.Order.{le-left-number, le-right-number, le-reflexive, le-transitive, eq-of-le-le}
-use Rattle.arithmetic.proofs.ExtremesOrder.{minimum-one, maximum-one, minimum-below-first, minimum-below-second, maximum-above-first}
+use Rattle.arithmetic.proofs.ExtremesOrder.{minimum-below-first, minimum-below-second, maximum-above-first}
 use Rattle.arithmetic.proofs.ExtremesOrder.{maximum-above-second}
+use Rattle.arithmetic.proofs.ExtremesLimits.{minimum-keeps, maximum-keeps}
 use Rattle.vectors.specs.Vector.{minOf, maxOf}
 use Rattle.geometry.specs.Box.{validSide, validBox, withinSide, encloses, sameSide, sameBox, unionOf}
 use Rattle.vectors.specs.declared.vec3.Vec3.{Vec3}
@@ -159,13 +160,6 @@ module _ (b c : Aabb) (p : validBox b ≡ true) (q : validBox c ≡ true) where
 
   pub union-second : encloses (unionOf b c) c ≡ true
   union-second = enclosing (unionOf b c) c (λ (a : Axis). union-on a .1)
-
--- what holds of both operands holds of their minimum and of their maximum
-minimum-keeps : (P : Float → Type 0) (x y : Float) → P x → P y → P (minimumOf x y)
-minimum-keeps P x y u v = ⊎-elim (λ e. subst P (sym e) u) (λ e. subst P (sym e) v) (minimum-one x y)
-
-maximum-keeps : (P : Float → Type 0) (x y : Float) → P x → P y → P (maximumOf x y)
-maximum-keeps P x y u v = ⊎-elim (λ e. subst P (sym e) u) (λ e. subst P (sym e) v) (maximum-one x y)
 
 union-within : (b c d : Aabb) → encloses d b ≡ true → encloses d c ≡ true → encloses d (unionOf b c) ≡ true
 union-within b c d h k = enclosing d (unionOf b c) on-axis

@@ -1,14 +1,14 @@
 -- A tree that holds what the build writes over n triangles passes each clause of the check. Assumes nothing.
 use Prim.Native.Nat.{ℕ, _+_, _-_, _*_, _≤_, _<_}
 use mathlib.Core.Path.{_≡_, refl, ap, _∙_}
-use mathlib.Core.Bool.{Bool, true, false, not, _&&_, _||_, false≢true}
+use mathlib.Core.Bool.{Bool, true, not, _&&_, _||_}
 use mathlib.Core.List.{List, [], _∷_}
 use native.Mathlib.Omega.{arith}
 use lib.Dec.{leb, ltb, eqb}
 use lib.ListN.{length, take}
 use borrow.Author.Tests.{le-leb, lt-ltb, eq-eqb, ne-eqb}
 use Rattle.geometry.specs.Box.{validBox, encloses, sameBox}
-use Rattle.lists.proofs.JoinedTests.{and-both}
+use Rattle.lists.proofs.JoinedTests.{and-both, or-first, or-second}
 use Rattle.lists.specs.Lists.{range, count, every, flatMap}
 use Rattle.tree.specs.Layout.{Tree, wordAt, boxAt, firstAt, secondAt}
 use Rattle.tree.specs.Mesh.{Mesh, thirds, cornersInside, triangleBox}
@@ -52,15 +52,6 @@ every-two p l a b e h k = ap (every p) e ∙ two
   where
     two : every p (a ∷ (b ∷ [])) ≡ true
     two = unfold every in and-both (p a) (p b && true) h (and-both (p b) true k refl)
-
--- ---- tests that are joined
-pub or-first : (a b : Bool) → a ≡ true → (a || b) ≡ true
-or-first true b h = refl
-or-first false b h = absurd (false≢true h)
-
-pub or-second : (a b : Bool) → b ≡ true → (a || b) ≡ true
-or-second true b h = refl
-or-second false b h = h
 
 -- ---- what the build writes
 pub record Built (m : Mesh) (t : Tree) : Type 0 where

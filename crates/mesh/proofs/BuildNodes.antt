@@ -17,10 +17,11 @@ use Rattle.lists.proofs.CountLaws.{same-or-other}
 use Rattle.tree_build.specs.Shape.{Shape, leaf, branch, sizeOf, nodesOf, wordsOf}
 use Rattle.tree_ranges.specs.Extents.{hullOf}
 use Rattle.tree_build.specs.Ranges.{leftRange, rightRange, orderBelow, boxesBelow}
-use Rattle.tree_build.proofs.Shapes.{three-words-a-node, six-numbers-a-node}
+use Rattle.tree_build.proofs.Shapes.{three-words-a-node, six-numbers-a-node, some-node}
+use Rattle.tree_build.proofs.Readback.{six-long}
 use Rattle.mesh.proofs.BuildBoxes.{AllValid, hull-valid, hull-encloses-each, hull-within}
-use Rattle.mesh.proofs.BuildOrder.{listed-at, count-halves, length-left, length-right, length-order, Filled, filled-size, some-node}
-use Rattle.mesh.proofs.BuildRuns.{Run, run-first, run-second, six-numbers, run-box, Words, run-words}
+use Rattle.mesh.proofs.BuildOrder.{listed-at, count-halves, length-left, length-right, length-order, Filled, filled-size}
+use Rattle.mesh.proofs.BuildRuns.{Run, run-first, run-second, run-box, Words, run-words}
 
 module _ (t : Tree) where
   -- the areas hold what the build writes below a shape, from a node and a place of the order on
@@ -66,7 +67,7 @@ module _ (t : Tree) where
     boxes-below =
         run-second nan (t .nodeBoxes) (6 * node) (boxNumbers (hullOf (t .triangleBoxes) ts))
         (boxesBelow (t .triangleBoxes) l lefts ++ boxesBelow (t .triangleBoxes) r rights) (w .boxes) (6 * (node + 1))
-        (omega (arith, six-numbers (hullOf (t .triangleBoxes) ts)))
+        (omega (arith, six-long (hullOf (t .triangleBoxes) ts)))
 
     places-below : Run 0 (t .order) start (orderBelow (t .triangleBoxes) l lefts ++ orderBelow (t .triangleBoxes) r rights)
     unfolding orderBelow

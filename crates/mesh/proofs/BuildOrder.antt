@@ -13,7 +13,7 @@ use borrow.Author.Tests.{leb-false}
 use Rattle.lists.specs.Lists.{count}
 use Rattle.lists.proofs.CountLaws.{one-same, count-cons, count-append}
 use Rattle.lists.proofs.SortLaws.{count-sortBy, same-length}
-use Rattle.tree_build.specs.Shape.{Shape, leaf, branch, shapeWithin, shapeOf, sizeOf, nodesOf}
+use Rattle.tree_build.specs.Shape.{Shape, leaf, branch, shapeWithin, shapeOf, sizeOf}
 use Rattle.tree_ranges.specs.Extents.{longestAxis, extentOf}
 use Rattle.tree_ranges.specs.Keys.{standsBefore}
 use Rattle.tree_build.specs.Ranges.{sortedRange, leftRange, rightRange, orderBelow}
@@ -89,8 +89,3 @@ pub filled-size : (s : Shape) → Filled s → 0 < sizeOf s
 unfolding sizeOf
 filled-size (leaf n) f = f
 filled-size (branch l r) f = omega (arith, filled-size l (f .0))
-
-pub some-node : (s : Shape) → 0 < nodesOf s
-unfolding nodesOf
-some-node (leaf n) = omega arith
-some-node (branch l r) = omega arith

@@ -11,7 +11,7 @@ use lib.ListN.{length, drop, length-append, length-drop}
 use lib.Seq.{take-at}
 use borrow.Author.Tests.{eqb-false, leb-true, le-leb}
 use Rattle.geometry.specs.Box.{validBox}
-use Rattle.lists.proofs.JoinedTests.{and-first, and-second}
+use Rattle.lists.proofs.JoinedTests.{and-first, and-second, or-second}
 use Rattle.casts.specs.Answer.{badShape, noRoom, outOfBounds, overflow}
 use Rattle.lists.specs.Lists.{range, count}
 use Rattle.tree.specs.Layout.{Tree, Areas, treeIn}
@@ -28,13 +28,13 @@ use Rattle.tree_check.proofs.Answers.{passes-yes}
 use Rattle.mesh.specs.Builder.{BuiltTreesPass}
 use Rattle.mesh.proofs.BuildOrder.{count-order, length-order}
 use Rattle.mesh.proofs.BuildRuns.{run-front, run-boxes}
-use Rattle.mesh.proofs.BuildClauses.{or-second, Built, built-passes}
+use Rattle.mesh.proofs.BuildClauses.{Built, built-passes}
 
 -- ---- where the build does not refuse
 abbrev refusedWith : ℕ → Areas → Outcome
 refusedWith number left = record { answer = refused number; after = left }
 
-no-refusal : (number count : ℕ) → refused number ≡ nodes count → ⊥
+pub no-refusal : (number count : ℕ) → refused number ≡ nodes count → ⊥
 no-refusal number count h = let z : _≡_ {A = ℕ} 0 1 = cc in omega arith
 
 module _ (o : Outcome) (number : ℕ) (left : Areas) (count : ℕ) where
@@ -144,7 +144,7 @@ module _ (m : Mesh) (a : Areas) (some : 0 < triangleCount m) (fit : trianglesFit
       ordered = orderBelow boxes (shapeOf n) (range 0 n)
 
 -- ---- the sentence
-same-count : (p q : ℕ) → nodes p ≡ nodes q → p ≡ q
+pub same-count : (p q : ℕ) → nodes p ≡ nodes q → p ≡ q
 same-count p q h = cc
 
 -- ---- the areas stay long enough for the check

@@ -2,7 +2,7 @@
 -- so is the box of each triangle. Assumes nothing.
 use Prim.Native.Nat.{ℕ, zero, suc, _+_, _*_, _≤_, _<_}
 use native.Mathlib.Nat.{add-zero, zero-add}
-use mathlib.Core.Path.{_≡_, refl, sym, ap, _∙_}
+use mathlib.Core.Path.{_≡_, sym, ap, _∙_}
 use mathlib.Core.Logic.{_⊎_, inl, inr}
 use mathlib.Core.List.{List, [], _∷_, _++_}
 use native.Mathlib.Omega.{arith}
@@ -14,6 +14,7 @@ use Rattle.lists.specs.Lists.{range}
 use Rattle.tree.specs.Layout.{vectorAt, boxAt, kindAt, firstAt, secondAt, boxNumbers}
 use Rattle.lists.proofs.CountLaws.{same-or-other}
 use Rattle.tree.specs.Mesh.{eachBox}
+use Rattle.tree_build.proofs.Readback.{six-long}
 
 -- a list stands in an area from a place on; `d` is what reading past the end gives
 pub record Run {A : Type 0} (d : A) (area : List A) (place : ℕ) (xs : List A) : Type 0 where
@@ -41,10 +42,6 @@ module _ {A : Type 0} (d : A) where
     }
 
 -- ---- a box
-pub six-numbers : (b : Aabb) → length (boxNumbers b) ≡ 6
-unfolding boxNumbers
-six-numbers b = refl
-
 pub run-box : (area : List Float) (i : ℕ) (b : Aabb) → Run nan area (6 * i) (boxNumbers b) → boxAt area i ≡ b
 unfolding boxAt vectorAt boxNumbers
 run-box area i b r =
@@ -89,4 +86,4 @@ run-boxes area box start (suc size) r x p q = go (run-boxes area box (suc start)
         start) size)) r))
     go rest (inr n) =
         rest (run-second nan area (6 * start) (boxNumbers (box start)) (eachBox box (range (suc start) size)) r (6 * suc start)
-        (omega (arith, six-numbers (box start)))) x (omega (arith, n)) (omega arith)
+        (omega (arith, six-long (box start)))) x (omega (arith, n)) (omega arith)

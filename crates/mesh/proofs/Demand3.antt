@@ -14,7 +14,7 @@ use Rattle.geometry.specs.Segment.{segmentBox}
 use Rattle.vectors.specs.declared.vec3.Vec3.{Vec3}
 use Rattle.geometry.specs.declared.ray.Ray.{Ray}
 use Rattle.geometry.proofs.BoxLaws.{segment-box-valid}
-use Rattle.casts.specs.Answer.{Answer, hit}
+use Rattle.casts.specs.Answer.{Answer}
 use Rattle.triangle_cast.specs.Triangle.{rayTriangle}
 use Rattle.nearest_hit.specs.Nearest.{Indexed, hitAt, noHit, stopped, nearestOf}
 use Rattle.lists.proofs.Members.{Ascending}

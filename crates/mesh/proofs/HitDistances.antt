@@ -9,7 +9,7 @@ use Rattle.geometry.specs.Segment.{rayAdmitted}
 use Rattle.geometry.specs.declared.aabb.Aabb.{Aabb}
 use Rattle.geometry.specs.declared.ray.Ray.{Ray}
 use Rattle.casts.specs.Answer.{invalidInput, badShape, noRoom, wrongPose, outOfBounds}
-use Rattle.nearest_hit.specs.Nearest.{Indexed, stopped}
+use Rattle.nearest_hit.specs.Nearest.{stopped}
 use Rattle.casts.proofs.SegmentBoxLaws.{segment-such}
 use Rattle.casts.proofs.HitLaws.{Measured}
 use Rattle.nearest_hit.proofs.IndexedHits.{OfIndexedHit, stopped-such, cond-such, nearest-such}

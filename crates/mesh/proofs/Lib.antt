@@ -9,7 +9,6 @@ pub mod WalkState
 pub mod WalkStep
 pub mod WalkLists
 pub mod Demand3
-pub mod CastExamples
 pub mod Contract
 pub mod BuildBoxes
 pub mod BuildOrder
@@ -18,4 +17,3 @@ pub mod BuildNodes
 pub mod BuildCounts
 pub mod BuildClauses
 pub mod BuildPasses
-pub mod BuilderInstance

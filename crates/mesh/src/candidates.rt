@@ -5,7 +5,7 @@ use geometry::ray::Ray;
 use nearest_hit::nearest;
 use nearest_hit::nearest::IndexedCast;
 use nearest_hit::summary;
-use nearest_hit::summary::Notes;
+use nearest_hit::summary::NearestSoFar;
 use nearest_hit::summary::Outcome;
 use tree::mesh;
 use triangle_cast::parts::Crossing;
@@ -20,13 +20,12 @@ ghost use Rattle.vectors.specs.Vector.{subOf};
 ghost use Rattle.casts.specs.Answer.{says};
 ghost use Rattle.casts.specs.Reach.{reachOf};
 ghost use Rattle.nearest_hit.specs.Nearest.{saysIndexed, nearestOf};
-ghost use Rattle.nearest_hit.specs.Summary.{nothing, summaryFrom, saysNotes};
+ghost use Rattle.nearest_hit.specs.Summary.{nothing, summaryFrom, saysNearestSoFar};
 ghost use Rattle.triangle_cast.specs.Triangle.{triangleNormal};
 ghost use Rattle.lists.specs.Lists.{sorted, allBelow};
 ghost use Rattle.tree.specs.Mesh.{thirds, triangleAnswer};
 
-// The answer of one triangle without its normal, for an admitted ray: an index past the vertices is 5. Callers show that the triangle is in
-// the mesh.
+// The answer of one triangle without its normal, for an admitted ray: an index past the vertices is 5.
 fn triangle_reach(ray: Ray, pose: &[f64], triangles: &[u32], index: usize) -> Reach
     requires { ⌜ 3 * index + 3 ≤ length (now triangles) ⌝ }
     ensures { λ r. ⌜ r ≡ reachOf (triangleAnswer ray (now (pose .entry)) (now (triangles .entry)) index) ⌝ }
@@ -57,10 +56,9 @@ fn triangle_reach(ray: Ray, pose: &[f64], triangles: &[u32], index: usize) -> Re
 
 // The notes of the triangles in the first places of a list, for an admitted ray. A refusal does not end them: one of a lower index may
 // follow.
-// Callers show that the places are in the list and the triangles in the mesh.
-fn note_all(ray: Ray, pose: &[f64], triangles: &[u32], list: &[u32], found: usize) -> Notes
+fn note_all(ray: Ray, pose: &[f64], triangles: &[u32], list: &[u32], found: usize) -> NearestSoFar
     requires { ⌜ (found ≤ length (now list)) × (allBelow (thirds (length (now triangles))) (take found (now list)) ≡ true) ⌝ }
-    ensures { λ r. ⌜ saysNotes r ≡ summaryFrom (triangleAnswer ray (now (pose .entry)) (now (triangles .entry))) nothing
+    ensures { λ r. ⌜ saysNearestSoFar r ≡ summaryFrom (triangleAnswer ray (now (pose .entry)) (now (triangles .entry))) nothing
         (take found (now (list .entry))) ⌝ }
 {
     let mut notes = summary::empty();
@@ -88,7 +86,6 @@ fn hit_on(ray: Ray, corners: [Vec3; 3], distance: f64) -> Cast
 
 // The nearest hit of the triangles in the first places of a list, for an admitted ray: as if they stood there ascending, in whatever order
 // they do. The notes hold the winner's number or distance, so only its normal is left to compute.
-// Callers show that the places are in the list and the triangles in the mesh.
 pub fn nearest_of(
     ray: Ray,
     pose: &[f64],

@@ -32,7 +32,7 @@ pub fn shape_admitted(vertices: usize, triangles: usize, pose: usize, nodes: usi
     nodes <= 2 * (triangles / 3)
 }
 
-// The cast once refusals 1 to 4 have let it pass; the list and the stack may hold anything afterwards. Callers show that they have.
+// The cast once refusals 1 to 4 have let it pass; the list and the stack may hold anything afterwards.
 fn mesh_cast(
     ray: Ray,
     triangles: &[u32],

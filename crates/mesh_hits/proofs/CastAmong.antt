@@ -14,10 +14,10 @@ use Rattle.nearest_hit.proofs.IndexedCases.{hit-not-stopped, hit-not-none}
 use Rattle.nearest_hit.proofs.NearestRefusals.{refusal-stops, none-of-nones}
 use Rattle.tree.specs.Layout.{wordAt}
 use Rattle.lists.proofs.CountLaws.{member-of-count, count-of-member}
-use Rattle.hit_area.specs.HitArea.{HitArea, Outcome, isHit}
-use Rattle.hit_listing.specs.HitListing.{listingOf}
+use Rattle.mesh_hits.specs.HitArea.{HitArea, Outcome, isHit}
+use Rattle.mesh_hits.specs.HitListing.{listingOf}
 use Rattle.mesh_hits.specs.Promise.{IsListed, FitsCast}
-use Rattle.hit_listing.proofs.PlaceLaws.{at-counted, Place, place-of}
+use Rattle.mesh_hits.proofs.PlaceLaws.{at-counted, Place, place-of}
 use Rattle.mesh_hits.proofs.CountedHits.{same-count, written-counts, listing-empty, places, Counted, listed-of-hit, all-hit}
 use Rattle.mesh_hits.proofs.CountedHits.{index-at, place-at}
 

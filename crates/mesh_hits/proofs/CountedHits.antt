@@ -1,6 +1,6 @@
 -- A listing that gives a count has written the hits of its list: how often each stands there, and what stands at each place. Assumes
 -- nothing.
-use Prim.Native.Nat.{ℕ, _+_, _*_, _<_}
+use Prim.Native.Nat.{ℕ, _*_, _<_}
 use mathlib.Core.Path.{_≡_, refl, sym, ap, subst, _∙_}
 use mathlib.Core.Bool.{Bool, true, false, cond}
 use mathlib.Core.List.{List, [], _∷_, _++_, List·Memᴰ, List·Memᴰ·head, List·Memᴰ·tail}
@@ -16,13 +16,13 @@ use Rattle.nearest_hit.specs.Nearest.{Indexed, hitAt, noHit, stopped, nearestOf
 use Rattle.nearest_hit.proofs.IndexedCases.{stopped-not-none, hit-not-stopped}
 use Rattle.nearest_hit.proofs.NearestRefusals.{nones-of-none}
 use Rattle.lists.specs.Lists.{count, keep, sortBy}
-use Rattle.tree.specs.Layout.{wordAt, vectorAt, numberAt}
+use Rattle.tree.specs.Layout.{wordAt}
 use Rattle.lists.proofs.CountLaws.{count-keep}
 use Rattle.tree_query.specs.Query.{count as countOf, refused as refusedWith}
-use Rattle.hit_area.specs.HitArea.{HitArea, Outcome, isHit, hitsOf, inOrder, numbersOf, placesOf, refusedAt}
-use Rattle.hit_listing.specs.HitListing.{written, fitted, afterRefusals, listingOf}
-use Rattle.hit_listing.proofs.HitOrder.{in-order-count}
-use Rattle.hit_listing.proofs.PlaceLaws.{at-counted, IsHitOf, hit-of, AllHit, NumbersAt, stands-at}
+use Rattle.mesh_hits.specs.HitArea.{HitArea, Outcome, isHit, hitsOf, inOrder, numbersOf, placesOf, refusedAt}
+use Rattle.mesh_hits.specs.HitListing.{written, fitted, afterRefusals, listingOf}
+use Rattle.mesh_hits.proofs.HitOrder.{in-order-count}
+use Rattle.mesh_hits.proofs.PlaceLaws.{at-counted, IsHitOf, hit-of, AllHit, NumbersAt, stands-at}
 
 -- ---- a count is no refusal
 pub refused-not-count : (k number : ℕ) → refusedWith number ≡ countOf k → ⊥

@@ -1,7 +1,7 @@
 -- The rows of a listing stand in order of depth, and the first is the mesh cast's own hit. Assumes nothing.
 use Prim.Native.Nat.{ℕ, zero, suc, _*_, _<_, _≤_}
 use mathlib.Core.Path.{_≡_, refl, sym, ap, subst, _∙_}
-use mathlib.Core.Logic.{_⊎_, inl, inr, ⊎-elim}
+use mathlib.Core.Logic.{⊎-elim}
 use mathlib.Core.Bool.{true}
 use mathlib.Core.List.{List, [], _∷_, _++_, List·Memᴰ, List·Memᴰ·head, List·Memᴰ·cases-cons, List·Memᴰ·append-cases}
 use mathlib.Core.List.{List·Memᴰ·not-nil, Memᴰ·append-right}
@@ -18,12 +18,12 @@ use Rattle.lists.specs.Lists.{count}
 use Rattle.tree.specs.Layout.{wordAt, numberAt}
 use Rattle.lists.proofs.CountLaws.{member-of-count}
 use Rattle.lists.proofs.InOrder.{Rising, rising-sorted}
-use Rattle.depth_order.specs.Order.{keyedAhead, ahead}
-use Rattle.hit_area.specs.HitArea.{HitArea, depthOf, hitsOf, depthAt}
-use Rattle.hit_listing.specs.HitListing.{listingOf}
+use Rattle.depth_sort.specs.Order.{ahead}
+use Rattle.mesh_hits.specs.HitArea.{HitArea, depthOf, hitsOf, depthAt}
+use Rattle.mesh_hits.specs.HitListing.{listingOf}
 use Rattle.mesh_hits.specs.Promise.{Ascends, firstOf}
-use Rattle.depth_order.proofs.OrderLaws.{ahead-total, ahead-transitive, ahead-antisymmetric, ahead-itself, ahead-level, ahead-nearer}
-use Rattle.hit_listing.proofs.PlaceLaws.{at-counted, Place, IsHitOf}
+use Rattle.depth_sort.proofs.OrderLaws.{ahead-total, ahead-transitive, ahead-antisymmetric, ahead-itself, ahead-level, ahead-nearer}
+use Rattle.mesh_hits.proofs.PlaceLaws.{at-counted, Place, IsHitOf}
 use Rattle.mesh_hits.proofs.CountedHits.{places, Counted, index-at, place-at, hit-at}
 use Rattle.mesh_hits.proofs.CastAmong.{hit-is, placed, of-list, empty-if}
 

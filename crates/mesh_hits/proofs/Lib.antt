@@ -5,3 +5,9 @@ pub mod CastAmong
 pub mod InDepth
 pub mod Promises
 pub mod RefusalNumbers
+pub mod Storing
+pub mod GatheredHits
+pub mod Putting
+pub mod HitOrder
+pub mod PlaceLaws
+pub mod ListedHits

@@ -1,11 +1,11 @@
 -- The listing's answers over a mesh: each refusal, and the hits of the walk's list. Assumes nothing.
-use Prim.Native.Nat.{ℕ, _*_, _≤_}
+use Prim.Native.Nat.{ℕ, _*_}
 use mathlib.Core.Path.{_≡_, sym, ap, subst, _∙_}
 use mathlib.Core.Bool.{Bool, true, false, _&&_}
 use mathlib.Core.List.{List, [], _∷_}
 use native.Mathlib.Omega.{arith}
 use borrow.Author.Tests.{eq-eqb, ne-eqb}
-use lib.Dec.{leb, eqb}
+use lib.Dec.{leb}
 use lib.Ieee.{Float}
 use lib.ListN.{length, take}
 use Rattle.vectors.specs.Vector.{finiteVec}
@@ -26,9 +26,9 @@ use Rattle.tree_walk.specs.declared.step.Filled.{Filled}
 use Rattle.tree_walk.specs.declared.step.Filled.the-variants.{Count, Broken}
 use Rattle.tree_query.specs.Query.{walkFits}
 use Rattle.mesh.specs.MeshCast.{shapeAdmitted, roomFor}
-use Rattle.hit_area.specs.HitArea.{HitArea, Outcome, refusedAt}
+use Rattle.mesh_hits.specs.HitArea.{HitArea, Outcome, refusedAt}
 use Rattle.mesh_hits.specs.Listing.{unchanged, overWalk, meshListing, rayMeshAll}
-use Rattle.hit_listing.specs.HitListing.{listingOf}
+use Rattle.mesh_hits.specs.HitListing.{listingOf}
 
 -- the list of the walk does not fall
 pub ended-rises : (t : Tree) (n : ℕ) (box : Aabb) (w : Walking) (stack l : List ℕ) → ended t n box w ≡ walking stack l → Rising l

@@ -29,12 +29,12 @@ use Rattle.mesh.specs.MeshCast.{shapeAdmitted, roomFor, overWalk as castOverWal
 use Rattle.mesh.specs.Demand3.{Admitted, Candidate, IsHit}
 use Rattle.mesh.proofs.Demand3.{candidates-count, listed-candidate, passes, shape-admitted, answers-same}
 use Rattle.mesh.proofs.WalkLists.{walk-lists-candidates}
-use Rattle.hit_area.specs.HitArea.{HitArea, Outcome, isHit, refusedAt}
+use Rattle.mesh_hits.specs.HitArea.{HitArea, Outcome, isHit, refusedAt}
 use Rattle.mesh_hits.specs.Listing.{unchanged}
-use Rattle.hit_listing.specs.HitListing.{listingOf}
+use Rattle.mesh_hits.specs.HitListing.{listingOf}
 use Rattle.mesh_hits.specs.Listing.{overWalk, meshListing, rayMeshAll}
 use Rattle.mesh_hits.specs.Promise.{ListsHits, FitsCast, Ascends, firstOf, KeepsPromises, Promised}
-use Rattle.hit_listing.proofs.PlaceLaws.{at-counted}
+use Rattle.mesh_hits.proofs.PlaceLaws.{at-counted}
 use Rattle.mesh_hits.proofs.Listings.{ended-rises}
 use Rattle.mesh_hits.proofs.CountedHits.{refused-not-count, listing-stops, listing-empty, places, Counted, counted}
 use Rattle.mesh_hits.proofs.CountedHits.{listed-of-hit, all-hit, first-are, index-at, place-at, hit-at}

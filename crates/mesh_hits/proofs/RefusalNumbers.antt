@@ -1,6 +1,6 @@
 -- Every refusal of a listing has a number below the codes of the calls. Assumes nothing.
 use Prim.Native.Nat.{ℕ, _<_}
-use mathlib.Core.Path.{_≡_, refl, sym, ap, _∙_}
+use mathlib.Core.Path.{_≡_, refl, sym, _∙_}
 use mathlib.Core.Bool.{Bool, true, false, cond}
 use mathlib.Core.List.{List}
 use native.Mathlib.Omega.{arith}
@@ -20,7 +20,7 @@ use Rattle.geometry.specs.declared.ray.Ray.{Ray}
 use Rattle.casts.specs.Answer.{Answer, hit, none, refused, withValue, withNormal, noNormal}
 use Rattle.casts.specs.Answer.{invalidInput, badShape, noRoom, wrongPose, outOfBounds, overflow}
 use Rattle.nearest_hit.specs.Nearest.{Indexed, hitAt, noHit, stopped, nearestOf}
-use Rattle.casts.specs.Surface.{outOfRange, facing}
+use Rattle.casts.specs.Surface.{offSegment, facing}
 use Rattle.triangle_cast.specs.Triangle.{flat, triangleNormal, triangleAbove, triangleAt, triangleOf}
 use Rattle.casts.proofs.AnswerLists.{none-not-refused, hit-not-refused}
 use Rattle.nearest_hit.proofs.IndexedCases.{stopped-not-none}
@@ -28,11 +28,11 @@ use Rattle.nearest_hit.proofs.NearestRefusals.{stopped-by-first-refusal}
 use Rattle.tree.specs.Layout.{Tree}
 use Rattle.tree.specs.Mesh.{Mesh, thirds, cornersInside, cornerAt, triangleAnswer}
 use Rattle.tree_walk.specs.Walk.{Walking, walking, broken, walkOf}
-use Rattle.tree_query.specs.Query.{Listing, count as countOf, refused as refusedWith}
+use Rattle.tree_query.specs.Query.{refused as refusedWith}
 use Rattle.mesh.specs.MeshCast.{shapeAdmitted, roomFor}
-use Rattle.hit_area.specs.HitArea.{HitArea, Outcome, hitsOf, inOrder, placesOf, refusedAt}
-use Rattle.hit_listing.specs.HitListing.{written, fitted}
-use Rattle.hit_listing.specs.HitListing.{afterRefusals, listingOf}
+use Rattle.mesh_hits.specs.HitArea.{HitArea, Outcome, hitsOf, inOrder, placesOf, refusedAt}
+use Rattle.mesh_hits.specs.HitListing.{written, fitted}
+use Rattle.mesh_hits.specs.HitListing.{afterRefusals, listingOf}
 use Rattle.mesh_hits.specs.Listing.{overWalk, meshListing, rayMeshAll}
 use Rattle.mesh_hits.proofs.CountedHits.{refused-not-count, written-counts}
 use Rattle.mesh_hits.proofs.Promises.{listing}
@@ -71,9 +71,9 @@ above-small r offset a b inverse u =
     let normal = triangleNormal r a b t in
     let last = cond (isNan t) (refused overflow) normal in
     let number = either-small (isNan t) (refused overflow) normal (refused-small overflow (omega arith)) (normal-small r a b t) in
-    let kept = either-small (outOfRange r t) none last none-small number in
-    let within = either-small (lt oneᶠ (u +ᶠ v)) none (cond (outOfRange r t) none last) none-small kept in
-    either-small (lt v zeroᶠ) none (cond (lt oneᶠ (u +ᶠ v)) none (cond (outOfRange r t) none last)) none-small within
+    let kept = either-small (offSegment r t) none last none-small number in
+    let within = either-small (lt oneᶠ (u +ᶠ v)) none (cond (offSegment r t) none last) none-small kept in
+    either-small (lt v zeroᶠ) none (cond (lt oneᶠ (u +ᶠ v)) none (cond (offSegment r t) none last)) none-small within
 
 at-small : (r : Ray) (offset a b p : Vec3) (determinant : Float) → Small (triangleAt r offset a b p determinant)
 unfolding triangleAt

@@ -15,8 +15,8 @@ use Rattle.tree.specs.Mesh.{Mesh, thirds, triangleAnswer}
 use Rattle.tree_walk.specs.Walk.{Walking, walking, broken, walkOf}
 use Rattle.tree_query.specs.Query.{refused as refusedWith}
 use Rattle.mesh.specs.MeshCast.{shapeAdmitted, roomFor}
-use Rattle.hit_area.specs.HitArea.{HitArea, Outcome, refusedAt}
-use Rattle.hit_listing.specs.HitListing.{listingOf}
+use Rattle.mesh_hits.specs.HitArea.{HitArea, Outcome, refusedAt}
+use Rattle.mesh_hits.specs.HitListing.{listingOf}
 
 -- a 5 of the walk goes before all triangles
 unfoldable pub overWalk : (ℕ → Answer) → HitArea → Walking → Outcome

@@ -14,8 +14,8 @@ use Rattle.tree.specs.Mesh.{Mesh}
 use Rattle.tree_query.specs.Query.{count as countOf, refused}
 use Rattle.mesh.specs.MeshCast.{testsPass, rayMesh}
 use Rattle.mesh.specs.Demand3.{IsHit, Admitted}
-use Rattle.depth_order.specs.Order.{keyedAhead}
-use Rattle.hit_area.specs.HitArea.{HitArea, Outcome}
+use Rattle.depth_sort.specs.Order.{keyedAhead}
+use Rattle.mesh_hits.specs.HitArea.{HitArea, Outcome}
 use Rattle.mesh_hits.specs.Listing.{rayMeshAll}
 
 -- a hit at a place of the area

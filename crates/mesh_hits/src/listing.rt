@@ -1,25 +1,25 @@
+use crate::places;
+use crate::sorted;
 use casts::answer;
 use geometry::ray::Ray;
-use hit_area::places;
-use hit_listing::listing;
 use mesh::cast;
 use tree_query::query;
 use tree_query::query::Listed;
 use tree_query::walk;
 use tree_walk::step::Filled;
 ghost use mathlib.Core.Path.{_≡_};
-ghost use mathlib.Core.Bool.{true, false};
+ghost use mathlib.Core.Bool.{true};
 ghost use lib.ListN.{length};
 ghost use Rattle.geometry.specs.Segment.{rayAdmitted};
 ghost use Rattle.tree.specs.Mesh.{thirds, mesh};
 ghost use Rattle.tree.specs.Layout.{treeOf};
 ghost use Rattle.tree_walk.specs.Areas.{WalkRoom};
 ghost use Rattle.tree_query.specs.Query.{saysListed};
-ghost use Rattle.hit_area.specs.HitArea.{hitArea};
+ghost use Rattle.mesh_hits.specs.HitArea.{hitArea};
 ghost use Rattle.mesh_hits.specs.Listing.{meshListing};
 ghost use Rattle.mesh_hits.specs.Promise.{Lists};
 
-// The listing once refusals 1 to 4 have let it pass; the list and the stack may hold anything afterwards. Callers show that they have.
+// The listing once refusals 1 to 4 have let it pass; the list and the stack may hold anything afterwards.
 fn mesh_listing(
     ray: Ray,
     triangles: &[u32],
@@ -62,7 +62,7 @@ fn mesh_listing(
     let Filled::Count(found) = walked else {
         return places::refuse(answer::OUT_OF_BOUNDS, indices, numbers);
     };
-    listing::list_hits(ray, pose, triangles, list, found, indices, numbers)
+    sorted::list_hits(ray, pose, triangles, list, found, indices, numbers)
 }
 
 // Every triangle that a ray hits, of those that any tree lists for its segment's box, in order of depth: its index, and its distance and

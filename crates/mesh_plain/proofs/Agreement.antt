@@ -1,11 +1,10 @@
 -- The tree cast through any tree that passes the check is the cast without a tree. Assumes nothing.
 -- The triangles of a checked tree's mesh have valid boxes, and its walk lists the candidates.
 use Prim.Native.Nat.{ℕ, _*_, _≤_, _<_}
-use mathlib.Core.Path.{_≡_, refl, sym, ap, _∙_}
+use mathlib.Core.Path.{_≡_, refl, sym, _∙_}
 use mathlib.Core.Logic.{_⊎_, inl, inr}
 use mathlib.Core.Bool.{Bool, true, false, cond}
 use native.Mathlib.Omega.{arith}
-use lib.Dec.{leb}
 use lib.ListN.{length}
 use borrow.Author.Tests.{le-leb, eq-eqb}
 use Rattle.geometry.specs.Box.{validBox}
@@ -19,8 +18,7 @@ use Rattle.tree.specs.Mesh.{Mesh, thirds, lengthsAdmitted, cornersInside, trian
 use Rattle.tree_check.specs.Check.{triangleCount, treePasses}
 use Rattle.tree_check.specs.Verdict.{yes, no, refused, roomFor as roomToCheck, checkOf}
 use Rattle.tree_check.proofs.Answers.{yes-passes}
-use Rattle.mesh.specs.MeshCast.{shapeAdmitted, overWalk, meshCast, roomFor, rayMesh}
-use Rattle.mesh.specs.Demand3.{PassesCheck}
+use Rattle.mesh.specs.MeshCast.{shapeAdmitted, overWalk, meshCast, rayMesh}
 use Rattle.mesh.proofs.CheckedTree.{Checked, checked-or-empty}
 use Rattle.mesh.proofs.WalkLists.{walk-lists-candidates}
 use Rattle.mesh.proofs.BuildClauses.{every-below}

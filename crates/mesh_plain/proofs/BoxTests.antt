@@ -1,5 +1,5 @@
 -- Finite numbers make boxes that hold, and a box of three corners touches where comparisons with the corners say so. Assumes nothing.
-use Prim.Native.Nat.{ℕ, _+_, _*_, _<_, _≤_}
+use Prim.Native.Nat.{ℕ, _+_, _*_, _≤_}
 use mathlib.Core.Path.{_≡_, sym, ap, _∙_}
 use mathlib.Core.Bool.{Bool, true, false, _&&_, _||_}
 use mathlib.Core.List.{List}
@@ -15,7 +15,7 @@ use Rattle.geometry.specs.declared.aabb.Aabb.{Aabb}
 use Rattle.geometry.proofs.BoxLaws.{corners-box-valid}
 use Rattle.tree.specs.Mesh.{Mesh, thirds, cornerIndex, cornersInside, cornerAt, cornersOf, triangleBox}
 use Rattle.tree.proofs.Corners.{first-fits, second-fits, third-fits, corners-box}
-use Rattle.mesh_plain.specs.Boxes.{AllFinite, BoxesHold, oneAtMost, oneAtLeast, sideTouches}
+use Rattle.mesh_plain.specs.Boxes.{AllFinite, BoxesHold, oneAtMost, sideTouches}
 
 -- ---- finite numbers
 module _ (m : Mesh) (all : AllFinite (m .vertices)) where

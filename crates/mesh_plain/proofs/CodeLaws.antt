@@ -10,7 +10,6 @@ use lib.Bits.{bitAnd, and-block, and-lt}
 use lib.Dec.{eqb}
 use lib.Ieee.{Float, le}
 use lib.ListN.{length, set, length-set}
-use mir.Val.{boolByte}
 use lib.Seq.{getD-set-same, getD-set-other}
 use Rattle.geometry.specs.Box.{cornersBox, corner, touches}
 use Rattle.vectors.specs.declared.vec3.Vec3.{Vec3}
@@ -19,14 +18,10 @@ use Rattle.lists.proofs.CountLaws.{same-or-other}
 use Rattle.tree.specs.Layout.{vectorAt, wordAt}
 use Rattle.tree.specs.Mesh.{thirds, cornerIndex, cornersInside, cornerAt, cornersOf}
 use Rattle.tree.proofs.Corners.{first-fits, second-fits, third-fits}
-use Rattle.mesh_plain.specs.Boxes.{bit, sideCode, codeOf, Coded, oneAtMost, oneAtLeast, sideTouches}
+use Rattle.mesh_plain.specs.Boxes.{bit, sideCode, codeOf, Coded, sideTouches}
 use Rattle.mesh_plain.proofs.BoxTests.{by-axes}
 
 -- ---- digits
-pub digit-small : (b : Bool) → boolByte b ≤ 1
-digit-small true = omega arith
-digit-small false = omega arith
-
 bit-below : (b : Bool) → bit b < 2
 bit-below true = omega arith
 bit-below false = omega arith

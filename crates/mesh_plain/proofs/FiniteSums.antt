@@ -1,11 +1,11 @@
 -- A sum that is finite has finite numbers: an infinity or NaN stays in it. Assumes nothing.
 use Prim.Native.Nat.{ℕ, _+_, _*_, _<_, _≤_}
 use mathlib.Core.Path.{_≡_, refl, sym, ap, _∙_}
-use mathlib.Core.Bool.{Bool, true, false, _&&_, cond, Bool·beq, false≢true}
+use mathlib.Core.Bool.{Bool, true, _&&_, Bool·beq, false≢true}
 use mathlib.Core.List.{List}
 use mathlib.Core.Logic.{_⊎_, inl, inr}
 use native.Mathlib.Omega.{arith}
-use lib.Ieee.{Float, nan, inf, fin, binary64, add}
+use lib.Ieee.{Float, nan, inf, fin, add}
 use lib.ListN.{length}
 use Rattle.arithmetic.specs.Basic.{isFinite}
 use Rattle.vectors.specs.Numbers.{_+ᶠ_}
@@ -13,20 +13,16 @@ use Rattle.vectors.specs.Vector.{finiteVec, addOf}
 use Rattle.vectors.specs.declared.vec3.Vec3.{Vec3}
 use Rattle.lists.proofs.JoinedTests.{and-first, and-second, and-three}
 use Rattle.lists.proofs.CountLaws.{same-or-other}
+use Rattle.casts.proofs.LateTests.{endless-or-nan}
 use Rattle.tree.specs.Layout.{vectorAt}
 use Rattle.tree.specs.Mesh.{thirds}
 use Rattle.mesh_plain.specs.Boxes.{AllFinite}
-
-infinite-sum : (b : Bool) (s : Bool) → isFinite (cond b (inf s) nan) ≡ false
-unfolding isFinite
-infinite-sum true s = refl
-infinite-sum false s = refl
 
 first-finite : (x y : Float) → isFinite (x +ᶠ y) ≡ true → isFinite x ≡ true
 unfolding isFinite add
 first-finite nan y h = h
 first-finite (inf s) nan h = h
-first-finite (inf s) (inf t) h = absurd (false≢true (sym (infinite-sum (Bool·beq s t) s) ∙ h))
+first-finite (inf s) (inf t) h = absurd (false≢true (sym (endless-or-nan (Bool·beq s t) s) ∙ h))
 first-finite (inf s) (fin t n d) h = h
 first-finite (fin s m e) y h = refl
 
@@ -36,7 +32,7 @@ second-finite nan nan h = h
 second-finite nan (inf t) h = h
 second-finite nan (fin t n d) h = refl
 second-finite (inf s) nan h = h
-second-finite (inf s) (inf t) h = absurd (false≢true (sym (infinite-sum (Bool·beq s t) s) ∙ h))
+second-finite (inf s) (inf t) h = absurd (false≢true (sym (endless-or-nan (Bool·beq s t) s) ∙ h))
 second-finite (inf s) (fin t n d) h = refl
 second-finite (fin s m e) nan h = h
 second-finite (fin s m e) (inf t) h = h

@@ -7,4 +7,3 @@ pub mod FiniteSums
 pub mod CodeLaws
 pub mod Passing
 pub mod Casting
-pub mod Examples

@@ -2,12 +2,12 @@
 use Prim.Native.Nat.{ℕ, zero, suc, _+_, _-_, _<_, _≤_}
 use mathlib.Core.Path.{_≡_, refl, sym, ap, _∙_}
 use mathlib.Core.Bool.{Bool, true, false, _&&_, cond, false≢true}
-use mathlib.Core.List.{List, [], _∷_}
+use mathlib.Core.List.{List, _∷_}
 use native.Mathlib.Omega.{arith}
-use native.Mathlib.Numerals.{add-one}
 use lib.Dec.{ltb}
 use lib.ListN.{length}
 use borrow.Author.Tests.{ltb-true, ltb-false}
+use Rattle.lists.proofs.EveryLaws.{range-next, range-done}
 use Rattle.geometry.specs.Box.{cornersBox, touches, validBox}
 use Rattle.vectors.specs.declared.vec3.Vec3.{Vec3}
 use Rattle.geometry.specs.declared.aabb.Aabb.{Aabb}
@@ -15,26 +15,13 @@ use Rattle.geometry.specs.declared.ray.Ray.{Ray}
 use Rattle.casts.specs.Answer.{Answer, outOfBounds}
 use Rattle.triangle_cast.specs.Triangle.{triangleCast}
 use Rattle.nearest_hit.specs.Nearest.{Indexed, noHit, stopped, nextOf, foldFrom, nearestOf}
-use Rattle.crossed_hit.specs.Crossed.{facedIndexed}
+use Rattle.nearest_hit.specs.Deferred.{facedIndexed}
 use Rattle.lists.specs.Lists.{range, keep, every}
 use Rattle.tree.specs.Mesh.{Mesh, thirds, cornersInside, cornersOf, triangleBox, triangleAnswer, candidates}
 use Rattle.lists.proofs.JoinedTests.{and-first, and-second}
 use Rattle.tree.proofs.Corners.{corners-box, corners-answer}
 use Rattle.mesh_plain.specs.Boxes.{BoxesHold}
 use Rattle.mesh_plain.specs.PlainCast.{triangleFits, trianglesFit, overTriangles}
-
--- a range that is not empty
-pub range-next : (i n : ℕ) → i < n → range i (n - i) ≡ i ∷ range (i + 1) (n - (i + 1))
-unfolding range
-range-next i n h =
-    let size : n - i ≡ suc (n - (i + 1)) = omega arith in
-    ap (range i) size ∙ ap (λ (k : ℕ). i ∷ range k (n - (i + 1))) (sym (add-one i))
-
-pub range-empty : (i n : ℕ) → n ≤ i → range i (n - i) ≡ []
-unfolding range
-range-empty i n h =
-    let size : n - i ≡ 0 = omega arith in
-    ap (range i) size
 
 -- ---- each has a valid box
 module _ (m : Mesh) where
@@ -73,7 +60,7 @@ module _ (m : Mesh) where
 
     pub fitting-ends : count ≤ i → true ≡ trianglesFit m
     unfolding every
-    fitting-ends h = sym (ap (every (triangleFits m)) (range-empty i count h)) ∙ p .fits
+    fitting-ends h = sym (ap (every (triangleFits m)) (range-done i count h)) ∙ p .fits
 
 -- ---- what the pass has found
 module _ (r : Ray) (box : Aabb) (m : Mesh) where
@@ -139,7 +126,7 @@ module _ (r : Ray) (box : Aabb) (m : Mesh) where
     passing-ends h found e =
         let all = fitting-ends m i (p .fitting) h in
         let last : facedIndexed r best ≡ nearestOf answer (candidates m box) =
-        sym (ap (λ (l : List ℕ). foldFrom answer (facedIndexed r best) (keep near l)) (range-empty i (count m) h)) ∙ p .gives in
+        sym (ap (λ (l : List ℕ). foldFrom answer (facedIndexed r best) (keep near l)) (range-done i (count m) h)) ∙ p .gives in
         e ∙ last ∙ simp (sym all)
 
 pub unfit-over : (r : Ray) (box : Aabb) (m : Mesh) → trianglesFit m ≡ false → stopped outOfBounds ≡ overTriangles r box m

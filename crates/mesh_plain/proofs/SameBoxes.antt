@@ -7,7 +7,7 @@ use Rattle.arithmetic.proofs.Order.{le-transitive}
 use Rattle.geometry.specs.Box.{validSide, validBox, withinSide, encloses, sameSide, sameBox}
 use Rattle.geometry.specs.declared.aabb.Aabb.{Aabb}
 use Rattle.lists.proofs.JoinedTests.{and-first, and-second, and-three}
-use Rattle.geometry.proofs.BoxLaws.{encloses-of-same, encloses-of-same-reversed}
+use Rattle.geometry.proofs.BoxLaws.{encloses-of-same-reversed}
 
 finite-of-equal : (x y : Float) → eq x y ≡ true → isFinite x ≡ true → isFinite y ≡ true
 unfolding eq isFinite

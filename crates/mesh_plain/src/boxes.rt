@@ -31,7 +31,7 @@ pub fn all_finite(vertices: &[f64]) -> bool
     basic::is_finite(sum.x + sum.y + sum.z)
 }
 
-// Whether each triangle has a valid box. Callers show that the triangles are few enough for an index.
+// Whether each triangle has a valid box.
 pub fn all_fit(vertices: &[f64], triangles: &[u32]) -> bool
     requires { ⌜ length (now triangles) ≤ 196608 ⌝ }
     ensures { λ r. ⌜ r ≡ trianglesFit (mesh (now (vertices .entry)) (now (triangles .entry))) ⌝ }
@@ -53,7 +53,6 @@ pub fn all_fit(vertices: &[f64], triangles: &[u32]) -> bool
 }
 
 // Whether each triangle whose indices are below the vertex count has a valid box: of finite corners it has.
-// Callers show that the triangles are few enough for an index.
 pub fn boxes_hold(vertices: &[f64], triangles: &[u32]) -> bool
     requires { ⌜ length (now triangles) ≤ 196608 ⌝ }
     ensures { λ r. ⌜ (r ≡ true → BoxesHold (mesh (now (vertices .entry)) (now (triangles .entry)))) ⌝ }
@@ -151,8 +150,7 @@ pub fn put_codes(codes: &mut [u64], bounds: Aabb, vertices: &[f64]) -> bool
     true
 }
 
-// Whether a triangle's box touches, by its vertices' codes: it does not where all three lie on one side. Callers show that its indices are
-// below the vertex count and that the codes are the vertices'.
+// Whether a triangle's box touches, by its vertices' codes: it does not where all three lie on one side.
 pub fn codes_touch(
     codes: &[u64],
     bounds: Aabb,

@@ -1,9 +1,9 @@
 use crate::boxes;
 use casts::answer;
-use crossed_hit::crossed;
-use crossed_hit::crossed::Near;
 use geometry::aabb::Aabb;
 use geometry::ray::Ray;
+use nearest_hit::deferred;
+use nearest_hit::deferred::Near;
 use nearest_hit::nearest::IndexedCast;
 use tree::mesh as triangle_mesh;
 ghost use mathlib.Core.Path.{_≡_};
@@ -17,7 +17,6 @@ ghost use Rattle.mesh_plain.specs.Boxes.{BoxesHold, Coded};
 ghost use Rattle.mesh_plain.specs.PlainCast.{overTriangles, plainCast, rayMeshPlain, AgreesWithTrees};
 
 // All triangles in one pass; the normal is the winner's alone. An index past the vertices ends it with 5, whatever was found before it.
-// Callers show that the lengths are admitted, that the boxes are valid, and that the codes, if told, are the vertices'.
 fn cast_all(
     ray: Ray,
     bounds: Aabb,
@@ -40,15 +39,14 @@ fn cast_all(
         }
         if boxes::triangle_touches(told, codes, bounds, vertices, triangles, i) {
             let corners = triangle_mesh::corners_of(vertices, triangles, i);
-            best = crossed::next_crossed(best, i as u32, ray, corners);
+            best = deferred::next_deferred(best, i as u32, ray, corners);
         }
         i += 1;
     }
-    crossed::with_normal(ray, best)
+    deferred::with_normal(ray, best)
 }
 
 // The answer over all triangles. Of up to 32 vertices it is told first on which sides of the segment's box they lie.
-// Callers show that the triangles are few enough for an index.
 fn over_triangles(ray: Ray, bounds: Aabb, vertices: &[f64], triangles: &[u32]) -> IndexedCast
     requires { ⌜ length (now triangles) ≤ 196608 ⌝ }
     ensures { λ r. ⌜ saysIndexed r ≡ overTriangles ray bounds (mesh (now (vertices .entry)) (now (triangles .entry))) ⌝ }
@@ -61,7 +59,7 @@ fn over_triangles(ray: Ray, bounds: Aabb, vertices: &[f64], triangles: &[u32]) -
     cast_all(ray, bounds, vertices, triangles, told, &codes)
 }
 
-// The cast once refusals 1 and 2 have let it pass. Callers show that they have.
+// The cast once refusals 1 and 2 have let it pass.
 pub fn plain_cast(ray: Ray, vertices: &[f64], triangles: &[u32]) -> IndexedCast
     requires { ⌜ rayAdmitted ray ≡ true ⌝ ∗ ⌜ lengthsAdmitted (length (now vertices)) (length (now triangles)) ≡ true ⌝ }
     ensures { λ r. ⌜ saysIndexed r ≡ plainCast ray (mesh (now (vertices .entry)) (now (triangles .entry))) ⌝ }

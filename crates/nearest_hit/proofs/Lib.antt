@@ -9,3 +9,4 @@ pub mod KeptLaws
 pub mod SummaryOrder
 pub mod SummaryLaws
 pub mod SummaryMembers
+pub mod DeferredLaws

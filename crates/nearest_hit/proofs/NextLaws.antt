@@ -20,13 +20,13 @@ pub next-missed : (best : Indexed) (index : ℕ) (x : Answer) → reachOf x ≡ 
 next-missed best index x h = next-none best index ∙ ap (nextOf best index) (missed x h)
 
 -- ---- what an answer reaches tells its case and its distance
-miss-not-at : (d : Float) → Miss ≡ At d → ⊥
+pub miss-not-at : (d : Float) → Miss ≡ At d → ⊥
 miss-not-at d h = let z : _≡_ {A = ℕ} 0 1 = cc in omega arith
 
-refused-not-at : (number : ℕ) (d : Float) → Refused number ≡ At d → ⊥
+pub refused-not-at : (number : ℕ) (d : Float) → Refused number ≡ At d → ⊥
 refused-not-at number d h = let z : _≡_ {A = ℕ} 0 1 = cc in omega arith
 
-same-reach : (e d : Float) → At e ≡ At d → e ≡ d
+pub same-reach : (e d : Float) → At e ≡ At d → e ≡ d
 same-reach e d h = cc
 
 pub next-farther : (best : Indexed) (index : ℕ) (x : Answer) (d : Float) → reachOf x ≡ At d → givesWay best d ≡ false → best ≡ nextOf best

@@ -4,14 +4,14 @@ use mathlib.Core.Path.{_≡_, refl, ap, _∙_}
 use mathlib.Core.Bool.{false}
 use mathlib.Core.List.{List, _∷_}
 use lib.Ieee.{Float, isNan}
-use Rattle.vectors.specs.declared.vec3.Vec3.{Vec3}
 use Rattle.casts.specs.Answer.{Answer, hit, none, refused}
 use Rattle.casts.specs.Reach.{reachOf}
-use Rattle.nearest_hit.specs.Summary.{Kept, keepOf, Found, found, lower, nearer, Summary, noteOf, summaryFrom}
+use Rattle.nearest_hit.specs.Summary.{Kept, Found, found, lower, nearer, Summary, noteOf, summaryFrom}
 use Rattle.casts.specs.declared.answer.Reach.{Reach}
 use Rattle.casts.specs.declared.answer.Reach.the-variants.{At, Miss, Refused}
 use Rattle.casts.proofs.AnswerLists.{OfHit, IsNumber, HitsAreNumbers}
 use Rattle.nearest_hit.proofs.KeptLaws.{keep-commutes, lower-goes, lower-apart, nearer-goes, nearer-apart}
+use Rattle.nearest_hit.proofs.NextLaws.{same-reach}
 
 -- the same triangles in another order
 pub data Reordered : List ℕ → List ℕ → Type 0 where
@@ -19,9 +19,6 @@ pub data Reordered : List ℕ → List ℕ → Type 0 where
   exchanged : (x y : ℕ) (l : List ℕ) → Reordered (x ∷ (y ∷ l)) (y ∷ (x ∷ l))
   behind : (x : ℕ) {l m : List ℕ} → Reordered l m → Reordered (x ∷ l) (x ∷ m)
   through : {l m n : List ℕ} → Reordered l m → Reordered m n → Reordered l n
-
-same-reach : (d e : Float) → At d ≡ At e → d ≡ e
-same-reach d e h = cc
 
 same-refusal : (m n : ℕ) → Refused m ≡ Refused n → m ≡ n
 same-refusal m n h = cc

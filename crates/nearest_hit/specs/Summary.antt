@@ -17,7 +17,7 @@ use Rattle.nearest_hit.specs.declared.summary.ChosenHit.{ChosenHit}
 use Rattle.nearest_hit.specs.declared.summary.ChosenHit.the-variants.{Nobody as NoHit, At as AtHit}
 use Rattle.nearest_hit.specs.declared.summary.Outcome.{Outcome}
 use Rattle.nearest_hit.specs.declared.summary.Outcome.the-variants.{Nobody, Refused as RefusedBy, Struck}
-use Rattle.nearest_hit.specs.declared.summary.Notes.{Notes}
+use Rattle.nearest_hit.specs.declared.summary.NearestSoFar.{NearestSoFar}
 
 -- one more comes
 unfoldable pub keepOf : {A : Type 0} → (A → A → Bool) → Kept A → A → Kept A
@@ -91,6 +91,6 @@ abbrev pub saysChosenHit : ChosenHit → Kept (Found Float)
 saysChosenHit NoHit = nobody
 saysChosenHit (AtHit index distance) = kept (found index distance)
 
-abbrev pub saysNotes : Notes → Summary
-saysNotes notes =
+abbrev pub saysNearestSoFar : NearestSoFar → Summary
+saysNearestSoFar notes =
     record { refuser = saysChosenRefusal (notes .refuser); least = saysChosenHit (notes .least) }

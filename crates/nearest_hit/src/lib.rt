@@ -4,3 +4,6 @@
 pub mod nearest;
 // In whatever order they come, by what decides it.
 pub mod summary;
+
+// One more triangle, and the winner's normal.
+pub mod deferred;

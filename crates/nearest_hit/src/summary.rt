@@ -1,7 +1,7 @@
 use casts::answer::Reach;
 ghost use mathlib.Core.Path.{_≡_};
 ghost use Rattle.nearest_hit.specs.Summary.{keepOf, found, lower, nearer, nothing, noteOf, struckOf, winner, saysChosenRefusal};
-ghost use Rattle.nearest_hit.specs.Summary.{saysChosenHit, saysNotes};
+ghost use Rattle.nearest_hit.specs.Summary.{saysChosenHit, saysNearestSoFar};
 
 // An index with the number of its refusal, or nobody yet.
 pub enum ChosenRefusal {
@@ -23,16 +23,16 @@ pub enum Outcome {
 }
 
 // What of many triangles decides the nearest hit, in whatever order they come: the lowest that refuses, and the nearest that is hit.
-pub struct Notes {
+pub struct NearestSoFar {
     pub refuser: ChosenRefusal,
     pub least: ChosenHit,
 }
 
 // Before any triangle.
-pub fn empty() -> Notes
-    ensures { λ r. ⌜ saysNotes r ≡ nothing ⌝ }
+pub fn empty() -> NearestSoFar
+    ensures { λ r. ⌜ saysNearestSoFar r ≡ nothing ⌝ }
 {
-    Notes {
+    NearestSoFar {
         refuser: ChosenRefusal::Nobody,
         least: ChosenHit::Nobody,
     }
@@ -110,8 +110,8 @@ fn nearer_hit(chosen: ChosenHit, index: u32, distance: f64) -> ChosenHit
 }
 
 // One more triangle.
-pub fn note(notes: Notes, index: u32, reach: Reach) -> Notes
-    ensures { λ r. ⌜ saysNotes r ≡ noteOf (saysNotes notes) index reach ⌝ }
+pub fn note(notes: NearestSoFar, index: u32, reach: Reach) -> NearestSoFar
+    ensures { λ r. ⌜ saysNearestSoFar r ≡ noteOf (saysNearestSoFar notes) index reach ⌝ }
 {
     let refuser = notes.refuser;
     let least = notes.least;
@@ -121,14 +121,14 @@ pub fn note(notes: Notes, index: u32, reach: Reach) -> Notes
         }
         Reach::Refused(number) => {
             let lowest = lower_refusal(refuser, index, number);
-            return Notes {
+            return NearestSoFar {
                 refuser: lowest,
                 least: least,
             };
         }
         Reach::At(distance) => {
             let nearest = nearer_hit(least, index, distance);
-            return Notes {
+            return NearestSoFar {
                 refuser: refuser,
                 least: nearest,
             };
@@ -154,8 +154,8 @@ fn struck(chosen: ChosenHit) -> Outcome
 }
 
 // Whose answer is the answer of all.
-pub fn winner(notes: Notes) -> Outcome
-    ensures { λ r. ⌜ r ≡ winner (saysNotes notes) ⌝ }
+pub fn winner(notes: NearestSoFar) -> Outcome
+    ensures { λ r. ⌜ r ≡ winner (saysNearestSoFar notes) ⌝ }
 {
     let refuser = notes.refuser;
     let least = notes.least;

@@ -8,8 +8,8 @@ use borrow.Author.Tests.{ltb-false, le-leb}
 use lib.Dec.{ltb}
 use lib.ListN.{length}
 use lib.Seq.{length-take-le}
-use Rattle.at_hand.specs.declared.answers.AtHand.{AtHand}
-use Rattle.at_hand.specs.AtHand.{Answered, goesOn}
+use Rattle.record_stream.specs.declared.answers.AtHand.{AtHand}
+use Rattle.record_stream.specs.AtHand.{Answered, goesOn}
 use Rattle.probe.specs.declared.runs.Run.{Run}
 use Rattle.probe.specs.Runs.{readsMore, afterWrite, heldOf, idle, asked, Answers, spent, made}
 use Rattle.probe.specs.Runs.{AfterWrite, Stepped, unread, stepped}

@@ -6,8 +6,8 @@ use mathlib.Core.List.{List, _++_}
 use native.Mathlib.Omega.{arith}
 use lib.ListN.{length, take, drop, length-drop}
 use lib.Seq.{take-add, take-at, drop-at, length-take-le}
-use Rattle.at_hand.specs.declared.answers.AtHand.{AtHand}
-use Rattle.at_hand.specs.AtHand.{Answered, goesOn}
+use Rattle.record_stream.specs.declared.answers.AtHand.{AtHand}
+use Rattle.record_stream.specs.AtHand.{Answered, goesOn}
 use Rattle.probe.specs.declared.runs.Run.{Run}
 use Rattle.probe.specs.Runs.{lastNumber, afterRead, nextRun, afterWrite, heldOf}
 use Rattle.probe.specs.Runs.{Answers, made, AfterWrite}

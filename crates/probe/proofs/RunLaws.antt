@@ -9,9 +9,9 @@ use lib.Dec.{ltb}
 use lib.ListN.{take, drop}
 use lib.Seq.{take-add}
 use Rattle.records.specs.Output.{outputOf}
-use Rattle.at_hand.specs.declared.answers.AtHand.{AtHand}
-use Rattle.at_hand.specs.AtHand.{outputFrom, outputAfter, MayCome, Answered}
-use Rattle.at_hand.proofs.StreamLaws.{output-is}
+use Rattle.record_stream.specs.declared.answers.AtHand.{AtHand}
+use Rattle.record_stream.specs.AtHand.{outputFrom, outputAfter, MayCome, Answered}
+use Rattle.record_stream.proofs.StreamLaws.{output-is}
 use Rattle.probe.specs.declared.runs.Run.{Run}
 use Rattle.probe.specs.Runs.{mostSteps, startRun, readsMore, failedRun, afterRead, nextRun, afterWrite, heldOf}
 use Rattle.probe.specs.Runs.{ReadOn, idle, asked, readBytes, Answers, spent, made, AfterWrite, Stepped, unread, stepped, Step}

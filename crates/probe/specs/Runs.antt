@@ -6,8 +6,8 @@ use mathlib.Core.List.{List, [], _++_}
 use lib.Dec.{ltb, eqb}
 use lib.ListN.{length, take, drop}
 use Rattle.records.specs.Output.{outputOf}
-use Rattle.at_hand.specs.declared.answers.AtHand.{AtHand}
-use Rattle.at_hand.specs.AtHand.{longestRecord, MayCome, Answered, goesOn}
+use Rattle.record_stream.specs.declared.answers.AtHand.{AtHand}
+use Rattle.record_stream.specs.AtHand.{longestRecord, MayCome, Answered, goesOn}
 use Rattle.probe.specs.declared.runs.Run.{Run}
 
 -- the length of the input area and of the output area

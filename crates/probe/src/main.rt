@@ -9,17 +9,17 @@
 mod runs;
 
 use crate::runs::Run;
-use at_hand::answers;
 use libc::STDERR_FILENO;
 use libc::STDIN_FILENO;
 use libc::STDOUT_FILENO;
+use record_stream::answers;
 ghost use mathlib.Core.Path.{_≡_};
 ghost use Prim.Native.Nat.{_≤_};
 ghost use lib.ListN.{length, take};
 ghost use Rattle.probe.specs.Runs.{ReadOn, Answers, AfterWrite, Step, Finished};
 
 // Reads on where what is held may be less than a record. A read that fails is no end of the input: it ends the run, and standard error says
-// so. Callers show that no more is held than the area has.
+// so.
 fn read_on(run: Run, input: &mut [u8]) -> Run
     requires { ⌜ (run .held ≤ 65536) × (length (now input) ≡ 65536) ⌝ }
     ensures { λ r. ⌜ ReadOn run (now (input .entry)) r (now (input .exit)) ⌝ }
@@ -40,7 +40,7 @@ fn read_on(run: Run, input: &mut [u8]) -> Run
 }
 
 // The lines for what is held, at the front of the output area, and what is left at the front of the input area. No run reaches the last
-// record numbers. Callers show that no more is held than the area has, and that both areas are of their fixed lengths.
+// record numbers.
 fn answer(
     run: Run,
     input: &mut [u8],
@@ -82,7 +82,7 @@ fn answer(
     runs::next_run(run, done)
 }
 
-// Writes the lines. A write that fails ends the run, and standard error says so. Callers show that the lines are in the area.
+// Writes the lines. A write that fails ends the run, and standard error says so.
 fn write_lines(run: Run, output: &[u8]) -> Run
     requires { ⌜ run .filled ≤ length (now output) ⌝ }
     ensures { λ r. ⌜ AfterWrite run r ⌝ }
@@ -96,8 +96,7 @@ fn write_lines(run: Run, output: &[u8]) -> Run
     runs::after_write(run, written)
 }
 
-// Reads, answers, writes; after a read that failed nothing is answered. Callers show that no more is held than the area has, and that both
-// areas are of their fixed lengths.
+// Reads, answers, writes; after a read that failed nothing is answered.
 fn step(
     run: Run,
     input: &mut [u8],

@@ -1,5 +1,5 @@
 // A run between two calls of the system, and what each call's result makes of it.
-use at_hand::answers::AtHand;
+use record_stream::answers::AtHand;
 ghost use mathlib.Core.Path.{_≡_};
 ghost use mathlib.Core.List.{_++_};
 ghost use Prim.Native.Nat.{_+_, _-_, _<_, _≤_};
@@ -58,7 +58,7 @@ pub fn failed_run(run: Run) -> Run
     }
 }
 
-// After a read that failed or gave so many bytes. Callers show that their count does not wrap.
+// After a read that failed or gave so many bytes.
 pub fn after_read(run: Run, failed: bool, more: usize) -> Run
     requires { ⌜ run .held + more < 18446744073709551616 ⌝ }
     ensures { λ r. ⌜ r ≡ afterRead run failed more ⌝ }
@@ -76,7 +76,7 @@ pub fn after_read(run: Run, failed: bool, more: usize) -> Run
     }
 }
 
-// After an answer: what it did not use is held. Callers show that it used no more than was held.
+// After an answer: what it did not use is held.
 pub fn next_run(run: Run, done: AtHand) -> Run
     requires { ⌜ done .used ≤ run .held ⌝ }
     ensures { λ r. ⌜ r ≡ nextRun run done ⌝ }
@@ -101,7 +101,7 @@ pub fn after_write(run: Run, written: bool) -> Run
     failed_run(run)
 }
 
-// Moves input[from..to] to the front. Callers show that the places are in it.
+// Moves input[from..to] to the front.
 pub fn move_front(input: &mut [u8], from: usize, to: usize)
     requires { ⌜ (from ≤ to) × (to ≤ length (now input)) ⌝ }
     ensures { λ r. ⌜ now (input .exit) ≡ take (to - from) (drop from (now (input .entry))) ++ drop (to - from) (now (input .entry)) ⌝ }

@@ -4,3 +4,4 @@ pub mod WellFormed
 pub mod Counts
 pub mod Decoding
 pub mod Frames
+pub mod WordLaws

@@ -8,7 +8,7 @@ use borrow.Author.Tests.{lt-ltb, le-ltb}
 use lib.Dec.{T}
 use lib.Ieee.{nan, binary64, ofBits, nanBits, div}
 use lib.Ieee.Bits.{nanBits-is, nanBits-above}
-use Rattle.words.specs.Words.{valueAt}
+use Rattle.record_bytes.specs.Words.{valueAt}
 use Rattle.arithmetic.proofs.Order.{is-nan}
 use Rattle.record_bytes.specs.Bytes.{byteAt, wordAt, bitsAt}
 

@@ -4,3 +4,4 @@ pub mod Fields
 pub mod Parse
 pub mod Encode
 pub mod Stream
+pub mod Words

@@ -1,12 +1,12 @@
+use crate::reader;
+use crate::reader::Word;
 use vectors::vec3::Vec3;
-use words::reader;
-use words::reader::Word;
 ghost use mathlib.Core.Path.{_≡_};
 ghost use Prim.Native.Nat.{_+_, _*_, _<_, _≤_};
 ghost use lib.ListN.{length, take};
 ghost use Rattle.record_bytes.specs.Bytes.{byteAt, wordAt, floatAt, vectorAt, floatsAt, wordsAt};
 
-// The byte at a place, as a wide number. Callers show that it is there.
+// The byte at a place, as a wide number.
 fn byte_at(bytes: &[u8], place: usize) -> u64
     requires { ⌜ place < length (now bytes) ⌝ }
     ensures { λ r. ⌜ (r ≡ byteAt (now (bytes .entry)) place) × (r < 256) ⌝ }
@@ -14,7 +14,7 @@ fn byte_at(bytes: &[u8], place: usize) -> u64
     bytes[place] as u64
 }
 
-// The u32 whose four bytes begin at a place. Callers show that they are there.
+// The u32 whose four bytes begin at a place.
 pub fn word_at(bytes: &[u8], place: usize) -> u64
     requires { ⌜ place + 4 ≤ length (now bytes) ⌝ }
     ensures { λ r. ⌜ (r ≡ wordAt (now (bytes .entry)) place) × (r < 4294967296) ⌝ }
@@ -24,7 +24,7 @@ pub fn word_at(bytes: &[u8], place: usize) -> u64
     high * 65536 + low
 }
 
-// The float whose eight bytes begin at a place. A NaN pattern has no from_bits: it is made by 0/0. Callers show that they are there.
+// The float whose eight bytes begin at a place. A NaN pattern has no from_bits: it is made by 0/0.
 pub fn float_at(bytes: &[u8], place: usize) -> f64
     requires { ⌜ place + 8 ≤ length (now bytes) ⌝ }
     ensures { λ r. ⌜ r ≡ floatAt (now (bytes .entry)) place ⌝ }
@@ -39,7 +39,7 @@ pub fn float_at(bytes: &[u8], place: usize) -> f64
     f64::from_bits(bits)
 }
 
-// The vector whose three floats begin at a place. Callers show that their bytes are there.
+// The vector whose three floats begin at a place.
 pub fn vector_at(bytes: &[u8], place: usize) -> Vec3
     requires { ⌜ place + 24 ≤ length (now bytes) ⌝ }
     ensures { λ r. ⌜ r ≡ vectorAt (now (bytes .entry)) place ⌝ }
@@ -51,8 +51,7 @@ pub fn vector_at(bytes: &[u8], place: usize) -> Vec3
     }
 }
 
-// So many floats from a place on, at the front of a work area; the contract says nothing of the places behind them. Callers show that bytes
-// and places are there.
+// So many floats from a place on, at the front of a work area; the contract says nothing of the places behind them.
 pub fn floats_at(bytes: &[u8], place: usize, count: usize, work: &mut [f64])
     requires { ⌜ (place + 8 * count ≤ length (now bytes)) × (count ≤ length (now work)) ⌝ }
     ensures { λ r. ⌜ take count (now (work .exit)) ≡ floatsAt (now (bytes .entry)) place count ⌝ }
@@ -64,7 +63,7 @@ pub fn floats_at(bytes: &[u8], place: usize, count: usize, work: &mut [f64])
     }
 }
 
-// So many u32 from a place on, in the same way. Callers show that bytes and places are there.
+// So many u32 from a place on, in the same way.
 pub fn words_at(bytes: &[u8], place: usize, count: usize, work: &mut [u32])
     requires { ⌜ (place + 4 * count ≤ length (now bytes)) × (count ≤ length (now work)) ⌝ }
     ensures { λ r. ⌜ take count (now (work .exit)) ≡ wordsAt (now (bytes .entry)) place count ⌝ }

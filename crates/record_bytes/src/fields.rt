@@ -11,7 +11,7 @@ ghost use lib.ListN.{length};
 ghost use Rattle.record_bytes.specs.Fields.{versionOf, kindOf, isVersion, nearOf, shapePlace, rayOf, planeOf, cornersOf, fieldOf};
 ghost use Rattle.record_bytes.specs.Fields.{gridOf};
 
-// The version byte. Callers show that it is there.
+// The version byte.
 pub fn version_of(body: &[u8]) -> u8
     requires { ⌜ 2 ≤ length (now body) ⌝ }
     ensures { λ r. ⌜ r ≡ versionOf (now (body .entry)) ⌝ }
@@ -19,7 +19,7 @@ pub fn version_of(body: &[u8]) -> u8
     body[0]
 }
 
-// The kind byte. Callers show that it is there.
+// The kind byte.
 pub fn kind_of(body: &[u8]) -> u8
     requires { ⌜ 2 ≤ length (now body) ⌝ }
     ensures { λ r. ⌜ r ≡ kindOf (now (body .entry)) ⌝ }
@@ -47,7 +47,7 @@ pub fn shape_place(version: u8) -> usize
     58
 }
 
-// The near distance: that of the record itself, or +0. Callers show that the body is long enough.
+// The near distance: that of the record itself, or +0.
 fn near_of(body: &[u8]) -> f64
     requires { ⌜ (2 ≤ length (now body)) × (shapePlace (versionOf (now body)) ≤ length (now body)) ⌝ }
     ensures { λ r. ⌜ r ≡ nearOf (now (body .entry)) ⌝ }
@@ -58,7 +58,7 @@ fn near_of(body: &[u8]) -> f64
     0.0
 }
 
-// Origin, direction, maximum and near. Callers show that the body is long enough.
+// Origin, direction, maximum and near.
 pub fn ray_of(body: &[u8]) -> Ray
     requires { ⌜ (58 ≤ length (now body)) × (shapePlace (versionOf (now body)) ≤ length (now body)) ⌝ }
     ensures { λ r. ⌜ r ≡ rayOf (now (body .entry)) ⌝ }
@@ -71,7 +71,7 @@ pub fn ray_of(body: &[u8]) -> Ray
     }
 }
 
-// The shape of kind 1, from its own bytes. Callers show that they are there.
+// The shape of kind 1, from its own bytes.
 pub fn plane_of(shape: &[u8]) -> Plane
     requires { ⌜ 32 ≤ length (now shape) ⌝ }
     ensures { λ r. ⌜ r ≡ planeOf (now (shape .entry)) ⌝ }
@@ -82,7 +82,7 @@ pub fn plane_of(shape: &[u8]) -> Plane
     }
 }
 
-// The shape of kind 2. Callers show that its bytes are there.
+// The shape of kind 2.
 pub fn corners_of(shape: &[u8]) -> [Vec3; 3]
     requires { ⌜ 72 ≤ length (now shape) ⌝ }
     ensures { λ r. ⌜ r ≡ cornersOf (now (shape .entry)) ⌝ }
@@ -94,7 +94,7 @@ pub fn corners_of(shape: &[u8]) -> [Vec3; 3]
     ]
 }
 
-// The shape of kind 4, without its heights. Callers show that its bytes are there.
+// The shape of kind 4, without its heights.
 pub fn field_of(shape: &[u8]) -> Field
     requires { ⌜ 24 ≤ length (now shape) ⌝ }
     ensures { λ r. ⌜ r ≡ fieldOf (now (shape .entry)) ⌝ }
@@ -107,7 +107,7 @@ pub fn field_of(shape: &[u8]) -> Field
     }
 }
 
-// The shape of kind 5, without its values. Callers show that its bytes are there.
+// The shape of kind 5, without its values.
 pub fn grid_of(shape: &[u8]) -> Grid
     requires { ⌜ 60 ≤ length (now shape) ⌝ }
     ensures { λ r. ⌜ r ≡ gridOf (now (shape .entry)) ⌝ }

@@ -22,3 +22,6 @@ pub mod fields;
 pub mod parse;
 // Where a record ends in a stream.
 pub mod stream;
+
+// The reader of one 64-bit word.
+pub mod reader;

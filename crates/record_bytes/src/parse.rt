@@ -29,7 +29,7 @@ fn mesh_fills(shape: &[u8]) -> bool
     shape.len() as u64 == 8 + 24 * vertices + 12 * triangles
 }
 
-// Whether the fields of kind 4 do. Callers show that the shape is no longer than a record may be.
+// Whether the fields of kind 4 do.
 fn heights_fill(shape: &[u8]) -> bool
     requires { ⌜ length (now shape) ≤ 8192 ⌝ }
     ensures { λ r. ⌜ r ≡ heightsFill (now (shape .entry)) ⌝ }
@@ -44,7 +44,7 @@ fn heights_fill(shape: &[u8]) -> bool
     shape.len() as u64 == 24 + 8 * count
 }
 
-// Whether the fields of kind 5 do. Callers show that the shape is no longer than a record may be.
+// Whether the fields of kind 5 do.
 fn values_fill(shape: &[u8]) -> bool
     requires { ⌜ length (now shape) ≤ 8192 ⌝ }
     ensures { λ r. ⌜ r ≡ valuesFill (now (shape .entry)) ⌝ }
@@ -61,7 +61,6 @@ fn values_fill(shape: &[u8]) -> bool
 }
 
 // Whether the fields of a kind end where the shape's bytes do; another kind never fills them.
-// Callers show that the shape is no longer than a record may be.
 fn is_filled(kind: u8, shape: &[u8]) -> bool
     requires { ⌜ length (now shape) ≤ 8192 ⌝ }
     ensures { λ r. ⌜ r ≡ filled kind (now (shape .entry)) ⌝ }

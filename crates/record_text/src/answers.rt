@@ -12,9 +12,9 @@ ghost use Rattle.record_text.specs.Text.{Put, decimal};
 ghost use Rattle.record_text.specs.AnswerText.{floatText, hitText, answerText, indexText, indexedText};
 
 // A line's answer has at most 92 bytes: `hit` with four floats of 17 bytes, and a triangle's index after a space; 20 digits are set aside
-// for each whole number. Callers show that there is as much room.
+// for each whole number.
 
-// A space and a float's bits. Callers show that they have room.
+// A space and a float's bits.
 fn put_float(out: &mut [u8], at: usize, x: f64) -> usize
     requires { ⌜ at + 17 ≤ length (now out) ⌝ }
     ensures { λ r. ⌜ Put (now (out .entry)) at (floatText x) (now (out .exit)) r ⌝ }
@@ -23,7 +23,7 @@ fn put_float(out: &mut [u8], at: usize, x: f64) -> usize
     text::put_hexadecimal(out, next, text::printed_bits(x))
 }
 
-// The word, the normal and the distance of a hit. Callers show that they have room.
+// The word, the normal and the distance of a hit.
 fn put_hit(out: &mut [u8], at: usize, normal: Vec3, distance: f64) -> usize
     requires { ⌜ at + 71 ≤ length (now out) ⌝ }
     ensures { λ r. ⌜ Put (now (out .entry)) at (hitText normal distance) (now (out .exit)) r ⌝ }
@@ -35,7 +35,7 @@ fn put_hit(out: &mut [u8], at: usize, normal: Vec3, distance: f64) -> usize
     put_float(out, z, distance)
 }
 
-// An answer's text. Callers show that it has room.
+// An answer's text.
 pub fn put_answer(out: &mut [u8], at: usize, cast: Cast) -> usize
     requires { ⌜ at + 71 ≤ length (now out) ⌝ }
     ensures { λ r. ⌜ Put (now (out .entry)) at (answerText (says cast)) (now (out .exit)) r ⌝ }
@@ -54,7 +54,7 @@ pub fn put_answer(out: &mut [u8], at: usize, cast: Cast) -> usize
     }
 }
 
-// What a mesh adds to an answer. Callers show that it has room.
+// What a mesh adds to an answer.
 fn put_index(out: &mut [u8], at: usize, cast: IndexedCast) -> usize
     requires { ⌜ at + 21 ≤ length (now out) ⌝ }
     ensures { λ r. ⌜ Put (now (out .entry)) at (indexText (saysIndexed cast)) (now (out .exit)) r ⌝ }
@@ -77,7 +77,7 @@ fn put_index(out: &mut [u8], at: usize, cast: IndexedCast) -> usize
     }
 }
 
-// An answer's text with its index. Callers show that it has room.
+// An answer's text with its index.
 pub fn put_indexed(out: &mut [u8], at: usize, cast: IndexedCast) -> usize
     requires { ⌜ at + 92 ≤ length (now out) ⌝ }
     ensures { λ r. ⌜ Put (now (out .entry)) at (indexedText (saysIndexed cast)) (now (out .exit)) r ⌝ }
@@ -86,7 +86,7 @@ pub fn put_indexed(out: &mut [u8], at: usize, cast: IndexedCast) -> usize
     put_index(out, next, cast)
 }
 
-// The record number and a space, at the front. Callers show that they have room.
+// The record number and a space, at the front.
 pub fn put_number(out: &mut [u8], number: u64) -> usize
     requires { ⌜ 21 ≤ length (now out) ⌝ }
     ensures { λ r. ⌜ Put (now (out .entry)) 0 (decimal number ++ (32 ∷ [])) (now (out .exit)) r ⌝ }

@@ -6,7 +6,7 @@ ghost use Rattle.record_text.specs.Text.{glyph, digits, placesOf, decima
 
 // The functions that store a text in an area take the place of its first byte and return the place behind its last.
 
-// The ASCII code of a digit. Callers show that it is below 16.
+// The ASCII code of a digit.
 fn glyph(digit: u64) -> u8
     requires { ⌜ digit < 16 ⌝ }
     ensures { λ r. ⌜ r ≡ glyph digit ⌝ }
@@ -17,7 +17,7 @@ fn glyph(digit: u64) -> u8
     87 + digit as u8
 }
 
-// One byte at a place. Callers show that it is there.
+// One byte at a place.
 pub fn put_byte(out: &mut [u8], at: usize, byte: u8) -> usize
     requires { ⌜ at + 1 ≤ length (now out) ⌝ }
     ensures { λ r. ⌜ Put (now (out .entry)) at (byte ∷ []) (now (out .exit)) r ⌝ }
@@ -26,7 +26,7 @@ pub fn put_byte(out: &mut [u8], at: usize, byte: u8) -> usize
     at + 1
 }
 
-// A text from a place on. Callers show that it has room.
+// A text from a place on.
 pub fn put_text(out: &mut [u8], at: usize, text: &[u8]) -> usize
     requires { ⌜ at + length (now text) ≤ length (now out) ⌝ }
     ensures { λ r. ⌜ Put (now (out .entry)) at (now (text .entry)) (now (out .exit)) r ⌝ }
@@ -39,7 +39,7 @@ pub fn put_text(out: &mut [u8], at: usize, text: &[u8]) -> usize
     at + i
 }
 
-// The last k digits of a number. Callers show that they have room and that the base is from 2 to 16.
+// The last k digits of a number.
 fn put_digits(out: &mut [u8], at: usize, n: u64, base: u64, k: usize) -> usize
     requires { ⌜ (at + k ≤ length (now out)) × ((1 < base) × (base ≤ 16)) ⌝ }
     ensures { λ r. ⌜ Put (now (out .entry)) at (digits base k n) (now (out .exit)) r ⌝ }
@@ -64,7 +64,7 @@ fn places(n: u64, most: usize) -> usize
     places(n / 10, most - 1) + 1
 }
 
-// A number in at most 20 decimal digits, from a place on. Callers show that they have room.
+// A number in at most 20 decimal digits, from a place on.
 pub fn put_decimal(out: &mut [u8], at: usize, n: u64) -> usize
     requires { ⌜ at + 20 ≤ length (now out) ⌝ }
     ensures { λ r. ⌜ Put (now (out .entry)) at (decimal n) (now (out .exit)) r ⌝ }
@@ -73,7 +73,7 @@ pub fn put_decimal(out: &mut [u8], at: usize, n: u64) -> usize
     put_digits(out, at, n, 10, k)
 }
 
-// A number in 16 hexadecimal digits, from a place on. Callers show that they have room.
+// A number in 16 hexadecimal digits, from a place on.
 pub fn put_hexadecimal(out: &mut [u8], at: usize, n: u64) -> usize
     requires { ⌜ at + 16 ≤ length (now out) ⌝ }
     ensures { λ r. ⌜ Put (now (out .entry)) at (hexadecimal n) (now (out .exit)) r ⌝ }

@@ -2,5 +2,4 @@
 pub mod Lengths
 pub mod MeshAnswers
 pub mod Answers
-pub mod WorkedExample
 pub mod RoundTrip

@@ -1,16 +1,15 @@
--- What is encoded is parsed back, and the frame around a body is found, whatever follows it. Assumes nothing.
+-- What is encoded is parsed back. Assumes nothing.
 use Prim.Native.Nat.{ℕ, zero, suc, _+_, _-_, _*_, _/_, _%_, _<_, _≤_}
 use mathlib.Core.Path.{_≡_, refl, sym, ap, _∙_}
-use mathlib.Core.Bool.{true, Bool, false, cond}
+use mathlib.Core.Bool.{true}
 use mathlib.Core.List.{List, [], _∷_, _++_, append-assoc, append-nil}
 use native.Mathlib.Nat.{add-assoc, mul-zero, mul-suc}
 use native.Mathlib.Omega.{arith}
-use borrow.Author.Tests.{le-ltb, le-leb, eq-eqb, ne-eqb}
-use lib.Dec.{eqb}
+use borrow.Author.Tests.{le-leb, eq-eqb}
 use lib.Ieee.{Float, binary64, toBits, ofBits}
 use lib.Ieee.Bits.{ofBits-toBits, toBits-lt}
-use lib.ListN.{length, drop, length-append, length-drop}
-use lib.Seq.{take-at, getD-append-add}
+use lib.ListN.{length, length-append, length-drop}
+use lib.Seq.{getD-append-add}
 use Rattle.vectors.specs.Numbers.{zeroᶠ}
 use Rattle.vectors.specs.declared.vec3.Vec3.{Vec3}
 use Rattle.geometry.specs.declared.ray.Ray.{Ray}
@@ -25,11 +24,8 @@ use Rattle.record_bytes.specs.Fields.{triangleCount, meshOf, fieldOf, heightCou
 use Rattle.record_bytes.specs.Parse.{Shape, plane, triangle, mesh, heights, distances, says, longest, meshFills, heightsFill}
 use Rattle.record_bytes.specs.Parse.{valuesFill, filled, wellFormed, shapeOf, parse}
 use Rattle.record_bytes.specs.Encode.{wordBytes, bitsBytes, floatBytes, vectorBytes, eachBytes, floatsBytes, wordsBytes, countsBytes}
-use Rattle.record_bytes.specs.Encode.{fieldBytes, gridBytes, rayBytes, nearBytes, kindByte, shapeBytes, bodyBytes, framed, FloatFits}
+use Rattle.record_bytes.specs.Encode.{fieldBytes, gridBytes, rayBytes, nearBytes, kindByte, shapeBytes, bodyBytes, FloatFits}
 use Rattle.record_bytes.specs.Encode.{VectorFits, RayFits, WordFits, EachFits, FloatsFit, MeshFits, FieldFits, GridFits, ShapeFits}
-use Rattle.conversion.specs.Convert.{widened}
-use Rattle.record_bytes.specs.Stream.{nextOf, longBody, bodyOf}
-use Rattle.record_bytes.specs.declared.stream.Found.the-variants.{Record}
 use Rattle.record_bytes.proofs.WellFormed.{shape-behind-ray}
 
 -- ---- numbers
@@ -401,42 +397,3 @@ pub parse-encoded-2 : (r : Ray) (s : Shape) → RayFits r → ShapeFits s → le
 unfolding isVersion shapePlace bodyBytes
 parse-encoded-2 r s ray shape short =
     parsed (bodyBytes 2 r s) r s refl (ray-back-2 r s ray) refl (part-2 r s) (body-long-2 r s) short shape
-
--- ---- frames
-
-frame-word : (body rest : List ℕ) → length body ≤ longest → wordAt (framed body ++ rest) 0 ≡ length body
-unfolding framed
-frame-word body rest h =
-    ap (λ (l : List ℕ). wordAt l 0) (append-assoc (wordBytes (length body)) body rest) ∙ word-back (length body) (body ++ rest)
-    (omega arith)
-
-frame-length : (body rest : List ℕ) → length (framed body ++ rest) ≡ 4 + (length body + length rest)
-unfolding framed wordBytes
-frame-length body rest = omega (arith, length-append body rest)
-
-framed-length : (body : List ℕ) → length (framed body) ≡ 4 + length body
-unfolding framed wordBytes
-framed-length body = omega arith
-
-own-body : (body : List ℕ) → eqb (versionOf body) 3 ≡ false → longBody (framed body) ≡ body
-unfolding longBody framed wordBytes
-own-body body v = ap (λ (b : Bool). drop 4 (cond b (widened (framed body)) (framed body))) v
-
--- the frame around a body is found, whatever follows
-pub framed-found : (body rest : List ℕ) → length body ≤ longest → nextOf (framed body ++ rest) ≡ Record (4 + length body)
-unfolding nextOf
-framed-found body rest h =
-    let w : wordAt (framed body ++ rest) 0 ≡ length body = frame-word body rest h in
-    let l : length (framed body ++ rest) ≡ 4 + (length body + length rest) = frame-length body rest in
-    rw (w, l) (simp (
-      ne-eqb (4 + (length body + length rest)) 0 (λ e. omega arith),
-      le-ltb (4 + (length body + length rest)) 4 (omega
-          arith),
-      le-ltb longest (length body) h,
-      le-ltb (4 + (length body + length rest)) (4 + length body) (omega arith),
-    ))
-
--- and what it frames is the body, if its version is another than 3
-pub framed-body : (body rest : List ℕ) → eqb (versionOf body) 3 ≡ false → bodyOf (4 + length body) (framed body ++ rest) ≡ body
-framed-body body rest v =
-    ap longBody (take-at (framed body) rest (4 + length body) (framed-length body)) ∙ own-body body v

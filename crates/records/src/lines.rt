@@ -28,7 +28,6 @@ ghost use Rattle.records.specs.Lines.{shapeText, recordText, lineOf, bad
 // digits are set aside for each whole number.
 
 // The cast at a shape of kind 4, from its own bytes; its heights are decoded into the work area.
-// Callers show that the shape is filled and that the work area is long enough.
 fn heights_answer(shape: &[u8], ray: Ray, work: &mut [f64]) -> Cast
     requires { ⌜ (24 + 8 * heightCount (now shape) ≡ length (now shape)) × ((length (now shape) ≤ 8192) × (1024 ≤ length (now work))) ⌝ }
     ensures { λ r. ⌜ says r ≡ rayHeightField ray (fieldOf (now (shape .entry))) (heightsOf (now (shape .entry))) ⌝ }
@@ -39,7 +38,7 @@ fn heights_answer(shape: &[u8], ray: Ray, work: &mut [f64]) -> Cast
     cast::ray_height_field(ray, field, &work[..count])
 }
 
-// The cast at a shape of kind 5, in the same way. Callers show that the shape is filled and that the work area is long enough.
+// The cast at a shape of kind 5, in the same way.
 fn values_answer(shape: &[u8], ray: Ray, work: &mut [f64]) -> Cast
     requires { ⌜ (60 + 8 * valueCount (now shape) ≡ length (now shape)) × ((length (now shape) ≤ 8192) × (1024 ≤ length (now work))) ⌝ }
     ensures { λ r. ⌜ says r ≡ rayLevelSet ray (gridOf (now (shape .entry))) (valuesOf (now (shape .entry))) ⌝ }
@@ -51,7 +50,6 @@ fn values_answer(shape: &[u8], ray: Ray, work: &mut [f64]) -> Cast
 }
 
 // The cast at a shape of another kind than 3: one call for each kind.
-// Callers show that the shape is filled, that its kind is not 3, and that the work area is long enough.
 fn shape_answer(kind: u8, ray: Ray, shape: &[u8], work: &mut [f64]) -> Cast
     requires { ⌜ (filled kind (now shape) ≡ true) × (length (now shape) ≤ 8192) ⌝ }
     requires { ⌜ (kind ≡ 3 → ⊥) × (1024 ≤ length (now work)) ⌝ }
@@ -69,7 +67,7 @@ fn shape_answer(kind: u8, ray: Ray, shape: &[u8], work: &mut [f64]) -> Cast
     values_answer(shape, ray, work)
 }
 
-// The answer to a ray and a shape. Callers show that the shape is filled, that the text has room, and that the areas are long enough.
+// The answer to a ray and a shape.
 fn put_shape(
     out: &mut [u8],
     at: usize,
@@ -109,7 +107,7 @@ fn put_shape(
     answers::put_indexed(out, at, nearest)
 }
 
-// The answer to any body. Callers show that the text has room and that the areas are long enough.
+// The answer to any body.
 fn put_record(
     out: &mut [u8],
     at: usize,

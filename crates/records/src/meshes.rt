@@ -68,7 +68,7 @@ fn cast_built(
     }
 }
 
-// Check 1, then the tree in areas filled with zeros. Callers show that the areas are long enough.
+// Check 1, then the tree in areas filled with zeros.
 fn cast_fresh(
     ray: Ray,
     vertices: &[f64],
@@ -105,7 +105,7 @@ fn cast_fresh(
 }
 
 // The cast at a shape of kind 3, from its own bytes; its mesh is decoded into the first two areas, and the tree is built in parts of the
-// others. Callers show that the shape is filled and that the areas are long enough.
+// others.
 pub fn mesh_answer(
     shape: &[u8],
     ray: Ray,

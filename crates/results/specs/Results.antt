@@ -94,47 +94,47 @@ shortOf one two = cond one (cond two noRoom badShape) invalidInput
 
 -- past the tests of 1 and 2 a result slice that is too short is 3, before anything later
 abbrev pub withRoom : {A : Type 0} → Bool → Bool → A → A → A
-withRoom passed fits told short = cond passed (cond fits told short) told
+withRoom passed fits returned short = cond passed (cond fits returned short) returned
 
 -- ---- casts
 
 -- the number, and the slice of a hit's normal and distance
-pub record Told : Type 0 where
+pub record Returned : Type 0 where
   pub number : ℕ
   pub hit : List Float
 
-unfoldable pub told : Answer → List Float → Told
-told (hit n d) area = record { number = hitCode; hit = sets area 0 (n .x ∷ n .y ∷ n .z ∷ d ∷ []) }
-told none area = record { number = noneCode; hit = area }
-told (refused number) area = record { number = number; hit = area }
+unfoldable pub returned : Answer → List Float → Returned
+returned (hit n d) area = record { number = hitCode; hit = sets area 0 (n .x ∷ n .y ∷ n .z ∷ d ∷ []) }
+returned none area = record { number = noneCode; hit = area }
+returned (refused number) area = record { number = number; hit = area }
 
 -- where the slice is too short, nothing is written
-unfoldable pub answered : Answer → List Float → Told
-answered answer area = cond (leb 4 (length area)) (told answer area) record { number = shortNumber answer; hit = area }
+unfoldable pub answered : Answer → List Float → Returned
+answered answer area = cond (leb 4 (length area)) (returned answer area) record { number = shortNumber answer; hit = area }
 
 -- with the slice of the triangle's index
-pub record ToldIndexed : Type 0 where
+pub record ReturnedIndexed : Type 0 where
   pub number : ℕ
   pub hit : List Float
   pub index : List ℕ
 
-unfoldable pub toldIndexed : Indexed → List Float → List ℕ → ToldIndexed
-toldIndexed (hitAt n d i) area place = record {
+unfoldable pub returnedIndexed : Indexed → List Float → List ℕ → ReturnedIndexed
+returnedIndexed (hitAt n d i) area place = record {
   number = hitCode;
   hit = sets area 0 (n .x ∷ n .y ∷ n .z ∷ d ∷ []);
   index = sets place 0 (i ∷
       []);
 }
-toldIndexed noHit area place = record { number = noneCode; hit = area; index = place }
-toldIndexed (stopped number) area place = record { number = number; hit = area; index = place }
+returnedIndexed noHit area place = record { number = noneCode; hit = area; index = place }
+returnedIndexed (stopped number) area place = record { number = number; hit = area; index = place }
 
 unfoldable pub resultsFit : List Float → List ℕ → Bool
 resultsFit area place = leb 4 (length area) && leb 1 (length place)
 
 -- the mesh cast's answer; the lengths of its list and stack stand before the result slices
-unfoldable pub answeredMesh : Ray → Mesh → List Float → Tree → ℕ → ℕ → List Float → List ℕ → ToldIndexed
+unfoldable pub answeredMesh : Ray → Mesh → List Float → Tree → ℕ → ℕ → List Float → List ℕ → ReturnedIndexed
 answeredMesh r m pose t list stack area place =
-    withRoom (rayAdmitted r && shapeAdmitted m pose t) (resultsFit area place) (toldIndexed (rayMesh r m pose t list stack) area place)
+    withRoom (rayAdmitted r && shapeAdmitted m pose t) (resultsFit area place) (returnedIndexed (rayMesh r m pose t list stack) area place)
     record { number = noRoom; hit = area; index = place }
 
 -- ---- build, query and tree check
@@ -144,39 +144,39 @@ pub record Counted : Type 0 where
   pub number : ℕ
   pub count : List ℕ
 
-unfoldable pub toldNodes : Build.Answer → List ℕ → Counted
-toldNodes (Build.nodes count) place = record { number = doneCode; count = sets place 0 (count ∷ []) }
-toldNodes (Build.refused number) place = record { number = number; count = place }
+unfoldable pub returnedNodes : Build.Answer → List ℕ → Counted
+returnedNodes (Build.nodes count) place = record { number = doneCode; count = sets place 0 (count ∷ []) }
+returnedNodes (Build.refused number) place = record { number = number; count = place }
 
-unfoldable pub toldFound : Query.Listing → List ℕ → Counted
-toldFound (Query.count count) place = record { number = doneCode; count = sets place 0 (count ∷ []) }
-toldFound (Query.refused number) place = record { number = number; count = place }
+unfoldable pub returnedFound : Query.Listing → List ℕ → Counted
+returnedFound (Query.count count) place = record { number = doneCode; count = sets place 0 (count ∷ []) }
+returnedFound (Query.refused number) place = record { number = number; count = place }
 
-unfoldable pub toldVerdict : Verdict.Ruling → ℕ
-toldVerdict Verdict.yes = yesCode
-toldVerdict Verdict.no = noCode
-toldVerdict (Verdict.refused number) = number
+unfoldable pub returnedVerdict : Verdict.Ruling → ℕ
+returnedVerdict Verdict.yes = yesCode
+returnedVerdict Verdict.no = noCode
+returnedVerdict (Verdict.refused number) = number
 
 -- the build's number and node count, and its areas
-pub record BuildTold : Type 0 where
-  pub told : Counted
+pub record BuildReturned : Type 0 where
+  pub returned : Counted
   pub after : Areas
 
 -- the last arguments are the length of the work area and the slice of the node count
-unfoldable pub buildTold : Mesh → Areas → ℕ → List ℕ → BuildTold
-buildTold m before work place =
+unfoldable pub buildReturned : Mesh → Areas → ℕ → List ℕ → BuildReturned
+buildReturned m before work place =
     withRoom (lengthsAdmitted (length (m .vertices)) (length (m .triangles))) (leb 1 (length place))
-    record { told = toldNodes (Build.buildOf m before work .answer) place; after = Build.buildOf m before work .after }
-    record { told = record { number = noRoom; count = place }; after = before }
+    record { returned = returnedNodes (Build.buildOf m before work .answer) place; after = Build.buildOf m before work .after }
+    record { returned = record { number = noRoom; count = place }; after = before }
 
 -- the query's number and the list's length, and its list
-pub record QueryTold : Type 0 where
-  pub told : Counted
+pub record QueryReturned : Type 0 where
+  pub returned : Counted
   pub list : List ℕ
 
 -- the last arguments are the list's area, the length of the stack and the slice of the list's length
-unfoldable pub queryTold : Aabb → ℕ → Tree → List ℕ → ℕ → List ℕ → QueryTold
-queryTold box n t before stack place =
+unfoldable pub queryReturned : Aabb → ℕ → Tree → List ℕ → ℕ → List ℕ → QueryReturned
+queryReturned box n t before stack place =
     withRoom (validBox box && countsAdmitted n (t .nodeCount)) (leb 1 (length place))
-    record { told = toldFound (Query.queryOf box n t before stack .answer) place; list = Query.queryOf box n t before stack .list }
-    record { told = record { number = noRoom; count = place }; list = before }
+    record { returned = returnedFound (Query.queryOf box n t before stack .answer) place; list = Query.queryOf box n t before stack .list }
+    record { returned = record { number = noRoom; count = place }; list = before }

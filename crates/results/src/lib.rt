@@ -24,7 +24,8 @@ ghost use Rattle.tree.specs.Mesh.{lengthsAdmitted};
 ghost use Rattle.tree_build.specs.Build.{says as saysBuilt};
 ghost use Rattle.tree_check.specs.Verdict.{says as saysVerdict};
 ghost use Rattle.tree_query.specs.Query.{saysListed};
-ghost use Rattle.results.specs.Results.{rayFrom, shortNumber, answered, toldIndexed, toldNodes, toldFound, toldVerdict};
+ghost use Rattle.results.specs.Results.{rayFrom, shortNumber, answered};
+ghost use Rattle.results.specs.Results.{returnedIndexed, returnedNodes, returnedFound, returnedVerdict};
 
 // What a call answers where it does not refuse. Refusals, document 02's among them, stay below 256.
 pub const HIT: u32 = 256;
@@ -68,7 +69,7 @@ pub fn ray_from(
     }
 }
 
-// A hit's normal and distance, into the first four places. Callers show that they are there.
+// A hit's normal and distance, into the first four places.
 pub fn put_hit(hit: &mut [f64], normal: Vec3, distance: f64)
     requires { ⌜ 4 ≤ length (now hit) ⌝ }
     ensures { λ _. ⌜ now (hit .exit) ≡ sets (now (hit .entry)) 0 (normal .x ∷ normal .y ∷ normal .z ∷ distance ∷ []) ⌝ }
@@ -123,11 +124,11 @@ pub fn put_answer(answer: Cast, hit: &mut [f64]) -> u32
     }
 }
 
-// The same with the triangle's index. Callers show that the result slices are long enough.
+// The same with the triangle's index.
 pub fn put_indexed(answer: IndexedCast, hit: &mut [f64], index: &mut [u32]) -> u32
     requires { ⌜ 4 ≤ length (now hit) ⌝ ∗ ⌜ 1 ≤ length (now index) ⌝ }
     ensures { λ r. ⌜ record { number = r; hit = now (hit .exit); index = now (index .exit) }
-        ≡ toldIndexed (saysIndexed answer) (now (hit .entry)) (now (index .entry)) ⌝ }
+        ≡ returnedIndexed (saysIndexed answer) (now (hit .entry)) (now (index .entry)) ⌝ }
 {
     match answer {
         IndexedCast::Hit {
@@ -158,10 +159,10 @@ pub fn short_build(vertices: usize, triangles: usize) -> u32
     answer::NO_ROOM
 }
 
-// The build's answer as its number, the node count written. Callers show that its place is there.
+// The build's answer as its number, the node count written.
 pub fn put_nodes(built: Built, nodes: &mut [usize]) -> u32
     requires { ⌜ 1 ≤ length (now nodes) ⌝ }
-    ensures { λ r. ⌜ record { number = r; count = now (nodes .exit) } ≡ toldNodes (saysBuilt built) (now (nodes .entry)) ⌝ }
+    ensures { λ r. ⌜ record { number = r; count = now (nodes .exit) } ≡ returnedNodes (saysBuilt built) (now (nodes .entry)) ⌝ }
 {
     match built {
         Built::Nodes(count) => {
@@ -174,10 +175,10 @@ pub fn put_nodes(built: Built, nodes: &mut [usize]) -> u32
     }
 }
 
-// The query's answer as its number, the list's length written. Callers show that its place is there.
+// The query's answer as its number, the list's length written.
 pub fn put_found(listed: Listed, found: &mut [usize]) -> u32
     requires { ⌜ 1 ≤ length (now found) ⌝ }
-    ensures { λ r. ⌜ record { number = r; count = now (found .exit) } ≡ toldFound (saysListed listed) (now (found .entry)) ⌝ }
+    ensures { λ r. ⌜ record { number = r; count = now (found .exit) } ≡ returnedFound (saysListed listed) (now (found .entry)) ⌝ }
 {
     match listed {
         Listed::Count(count) => {
@@ -192,7 +193,7 @@ pub fn put_found(listed: Listed, found: &mut [usize]) -> u32
 
 // The tree check's answer as its number.
 pub fn verdict_number(verdict: Verdict) -> u32
-    ensures { λ r. ⌜ r ≡ toldVerdict (saysVerdict verdict) ⌝ }
+    ensures { λ r. ⌜ r ≡ returnedVerdict (saysVerdict verdict) ⌝ }
 {
     match verdict {
         Verdict::Yes => {

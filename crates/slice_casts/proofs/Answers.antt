@@ -15,25 +15,25 @@ use Rattle.casts.specs.Plane.{planeAdmitted, planeCast, rayPlane}
 use Rattle.casts.specs.declared.plane.Plane.{Plane}
 use Rattle.triangle_cast.specs.Triangle.{triangleCast, rayTriangle}
 use Rattle.tree.specs.Layout.{vectorAt}
-use Rattle.results.specs.Results.{Told, answered, told, shortNumber, rayFrom, planeOf, cornersOf}
+use Rattle.results.specs.Results.{Returned, answered, returned, shortNumber, rayFrom, planeOf, cornersOf}
 use Rattle.slice_casts.specs.Slices.{rayIn, planeIn, cornersIn, ofSlices, planeOfSlices, triangleOfSlices}
 
 -- a refusal's number, and nothing written
-abbrev unwritten : ℕ → List Float → Told
+abbrev unwritten : ℕ → List Float → Returned
 unwritten number area = record { number = number; hit = area }
 
-same-either-way : (b : Bool) (t : Told) → t ≡ cond b t t
+same-either-way : (b : Bool) (t : Returned) → t ≡ cond b t t
 same-either-way true t = refl
 same-either-way false t = refl
 
 -- 1 and 2 go before the room for a hit
-told-one : (area : List Float) → unwritten invalidInput area ≡ answered (refused invalidInput) area
-unfolding answered told shortNumber
-told-one area = same-either-way (leb 4 (length area)) (unwritten invalidInput area)
+returned-one : (area : List Float) → unwritten invalidInput area ≡ answered (refused invalidInput) area
+unfolding answered returned shortNumber
+returned-one area = same-either-way (leb 4 (length area)) (unwritten invalidInput area)
 
-told-two : (area : List Float) → unwritten badShape area ≡ answered (refused badShape) area
-unfolding answered told shortNumber
-told-two area = same-either-way (leb 4 (length area)) (unwritten badShape area)
+returned-two : (area : List Float) → unwritten badShape area ≡ answered (refused badShape) area
+unfolding answered returned shortNumber
+returned-two area = same-either-way (leb 4 (length area)) (unwritten badShape area)
 
 -- ---- the tests of the lengths and of the ray
 module _ (stated : ℕ) (ray shape : List Float) (answer : Answer) where
@@ -58,15 +58,15 @@ module _ (stated : ℕ) (ray shape : List Float) (answer : Answer) where
     passed good fits = simp (eq-eqb (length ray) 8 eight, sym is-ray, good, eq-eqb (length shape) stated fits)
 
   module _ (area : List Float) where
-    pub told-no-ray : (length ray ≡ 8 → ⊥) → unwritten invalidInput area ≡ answered at area
-    told-no-ray other = told-one area ∙ ap (λ (a : Answer). answered a area) (sym (no-ray other))
+    pub returned-no-ray : (length ray ≡ 8 → ⊥) → unwritten invalidInput area ≡ answered at area
+    returned-no-ray other = returned-one area ∙ ap (λ (a : Answer). answered a area) (sym (no-ray other))
 
     module _ (eight : length ray ≡ 8) (r : Ray) (is-ray : r ≡ rayIn ray) where
-      pub told-not-admitted : rayAdmitted r ≡ false → unwritten invalidInput area ≡ answered at area
-      told-not-admitted bad = told-one area ∙ ap (λ (a : Answer). answered a area) (sym (not-admitted eight r is-ray bad))
+      pub returned-not-admitted : rayAdmitted r ≡ false → unwritten invalidInput area ≡ answered at area
+      returned-not-admitted bad = returned-one area ∙ ap (λ (a : Answer). answered a area) (sym (not-admitted eight r is-ray bad))
 
-      pub told-no-shape : rayAdmitted r ≡ true → (length shape ≡ stated → ⊥) → unwritten badShape area ≡ answered at area
-      told-no-shape good other = told-two area ∙ ap (λ (a : Answer). answered a area) (sym (no-shape eight r is-ray good other))
+      pub returned-no-shape : rayAdmitted r ≡ true → (length shape ≡ stated → ⊥) → unwritten badShape area ≡ answered at area
+      returned-no-shape good other = returned-two area ∙ ap (λ (a : Answer). answered a area) (sym (no-shape eight r is-ray good other))
 
 -- ---- past them: the plane, then its cast
 module _ (ray shape : List Float) (eight : length ray ≡ 8) (r : Ray) (is-ray : r ≡ rayIn ray) (good : rayAdmitted r ≡ true) where
@@ -75,8 +75,9 @@ module _ (ray shape : List Float) (eight : length ray ≡ 8) (r : Ray) (is-ray :
     unfolding planeOfSlices
     plane-passed = passed 4 ray shape _ eight r is-ray good four ∙ simp (is-plane, is-ray)
 
-    pub told-bad-plane : planeAdmitted p ≡ false → (area : List Float) → unwritten badShape area ≡ answered (planeOfSlices ray shape) area
-    told-bad-plane bad area = told-two area ∙ ap (λ (a : Answer). answered a area) (sym (plane-passed ∙ refusal))
+    pub returned-bad-plane : planeAdmitted p ≡ false → (area : List Float) → unwritten badShape area ≡ answered (planeOfSlices ray shape)
+        area
+    returned-bad-plane bad area = returned-two area ∙ ap (λ (a : Answer). answered a area) (sym (plane-passed ∙ refusal))
       where
         refusal : rayPlane p r ≡ refused badShape
         refusal = unfold rayPlane in (simp (good, bad))

@@ -7,7 +7,7 @@ ghost use Rattle.slice_casts.specs.Slices.{planeOfSlices};
 
 // The cast at the plane in a slice, of the ray in a slice. The tests of `ray_plane` stand here: it keeps its one user, and is compiled into
 // that.
-pub fn told_plane(ray: &[f64], plane: &[f64], hit: &mut [f64]) -> u32
+pub fn answer_plane(ray: &[f64], plane: &[f64], hit: &mut [f64]) -> u32
     ensures { λ r. ⌜ record { number = r; hit = now (hit .exit) }
         ≡ answered (planeOfSlices (now (ray .entry)) (now (plane .entry))) (now (hit .entry)) ⌝ }
 {

@@ -92,7 +92,7 @@ fn cast_at(ray: Ray, corners: [Vec3; 3]) -> Cast
 }
 
 // The cast at the triangle in a slice, of the ray in a slice.
-pub fn told_triangle(ray: &[f64], triangle: &[f64], hit: &mut [f64]) -> u32
+pub fn answer_triangle(ray: &[f64], triangle: &[f64], hit: &mut [f64]) -> u32
     ensures { λ r. ⌜ record { number = r; hit = now (hit .exit) }
         ≡ answered (triangleOfSlices (now (ray .entry)) (now (triangle .entry))) (now (hit .entry)) ⌝ }
 {

@@ -6,7 +6,7 @@ ghost use mathlib.Core.Path.{_≡_};
 ghost use lib.ListN.{length};
 ghost use Rattle.slice_casts.specs.Slices.{rayIn, planeIn, cornersIn};
 
-// The ray of eight numbers. Callers show that they are eight.
+// The ray of eight numbers.
 pub fn ray_in(ray: &[f64]) -> Ray
     requires { ⌜ length (now ray) ≡ 8 ⌝ }
     ensures { λ r. ⌜ r ≡ rayIn (now (ray .entry)) ⌝ }
@@ -19,7 +19,7 @@ pub fn ray_in(ray: &[f64]) -> Ray
     }
 }
 
-// The plane of four numbers. Callers show that they are four.
+// The plane of four numbers.
 pub fn plane_in(plane: &[f64]) -> Plane
     requires { ⌜ length (now plane) ≡ 4 ⌝ }
     ensures { λ r. ⌜ r ≡ planeIn (now (plane .entry)) ⌝ }
@@ -30,7 +30,7 @@ pub fn plane_in(plane: &[f64]) -> Plane
     }
 }
 
-// The corners of nine numbers. Callers show that they are nine.
+// The corners of nine numbers.
 pub fn corners_in(triangle: &[f64]) -> [Vec3; 3]
     requires { ⌜ length (now triangle) ≡ 9 ⌝ }
     ensures { λ r. ⌜ r ≡ cornersIn (now (triangle .entry)) ⌝ }

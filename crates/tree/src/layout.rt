@@ -5,7 +5,7 @@ ghost use Prim.Native.Nat.{_+_, _*_, _<_, _≤_};
 ghost use lib.ListN.{length};
 ghost use Rattle.tree.specs.Layout.{wordAt, vectorAt, boxAt, allLong, treeLengths};
 
-// The word at a place, as an index. Callers show that it is there.
+// The word at a place, as an index.
 pub fn word_at(words: &[u32], place: usize) -> usize
     requires { ⌜ place < length (now words) ⌝ }
     ensures { λ r. ⌜ r ≡ wordAt (now (words .entry)) place ⌝ }
@@ -13,7 +13,7 @@ pub fn word_at(words: &[u32], place: usize) -> usize
     words[place] as usize
 }
 
-// The vector whose three numbers begin at a place. Callers show that they are there.
+// The vector whose three numbers begin at a place.
 pub fn vector_at(numbers: &[f64], place: usize) -> Vec3
     requires { ⌜ place + 3 ≤ length (now numbers) ⌝ }
     ensures { λ r. ⌜ r ≡ vectorAt (now (numbers .entry)) place ⌝ }
@@ -25,7 +25,7 @@ pub fn vector_at(numbers: &[f64], place: usize) -> Vec3
     }
 }
 
-// The box at an index of an area of boxes. Callers show that it is there.
+// The box at an index of an area of boxes.
 pub fn box_at(boxes: &[f64], index: usize) -> Aabb
     requires { ⌜ 6 * index + 6 ≤ length (now boxes) ⌝ }
     ensures { λ r. ⌜ r ≡ boxAt (now (boxes .entry)) index ⌝ }
@@ -37,7 +37,7 @@ pub fn box_at(boxes: &[f64], index: usize) -> Aabb
     }
 }
 
-// Whether areas of these lengths are as long as stated for a tree of n triangles. Callers show that n is admitted.
+// Whether areas of these lengths are as long as stated for a tree of n triangles.
 pub fn lengths_fit(
     n: usize,
     node_boxes: usize,

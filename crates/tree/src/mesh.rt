@@ -5,7 +5,6 @@ ghost use mathlib.Core.Path.{_≡_};
 ghost use mathlib.Core.Bool.{true};
 ghost use Prim.Native.Nat.{_+_, _*_, _<_, _≤_};
 ghost use lib.ListN.{length};
-ghost use Rattle.tree.specs.Layout.{wordAt};
 ghost use Rattle.tree.specs.Mesh.{lengthsAdmitted, thirds, cornerIndex, cornersInside, cornerAt, cornersOf, triangleBox};
 
 // Whether the lengths are three to a vertex and to a triangle, and not past 65,536 of either.
@@ -24,7 +23,7 @@ pub fn lengths_admitted(vertices: usize, triangles: usize) -> bool
     triangles <= 196608
 }
 
-// The vertex index at a corner, 0, 1 or 2, of a triangle. Callers show that the triangle is in the mesh.
+// The vertex index at a corner, 0, 1 or 2, of a triangle.
 fn corner_index(triangles: &[u32], index: usize, corner: usize) -> usize
     requires { ⌜ (3 * index + 3 ≤ length (now triangles)) × (corner < 3) ⌝ }
     ensures { λ r. ⌜ r ≡ cornerIndex (now (triangles .entry)) index corner ⌝ }
@@ -32,7 +31,7 @@ fn corner_index(triangles: &[u32], index: usize, corner: usize) -> usize
     layout::word_at(triangles, 3 * index + corner)
 }
 
-// Whether a triangle's three indices are below a vertex count. Callers show that the triangle is in the mesh.
+// Whether a triangle's three indices are below a vertex count.
 pub fn corners_inside(count: usize, triangles: &[u32], index: usize) -> bool
     requires { ⌜ 3 * index + 3 ≤ length (now triangles) ⌝ }
     ensures { λ r. ⌜ r ≡ cornersInside count (now (triangles .entry)) index ⌝ }
@@ -49,8 +48,7 @@ pub fn corners_inside(count: usize, triangles: &[u32], index: usize) -> bool
     third < count
 }
 
-// A corner, 0, 1 or 2, of a triangle whose indices are below the vertex count. Callers show that the triangle is in the mesh and that the
-// index is.
+// A corner, 0, 1 or 2, of a triangle whose indices are below the vertex count.
 fn corner_at(vertices: &[f64], triangles: &[u32], index: usize, corner: usize) -> Vec3
     requires { ⌜ (3 * index + 3 ≤ length (now triangles))
         × ((corner < 3) × (3 * cornerIndex (now triangles) index corner + 3 ≤ length (now vertices))) ⌝ }
@@ -60,7 +58,7 @@ fn corner_at(vertices: &[f64], triangles: &[u32], index: usize, corner: usize) -
     layout::vector_at(vertices, 3 * vertex)
 }
 
-// The three corners of such a triangle. Callers show that it is one.
+// The three corners of such a triangle.
 pub fn corners_of(vertices: &[f64], triangles: &[u32], index: usize) -> [Vec3; 3]
     requires { ⌜ (3 * index + 3 ≤ length (now triangles))
         × (cornersInside (thirds (length (now vertices))) (now triangles) index ≡ true) ⌝ }
@@ -73,7 +71,7 @@ pub fn corners_of(vertices: &[f64], triangles: &[u32], index: usize) -> [Vec3; 3
     ]
 }
 
-// The box of such a triangle's corners, valid or not. Callers show that it is one.
+// The box of such a triangle's corners, valid or not.
 pub fn triangle_box(vertices: &[f64], triangles: &[u32], index: usize) -> Aabb
     requires { ⌜ (3 * index + 3 ≤ length (now triangles))
         × (cornersInside (thirds (length (now vertices))) (now triangles) index ≡ true) ⌝ }

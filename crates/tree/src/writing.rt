@@ -9,7 +9,7 @@ ghost use lib.Seq.{sets};
 ghost use Rattle.tree.specs.Layout.{boxNumbers};
 ghost use Rattle.tree.specs.Mesh.{mesh, thirds, triangleBox, triangleFits, trianglesFit, boxesWritten};
 
-// A box's six numbers from a place on. Callers show that they are there.
+// A box's six numbers from a place on.
 pub fn put_box(area: &mut [f64], place: usize, bounds: Aabb)
     requires { ⌜ place + 6 ≤ length (now area) ⌝ }
     ensures { λ _. ⌜ now (area .exit) ≡ sets (now (area .entry)) place (boxNumbers bounds) ⌝ }
@@ -23,7 +23,6 @@ pub fn put_box(area: &mut [f64], place: usize, bounds: Aabb)
 }
 
 // A triangle's box in its place, or that an index is past the vertices or the box not valid.
-// Callers show that the triangle is in the mesh and that its place is there.
 fn put_triangle_box(vertices: &[f64], triangles: &[u32], index: usize, area: &mut [f64]) -> bool
     requires { ⌜ (3 * index + 3 ≤ length (now triangles)) × (6 * index + 6 ≤ length (now area)) ⌝ }
     ensures { λ r. ⌜ (r ≡ triangleFits (mesh (now (vertices .entry)) (now (triangles .entry))) index)
@@ -41,7 +40,7 @@ fn put_triangle_box(vertices: &[f64], triangles: &[u32], index: usize, area: &mu
     true
 }
 
-// The boxes of all triangles in order, or that one does not fit; then the area holds anything. Callers show that the area is long enough.
+// The boxes of all triangles in order, or that one does not fit; then the area holds anything.
 pub fn put_triangle_boxes(vertices: &[f64], triangles: &[u32], area: &mut [f64]) -> bool
     requires { ⌜ 6 * thirds (length (now triangles)) ≤ length (now area) ⌝ }
     ensures { λ r. ⌜ (r ≡ trianglesFit (mesh (now (vertices .entry)) (now (triangles .entry))))
@@ -58,7 +57,7 @@ pub fn put_triangle_boxes(vertices: &[f64], triangles: &[u32], area: &mut [f64])
     true
 }
 
-// A node's three words from a place on. Callers show that they are there and that the numbers are u32.
+// A node's three words from a place on.
 pub fn put_words(area: &mut [u32], place: usize, kind: u32, first: usize, second: usize)
     requires { ⌜ (place + 3 ≤ length (now area)) × ((first < 4294967296) × (second < 4294967296)) ⌝ }
     ensures { λ _. ⌜ now (area .exit) ≡ sets (now (area .entry)) place (kind ∷ (first ∷ (second ∷ []))) ⌝ }

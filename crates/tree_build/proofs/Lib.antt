@@ -1,6 +1,5 @@
 -- The laws of the build, beside the functions' own proofs. Assumes nothing.
 pub mod Alikeness
-pub mod Examples
 pub mod Outcomes
 pub mod Readback
 pub mod Recursion

@@ -1,16 +1,16 @@
 -- The public call from its parts: which lengths the tests leave, and the outcome at each return. Assumes nothing.
 use mathlib.Core.Path.{_≡_, refl, sym, ap, _∙_, subst}
-use mathlib.Core.Bool.{Bool, true, false, _&&_, cond, false≢true}
+use mathlib.Core.Bool.{Bool, true, false, _&&_, cond}
 use mathlib.Core.List.{List, _++_}
 use Prim.Native.Nat.{ℕ, _+_, _*_, _/_, _%_, _<_, _≤_}
 use native.Mathlib.Nat.{zero-add}
 use native.Mathlib.Omega.{arith}
 use lib.Dec.{leb, eqb}
 use lib.Ieee.{Float}
-use lib.ListN.{length, take, drop, replicate}
+use lib.ListN.{length, take, drop}
 use lib.Seq.{length-take-le, take-at, drop-at}
 use borrow.Author.Tests.{leb-true, eq-eqb, ne-eqb}
-use Rattle.vectors.specs.Numbers.{zeroᶠ}
+use Rattle.lists.proofs.JoinedTests.{and-parts, and-second}
 use Rattle.casts.specs.Answer.{outOfBounds, overflow}
 use Rattle.lists.specs.Lists.{range}
 use Rattle.tree.specs.Mesh.{Mesh, lengthsAdmitted, triangleCount, trianglesFit, boxesWritten}
@@ -18,7 +18,7 @@ use Rattle.tree_build.specs.Shape.{shapeOf, nodesOf, wordsOf}
 use Rattle.tree_build.specs.Ranges.{extentsFinite, orderBelow, boxesBelow}
 use Rattle.tree_build.specs.Build.{Answer, nodes, refused, says, Outcome, zeroed, roomFor, treeWritten, builtOf, buildOf}
 use Rattle.tree.specs.Layout.{Areas, areas}
-use Rattle.tree_build.specs.Node.{RoomAt, Grown, Written}
+use Rattle.tree_build.specs.Node.{RoomAt, Grown}
 use Rattle.tree_build.specs.declared.build.Built.{Built}
 use Rattle.tree_build.specs.declared.build.Built.the-variants.{Nodes, Refused}
 use Rattle.lists.proofs.Runs.{sets-front}
@@ -27,15 +27,12 @@ use Rattle.tree_build.proofs.Shapes.{nodesOf-shapeOf, three-words-a-nod
 use Rattle.tree_build.proofs.Recursion.{was-grown}
 
 -- ---- what the tests of 2 and 3 leave
-both : (a b : Bool) → (a && b) ≡ true → (a ≡ true) × (b ≡ true)
-both true b h = (refl, h)
-both false b h = absurd (false≢true h)
-
 pub count-admitted : (vertices triangles : ℕ) → lengthsAdmitted vertices triangles ≡ true → triangles / 3 ≤ 65536
 unfolding lengthsAdmitted
 count-admitted v t h =
-    let few = leb-true t 196608 (both (eqb (t % 3) 0) (leb t 196608) (both (leb v 196608) (eqb (t % 3) 0 && leb t 196608) (both (eqb (v % 3)
-    0) (leb v 196608 && (eqb (t % 3) 0 && leb t 196608)) h .1) .1) .1) in
+    let rest = and-second (eqb (v % 3) 0) (leb v 196608 && (eqb (t % 3) 0 && leb t 196608)) h in
+    let last = and-second (leb v 196608) (eqb (t % 3) 0 && leb t 196608) rest in
+    let few = leb-true t 196608 (and-second (eqb (t % 3) 0) (leb t 196608) last) in
     omega arith
 
 -- the five lengths
@@ -55,10 +52,10 @@ room-left n a work h =
     let r = leb (6 * n) (length (a .nodeWords)) in
     let s = leb n (length (a .order)) in
     let t = leb n work in
-    let b1 = both p (q && (r && (s && t))) h in
-    let b2 = both q (r && (s && t)) (b1 .1) in
-    let b3 = both r (s && t) (b2 .1) in
-    let b4 = both s t (b3 .1) in
+    let b1 = and-parts p (q && (r && (s && t))) h in
+    let b2 = and-parts q (r && (s && t)) (b1 .1) in
+    let b3 = and-parts r (s && t) (b2 .1) in
+    let b4 = and-parts s t (b3 .1) in
     record {
       forNodeBoxes = leb-true (12 * n) (length (a .nodeBoxes)) (b1 .0);
       forTriangleBoxes = leb-true (6 * n) (length (a .triangleBoxes)) (b2 .0);

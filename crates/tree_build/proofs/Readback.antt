@@ -10,7 +10,7 @@ use Rattle.geometry.specs.Box.{unionOf}
 use Rattle.geometry.specs.declared.aabb.Aabb.{Aabb}
 use Rattle.tree.specs.Layout.{vectorAt, boxAt, boxNumbers}
 use Rattle.tree_ranges.specs.Extents.{hullOf}
-use Rattle.tree_plain.proofs.Unseen.{from-numbers, from-corners}
+use Rattle.tree_ranges.proofs.Unseen.{from-numbers, from-corners}
 use Rattle.lists.proofs.Runs.{sets-append, sets-before}
 use Rattle.tree_build.specs.Shape.{Shape, leaf, branch, nodesOf}
 use Rattle.tree_build.specs.Ranges.{leftRange, rightRange, boxesBelow}
@@ -52,7 +52,7 @@ unfolding boxesBelow
 hull-begins boxes (leaf n) ts = ([], sym (append-nil (boxNumbers (hullOf boxes ts))))
 hull-begins boxes (branch l r) ts = (boxesBelow boxes l (leftRange boxes l ts) ++ boxesBelow boxes r (rightRange boxes l ts), refl)
 
-six-long : (b : Aabb) → length (boxNumbers b) ≡ 6
+pub six-long : (b : Aabb) → length (boxNumbers b) ≡ 6
 unfolding boxNumbers
 six-long b = refl
 

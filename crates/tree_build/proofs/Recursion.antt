@@ -1,6 +1,6 @@
 -- One call of the recursion: what a leaf, a branch and a refusal give. Assumes nothing.
 use mathlib.Core.Path.{_≡_, refl, sym, ap, _∙_, subst}
-use mathlib.Core.Bool.{Bool, true, false, _&&_, cond, true≢false, false≢true, and-false}
+use mathlib.Core.Bool.{Bool, true, false, _&&_, cond, false≢true, and-false}
 use mathlib.Core.List.{List, [], _∷_, _++_, append-assoc}
 use Prim.Native.Nat.{ℕ, _+_, _-_, _*_, _/_, _<_, _≤_}
 use native.Mathlib.Omega.{arith}
@@ -16,16 +16,15 @@ use Rattle.geometry.specs.Box.{unionOf}
 use Rattle.tree.specs.Layout.{boxAt, boxNumbers}
 use Rattle.tree_ranges.specs.Extents.{hullOf, extentOf}
 use Rattle.tree_build.specs.Ranges.{leftRange, rightRange, extentsFinite, orderBelow, boxesBelow}
-use Rattle.tree_build.specs.Build.{Answer, nodes, refused, says}
+use Rattle.tree_build.specs.Build.{nodes, refused, says}
 use Rattle.tree_build.specs.Node.{RoomAt, Arranged, Written, Grown}
 use Rattle.tree_build.specs.declared.build.Built.{Built}
 use Rattle.tree_build.specs.declared.build.Built.the-variants.{Nodes, Refused}
 use Rattle.lists.proofs.Runs.{sets-append, sets-before}
-use Rattle.tree_plain.specs.Plain.{plainRange}
+use Rattle.tree_ranges.specs.Plain.{plainRange}
 use Rattle.tree_build.proofs.Alikeness.{grown-alike, hull-of-halves}
 use Rattle.tree_build.proofs.Readback.{hull-first, hull-last}
 use Rattle.tree_build.proofs.Shapes.{few-are-a-leaf, many-are-halved, sizeOf-shapeOf, nodes-halved, three-words-a-node}
-use Rattle.tree_build.proofs.Shapes.{six-numbers-a-node}
 
 -- ---- Bools and answers
 middle-false : (a b c : Bool) → b ≡ false → (a && (b && c)) ≡ false

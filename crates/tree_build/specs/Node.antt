@@ -7,7 +7,7 @@ use lib.Ieee.{Float}
 use lib.ListN.{length, take, drop}
 use lib.Seq.{sets}
 use Rattle.casts.specs.Answer.{overflow}
-use Rattle.tree_plain.specs.Plain.{plainRange}
+use Rattle.tree_ranges.specs.Plain.{plainRange}
 use Rattle.tree_build.specs.Shape.{Shape, shapeOf, nodesOf, wordsOf}
 use Rattle.tree_build.specs.Ranges.{leftRange, rightRange, extentsFinite, orderBelow, boxesBelow}
 use Rattle.tree_build.specs.Build.{nodes, refused, says}

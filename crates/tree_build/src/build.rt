@@ -19,7 +19,7 @@ pub enum Built {
     Refused(u32),
 }
 
-// Whether the areas are long enough for a number of triangles. Callers show that they are few, so that no product wraps.
+// Whether the areas are long enough for a number of triangles.
 fn has_room(
     count: usize,
     node_boxes: &[f64],
@@ -61,7 +61,7 @@ fn zero_areas(
     fill::zero_words(order);
 }
 
-// The build of an admitted mesh with room. The areas hold anything after a refusal. Callers show that it is admitted and has room.
+// The build of an admitted mesh with room. The areas hold anything after a refusal.
 fn grow(
     vertices: &[f64],
     triangles: &[u32],

@@ -1,7 +1,7 @@
 -- The clauses of the tree check from what the code decides node by node and triangle by triangle. Assumes nothing.
-use Prim.Native.Nat.{ℕ, _+_, _-_}
+use Prim.Native.Nat.{ℕ, _+_}
 use mathlib.Core.Path.{_≡_, refl, sym, ap, _∙_}
-use mathlib.Core.Bool.{Bool, true, false, not, _&&_, _||_, cond, true≢false}
+use mathlib.Core.Bool.{Bool, true, false, not, _&&_, _||_, cond, true≢false, and-comm}
 use mathlib.Core.List.{List, [], _∷_}
 use native.Mathlib.Omega.{arith}
 use borrow.Author.Tests.{ne-eqb, eqb-true}
@@ -13,23 +13,9 @@ use Rattle.tree.specs.Mesh.{Mesh}
 use Rattle.tree_check.specs.Check.{triangleCount, nodes, isLeaf, isBranch, childrenOf, placesOf, kindsKnown, childrenAbove}
 use Rattle.tree_check.specs.Check.{leavesInside, leavesFilled, cornersKnown, boxesSame, nodeEncloses, enclosed}
 use Rattle.tree_check.specs.Steps.{triangleSound, placeEnclosed, childrenEnclosed, nodeHolds, nodeFits}
-use Rattle.tree_words.specs.Sound.{leafSound, branchSound, nodeSound}
+use Rattle.tree_check.specs.Sound.{leafSound, branchSound, nodeSound}
 use Rattle.lists.proofs.EveryLaws.{every-agree, every-and}
-use Rattle.tree_words.proofs.Sound.{sound-at}
-
-and-comm : (a b : Bool) → (a && b) ≡ (b && a)
-and-comm false false = refl
-and-comm false true = refl
-and-comm true false = refl
-and-comm true true = refl
-
-and-true : (a : Bool) → (a && true) ≡ a
-and-true false = refl
-and-true true = refl
-
-pub and-false : (a : Bool) → (a && false) ≡ false
-and-false false = refl
-and-false true = refl
+use Rattle.tree_check.proofs.Sound.{sound-at}
 
 branch-clauses : (p a b c d : Bool) → (p && (a && (b && (c && d)))) ≡ ((p && ((a && b) && ((c && d) && true))) && true)
 branch-clauses false a b c d = refl

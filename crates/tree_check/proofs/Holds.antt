@@ -9,7 +9,7 @@ use Rattle.geometry.specs.declared.aabb.Aabb.{Aabb}
 use Rattle.lists.specs.Lists.{range, every}
 use Rattle.tree.specs.Layout.{boxAt, kindAt, firstAt, secondAt}
 use Rattle.tree_check.specs.Steps.{placeEnclosed, childrenEnclosed, nodeHolds, Readable}
-use Rattle.tree_words.proofs.Sound.{SoundLeaf, SoundBranch, sound-at, sound-leaf, sound-branch}
+use Rattle.tree_check.proofs.Sound.{SoundLeaf, SoundBranch, sound-at, sound-leaf, sound-branch}
 
 module _ (nodeBoxes triangleBoxes : List Float) (words order : List ℕ) (node : ℕ) where
   module _ (outer : Aabb) (first second : ℕ) (o : outer ≡ boxAt nodeBoxes node) (f : first ≡ firstAt words node)

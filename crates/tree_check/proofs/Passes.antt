@@ -2,7 +2,7 @@
 -- pass. Assumes nothing.
 use Prim.Native.Nat.{ℕ, _-_, _*_, _/_, _%_, _<_, _≤_}
 use mathlib.Core.Path.{_≡_, refl, sym, ap, _∙_}
-use mathlib.Core.Bool.{Bool, true, false, _&&_, _||_}
+use mathlib.Core.Bool.{Bool, true, false, _&&_, _||_, and-false}
 use mathlib.Core.List.{List}
 use native.Mathlib.Omega.{arith}
 use borrow.Author.Tests.{eq-eqb, ne-eqb, lt-leb, le-leb, leb-true}
@@ -17,13 +17,13 @@ use Rattle.lists.proofs.JoinedTests.{and-first, and-second}
 use Rattle.tree_check.specs.Check.{triangleCount, nodes, childrenOf, placesOf, kindsKnown, childrenAbove, leavesInside, namedOnce}
 use Rattle.tree_check.specs.Check.{placedOnce, orderedOnce, leavesFilled, cornersKnown, boxesSame, boxesValid, enclosed, clausesHold}
 use Rattle.tree_check.specs.Check.{treePasses}
-use Rattle.tree_words.specs.Marks.{once, places, secondMark, marked}
+use Rattle.tree_check.specs.Marks.{once, places, secondMark, marked}
 use Rattle.tree_check.specs.Steps.{wordsPass, boxesPass, Readable, Long}
-use Rattle.tree_words.specs.Sound.{nodeSound}
+use Rattle.tree_check.specs.Sound.{nodeSound}
 use Rattle.tree_check.specs.Verdict.{roomFor}
-use Rattle.tree_words.proofs.Counting.{by-equality}
-use Rattle.tree_check.proofs.Clauses.{and-false, nodes-sound-is, triangles-sound-is, nodes-fit-is}
-use Rattle.tree_words.proofs.Pigeonhole.{order-below}
+use Rattle.tree_check.proofs.Counting.{by-equality}
+use Rattle.tree_check.proofs.Clauses.{nodes-sound-is, triangles-sound-is, nodes-fit-is}
+use Rattle.tree_check.proofs.Pigeonhole.{order-below}
 
 -- the clauses in document 01's order, and as the code groups them
 regrouped : (few k c l nm p o f co s vn vt e : Bool)

@@ -2,3 +2,5 @@
 pub mod Check
 pub mod Verdict
 pub mod Steps
+pub mod Marks
+pub mod Sound

@@ -12,8 +12,8 @@ use Rattle.geometry.specs.declared.aabb.Aabb.{Aabb}
 use Rattle.lists.specs.Lists.{range, every, flatMap}
 use Rattle.tree.specs.Layout.{wordAt, boxAt, kindAt, firstAt, secondAt}
 use Rattle.tree.specs.Mesh.{thirds, cornersInside, triangleBox}
-use Rattle.tree_words.specs.Marks.{once, places, marked}
-use Rattle.tree_words.specs.Sound.{nodeSound}
+use Rattle.tree_check.specs.Marks.{once, places, marked}
+use Rattle.tree_check.specs.Sound.{nodeSound}
 
 -- a triangle's indices lie below the vertex count, and its box in the tree is that of its vertices and valid
 unfoldable pub triangleSound : List Float → List ℕ → List Float → ℕ → Bool

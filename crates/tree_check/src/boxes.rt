@@ -8,7 +8,6 @@ ghost use Rattle.lists.specs.Lists.{range, every};
 ghost use Rattle.tree_check.specs.Steps.{triangleSound, placeEnclosed, childrenEnclosed, nodeHolds, nodeFits, Readable};
 
 // Whether a triangle's indices lie below the vertex count, and its box in the tree is that of its vertices and valid.
-// Callers show that triangle and box are there.
 fn triangle_sound(vertices: &[f64], triangles: &[u32], boxes: &[f64], x: usize) -> bool
     requires { ⌜ (3 * x + 3 ≤ length (now triangles)) × (6 * x + 6 ≤ length (now boxes)) ⌝ }
     ensures { λ r. ⌜ r ≡ triangleSound (now (vertices .entry)) (now (triangles .entry)) (now (boxes .entry)) x ⌝ }
@@ -23,7 +22,7 @@ fn triangle_sound(vertices: &[f64], triangles: &[u32], boxes: &[f64], x: usize) 
     around.is_valid()
 }
 
-// Whether all triangles are. Callers show that triangles and boxes are there.
+// Whether all triangles are.
 pub fn triangles_sound(n: usize, vertices: &[f64], triangles: &[u32], boxes: &[f64]) -> bool
     requires { ⌜ (3 * n ≤ length (now triangles)) × (6 * n ≤ length (now boxes)) ⌝ }
     ensures { λ r. ⌜ r ≡ every (triangleSound (now (vertices .entry)) (now (triangles .entry)) (now (boxes .entry))) (range 0 n) ⌝ }
@@ -38,7 +37,7 @@ pub fn triangles_sound(n: usize, vertices: &[f64], triangles: &[u32], boxes: &[f
     true
 }
 
-// Whether a box encloses the box of the triangle at an order place. Callers show that place and box are there.
+// Whether a box encloses the box of the triangle at an order place.
 fn place_enclosed(outer: Aabb, boxes: &[f64], order: &[u32], p: usize) -> bool
     requires { ⌜ (p < length (now order)) × (6 * getD (now order) p 0 + 6 ≤ length (now boxes)) ⌝ }
     ensures { λ r. ⌜ r ≡ placeEnclosed outer (now (boxes .entry)) (now (order .entry)) p ⌝ }
@@ -46,7 +45,7 @@ fn place_enclosed(outer: Aabb, boxes: &[f64], order: &[u32], p: usize) -> bool
     outer.encloses(layout::box_at(boxes, layout::word_at(order, p)))
 }
 
-// Whether it encloses those at all places from start on and below end. Callers show that places and boxes are there.
+// Whether it encloses those at all places from start on and below end.
 fn places_enclosed(outer: Aabb, boxes: &[f64], order: &[u32], start: usize, end: usize) -> bool
     requires { ⌜ end ≤ length (now order) ⌝ }
     requires { ⌜ ((p : ℕ) → p < end → 6 * getD (now order) p 0 + 6 ≤ length (now boxes)) ⌝ }
@@ -62,7 +61,7 @@ fn places_enclosed(outer: Aabb, boxes: &[f64], order: &[u32], start: usize, end:
     true
 }
 
-// Whether it encloses the boxes of two nodes. Callers show that both are there.
+// Whether it encloses the boxes of two nodes.
 fn children_enclosed(outer: Aabb, boxes: &[f64], left: usize, right: usize) -> bool
     requires { ⌜ (6 * left + 6 ≤ length (now boxes)) × (6 * right + 6 ≤ length (now boxes)) ⌝ }
     ensures { λ r. ⌜ r ≡ childrenEnclosed outer (now (boxes .entry)) left right ⌝ }
@@ -74,7 +73,6 @@ fn children_enclosed(outer: Aabb, boxes: &[f64], left: usize, right: usize) -> b
 }
 
 // Whether a node's box encloses those of its children, or of its triangles.
-// Callers show that the node is one and that all that the nodes name is there.
 fn node_holds(
     n: usize,
     nodes: usize,
@@ -97,7 +95,7 @@ fn node_holds(
     children_enclosed(outer, node_boxes, first, second)
 }
 
-// Whether it is valid besides. Callers show that the node is one and that all that the nodes name is there.
+// Whether it is valid besides.
 fn node_fits(
     n: usize,
     nodes: usize,
@@ -117,7 +115,7 @@ fn node_fits(
     node_holds(n, nodes, node_boxes, triangle_boxes, words, order, node)
 }
 
-// Whether all nodes' boxes are and do. Callers show that all that the nodes name is there.
+// Whether all nodes' boxes are and do.
 pub fn nodes_fit(
     n: usize,
     nodes: usize,

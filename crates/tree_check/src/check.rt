@@ -1,10 +1,10 @@
 use crate::boxes;
+use crate::words;
 use casts::answer;
 use tree::layout;
 use tree::mesh;
-use tree_words::words;
 ghost use mathlib.Core.Path.{_≡_};
-ghost use Prim.Native.Nat.{_*_, _/_, _<_, _≤_};
+ghost use Prim.Native.Nat.{_*_, _/_, _≤_};
 ghost use lib.ListN.{length};
 ghost use Rattle.tree.specs.Layout.{treeOf};
 ghost use Rattle.tree.specs.Mesh.{mesh};
@@ -19,7 +19,7 @@ pub enum Verdict {
     Refused(u32),
 }
 
-// Whether the nodes' words and the order pass. Callers show that the counts are admitted and the areas long enough.
+// Whether the nodes' words and the order pass.
 fn words_pass(n: usize, nodes: usize, words: &[u32], order: &[u32], marks: &mut [u32]) -> bool
     requires { ⌜ (n ≤ 65536) × ((nodes ≤ 2 * n)
         × ((3 * nodes ≤ length (now words)) × ((n ≤ length (now order)) × (3 * n ≤ length (now marks))))) ⌝ }
@@ -37,7 +37,7 @@ fn words_pass(n: usize, nodes: usize, words: &[u32], order: &[u32], marks: &mut 
     words::ordered_once(n, order, marks)
 }
 
-// Whether the triangles and all boxes pass. Callers show that the words and the order do.
+// Whether the triangles and all boxes pass.
 fn boxes_pass(
     n: usize,
     nodes: usize,
@@ -59,7 +59,7 @@ fn boxes_pass(
     boxes::nodes_fit(n, nodes, node_boxes, triangle_boxes, words, order)
 }
 
-// Whether the tree passes, its areas being as long as stated. Callers show that they are.
+// Whether the tree passes, its areas being as long as stated.
 fn tree_passes(
     vertices: &[f64],
     triangles: &[u32],
@@ -104,7 +104,7 @@ fn tree_passes(
     )
 }
 
-// Whether the areas of a tree of n triangles are as long as stated. Callers show that n is admitted, so that no product wraps.
+// Whether the areas of a tree of n triangles are as long as stated.
 fn room_for(
     n: usize,
     node_boxes: usize,

@@ -5,3 +5,8 @@
 mod boxes;
 // The public call.
 pub mod check;
+
+// The mark area, in which is counted.
+mod marks;
+// The tests of the node words and of the order.
+pub mod words;

@@ -1,15 +1,15 @@
 -- Lists of indices that are moved up: what stands where, how often, and the ranges and gathered lists that are moved. Assumes nothing.
-use Prim.Native.Nat.{ℕ, zero, suc, _+_, _-_, _*_, _≤_, _<_}
-use native.Mathlib.Nat.{add-zero, zero-add, suc-add, add-suc}
+use Prim.Native.Nat.{ℕ, zero, suc, _+_, _*_, _≤_, _<_}
+use native.Mathlib.Nat.{add-zero, zero-add, suc-add}
 use mathlib.Core.Path.{_≡_, refl, sym, ap, _∙_}
 use mathlib.Core.Logic.{_⊎_, inl, inr}
 use mathlib.Core.Bool.{Bool, true, false, cond}
-use mathlib.Core.List.{List, [], _∷_, _++_, append-assoc}
+use mathlib.Core.List.{List, [], _∷_, _++_}
 use native.Mathlib.Omega.{arith}
 use lib.ListN.{length, getD, length-append, List·getD-append}
 use lib.Seq.{getD-append-add}
 use Rattle.lists.specs.Lists.{range, count, keep, flatMap}
-use Rattle.lists.proofs.CountLaws.{one, one-same, one-other, same-or-other, count-cons, count-nil, flatMap-cons}
+use Rattle.lists.proofs.CountLaws.{one, one-same, one-other, same-or-other, count-cons, count-nil}
 use Rattle.tree_copy.specs.Moved.{movedUp, movedNode, movedNodes}
 
 -- ---- a list
@@ -93,17 +93,6 @@ gather-moved f g j k s (suc n) h =
     ∙ ap (λ (r : List ℕ). f (s + k) ++ r) (gather-moved f g j k (suc s) n (λ i p q. h i (omega arith) (omega arith)))
     ∙ ap (λ (r : List ℕ). r ++ movedUp j (flatMap g (range (suc s) n))) (h s (omega arith) (omega arith))
     ∙ sym (moved-append j (g s) (flatMap g (range (suc s) n)))
-
--- those that pass a test in a moved range
-pub keep-append : (p : ℕ → Bool) (l m : List ℕ) → keep p (l ++ m) ≡ keep p l ++ keep p m
-unfolding keep
-keep-append p [] m = refl
-keep-append p (x ∷ l) m = go (p x) (keep-append p l m)
-  where
-    go : (b : Bool) → keep p (l ++ m) ≡ keep p l ++ keep p m
-        → cond b (x ∷ keep p (l ++ m)) (keep p (l ++ m)) ≡ cond b (x ∷ keep p l) (keep p l) ++ keep p m
-    go true e = ap (λ (r : List ℕ). x ∷ r) e
-    go false e = e
 
 pub keep-moved : (p q : ℕ → Bool) (k s n : ℕ) → ((i : ℕ) → s ≤ i → i < s + n → p (i + k) ≡ q i)
     → keep p (range (s + k) n) ≡ movedUp k (keep q (range s n))

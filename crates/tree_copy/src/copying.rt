@@ -7,7 +7,7 @@ ghost use lib.Seq.{sets};
 ghost use Rattle.tree_copy.specs.Moved.{movedUp, movedNode, movedNodes};
 ghost use Rattle.tree_copy.specs.Sizes.{SmallWords, SmallNode, SmallNodes};
 
-// The first numbers of a slice, from a place of the area on. Callers show that both slices are long enough.
+// The first numbers of a slice, from a place of the area on.
 pub fn copy_numbers(from: &[f64], count: usize, area: &mut [f64], place: usize)
     requires { ⌜ (count ≤ length (now from)) × (place + count ≤ length (now area)) ⌝ }
     ensures { λ _. ⌜ now (area .exit) ≡ sets (now (area .entry)) place (take count (now (from .entry))) ⌝ }
@@ -20,7 +20,6 @@ pub fn copy_numbers(from: &[f64], count: usize, area: &mut [f64], place: usize)
 }
 
 // The first words of a slice, moved up, from a place of the area on.
-// Callers show that both slices are long enough and that no word moved up passes a u32.
 pub fn copy_words(from: &[u32], count: usize, up: usize, area: &mut [u32], place: usize)
     requires { ⌜ (count ≤ length (now from)) × (place + count ≤ length (now area)) ⌝ }
     requires { ⌜ SmallWords (now from) count up ⌝ }
@@ -35,7 +34,6 @@ pub fn copy_words(from: &[u32], count: usize, up: usize, area: &mut [u32], place
 }
 
 // A node's words, moved up: a leaf's start by the places before its tree, a branch's children by the nodes.
-// Callers show that both slices are long enough and that no word moved up passes a u32.
 fn copy_node(
     words: &[u32],
     node: usize,
@@ -58,7 +56,7 @@ fn copy_node(
     writing::put_words(area, place, kind, first + nodes, second + nodes);
 }
 
-// Those of the first nodes, one after another. Callers show that both slices are long enough and that no word moved up passes a u32.
+// Those of the first nodes, one after another.
 pub fn copy_nodes(
     words: &[u32],
     count: usize,

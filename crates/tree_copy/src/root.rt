@@ -21,7 +21,6 @@ pub fn one_empty(n: usize, m: usize) -> bool
 }
 
 // The root's box, around both trees', and how many nodes it is: none where a board has no triangles.
-// Callers show that a box is there in each where both boards have triangles.
 pub fn put_root_box(empty: bool, first: &[f64], second: &[f64], area: &mut [f64]) -> usize
     requires { ⌜ (empty ≡ false → ((6 ≤ length (now first)) × (6 ≤ length (now second))) × (6 ≤ length (now area))) ⌝ }
     ensures { λ r. ⌜ (r ≡ cond empty 0 1) × (now (area .exit)
@@ -36,7 +35,7 @@ pub fn put_root_box(empty: bool, first: &[f64], second: &[f64], area: &mut [f64]
     1
 }
 
-// The root's words: a branch over both trees' first nodes. Callers show that its place is there and that the index is a u32.
+// The root's words: a branch over both trees' first nodes.
 pub fn put_root_words(empty: bool, m: usize, area: &mut [u32]) -> usize
     requires { ⌜ (empty ≡ false → 3 ≤ length (now area)) × (m ≤ 131072) ⌝ }
     ensures { λ r. ⌜ (r ≡ cond empty 0 1) × (now (area .exit) ≡ sets (now (area .entry)) 0 (cond empty [] (1 ∷ (1 ∷ ((1 + m) ∷ []))))) ⌝ }

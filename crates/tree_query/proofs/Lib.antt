@@ -1,5 +1,3 @@
 -- The laws of the query, beside the functions' own proofs. Assumes nothing.
-pub mod Unlimited
 pub mod SortedWalks
 pub mod Queries
-pub mod QueryExamples

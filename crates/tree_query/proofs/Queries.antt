@@ -1,22 +1,22 @@
 -- The query's answers: each refusal, and the list of a walk that ends. Assumes nothing.
-use Prim.Native.Nat.{ℕ, _+_, _*_, _<_, _≤_}
-use mathlib.Core.Path.{_≡_, refl, sym, ap, subst, _∙_}
-use mathlib.Core.Bool.{Bool, true, false, _&&_, cond}
-use mathlib.Core.List.{List, [], _++_}
+use Prim.Native.Nat.{ℕ, _+_, _*_, _≤_}
+use mathlib.Core.Path.{_≡_, sym, ap, subst, _∙_}
+use mathlib.Core.Bool.{true, false, _&&_}
+use mathlib.Core.List.{List, []}
 use native.Mathlib.Omega.{arith}
 use borrow.Author.Tests.{leb-true}
 use lib.Dec.{leb}
-use lib.ListN.{length, take, drop, replicate, take-append-drop}
+use lib.ListN.{length, take, replicate, take-append-drop}
 use lib.Seq.{length-take-le}
 use Rattle.geometry.specs.Box.{validBox}
 use Rattle.geometry.specs.declared.aabb.Aabb.{Aabb}
 use Rattle.casts.specs.Answer.{invalidInput, badShape, noRoom, outOfBounds}
 use Rattle.tree.specs.Layout.{Tree}
 use Rattle.lists.proofs.JoinedTests.{and-first, and-second}
-use Rattle.tree_walk.specs.Walk.{Walking, walking, broken, walkOf}
+use Rattle.tree_walk.specs.Walk.{walking, broken, walkOf}
 use Rattle.tree_walk.specs.Areas.{listed, Grown, GrownTo, WalkRoom}
 use Rattle.lists.proofs.RefusalLaws as Refusals
-use Rattle.tree_query.specs.Query.{Queried, count, refused, countsAdmitted, treeFits, walkFits, queryTests, testsPass, afterWalk}
+use Rattle.tree_query.specs.Query.{count, refused, countsAdmitted, treeFits, walkFits, queryTests, testsPass, afterWalk}
 use Rattle.tree_query.specs.Query.{queryOf}
 use Rattle.tree_walk.specs.declared.step.Filled.{Filled}
 use Rattle.tree_walk.specs.declared.step.Filled.the-variants.{Count, Broken}

@@ -1,14 +1,12 @@
 use crate::walk;
 use casts::answer;
 use geometry::aabb::Aabb;
-use index_sort::sort;
 use lists::fill;
 use tree::layout;
 use tree_walk::step::Filled;
 ghost use mathlib.Core.Path.{_≡_};
 ghost use mathlib.Core.Bool.{false};
 ghost use Prim.Native.Nat.{_≤_};
-ghost use lib.ListN.{length};
 ghost use Rattle.tree.specs.Layout.{treeOf};
 ghost use Rattle.tree_query.specs.Query.{saysListed, countsAdmitted, treeFits, walkFits, Queries};
 
@@ -28,7 +26,7 @@ pub fn counts_admitted(count: usize, nodes: usize) -> bool
     nodes <= 2 * count
 }
 
-// Whether the areas of a tree are as long as its triangles ask. Callers show that they are few, so that no product wraps.
+// Whether the areas of a tree are as long as its triangles ask.
 pub fn tree_fits(
     count: usize,
     nodes: usize,
@@ -50,7 +48,7 @@ pub fn tree_fits(
     )
 }
 
-// The same of a tree's areas and those that the walk takes. Callers show that the triangles are few, so that no product wraps.
+// The same of a tree's areas and those that the walk takes.
 pub fn walk_fits(
     count: usize,
     nodes: usize,

@@ -11,9 +11,7 @@ ghost use Rattle.tree_walk.specs.Areas.{listed, GrownTo, WalkRoom};
 ghost use Rattle.tree.specs.Layout.{treeOf};
 
 // The touching triangles in the walk's own order, in the first places of the list, whose rest is as it was; the stack may hold anything
-// afterwards.
-// A box far off the tree leaves at its first node, here, where the walk itself stays out of line.
-// Callers show that the tree's areas and those of the walk are long enough.
+// afterwards. A box far off the tree leaves at its first node, here, where the walk itself stays out of line.
 pub fn gather(
     bounds: Aabb,
     count: usize,
@@ -51,7 +49,7 @@ pub fn gather(
     )
 }
 
-// The same triangles, ascending. Callers show that the areas are long enough and that a triangle's index is a u32.
+// The same triangles, ascending.
 pub fn walk(
     bounds: Aabb,
     count: usize,

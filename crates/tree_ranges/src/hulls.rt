@@ -7,7 +7,7 @@ ghost use lib.Seq.{sets};
 ghost use Rattle.tree.specs.Layout.{boxNumbers};
 ghost use Rattle.tree_ranges.specs.Extents.{hullOf};
 
-// The box of a range as a node's box, whatever its numbers are. Callers show that the range is not empty and that the node's box is there.
+// The box of a range as a node's box, whatever its numbers are.
 fn put_hull_of_any(boxes: &[f64], order: &[u32], node_boxes: &mut [f64], node: usize)
     requires { ⌜ (0 < length (now order)) × (6 * node + 6 ≤ length (now «node_boxes»)) ⌝ }
     ensures { λ _. ⌜ now («node_boxes» .exit) ≡ sets (now («node_boxes» .entry)) (6 * node)
@@ -18,7 +18,6 @@ fn put_hull_of_any(boxes: &[f64], order: &[u32], node_boxes: &mut [f64], node: u
 }
 
 // The box of a range as a node's box. Each arm writes its own, so that the box stays out of memory until then.
-// Callers show that the range is not empty and that the node's box is there.
 pub fn put_hull(boxes: &[f64], order: &[u32], node_boxes: &mut [f64], node: usize)
     requires { ⌜ (0 < length (now order)) × (6 * node + 6 ≤ length (now «node_boxes»)) ⌝ }
     ensures { λ _. ⌜ now («node_boxes» .exit) ≡ sets (now («node_boxes» .entry)) (6 * node)

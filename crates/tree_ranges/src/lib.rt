@@ -6,3 +6,6 @@
 pub mod hulls;
 // Boxes, centres, extents and keys.
 pub mod ranges;
+
+// Whether no box of the tree sees the order of a range.
+pub mod plain;

@@ -3,3 +3,12 @@
 
 // A merge sort that takes runs as they are.
 pub mod sorting;
+
+// At the half, or behind the keys below a middle one.
+pub mod cutting;
+
+// Two sorted parts merged, and a short list sorted by inserting.
+pub mod merging;
+
+// A range parted at a place.
+pub mod selecting;

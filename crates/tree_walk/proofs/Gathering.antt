@@ -1,22 +1,21 @@
 -- The walk under a limit over its areas: what is left of it gives the whole, and the nodes taken and those that are still looked at are
 -- the walk's. Assumes nothing.
-use Prim.Native.Nat.{ℕ, zero, suc, _+_, _-_, _<_, _≤_}
+use Prim.Native.Nat.{ℕ, suc, _+_, _-_, _<_, _≤_}
 use mathlib.Core.Path.{_≡_, refl, sym, ap, subst, _∙_}
 use mathlib.Core.Bool.{Bool, true, false, cond}
 use mathlib.Core.List.{List, [], _∷_}
 use native.Mathlib.Omega.{arith}
 use borrow.Author.Tests.{ltb-true, ltb-false, le-leb, lt-leb, ne-eqb}
-use lib.Dec.{ltb, leb}
+use lib.Dec.{ltb}
 use lib.ListN.{length, take}
 use Rattle.geometry.specs.declared.aabb.Aabb.{Aabb}
-use Rattle.lists.specs.Lists.{every}
 use Rattle.tree.specs.Layout.{Tree}
 use Rattle.tree_walk.specs.Walk.{Walking, walking, broken, takeNode, start, ended, walkOf}
 use Rattle.tree_walk.specs.Areas.{onStack, held, Grown, NodeRoom, NodeTaken, WalkRoom}
 use Rattle.tree_walk.specs.declared.step.Stepped.{Stepped}
 use Rattle.tree_walk.specs.declared.step.Stepped.the-variants.{Next, Ended, Stopped}
 use Rattle.tree_walk.proofs.Walks.{Walks, walks-none, walks-begin, walks-room, walks-next, walks-stopped, walks-ended, walks-past}
-use Rattle.tree_walk.specs.Looking.{Looked, looked, usedUp, lookedIn, nodesLooked, endedLook, walkWithin, allowedOf}
+use Rattle.tree_walk.specs.Looking.{looked, usedUp, lookedIn, nodesLooked, endedLook, walkWithin, allowedOf}
 use Rattle.tree_walk.proofs.Limits.{looked-broken, looked-empty, looked-open, within-is}
 
 -- neither more than there are nor more than the limit, and one of the two

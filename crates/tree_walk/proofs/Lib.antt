@@ -9,4 +9,3 @@ pub mod Nodes
 pub mod Walks
 pub mod Limits
 pub mod Gathering
-pub mod LookExamples

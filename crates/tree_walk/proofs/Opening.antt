@@ -1,6 +1,6 @@
 -- The walk that tests both children of a branch when it opens it: a node that does not touch may leave the stack at any time, with one node
 -- less that may be taken, and what is left of the walk gives the whole. Assumes nothing.
-use Prim.Native.Nat.{ℕ, zero, suc, _+_, _-_, _<_}
+use Prim.Native.Nat.{ℕ, zero, suc, _+_, _<_}
 use mathlib.Core.Path.{_≡_, refl, sym, ap, _∙_}
 use mathlib.Core.Bool.{Bool, true, false, _&&_, cond}
 use mathlib.Core.List.{List, [], _∷_, _++_}

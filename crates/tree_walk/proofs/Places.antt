@@ -1,7 +1,7 @@
 -- Order places taken one after another: what each outcome of a place leaves, and what holds between two places. Assumes nothing.
-use Prim.Native.Nat.{ℕ, zero, suc, _+_, _-_, _<_, _≤_}
+use Prim.Native.Nat.{ℕ, suc, _+_, _-_, _<_, _≤_}
 use mathlib.Core.Path.{_≡_, refl, sym, ap, subst, _∙_}
-use mathlib.Core.Bool.{Bool, true, false, cond}
+use mathlib.Core.Bool.{true, false}
 use mathlib.Core.List.{List, [], _∷_, _++_}
 use native.Mathlib.Omega.{arith}
 use native.Mathlib.Numerals.{add-one}
@@ -12,10 +12,10 @@ use lib.ListN.{length, take, drop, set, length-set}
 use lib.Seq.{length-take-le, take-suc-set, drop-set-lt, drop-drop}
 use Rattle.geometry.specs.Box.{touches}
 use Rattle.geometry.specs.declared.aabb.Aabb.{Aabb}
-use Rattle.lists.specs.Lists.{range, every, allBelow}
+use Rattle.lists.specs.Lists.{range, allBelow}
 use Rattle.tree.specs.Layout.{Tree, wordAt, boxAt}
 use Rattle.tree_walk.specs.Walk.{Walking, walking, broken, takePlace, takePlaces, atLeaf}
-use Rattle.tree_walk.specs.Areas.{listed, Grown, GrownTo, Room, Placed}
+use Rattle.tree_walk.specs.Areas.{listed, Grown, Room, Placed}
 use Rattle.tree_walk.specs.declared.step.Filled.{Filled}
 use Rattle.tree_walk.specs.declared.step.Filled.the-variants.{Count, Broken}
 use Rattle.lists.proofs.EveryLaws.{every-snoc}

@@ -25,7 +25,7 @@ pub enum Opened {
     Stopped,
 }
 
-// The next node of the stack; with none there the walk has ended. Callers show that the stack is no longer than its area.
+// The next node of the stack; with none there the walk has ended.
 fn next_open(stack: &[u32], top: usize, found: usize, spent: usize) -> Opened
     requires { ⌜ top ≤ length (now stack) ⌝ }
     ensures { λ r. ⌜ r ≡ openNext (now (stack .entry)) top found spent ⌝ }
@@ -44,7 +44,6 @@ fn next_open(stack: &[u32], top: usize, found: usize, spent: usize) -> Opened
 
 // A branch whose children both fit and are counted: the left one is next where it touches, and the right one then waits on the stack; one
 // that does not touch is not looked at again.
-// Callers show that both are below the node count, that there are so many nodes, and that those on the stack touch.
 fn open_children(
     bounds: Aabb,
     nodes: usize,
@@ -91,7 +90,6 @@ fn open_children(
 }
 
 // A branch: its children, where they fit and there are so many nodes.
-// Callers show that the node's words are there and how the walk stands.
 fn open_branch(
     bounds: Aabb,
     nodes: usize,
@@ -132,8 +130,7 @@ fn open_branch(
     )
 }
 
-// One node that touches: the rest is tested as the walk's definition says. Callers show how the walk stands and that list and stack have
-// the places.
+// One node that touches: the rest is tested as the walk's definition says.
 fn open_node(
     bounds: Aabb,
     count: usize,
@@ -189,10 +186,8 @@ fn open_node(
 }
 
 // The touching triangles in the walk's own order, in the first places of the list, whose rest is as it was; the stack may hold anything
-// afterwards.
-// The children of a branch are tested when it is opened: one that does not touch, which the walk would take from the stack and drop, does
-// not go there. That no limit is asked makes this the same: nobody is told how many nodes were taken when a 5 was met.
-// Callers show that the tree's areas, the list and the stack are long enough.
+// afterwards. The children of a branch are tested when it is opened: one that does not touch, which the walk would take from the stack and
+// drop, does not go there. That no limit is asked makes this the same: nobody is told how many nodes were taken when a 5 was met.
 pub fn gather_ahead(
     bounds: Aabb,
     count: usize,

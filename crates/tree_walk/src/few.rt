@@ -22,9 +22,8 @@ fn touch_number(near: Aabb, bounds: Aabb) -> usize
     low * high * rest
 }
 
-// At most four places of the order: each triangle is written behind those listed, and counted where its box touches, without a jump.
-// What stands behind the last one listed is then put back.
-// Callers show that the places are the order's, four at most, and that the list has a place for each triangle and five behind those listed.
+// At most four places of the order: each triangle is written behind those listed, and counted where its box touches, without a jump. What
+// stands behind the last one listed is then put back.
 fn take_few(
     bounds: Aabb,
     count: usize,
@@ -66,7 +65,6 @@ fn take_few(
 
 // A leaf as `step::at_leaf` takes it: the few triangles of a built tree's leaf without a jump for each. A mesh of some twelve triangles is
 // faster with the jumps.
-// Callers show that the node's words are there and that the list has a place for each triangle.
 pub fn at_leaf(
     bounds: Aabb,
     count: usize,

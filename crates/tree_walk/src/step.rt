@@ -28,8 +28,7 @@ pub enum Stepped {
     Stopped,
 }
 
-// One place of the order: its triangle is listed if its box touches. Callers show that the place is one and that the list has one for each
-// triangle.
+// One place of the order: its triangle is listed if its box touches.
 fn take_place(
     bounds: Aabb,
     count: usize,
@@ -58,8 +57,7 @@ fn take_place(
     Filled::Count(found + 1)
 }
 
-// The places of the order from start to below end. Callers show that the places are the order's and that the list has one for each
-// triangle.
+// The places of the order from start to below end.
 pub fn take_places(
     bounds: Aabb,
     count: usize,
@@ -89,7 +87,6 @@ pub fn take_places(
 }
 
 // A leaf: its places of the order, which must end within the triangles.
-// Callers show that the node's words are there and that the list has a place for each triangle.
 fn at_leaf(
     bounds: Aabb,
     count: usize,
@@ -132,7 +129,7 @@ pub fn child_fits(nodes: usize, node: usize, child: usize) -> bool
     false
 }
 
-// The next node taken from the stack; with none there the walk has ended. Callers show that the stack is no longer than its area.
+// The next node taken from the stack; with none there the walk has ended.
 fn pop(stack: &[u32], top: usize, found: usize) -> Stepped
     requires { ⌜ top ≤ length (now stack) ⌝ }
     ensures { λ r. ⌜ r ≡ popped (now (stack .entry)) top found ⌝ }
@@ -149,7 +146,6 @@ fn pop(stack: &[u32], top: usize, found: usize) -> Stepped
 }
 
 // A branch: its left child is taken next, the right one goes on the stack.
-// Callers show that the node's words are there, that the stack has a place left, and that it holds nodes.
 fn at_branch(
     nodes: usize,
     node_words: &[u32],
@@ -179,7 +175,7 @@ fn at_branch(
     }
 }
 
-// One node: the rest is tested only where its box touches. Callers show that the node is one and that list and stack have the places.
+// One node: the rest is tested only where its box touches.
 pub fn take_node(
     bounds: Aabb,
     count: usize,

@@ -26,9 +26,7 @@ fn allowed_of(nodes: usize, limit: usize) -> usize
 }
 
 // The touching triangles in the walk's own order, in the first places of the list, whose rest is as it was; the stack may hold anything
-// afterwards.
-// Each node taken from the stack costs one. The limit is tested first; a node past the node count is then 5.
-// Callers show that the tree's areas, the list and the stack are long enough.
+// afterwards. Each node taken from the stack costs one. The limit is tested first; a node past the node count is then 5.
 pub fn gather_within(
     bounds: Aabb,
     count: usize,

@@ -2,11 +2,11 @@
 -- nothing.
 use mathlib.Core.Path.{_≡_, refl, sym, ap, _∙_}
 use mathlib.Core.Bool.{Bool, true, false, _||_, Bool·beq, false≢true}
-use Prim.Native.Nat.{ℕ, _*_, _^_}
+use Prim.Native.Nat.{_*_, _^_}
 use borrow.Author.Tests.{eqb-true}
 use lib.Dec.{eqb}
 use lib.Pow.{pow-pos}
-use lib.Ieee.{Float, nan, inf, fin, binary64, ofBits, up, down, neg, le, eq, isNan}
+use lib.Ieee.{Float, nan, inf, fin, ofBits, up, down, neg, le, eq, isNan}
 use lib.Ieee.Fits.{down-pos}
 use lib.Ieee.Exact.{HasValue}
 use Rattle.arithmetic.specs.Basic.{absolute}
@@ -21,7 +21,7 @@ use Rattle.vectors.specs.Vector.{absOf, maxElement}
 use Rattle.vectors.specs.declared.vec3.Vec3.{Vec3}
 use Rattle.lists.proofs.JoinedTests.{and-first}
 use Rattle.triangle_cast.specs.Size.{orSize, sizeFromOne}
-use Rattle.triangle_cast.specs.Triangle.{flat}
+use Rattle.triangle_cast.specs.Triangle.{flat, thirtyTwo}
 
 -- what is below an operand is below the maximum
 climb : (x m y : Float) → le x m ≡ true → le x (maximumOf m y) ≡ true
@@ -180,7 +180,7 @@ module _ (a b : Vec3) where
       (le-right-number oneᶠ ours ours-from-one)
 
 -- ---- equal numbers have one product
-epsilon-value : HasValue epsilon false 1 (2 ^ 52)
+pub epsilon-value : HasValue epsilon false 1 (2 ^ 52)
 unfolding ofBits
 epsilon-value = (refl, refl)
 
@@ -198,9 +198,6 @@ same-product (fin s m e) (fin t n d) p q h =
     mul-values (fin s m e) epsilon false false (m * up e) (down e) 1 (2 ^ 52) (down-pos e) (pow-pos 52) (p .0, refl) epsilon-value
     ∙ sym (mul-values (fin t n d) epsilon false false (m * up e) (down e) 1 (2 ^ 52) (down-pos e) (pow-pos 52) (q .0, sym same)
     epsilon-value)
-
-abbrev thirtyTwo : Float
-thirtyTwo = ofBits binary64 0x4040_0000_0000_0000
 
 pub flat-by-size : (d : Float) (a b : Vec3)
     → le (absolute d) (maximumOf (sizeFromOne a) (sizeFromOne b) *ᶠ epsilon *ᶠ thirtyTwo) ≡ flat d a b

@@ -12,7 +12,7 @@ use Rattle.vectors.specs.declared.vec3.Checked.the-variants.{Value, Overflow}
 use Rattle.vectors.specs.declared.vec3.Normalized.the-variants.{Unit as UnitOf, Degenerate}
 use Rattle.geometry.specs.declared.ray.Ray.{Ray}
 use Rattle.casts.specs.Answer.{Answer, hit, none, refused, withValue, withNormal, overflow, noNormal}
-use Rattle.casts.specs.Surface.{facing, outOfRange}
+use Rattle.casts.specs.Surface.{facing, offSegment}
 use Rattle.casts.specs.Reach.{reachOf}
 use Rattle.triangle_cast.specs.Triangle.{flat, triangleNormal, hasNormal, triangleAbove, triangleAt, triangleOf}
 use Rattle.triangle_cast.specs.Crossing.{crossingAnswer, distanceWithin, settledAnswer}
@@ -60,7 +60,7 @@ module _ (r : Ray) (offset a b : Vec3) (determinant inverse u : Float) where
   pub from-distance : (d : Float) → distanceWithin r offset a b inverse u ≡ AtDistance d
       → settledAnswer r determinant a b d ≡ crossingAnswer r (Within offset a b determinant inverse u)
   unfolding distanceWithin triangleAbove isDistance distanceIn
-  from-distance d h = ap (cond (flat determinant a b) none) (go (lt v-part zeroᶠ) (lt oneᶠ (u +ᶠ v-part)) (outOfRange r along) along h)
+  from-distance d h = ap (cond (flat determinant a b) none) (go (lt v-part zeroᶠ) (lt oneᶠ (u +ᶠ v-part)) (offSegment r along) along h)
     where
       go : (p q s : Bool) (e : Float)
           → cond p NoDistance (cond q NoDistance (cond s NoDistance (AtDistance e))) ≡ AtDistance d
@@ -72,7 +72,7 @@ module _ (r : Ray) (offset a b : Vec3) (determinant inverse u : Float) where
 
   pub no-distance : distanceWithin r offset a b inverse u ≡ NoDistance → none ≡ crossingAnswer r (Within offset a b determinant inverse u)
   unfolding distanceWithin triangleAbove isDistance
-  no-distance h = sym (ap (cond (flat determinant a b) none) (sym (go (lt v-part zeroᶠ) (lt oneᶠ (u +ᶠ v-part)) (outOfRange r along) along
+  no-distance h = sym (ap (cond (flat determinant a b) none) (sym (go (lt v-part zeroᶠ) (lt oneᶠ (u +ᶠ v-part)) (offSegment r along) along
       h)) ∙ none-either-way (flat determinant a b))
     where
       go : (p q s : Bool) (e : Float)
@@ -152,10 +152,10 @@ told-above r offset a b inverse u =
     let v = dotOf (r .direction) (crossOf offset a) *ᶠ inverse in
     let distance = dotOf b (crossOf offset a) *ᶠ inverse in
     let number = cond (isNan distance) (refused overflow) (triangleNormal r a b distance) in
-    let in-range = cond (outOfRange r distance) none number in
+    let in-range = cond (offSegment r distance) none number in
     told-cond r a b (lt v zeroᶠ) none (cond (lt oneᶠ (u +ᶠ v)) none in-range) (told-none r a b)
     (told-cond r a b (lt oneᶠ (u +ᶠ v)) none in-range (told-none r a b)
-    (told-cond r a b (outOfRange r distance) none number (told-none r a b)
+    (told-cond r a b (offSegment r distance) none number (told-none r a b)
     (told-cond r a b (isNan distance) (refused overflow) (triangleNormal r a b distance) (told-refused r a b overflow)
     (told-normal r a b distance))))
 

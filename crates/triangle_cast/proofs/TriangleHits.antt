@@ -8,7 +8,7 @@ use Rattle.geometry.specs.Segment.{rayAdmitted}
 use Rattle.vectors.specs.declared.vec3.Vec3.{Vec3}
 use Rattle.geometry.specs.declared.ray.Ray.{Ray}
 use Rattle.casts.specs.Answer.{hit, none, refused, invalidInput, overflow, noNormal}
-use Rattle.casts.specs.Surface.{outOfRange, facing}
+use Rattle.casts.specs.Surface.{offSegment, facing}
 use Rattle.triangle_cast.specs.Triangle.{flat, triangleNormal, triangleAbove, triangleAt, triangleOf, triangleCast, rayTriangle}
 use Rattle.casts.proofs.AnswerLists.{OfHit}
 use Rattle.casts.proofs.HitLaws.{Measured, of-none, of-refused, of-hit, of-cond, of-value, of-with-normal}
@@ -27,10 +27,10 @@ module _ (r : Ray) where
       let v = dotOf (r .direction) (crossOf offset a) *ᶠ inverse in
       let distance = dotOf b (crossOf offset a) *ᶠ inverse in
       let number = cond (isNan distance) (refused overflow) (triangleNormal r a b distance) in
-      let in-range = cond (outOfRange r distance) none number in
+      let in-range = cond (offSegment r distance) none number in
       of-cond (Measured r) (lt v zeroᶠ) none (cond (lt oneᶠ (u +ᶠ v)) none in-range) (λ _. of-none (Measured r)) (λ _.
       of-cond (Measured r) (lt oneᶠ (u +ᶠ v)) none in-range (λ _. of-none (Measured r)) (λ _.
-      of-cond (Measured r) (outOfRange r distance) none number (λ _. of-none (Measured r)) (λ inside.
+      of-cond (Measured r) (offSegment r distance) none number (λ _. of-none (Measured r)) (λ inside.
       of-cond (Measured r) (isNan distance) (refused overflow) (triangleNormal r a b distance) (λ _. of-refused (Measured r) overflow)
       (λ real.
       of-normal a b distance (record { number = real; in-range = inside })))))

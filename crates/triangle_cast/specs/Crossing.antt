@@ -7,7 +7,7 @@ use Rattle.vectors.specs.Vector.{crossOf, dotOf}
 use Rattle.vectors.specs.declared.vec3.Vec3.{Vec3}
 use Rattle.geometry.specs.declared.ray.Ray.{Ray}
 use Rattle.casts.specs.Answer.{Answer, none, refused, overflow}
-use Rattle.casts.specs.Surface.{outOfRange}
+use Rattle.casts.specs.Surface.{offSegment}
 use Rattle.triangle_cast.specs.Triangle.{flat, triangleNormal, triangleAbove}
 use Rattle.triangle_cast.specs.declared.parts.Distance.{Distance}
 use Rattle.triangle_cast.specs.declared.parts.Distance.the-variants.{At as AtDistance, Miss as NoDistance}
@@ -25,7 +25,7 @@ unfoldable pub distanceWithin : Ray → Vec3 → Vec3 → Vec3 → Float → Flo
 distanceWithin r offset a b inverse u =
     cond (lt (dotOf (r .direction) (crossOf offset a) *ᶠ inverse) zeroᶠ) NoDistance
     (cond (lt oneᶠ (u +ᶠ (dotOf (r .direction) (crossOf offset a) *ᶠ inverse))) NoDistance
-    (cond (outOfRange r (dotOf b (crossOf offset a) *ᶠ inverse)) NoDistance
+    (cond (offSegment r (dotOf b (crossOf offset a) *ᶠ inverse)) NoDistance
     (AtDistance (dotOf b (crossOf offset a) *ᶠ inverse))))
 
 -- what is left at a distance: flat, NaN, the normal

@@ -11,9 +11,9 @@ use Rattle.geometry.specs.Segment.{rayAdmitted}
 use Rattle.vectors.specs.declared.vec3.Vec3.{Vec3}
 use Rattle.geometry.specs.declared.ray.Ray.{Ray}
 use Rattle.casts.specs.Answer.{Answer, hit, none, refused, withValue, withNormal, invalidInput, overflow, noNormal}
-use Rattle.casts.specs.Surface.{outOfRange, facing}
+use Rattle.casts.specs.Surface.{offSegment, facing}
 
-abbrev thirtyTwo : Float
+abbrev pub thirtyTwo : Float
 thirtyTwo = ofBits binary64 0x4040_0000_0000_0000
 
 -- "Scale is the largest of 1 and the edges' absolute components; miss if the absolute determinant is at most scale·EPS·32, grouped as in
@@ -38,7 +38,7 @@ unfoldable pub triangleAbove : Ray → Vec3 → Vec3 → Vec3 → Float → Floa
 triangleAbove r offset a b inverse u =
     cond (lt (dotOf (r .direction) (crossOf offset a) *ᶠ inverse) zeroᶠ) none
     (cond (lt oneᶠ (u +ᶠ (dotOf (r .direction) (crossOf offset a) *ᶠ inverse))) none
-    (cond (outOfRange r (dotOf b (crossOf offset a) *ᶠ inverse)) none
+    (cond (offSegment r (dotOf b (crossOf offset a) *ᶠ inverse)) none
     (cond (isNan (dotOf b (crossOf offset a) *ᶠ inverse)) (refused overflow)
     (triangleNormal r a b (dotOf b (crossOf offset a) *ᶠ inverse)))))
 

@@ -7,6 +7,7 @@ use casts::answer::Cast;
 use casts::answer::Reach;
 use casts::surface;
 use geometry::ray::Ray;
+use vectors::numbers;
 use vectors::vec3::Checked;
 use vectors::vec3::Normalized;
 use vectors::vec3::Vec3;
@@ -23,8 +24,7 @@ ghost use Rattle.triangle_cast.specs.declared.parts.Crossing.the-variant
 ghost use Rattle.triangle_cast.specs.Size.{orSize, sizeFromOne};
 ghost use Rattle.triangle_cast.specs.Triangle.{flat, triangleNormal, hasNormal, triangleAt, triangleCast, rayTriangle};
 
-// The larger of a number and another's size, by two comparisons: neither asks for NaN, which leaves the number. Callers show that the
-// number is none.
+// The larger of a number and another's size, by two comparisons: neither asks for NaN, which leaves the number.
 fn at_least_size(number: f64, x: f64) -> f64
     requires { ⌜ isNan number ≡ false ⌝ }
     ensures { λ r. ⌜ (r ≡ orSize number x) × (isNan r ≡ false) ⌝ }
@@ -44,7 +44,7 @@ pub fn is_flat(determinant: f64, a: Vec3, b: Vec3) -> bool
     ensures { λ r. ⌜ r ≡ flat determinant a b ⌝ }
 {
     let scale = extremes::greater(size_from_one(a), size_from_one(b));
-    basic::abs(determinant) <= scale * 2.220446049250313e-16 * 32.0
+    basic::abs(determinant) <= scale * numbers::EPSILON * 32.0
 }
 
 // The hit at a distance: the edges' normal, turned to face the ray.
@@ -81,7 +81,7 @@ pub fn distance_within(ray: Ray, offset: Vec3, a: Vec3, b: Vec3, inverse: f64, u
         return Distance::Miss;
     }
     let distance = b.dot(q) * inverse;
-    if surface::out_of_range(ray, distance) {
+    if surface::off_segment(ray, distance) {
         return Distance::Miss;
     }
     Distance::At(distance)

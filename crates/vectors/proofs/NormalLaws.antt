@@ -8,7 +8,7 @@ use lib.Pow.{pow-pos}
 use lib.Dec.{T, lit≤, lit<}
 use lib.Ieee.{Float, nan, inf, fin, binary64, ofBits, lt, le, eq, ne, isNan, fits}
 use lib.Ieee.Exact.{HasValue}
-use Rattle.arithmetic.specs.Basic.{isFinite, absolute, negative}
+use Rattle.arithmetic.specs.Basic.{isFinite, absolute}
 use Rattle.arithmetic.specs.Extremes.{maximumOf}
 use Rattle.arithmetic.specs.Root.{rootOf}
 use Rattle.arithmetic.specs.Scaling.{digitsOf, scaledBy}

@@ -4,7 +4,7 @@ use arithmetic::scaling;
 use arithmetic::square_root;
 ghost use mathlib.Core.Path.{_≡_};
 ghost use mathlib.Core.Bool.{true, cond};
-ghost use Rattle.vectors.specs.Vector.{component, finiteVec, hasNumbers, Numbers, addOf, subOf, scaleOf, minOf, maxOf, absOf};
+ghost use Rattle.vectors.specs.Vector.{finiteVec, hasNumbers, Numbers, addOf, subOf, scaleOf, minOf, maxOf, absOf};
 ghost use Rattle.vectors.specs.Vector.{maxElement, dotOf, checkedDot, crossOf, normalizable, tellsLength, scaledToOne, overLength};
 ghost use Rattle.vectors.specs.Vector.{tryNormalize};
 ghost use Rattle.vectors.specs.declared.vec3.Normalized.the-variants.{Unit as UnitOf, Degenerate};
@@ -135,7 +135,7 @@ impl Vec3 {
         }
     }
 
-    // `max` where this vector has no NaN, and again without one. Callers show that this one has none.
+    // `max` where this vector has no NaN, and again without one.
     pub fn greatest(self, other: Vec3) -> Vec3
         requires { ⌜ Numbers self ⌝ }
         ensures { λ r. ⌜ (r ≡ maxOf self other) × Numbers r ⌝ }
@@ -215,8 +215,7 @@ impl Vec3 {
         self.is_normalizable()
     }
 
-    // The vector times the power of two that brings its largest component to at least 1 and below 2. Callers show that it is finite and not
-    // zero.
+    // The vector times the power of two that brings its largest component to at least 1 and below 2.
     fn scaled_to_one(self) -> Vec3
         requires { ⌜ normalizable self ≡ true ⌝ }
         ensures { λ r. ⌜ r ≡ scaledToOne self ⌝ }
@@ -229,7 +228,7 @@ impl Vec3 {
         }
     }
 
-    // The vector divided by its length, where its dot with itself is `square`. Callers show that it is.
+    // The vector divided by its length, where its dot with itself is `square`.
     fn over_length(self, square: f64) -> Vec3
         requires { ⌜ square ≡ dotOf self self ⌝ }
         ensures { λ r. ⌜ r ≡ overLength self ⌝ }

@@ -1,10 +1,10 @@
 -- A drawn ray along an axis is admitted. Assumes nothing.
-use mathlib.Core.Path.{_≡_, refl, sym, ap, _∙_, subst}
-use mathlib.Core.Bool.{Bool, true, false, not, _&&_}
-use Prim.Native.Nat.{ℕ, zero, suc, _+_, _*_, _^_, _≤_, _<_}
+use mathlib.Core.Path.{_≡_, refl, ap, _∙_, subst}
+use mathlib.Core.Bool.{Bool, true, false, not}
+use Prim.Native.Nat.{ℕ, _*_, _≤_}
 use native.Mathlib.Nat.{zero-lt-suc}
 use native.Mathlib.Omega.{arith}
-use lib.Dec.{T, ltb, lit≤}
+use lib.Dec.{T, lit≤}
 use lib.IntN.{ℤ, pos, natAbs}
 use lib.Ieee.{Float, fin, binary64, ofBits, size, units, sub, lt, fits}
 use lib.Ieee.Fits.{add-fits}
@@ -20,11 +20,11 @@ use Rattle.vectors.specs.declared.vec3.Vec3.{Vec3}
 use Rattle.geometry.specs.declared.ray.Ray.{Ray}
 use Rattle.arithmetic.proofs.SignedOrder.{plus}
 use Rattle.exact_depth.proofs.Standing.{Stands}
-use Rattle.whole_numbers.proofs.Whole.{Whole, WholeVec}
+use Rattle.whole_numbers.proofs.Whole.{WholeVec}
 use Rattle.whole_numbers.specs.Points.{Point, dotP}
 use Rattle.whole_numbers.specs.Board.{Axis, east, west, north, south, upward, downward, along}
 use Rattle.arithmetic.proofs.ValueOrder.{value-finite, lt-values}
-use Rattle.whole_numbers.proofs.Decisions.{Parted, parted, zero-value}
+use Rattle.whole_numbers.proofs.Decisions.{parted, zero-value}
 use Rattle.whole_numbers.proofs.Vectors.{dot-whole}
 
 pub stands-finite : (x : Float) (z : ℤ) → Stands x z → isFinite x ≡ true

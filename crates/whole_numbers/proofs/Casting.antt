@@ -1,16 +1,17 @@
 -- The triangle cast at a board that is drawn on whole numbers, by the determinants of Möller and Trumbore. Assumes nothing.
-use mathlib.Core.Path.{_≡_, refl, sym, ap, _∙_, subst}
-use mathlib.Core.Logic.{_⊎_, inl, inr}
+use mathlib.Core.Path.{_≡_, refl, sym, ap, _∙_}
+use mathlib.Core.Logic.{inl, inr}
 use mathlib.Core.Bool.{Bool, true, false, not, _&&_, _||_, cond, and-false}
 use mathlib.Core.List.{List}
 use Prim.Native.Nat.{ℕ, zero, suc, _+_, _*_, _^_, _≤_, _<_}
-use native.Mathlib.Nat.{mul-le-mul-right, mul-comm, zero-lt-suc, le-trans, le-of-eq, mul-zero, zero-mul, eq-zero-or-pos}
+use native.Mathlib.Nat.{mul-le-mul-right, le-trans, mul-zero, zero-mul, eq-zero-or-pos}
 use native.Mathlib.Omega.{arith}
-use lib.Dec.{T, lit≤}
-use lib.IntN.{ℤ, pos, natAbs, negℤ, _+ℤ_, _*ℤ_}
-use lib.Ieee.{Float, nan, inf, fin, up, down, lt, le, eq, isNan}
+use lib.Dec.{lit≤}
+use lib.IntN.{ℤ, pos, natAbs, _+ℤ_, _*ℤ_}
+use lib.Ieee.{Float, nan, inf, fin, down, lt, le, eq, isNan}
 use lib.Ieee.Fits.{down-pos}
 use lib.Ieee.Exact.{HasValue}
+use Rattle.lists.proofs.JoinedTests.{or-first, or-second}
 use Rattle.arithmetic.specs.Basic.{isFinite}
 use Rattle.arithmetic.proofs.Order.{le-is-not-lt}
 use Rattle.vectors.specs.Numbers.{_+ᶠ_, _*ᶠ_, _/ᶠ_, zeroᶠ, oneᶠ}
@@ -21,9 +22,9 @@ use Rattle.vectors.specs.declared.vec3.Vec3.{Vec3}
 use Rattle.geometry.specs.declared.ray.Ray.{Ray}
 use Rattle.vectors.specs.declared.vec3.Normalized.{Normalized}
 use Rattle.casts.specs.Answer.{Answer, hit, none, withNormal, noNormal}
-use Rattle.casts.specs.Surface.{outOfRange, facing}
-use Rattle.triangle_cast.specs.Triangle.{flat, triangleNormal, triangleAbove, triangleAt, triangleOf, rayTriangle}
-use Rattle.exact_depth.proofs.Integers.{no-factor, pp, np, size-is, add-size, mul-size, neg-size}
+use Rattle.casts.specs.Surface.{offSegment, facing}
+use Rattle.triangle_cast.specs.Triangle.{triangleNormal, triangleAbove, triangleAt, triangleOf, rayTriangle}
+use Rattle.wide_integers.proofs.Integers.{no-factor, pp, np, add-size, mul-size, neg-size}
 use Rattle.exact_depth.proofs.Standing.{Stands}
 use Rattle.whole_numbers.proofs.Whole.{Whole, WholeVec}
 use Rattle.whole_numbers.specs.Points.{Point, subP, crossP, dotP}
@@ -33,7 +34,7 @@ use Rattle.arithmetic.proofs.ValueOrder.{value-number}
 use Rattle.arithmetic.proofs.WholeValues.{zero-is, zero-value as zero-value-of}
 use Rattle.arithmetic.proofs.ScalingLaws.{one-value}
 use Rattle.whole_numbers.proofs.Decisions.{Ratio, ratio, turned, turned-size, zero-value, not-negative, negative, above-whole}
-use Rattle.whole_numbers.proofs.Decisions.{not-above-whole, near-is, Parted, parted}
+use Rattle.whole_numbers.proofs.Decisions.{not-above-whole, near-is, parted}
 use Rattle.whole_numbers.proofs.Sums.{sum-not-above-one, sum-above-one}
 use Rattle.whole_numbers.proofs.Drawings.{drawn, drawn-at}
 use Rattle.whole_numbers.proofs.Flat.{flat-zero, not-flat}
@@ -48,11 +49,6 @@ chain a b c d e n = cond a (cond b (cond c none (cond d none (cond e none n))) n
 first-fails : (a b c d e : Bool) (n : Answer) → a ≡ false → chain a b c d e n ≡ none
 unfolding chain
 first-fails a b c d e n h = ap (λ (x : Bool). chain x b c d e n) h
-
-second-fails : (a b c d e : Bool) (n : Answer) → b ≡ false → chain a b c d e n ≡ none
-unfolding chain
-second-fails true b c d e n h = ap (λ (x : Bool). chain true x c d e n) h
-second-fails false b c d e n h = refl
 
 third-fails : (a b c d e : Bool) (n : Answer) → c ≡ true → chain a b c d e n ≡ none
 unfolding chain
@@ -74,13 +70,6 @@ fifth-fails true true false true e n h = refl
 fifth-fails true true false false e n h = ap (λ (x : Bool). chain true true false false x n) h
 fifth-fails true false c d e n h = refl
 fifth-fails false b c d e n h = refl
-
-or-first : (a b : Bool) → a ≡ true → (a || b) ≡ true
-or-first a b h = ap (λ (x : Bool). x || b) h
-
-or-second : (a b : Bool) → b ≡ true → (a || b) ≡ true
-or-second true b h = refl
-or-second false b h = h
 
 -- ---- a dot with 0
 no-product : (d c : ℤ) → natAbs c ≡ 0 → natAbs (d *ℤ c) ≡ 0
@@ -259,7 +248,7 @@ module _ (r : Ray) (vs : List Vec3) (g : Drawing) (board : Board r vs g) where
 
     pub answer-is : rayTriangle r vs
         ≡ chain (le zeroᶠ u) (le u oneᶠ) (lt v zeroᶠ) (lt oneᶠ (u +ᶠ v)) (lt t zeroᶠ || lt (r .«max_distance») t) (triangleNormal r A B t)
-    unfolding rayTriangle triangleOf checkedDot triangleAt triangleAbove outOfRange chain
+    unfolding rayTriangle triangleOf checkedDot triangleAt triangleAbove offSegment chain
     answer-is =
         simp (
           ray-admitted,
@@ -278,13 +267,6 @@ module _ (r : Ray) (vs : List Vec3) (g : Drawing) (board : Board r vs g) where
     pub u-negative : 0 < np (turned Δ U) → rayTriangle r vs ≡ none
     u-negative h =
         answer-is ∙ first-fails _ _ _ _ _ _ (u-number u (turned Δ U) ratio-u .0 ∙ ap not (negative u (turned Δ U) δ some ratio-u h))
-
-    pub u-above : δ < pp (turned Δ U) → rayTriangle r vs ≡ none
-    u-above h =
-        answer-is
-        ∙ second-fails _ _ _ _ _ _
-        (u-number u (turned Δ U) ratio-u .1
-        ∙ ap not (above-whole u (turned Δ U) δ some ratio-u oneᶠ 1 one-value (omega (arith, h)) (let l = δ-small in omega (arith, l))))
 
     pub v-negative : 0 < np (turned Δ W) → rayTriangle r vs ≡ none
     v-negative h = answer-is ∙ third-fails (le zeroᶠ u) (le u oneᶠ) _ _ _ _ (negative v (turned Δ W) δ some ratio-v h)

@@ -1,15 +1,14 @@
 -- The crossing, by Cramer's rule over the whole numbers. Assumes nothing.
-use mathlib.Core.Path.{_≡_, refl, sym, ap, _∙_, subst}
-use Prim.Native.Nat.{ℕ, zero, suc, _+_, _*_, _≤_, _<_}
-use native.Mathlib.Nat.{mul-comm, zero-lt-suc}
+use mathlib.Core.Path.{_≡_, refl, sym, ap, _∙_}
+use Prim.Native.Nat.{ℕ, suc, _*_}
 use native.Mathlib.Omega.{arith}
-use lib.IntN.{ℤ, pos, negsuc, negℤ, negℤ-negℤ, natAbs, _+ℤ_, _-ℤ_, _*ℤ_, +ℤ-idl, +ℤ-idr, +ℤ-invr, +ℤ-negℤ-cancel, -ℤ-+ℤ-cancel, *ℤ-zero}
-use lib.IntN.{zero-*ℤ}
-use Rattle.exact_depth.proofs.Integers.{pp, np, neg-pp, neg-np}
-use Rattle.whole_numbers.specs.Points.{Point, subP, crossP, dotP}
+use lib.IntN.{ℤ, pos, negsuc, negℤ, natAbs, _+ℤ_, _-ℤ_, _*ℤ_, +ℤ-idl, +ℤ-idr, +ℤ-invr, +ℤ-negℤ-cancel, *ℤ-zero}
+use Rattle.wide_integers.proofs.Integers.{pp, np, neg-pp, neg-np}
+use Rattle.whole_numbers.specs.Points.{Point, crossP, dotP}
 use Rattle.whole_numbers.specs.Board.{addP, scaleP}
 use Rattle.whole_numbers.proofs.Decisions.{turned}
-use Rattle.exact_depth.proofs.Polynomials.{ring, times-neg, times-comm, times-plus, plus-times}
+use Rattle.wide_integers.proofs.Polynomials.{ring, times-neg, times-comm, diff-minus, diff-add, diff-left, diff-right}
+use Rattle.wide_integers.proofs.Polynomials.{diff-equal, Diff}
 use Rattle.whole_numbers.proofs.Polynomials.{triple}
 
 -- ---- a dot is linear, and 0 with a cross of its own
@@ -85,40 +84,7 @@ parts K δ w n d e h =
     let q : pos K *ℤ turned d n ≡ pos δ *ℤ w = turn (pos K) w n d h ∙ times-comm w (pos (natAbs d)) ∙ ap (λ (z : ℕ). pos z *ℤ w) (sym e) in
     (sym (pos-pp K (turned d n)) ∙ ap pp q ∙ pos-pp δ w, sym (pos-np K (turned d n)) ∙ ap np q ∙ pos-np δ w)
 
--- ---- and back: where the determinant is not 0 the line meets the plane there. z is P - N
-record Diff (z P N : ℤ) : Type 0 where
-  is : z +ℤ N ≡ P
-
-diff-minus : (p q : ℤ) → Diff (p -ℤ q) p q
-diff-minus p q = record { is = -ℤ-+ℤ-cancel p q }
-
-diff-add : {z w P N Q K : ℤ} → Diff z P N → Diff w Q K → Diff (z +ℤ w) (P +ℤ Q) (N +ℤ K)
-diff-add {z} {w} {P} {N} {Q} {K} a b =
-    record { is = shuffle z w N K ∙ ap (λ (x : ℤ). x +ℤ (w +ℤ K)) (a .is) ∙ ap (λ (x : ℤ). P +ℤ x) (b .is) }
-  where
-    shuffle : (z w N K : ℤ) → (z +ℤ w) +ℤ (N +ℤ K) ≡ (z +ℤ N) +ℤ (w +ℤ K)
-    shuffle z w N K = simp ring
-
-diff-left : (x : ℤ) {z P N : ℤ} → Diff z P N → Diff (x *ℤ z) (x *ℤ P) (x *ℤ N)
-diff-left x {z} {P} {N} a = record { is = sym (times-plus x z N) ∙ ap (λ (y : ℤ). x *ℤ y) (a .is) }
-
-diff-right : {z P N : ℤ} → Diff z P N → (x : ℤ) → Diff (z *ℤ x) (P *ℤ x) (N *ℤ x)
-diff-right {z} {P} {N} a x = record { is = sym (plus-times z N x) ∙ ap (λ (y : ℤ). y *ℤ x) (a .is) }
-
-diff-equal : {z w P N Q K : ℤ} → Diff z P N → Diff w Q K → P +ℤ K ≡ Q +ℤ N → z ≡ w
-diff-equal {z} {w} {P} {N} {Q} {K} a b h =
-    cancel (N +ℤ K) z w
-    (left z N K ∙ ap (λ (x : ℤ). x +ℤ K) (a .is) ∙ h ∙ ap (λ (x : ℤ). x +ℤ N) (sym (b .is)) ∙ right w N K)
-  where
-    left : (z N K : ℤ) → z +ℤ (N +ℤ K) ≡ (z +ℤ N) +ℤ K
-    left z N K = simp ring
-
-    right : (w N K : ℤ) → (w +ℤ K) +ℤ N ≡ w +ℤ (N +ℤ K)
-    right w N K = simp ring
-
-    cancel : (m z w : ℤ) → z +ℤ m ≡ w +ℤ m → z ≡ w
-    cancel m z w e = sym (+ℤ-negℤ-cancel z m) ∙ ap (λ (x : ℤ). x -ℤ m) e ∙ +ℤ-negℤ-cancel w m
-
+-- ---- and back: where the determinant is not 0 the line meets the plane there
 diff-triple : (a b c : Point) → Diff (dotP a (crossP b c))
     (a .x *ℤ (b .y *ℤ c .z) +ℤ a .y *ℤ (b .z *ℤ c .x) +ℤ a .z *ℤ (b .x *ℤ c .y))
     (a .x *ℤ (b .z *ℤ c .y) +ℤ a .y *ℤ (b .x *ℤ c .z) +ℤ a .z *ℤ (b .y *ℤ c .x))

@@ -1,23 +1,21 @@
 -- What the comparisons of a quotient of whole numbers say: exactly what the whole numbers say. Assumes nothing.
 use mathlib.Core.Path.{_≡_, refl, sym, ap, _∙_, subst}
 use mathlib.Core.Bool.{Bool, true, false, not}
-use Prim.Native.Nat.{ℕ, zero, suc, _+_, _-_, _*_, _^_, _≤_, _<_}
-use native.Mathlib.Nat.{mul-one, one-mul, mul-assoc, mul-comm, mul-right-comm, mul-pos, zero-lt-suc, zero-mul, le-of-mul-le-mul-right}
-use native.Mathlib.Nat.{lt-of-mul-lt-mul-right, mul-le-mul-right, le-trans, le-of-eq, lt-of-not-le}
+use Prim.Native.Nat.{ℕ, zero, suc, _+_, _*_, _^_, _≤_, _<_}
+use native.Mathlib.Nat.{mul-right-comm, mul-pos, zero-lt-suc, zero-mul, le-of-mul-le-mul-right}
+use native.Mathlib.Nat.{mul-le-mul-right, le-trans, le-of-eq, lt-of-not-le}
 use native.Mathlib.Omega.{arith}
-use lib.Dec.{T, ltb}
+use lib.Dec.{ltb}
 use lib.IntN.{ℤ, pos, negsuc, natAbs, negℤ}
-use lib.Ieee.{Float, nan, inf, fin, binary64, ofBits, up, down, lt, unlike, below}
+use lib.Ieee.{Float, nan, inf, fin, ofBits, down, lt, unlike, below}
 use lib.Ieee.Fits.{down-pos}
 use lib.Ieee.Exact.{HasValue}
 use borrow.Author.Tests.{lt-ltb, le-ltb}
 use Rattle.vectors.specs.Numbers.{_*ᶠ_, _/ᶠ_, zeroᶠ, oneᶠ}
 use Rattle.arithmetic.specs.Scaling.{unit}
 use Rattle.arithmetic.proofs.SignedOrder.{plus, less}
-use Rattle.exact_depth.proofs.Integers.{pp, np, no-factor, size-is, neg-pp, neg-np, neg-size}
+use Rattle.wide_integers.proofs.Integers.{pp, np, no-factor, neg-pp, neg-np, neg-size}
 use Rattle.exact_depth.proofs.Standing.{Stands}
-use Rattle.whole_numbers.proofs.Whole.{Whole}
-use Rattle.arithmetic.proofs.WholeValues.{Is}
 use Rattle.arithmetic.proofs.ValueOrder.{lt-values}
 use Rattle.arithmetic.proofs.ScalingLaws.{unit-pos}
 use Rattle.whole_numbers.proofs.Quotients.{Quotient, inverse-near, product-near}

@@ -19,12 +19,11 @@ use Rattle.vectors.specs.Vector.{dotTells, scaledToOne, overLength, tryNormaliz
 use Rattle.geometry.specs.Segment.{unitLength, rayAdmitted}
 use Rattle.vectors.specs.declared.vec3.Vec3.{Vec3}
 use Rattle.geometry.specs.declared.ray.Ray.{Ray}
-use Rattle.casts.specs.Surface.{outOfRange, facing}
+use Rattle.casts.specs.Surface.{offSegment, facing}
 use Rattle.casts.specs.Answer.{Answer, hit, none, refused}
 use Rattle.triangle_cast.specs.Triangle.{flat, triangleNormal, triangleAbove, triangleAt, triangleOf, rayTriangle}
 use Rattle.whole_numbers.specs.Points.{Point}
-use Rattle.whole_numbers.specs.Board.{Drawing, Board, Drawn, DrawnAt, Crossing, Inside, Outside, sum as far, downward, along}
-use Rattle.whole_numbers.specs.Board.{ExactOnWholeNumbers}
+use Rattle.whole_numbers.specs.Board.{Drawing, Board, Drawn, DrawnAt, Crossing, sum as far, downward, along}
 use Rattle.whole_numbers.specs.Boards.{Met}
 use Rattle.whole_numbers.proofs.WholeBoards.{exact-on-whole-numbers}
 
@@ -168,7 +167,7 @@ oppositeMissedDrawing = down (at (pos 86) (pos 85) (pos 5)) 10 (at (pos 1) (pos 
 opposite-missed : rayTriangle (rayOf oppositeMissedDrawing) (cornersOf oppositeMissedDrawing) ≡ none
 unfolding ofInt span climb size odd units round neg sum add sub mul div lt eq le isNan ofFields ofBits isFinite absolute maximumOf
     rootDigits wholeRoot rootRound rootOf unit digitsOf scaledBy finiteVec subOf negOf absOf maxElement dotOf checkedDot crossOf lengthOf
-    normalizable zeroVec dotTells scaledToOne overLength tryNormalize unitLength rayAdmitted outOfRange facing flat triangleNormal
+    normalizable zeroVec dotTells scaledToOne overLength tryNormalize unitLength rayAdmitted offSegment facing flat triangleNormal
     triangleAbove triangleAt triangleOf rayTriangle
 opposite-missed = refl
 
@@ -179,7 +178,7 @@ oppositeHitDrawing = down (at (pos 2) (pos 2) (pos 4)) 5 (at (pos 4) (pos 0) (po
 opposite-hit : is-hit (rayTriangle (rayOf oppositeHitDrawing) (cornersOf oppositeHitDrawing)) ≡ true
 unfolding ofInt span climb size odd units round neg sum add sub mul div lt eq le isNan ofFields ofBits isFinite absolute maximumOf
     rootDigits wholeRoot rootRound rootOf unit digitsOf scaledBy finiteVec subOf negOf absOf maxElement dotOf checkedDot crossOf lengthOf
-    normalizable zeroVec dotTells scaledToOne overLength tryNormalize unitLength rayAdmitted outOfRange facing flat triangleNormal
+    normalizable zeroVec dotTells scaledToOne overLength tryNormalize unitLength rayAdmitted offSegment facing flat triangleNormal
     triangleAbove triangleAt triangleOf rayTriangle
 opposite-hit = refl
 
@@ -190,7 +189,7 @@ maximumMissedDrawing = down (at (pos 1) (pos 1) (pos 7)) 7 (at (pos 25) (pos 0) 
 maximum-missed : rayTriangle (rayOf maximumMissedDrawing) (cornersOf maximumMissedDrawing) ≡ none
 unfolding ofInt span climb size odd units round neg sum add sub mul div lt eq le isNan ofFields ofBits isFinite absolute maximumOf
     rootDigits wholeRoot rootRound rootOf unit digitsOf scaledBy finiteVec subOf negOf absOf maxElement dotOf checkedDot crossOf lengthOf
-    normalizable zeroVec dotTells scaledToOne overLength tryNormalize unitLength rayAdmitted outOfRange facing flat triangleNormal
+    normalizable zeroVec dotTells scaledToOne overLength tryNormalize unitLength rayAdmitted offSegment facing flat triangleNormal
     triangleAbove triangleAt triangleOf rayTriangle
 maximum-missed = refl
 
@@ -200,6 +199,6 @@ maximumHitDrawing = down (at (pos 1) (pos 1) (pos 4)) 4 (at (pos 4) (pos 0) (pos
 maximum-hit : is-hit (rayTriangle (rayOf maximumHitDrawing) (cornersOf maximumHitDrawing)) ≡ true
 unfolding ofInt span climb size odd units round neg sum add sub mul div lt eq le isNan ofFields ofBits isFinite absolute maximumOf
     rootDigits wholeRoot rootRound rootOf unit digitsOf scaledBy finiteVec subOf negOf absOf maxElement dotOf checkedDot crossOf lengthOf
-    normalizable zeroVec dotTells scaledToOne overLength tryNormalize unitLength rayAdmitted outOfRange facing flat triangleNormal
+    normalizable zeroVec dotTells scaledToOne overLength tryNormalize unitLength rayAdmitted offSegment facing flat triangleNormal
     triangleAbove triangleAt triangleOf rayTriangle
 maximum-hit = refl

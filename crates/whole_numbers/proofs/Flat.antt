@@ -1,30 +1,29 @@
 -- A determinant that is a whole number is flat exactly where it is 0. Assumes nothing.
 use mathlib.Core.Path.{_≡_, refl, sym, ap, _∙_, subst}
-use mathlib.Core.Logic.{_⊎_, inl, inr}
-use mathlib.Core.Bool.{Bool, true, false, not}
-use Prim.Native.Nat.{ℕ, zero, suc, _+_, _*_, _^_, _≤_, _<_}
-use native.Mathlib.Nat.{mul-one, mul-assoc, mul-comm, mul-left-comm, mul-pos, zero-lt-suc, mul-le-mul-right, lt-of-le-of-lt, le-trans}
+use mathlib.Core.Logic.{inl, inr}
+use mathlib.Core.Bool.{true, false, not}
+use Prim.Native.Nat.{ℕ, _*_, _^_, _≤_, _<_}
+use native.Mathlib.Nat.{mul-one, mul-assoc, zero-lt-suc, mul-le-mul-right, lt-of-le-of-lt, le-trans}
 use native.Mathlib.Omega.{arith}
-use lib.Dec.{T, ltb, lit<, lit≤}
-use lib.IntN.{ℤ, pos, natAbs}
-use lib.Ieee.{Float, nan, inf, fin, binary64, ofBits, up, down, round, mul, le, unlike}
-use lib.Ieee.Fits.{down-pos}
+use lib.Dec.{ltb, lit<, lit≤}
+use lib.IntN.{ℤ, natAbs}
+use lib.Ieee.{Float, binary64, ofBits, round}
 use lib.Ieee.Exact.{HasValue, round-exact}
-use lib.Ieee.Scale.{round-same}
 use borrow.Author.Tests.{lt-ltb, le-ltb}
 use Rattle.arithmetic.specs.Basic.{absolute}
 use Rattle.arithmetic.specs.Extremes.{maximumOf}
 use Rattle.arithmetic.proofs.ExtremesOrder.{maximum-one}
-use Rattle.vectors.specs.Numbers.{_*ᶠ_, oneᶠ, epsilon}
+use Rattle.vectors.specs.Numbers.{_*ᶠ_, epsilon}
 use Rattle.vectors.specs.Vector.{absOf, maxElement}
 use Rattle.vectors.specs.declared.vec3.Vec3.{Vec3}
-use Rattle.triangle_cast.specs.Triangle.{flat}
+use Rattle.triangle_cast.specs.Triangle.{flat, thirtyTwo}
+use Rattle.triangle_cast.proofs.FlatLaws.{epsilon-value}
 use Rattle.exact_depth.proofs.Standing.{Stands}
 use Rattle.whole_numbers.proofs.Whole.{Whole, WholeVec}
 use Rattle.whole_numbers.specs.Points.{Point}
 use Rattle.arithmetic.proofs.ValueOrder.{absolute-value, le-values, mul-values}
 use Rattle.arithmetic.proofs.ScalingLaws.{one-value}
-use Rattle.whole_numbers.proofs.Decisions.{Parted, parted}
+use Rattle.whole_numbers.proofs.Decisions.{parted}
 
 -- ---- a whole number that is not negative, up to B
 record Sized (B : ℕ) (x : Float) : Type 0 where
@@ -47,13 +46,6 @@ element-sized B v p w =
     (absolute-sized B (v .z) (p .z) (w .third))
 
 -- ---- the threshold: the scale times 2^-47
-abbrev thirtyTwo : Float
-thirtyTwo = ofBits binary64 0x4040_0000_0000_0000
-
-epsilon-value : HasValue epsilon false 1 (2 ^ 52)
-unfolding ofBits
-epsilon-value = (refl, refl)
-
 thirtyTwo-value : HasValue thirtyTwo false 32 1
 unfolding ofBits
 thirtyTwo-value = (refl, refl)

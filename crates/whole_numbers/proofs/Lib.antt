@@ -13,5 +13,4 @@ pub mod Casting
 pub mod WholeBoards
 pub mod WholeMeshes
 pub mod Examples
-pub mod MeshExamples
-pub mod WholeTold
+pub mod WholeReturned

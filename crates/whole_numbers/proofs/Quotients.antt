@@ -1,37 +1,29 @@
 -- A whole number times the rounded inverse of another. Assumes nothing.
 use mathlib.Core.Path.{_≡_, refl, sym, ap, _∙_, subst}
-use mathlib.Core.Bool.{Bool, true, false, not, cond}
-use Prim.Native.Nat.{ℕ, zero, suc, _+_, _-_, _*_, _^_, _≤_, _<_}
-use native.Mathlib.Nat.{mul-one, one-mul, mul-assoc, mul-comm, mul-left-comm, mul-right-comm, mul-pos, zero-lt-suc, zero-mul}
+use mathlib.Core.Bool.{Bool, true, false, cond}
+use Prim.Native.Nat.{ℕ, zero, suc, _+_, _*_, _^_, _≤_, _<_}
+use native.Mathlib.Nat.{mul-one, one-mul, mul-comm, mul-pos, zero-lt-suc, zero-mul}
 use native.Mathlib.Nat.{le-of-mul-le-mul-right, mul-le-mul-right, le-trans, le-of-eq}
 use native.Mathlib.Omega.{arith}
-use lib.Dec.{T, lit≤, eqb}
-use lib.IntN.{ℤ, pos, negsuc}
-use lib.Ieee.{Float, nan, inf, fin, binary64, ofBits, up, down, round, mul, div, unlike}
+use lib.Dec.{lit≤, eqb}
+use lib.IntN.{ℤ, pos}
+use lib.Ieee.{Float, nan, inf, fin, binary64, up, down, round, div, unlike}
 use lib.Ieee.Fits.{down-pos}
 use lib.Ieee.Exact.{HasValue}
 use lib.Ieee.Scale.{round-same}
-use lib.Pow.{pow-pos}
-use borrow.Author.Tests.{ne-eqb, ltb-false}
-use lib.Dec.{ltb}
-use lib.Ieee.{le}
-use lib.Ieee.Order.{round-mono}
-use Rattle.arithmetic.proofs.RoundedSigns.{absolute-round}
+use borrow.Author.Tests.{ne-eqb}
 use Rattle.arithmetic.proofs.ScalingLaws.{unit-pos}
 use Rattle.arithmetic.proofs.ValueOrder.{mul-values}
 use Rattle.vectors.specs.Numbers.{_*ᶠ_, _/ᶠ_, oneᶠ}
 use Rattle.arithmetic.specs.Scaling.{unit}
 use Rattle.arithmetic.proofs.WholeValues.{exact-size}
-use Rattle.arithmetic.proofs.RoundingError.{Rounded, Close, round-near}
+use Rattle.arithmetic.proofs.RoundingError.{Rounded, round-near}
+use Rattle.vectors.proofs.Constants.{one-is}
 
 -- ---- facts about the unit and the one
 pub unit-large : 2 ^ 106 ≤ unit
 unfolding unit
 unit-large = lit≤ tt
-
-pub one-is : oneᶠ ≡ fin false 1 (pos 0)
-unfolding ofBits
-one-is = refl
 
 unlike-false : (t : Bool) → unlike false t ≡ t
 unlike-false true = refl

@@ -1,29 +1,30 @@
 -- The sum of two quotients that are not negative, against 1: what the whole numbers say, unless their sum is the divisor. Assumes nothing.
 use mathlib.Core.Path.{_≡_, refl, sym, ap, _∙_, subst}
 use mathlib.Core.Bool.{Bool, true, false, cond, false≢true}
-use Prim.Native.Nat.{ℕ, zero, suc, _+_, _-_, _*_, _^_, _≤_, _<_}
-use native.Mathlib.Nat.{mul-one, mul-assoc, mul-comm, mul-right-comm, mul-pos, zero-lt-suc, zero-mul, add-mul, le-of-mul-le-mul-right}
+use Prim.Native.Nat.{ℕ, _+_, _-_, _*_, _^_, _≤_, _<_}
+use native.Mathlib.Nat.{mul-assoc, mul-comm, mul-right-comm, mul-pos, zero-lt-suc, zero-mul, le-of-mul-le-mul-right}
 use native.Mathlib.Nat.{mul-le-mul-right, le-trans, le-of-eq, lt-of-not-le}
 use native.Mathlib.Omega.{arith}
 use lib.Dec.{T, ltb, lit≤}
-use lib.IntN.{ℤ, pos, natAbs}
-use lib.Ieee.{Float, nan, inf, fin, binary64, up, down, round, sum, add, lt, le, below}
+use lib.IntN.{ℤ, natAbs}
+use lib.Ieee.{Float, nan, inf, fin, binary64, up, down, round, sum, add, lt, le}
 use lib.Ieee.Fits.{down-pos}
 use lib.Ieee.Exact.{HasValue}
 use lib.Ieee.Order.{round-mono}
 use lib.Ieee.Scale.{round-same}
 use lib.Ieee.Bits.{is-true}
-use borrow.Author.Tests.{ltb-true, ltb-false, lt-ltb, le-ltb}
+use borrow.Author.Tests.{ltb-true, ltb-false, lt-ltb}
 use Rattle.arithmetic.proofs.Order.{not-lt-of-le}
 use Rattle.vectors.specs.Numbers.{_+ᶠ_, oneᶠ}
 use Rattle.arithmetic.specs.Scaling.{unit}
-use Rattle.arithmetic.proofs.SignedOrder.{plus, less}
-use Rattle.exact_depth.proofs.Integers.{no-factor, pp, np, size-is}
+use Rattle.arithmetic.proofs.SignedOrder.{less}
+use Rattle.vectors.proofs.Constants.{one-is}
+use Rattle.wide_integers.proofs.Integers.{no-factor, np}
 use Rattle.arithmetic.proofs.WholeValues.{exact-size}
 use Rattle.arithmetic.proofs.RoundingError.{round-near}
 use Rattle.arithmetic.proofs.ValueOrder.{lt-values}
 use Rattle.arithmetic.proofs.ScalingLaws.{unit-pos, one-value}
-use Rattle.whole_numbers.proofs.Quotients.{unit-large, one-is}
+use Rattle.whole_numbers.proofs.Quotients.{unit-large}
 use Rattle.whole_numbers.proofs.Decisions.{Ratio, not-far, nothing}
 
 -- ---- the sum of two numbers of units

@@ -1,21 +1,17 @@
 -- Sums, differences, products, dots and crosses of whole numbers are exact while their sizes stay up to 2^53. Assumes nothing.
-use mathlib.Core.Path.{_≡_, refl, sym, ap, _∙_, subst}
-use Prim.Native.Nat.{ℕ, zero, suc, _+_, _-_, _*_, _^_, _≤_, _<_}
-use native.Mathlib.Nat.{le-trans, le-of-eq, mul-le-mul-right, mul-comm}
+use Prim.Native.Nat.{ℕ, _+_, _*_, _^_, _≤_}
+use native.Mathlib.Nat.{le-trans, le-of-eq}
 use native.Mathlib.Omega.{arith}
 use lib.IntN.{ℤ, natAbs, _+ℤ_, _-ℤ_, _*ℤ_}
-use lib.Ieee.{Float, binary64, add, sub, mul}
+use lib.Ieee.{Float}
 use Rattle.vectors.specs.Numbers.{_+ᶠ_, _-ᶠ_, _*ᶠ_}
 use Rattle.vectors.specs.Vector.{subOf, crossOf, dotOf}
 use Rattle.vectors.specs.declared.vec3.Vec3.{Vec3}
-use Rattle.exact_depth.proofs.Integers.{pp, np, size-is, add-parts, sub-parts, mul-parts, add-size, sub-size, mul-size}
+use Rattle.wide_integers.proofs.Integers.{pp, np, size-is, add-parts, sub-parts, mul-parts, add-size, sub-size, mul-size}
+use Rattle.wide_integers.proofs.Reading.{mul-le}
 use Rattle.whole_numbers.proofs.Whole.{Whole, WholeVec}
 use Rattle.whole_numbers.specs.Points.{Point, subP, crossP, dotP}
 use Rattle.arithmetic.proofs.WholeValues.{same, add-is, sub-is, mul-is}
-
-mul-le : (a b A B : ℕ) → a ≤ A → b ≤ B → a * b ≤ A * B
-mul-le a b A B h g =
-    le-trans (mul-le-mul-right b h) (le-trans (le-of-eq (mul-comm A b)) (le-trans (mul-le-mul-right A g) (le-of-eq (mul-comm B A))))
 
 pub whole-add : (A B : ℕ) (x y : Float) (z w : ℤ) → A + B ≤ 2 ^ 53 → Whole A x z → Whole B y w → Whole (A + B) (x +ᶠ y) (z +ℤ w)
 whole-add A B x y z w h u v =

@@ -1,7 +1,7 @@
 -- The triangle cast is exact on boards that are drawn on whole numbers. Assumes nothing.
 use mathlib.Core.Path.{_≡_, refl, sym, ap, _∙_, subst}
-use mathlib.Core.Logic.{_⊎_, inl, inr}
-use mathlib.Core.Bool.{Bool, true, false, not, _||_, cond, false≢true}
+use mathlib.Core.Logic.{inl, inr}
+use mathlib.Core.Bool.{Bool, true, false, not, false≢true}
 use mathlib.Core.List.{List}
 use Prim.Native.Nat.{ℕ, zero, suc, _+_, _*_, _^_, _≤_, _<_}
 use native.Mathlib.Nat.{mul-comm, mul-pos, zero-lt-suc, mul-zero, mul-le-mul-right, mul-lt-mul-of-pos-right, lt-of-mul-lt-mul-right}
@@ -11,15 +11,15 @@ use lib.Dec.{T, ltb→lt}
 use lib.IntN.{ℤ, pos, negsuc, natAbs, _+ℤ_}
 use lib.Signed.{_≤ℤ_, _<ℤ_}
 use lib.Ieee.{Float, nan, inf, fin, up, down, lt, le}
-use lib.Ieee.Exact.{HasValue}
-use Rattle.vectors.specs.Numbers.{_+ᶠ_, zeroᶠ, oneᶠ}
+use Rattle.lists.proofs.JoinedTests.{neither-first}
+use Rattle.vectors.specs.Numbers.{zeroᶠ}
 use Rattle.vectors.specs.declared.vec3.Vec3.{Vec3}
 use Rattle.geometry.specs.declared.ray.Ray.{Ray}
 use Rattle.casts.specs.Answer.{Answer, hit, none, refused}
-use Rattle.triangle_cast.specs.Triangle.{triangleNormal, rayTriangle}
+use Rattle.triangle_cast.specs.Triangle.{rayTriangle}
 use Rattle.arithmetic.specs.Scaling.{unit}
 use Rattle.arithmetic.proofs.SignedOrder.{less}
-use Rattle.exact_depth.proofs.Integers.{no-factor, pp, np, size-is, add-parts}
+use Rattle.wide_integers.proofs.Integers.{no-factor, pp, np, size-is, add-parts, size-zero}
 use Rattle.whole_numbers.specs.Points.{Point, crossP, dotP}
 use Rattle.whole_numbers.specs.Board.{Drawing, Board, Parallel, Degenerate, Crossing, Inside, Outside, first, second, sum, Within}
 use Rattle.whole_numbers.specs.Board.{ExactOnWholeNumbers, firstEdge, secondEdge}
@@ -112,10 +112,6 @@ chain-answers true true false true e t number f h = none-no-refusal number h
 chain-answers true true false false true t number f h = none-no-refusal number h
 chain-answers true true false false false t number f h = f h
 
-neither : (a b : Bool) → (a || b) ≡ false → a ≡ false
-neither false b h = refl
-neither true b h = h
-
 -- ---- the distance
 nearer : (X d u g N δ K t : ℕ) → 0 < u → 0 < δ → X * u ≡ g * d → K * N ≡ δ * t → 2 ^ 51 * (g * δ) ≤ 2 ^ 51 * (N * u) + N * u
     → 2 ^ 51 * (X * K) ≤ 2 ^ 51 * (t * d) + t * d
@@ -151,10 +147,6 @@ within (fin s m e) z δ K t p r n h =
         let b : 0 ≡ natAbs z = sym n ∙ r .below-zero ∙ ap (λ (w : Bool). less w (natAbs z)) a in
         nil δ t p (sym h ∙ ap (λ (w : ℕ). K * w) (sym b) ∙ mul-zero K)
 
-no-size : (z : ℤ) → natAbs z ≡ 0 → z ≡ pos 0
-no-size (pos n) h = ap pos h
-no-size (negsuc n) h = absurd (omega (arith, h))
-
 -- ---- the promise
 module _ (r : Ray) (vs : List Vec3) (g : Drawing) (board : Board r vs g) where
   abbrev Δ : ℤ
@@ -172,7 +164,7 @@ module _ (r : Ray) (vs : List Vec3) (g : Drawing) (board : Board r vs g) where
       (ap (λ (p : Point). natAbs (p .x) + (natAbs (p .y) + natAbs (p .z))) h))
 
   some-size : (Parallel g → ⊥) → 0 < natAbs Δ
-  some-size f = elim (eq-zero-or-pos (natAbs Δ)) [ inl z ↦ absurd (f (no-size _ (sym (C.size-Δ r vs g board) ∙ z))) | inr p ↦ p ]
+  some-size f = elim (eq-zero-or-pos (natAbs Δ)) [ inl z ↦ absurd (f (size-zero _ (sym (C.size-Δ r vs g board) ∙ z))) | inr p ↦ p ]
 
   -- a crossing, in parts
   module _ (K : ℕ) (u v t : ℤ) (c : Crossing g K u v t) where
@@ -292,7 +284,7 @@ module _ (r : Ray) (vs : List Vec3) (g : Drawing) (board : Board r vs g) where
           let s : C.t r vs g board ≡ x =
           same-distance _ n (C.t r vs g board) x (sym (C.normal-is r vs g board p (C.t r vs g board)) ∙ w .0) in
           let q = C.ratio-t r vs g board p in
-          let z : np t' ≡ 0 = forward p (neither _ _ (w .1)) in
+          let z : np t' ≡ 0 = forward p (neither-first _ _ (w .1)) in
           subst (λ (y : Float). Within y (natAbs t) K) s
           (within (C.t r vs g board) t' (natAbs Δ) K (natAbs t) p q z
           (omega (arith, parts-t .0, parts-t .1, ap (λ (m : ℕ). K * m) (size-is t'), ap (λ (m : ℕ). natAbs Δ * m) (size-is t))))

@@ -1,34 +1,28 @@
 -- The mesh cast is exact on meshes whose corners are drawn on whole numbers: demand 3 over the triangle cast's promise. Assumes nothing.
 use mathlib.Core.Path.{_≡_, refl, sym, ap, _∙_}
-use mathlib.Core.Bool.{Bool, true, false}
-use mathlib.Core.List.{List}
+use mathlib.Core.Bool.{true, false}
 use Prim.Native.Nat.{ℕ, zero, suc, _+_, _*_, _^_, _≤_, _<_}
 use native.Mathlib.Nat.{mul-le-mul-right, le-of-mul-le-mul-right, zero-lt-suc, zero-mul, mul-pos}
 use native.Mathlib.Omega.{arith}
 use lib.Dec.{lit≤}
-use lib.IntN.{ℤ, pos, natAbs}
+use lib.IntN.{ℤ, natAbs}
 use lib.Ieee.{Float, nan, inf, fin, up, down, le}
 use lib.Ieee.Fits.{down-pos}
-use lib.ListN.{length}
 use Rattle.arithmetic.specs.Basic.{isFinite}
 use Rattle.arithmetic.proofs.SumOrder.{le-parts}
 use Rattle.vectors.specs.Vector.{finiteVec, addOf, scaleOf}
 use Rattle.geometry.specs.Segment.{rayAdmitted, segmentEnd}
 use Rattle.vectors.specs.declared.vec3.Vec3.{Vec3}
 use Rattle.geometry.specs.declared.ray.Ray.{Ray}
-use Rattle.casts.specs.Answer.{Answer, hit, none, refused}
-use Rattle.triangle_cast.specs.Triangle.{rayTriangle}
+use Rattle.casts.specs.Answer.{hit, none, refused}
 use Rattle.nearest_hit.specs.Nearest.{Indexed, hitAt, noHit, stopped}
-use Rattle.tree.specs.Layout.{Tree}
-use Rattle.tree.specs.Mesh.{Mesh, lengthsAdmitted, cornersOf}
-use Rattle.mesh.specs.MeshCast.{roomFor, rayMesh}
-use Rattle.mesh.specs.Demand3.{PassesCheck, Admitted, Candidate, answerOf, IsHit, NearestHit, MeetsDemand}
+use Rattle.tree.specs.Mesh.{Mesh, cornersOf}
+use Rattle.mesh.specs.MeshCast.{rayMesh}
+use Rattle.mesh.specs.Demand3.{Candidate, answerOf, IsHit, MeetsDemand}
 use Rattle.mesh.proofs.Demand3.{demand3}
-use Rattle.whole_numbers.specs.Points.{Point}
-use Rattle.whole_numbers.specs.Board.{Drawing, Board, along, Parallel, Crossing, Within, ExactOnWholeNumbers}
+use Rattle.whole_numbers.specs.Board.{Board, Parallel, Crossing, Within, ExactOnWholeNumbers}
 use Rattle.whole_numbers.specs.Boards.{Plan, drawingOf, Boards, Met, Missed, parallel, outside, behind, beyond, AtMost, MeshExact}
 use Rattle.whole_numbers.specs.Boards.{MeshesExact}
-use Rattle.whole_numbers.proofs.Whole.{Whole, WholeVec}
 use Rattle.whole_numbers.proofs.Drawings.{drawn, drawn-at}
 use Rattle.whole_numbers.proofs.Vectors.{whole-add, whole-mul}
 use Rattle.whole_numbers.proofs.Admitted.{finite-vec, admitted}

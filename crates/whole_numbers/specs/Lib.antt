@@ -2,4 +2,4 @@
 pub mod Points
 pub mod Board
 pub mod Boards
-pub mod Told
+pub mod Returned

@@ -7,7 +7,7 @@ use native.Mathlib.Omega.{arith}
 use lib.ListN.{length, take}
 use lib.Seq.{length-take-le}
 use borrow.Author.Needs.{needs}
-use Rattle.at_hand.specs.AtHand.{Answered, goesOn}
+use Rattle.record_stream.specs.AtHand.{Answered, goesOn}
 use Rattle.probe.specs.declared.runs.Run.{Run}
 use Rattle.probe.specs.Runs.{heldOf, spent}
 use Rattle.probe.proofs.Returns.{used-held, answers-made}

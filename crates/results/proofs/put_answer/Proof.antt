@@ -1,6 +1,6 @@
 -- `results::put_answer` meets its contract. Assumes nothing.
 use borrow.Author.Tests.{le-leb, lt-leb}
-use Rattle.results.specs.Results.{answered, told}
+use Rattle.results.specs.Results.{answered, returned}
 use borrow.Author.Needs.{needs}
 use Rattle.results.proofs.put_answer.Statement.{statement}
 use Rattle.results.proofs.put_answer.Tie as tie
@@ -25,7 +25,7 @@ same-length : tie.Need-same-length
 same-length c = search needs
 
 returns-2 : tie.Need-returns-2
-unfolding answered told
+unfolding answered returned
 returns-2 c =
     let (e, k, p) : tie.Else1 × tie.After-answer × tie.After-put-hit = search in
     simp (le-leb _ _ (e .if1 .left), k .answer .given .1, p .put-hit .ensures)
@@ -34,7 +34,7 @@ enum-told : tie.Need-enum-told
 enum-told c = search needs
 
 returns-3 : tie.Need-returns-3
-unfolding answered told
+unfolding answered returned
 returns-3 c =
     let e : tie.Else1 = search in
     simp (le-leb _ _ (e .if1 .left), c .enum-told .given .1)
@@ -43,7 +43,7 @@ enum-known-answer-2 : tie.Need-enum-known-answer-2
 enum-known-answer-2 c = search needs
 
 returns-4 : tie.Need-returns-4
-unfolding answered told
+unfolding answered returned
 returns-4 c =
     let e : tie.Else1 = search in
     simp (le-leb _ _ (e .if1 .left), c .before .answer2 .given .1)

@@ -1,5 +1,5 @@
 -- `results::put_found` meets its contract. Assumes nothing.
-use Rattle.results.specs.Results.{toldFound}
+use Rattle.results.specs.Results.{returnedFound}
 use borrow.Author.Needs.{needs}
 use Rattle.results.proofs.put_found.Statement.{statement}
 use Rattle.results.proofs.put_found.Tie as tie
@@ -14,14 +14,14 @@ same-length : tie.Need-same-length
 same-length c = search needs
 
 returns : tie.Need-returns
-unfolding toldFound
+unfolding returnedFound
 returns c = simp (c .before .listed .given .1)
 
 enum-known-listed-2 : tie.Need-enum-known-listed-2
 enum-known-listed-2 c = search needs
 
 returns-2 : tie.Need-returns-2
-unfolding toldFound
+unfolding returnedFound
 returns-2 c = simp (c .before .listed2 .given .1)
 
 pub put-found-spec : {M : Type 1} → statement M

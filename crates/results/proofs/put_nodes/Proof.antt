@@ -1,5 +1,5 @@
 -- `results::put_nodes` meets its contract. Assumes nothing.
-use Rattle.results.specs.Results.{toldNodes}
+use Rattle.results.specs.Results.{returnedNodes}
 use borrow.Author.Needs.{needs}
 use Rattle.results.proofs.put_nodes.Statement.{statement}
 use Rattle.results.proofs.put_nodes.Tie as tie
@@ -14,14 +14,14 @@ same-length : tie.Need-same-length
 same-length c = search needs
 
 returns : tie.Need-returns
-unfolding toldNodes
+unfolding returnedNodes
 returns c = simp (c .before .built .given .1)
 
 enum-known-built-2 : tie.Need-enum-known-built-2
 enum-known-built-2 c = search needs
 
 returns-2 : tie.Need-returns-2
-unfolding toldNodes
+unfolding returnedNodes
 returns-2 c = simp (c .before .built2 .given .1)
 
 pub put-nodes-spec : {M : Type 1} → statement M

@@ -1,17 +1,13 @@
 -- `ordering::total_order` meets its contract: its tests are those of the definition, and the bit patterns decide between equal numbers.
 -- Assumes nothing.
-use mathlib.Core.Path.{_≡_, sym, _∙_, subst}
-use mathlib.Core.Bool.{Bool, false, not}
-use lib.Dec.{T}
-use lib.Ieee.{Float, isNan, ne}
+use mathlib.Core.Path.{_≡_, sym, _∙_}
+use mathlib.Core.Bool.{false}
+use lib.Ieee.{isNan}
 use Rattle.arithmetic.specs.Ordering.{totalOrder}
-use Rattle.arithmetic.proofs.Order.{ne-self-is-nan}
+use Rattle.arithmetic.proofs.Order.{ne-self-is-nan, ne-self-passes}
 use Rattle.arithmetic.proofs.TotalOrder.{bits-order-is}
 use Rattle.arithmetic.proofs.ordering.total_order.Statement.{statement}
 use Rattle.arithmetic.proofs.ordering.total_order.Tie as tie
-
-number : (x : Float) → ne x x ≡ false → T (not (isNan x))
-number x h = subst (λ (b : Bool). T (not b)) (sym h ∙ ne-self-is-nan x) tt
 
 returns : tie.Need-returns
 unfolding totalOrder
@@ -42,12 +38,12 @@ returns-4 c =
 float-to-bits-result : tie.Need-float-to-bits-result
 float-to-bits-result c =
     let start : tie.Start = search in
-    number (start .args .y) (c .before .if3 .left)
+    ne-self-passes (start .args .y) (c .before .if3 .left)
 
 float-to-bits-result-2 : tie.Need-float-to-bits-result-2
 float-to-bits-result-2 c =
     let start : tie.Start = search in
-    number (start .args .x) (c .if4 .left)
+    ne-self-passes (start .args .x) (c .if4 .left)
 
 returns-5 : tie.Need-returns-5
 unfolding totalOrder

@@ -18,19 +18,19 @@ returns-2 c =
       sym (at-is-finite .is-finite .ensures),
       not-false (at-is-finite .is-finite .result) (else1 .if1 .left),
       sym
-          (c .before .out-of-range .ensures),
+          (c .before .off-segment .ensures),
       c .if2 .taken,
     )
 
 returns-3 : tie.Need-returns-3
 unfolding planeAt
 returns-3 c =
-    let (at-is-finite, else1, at-out-of-range) : tie.After-is-finite × tie.Else1 × tie.After-out-of-range = search in
+    let (at-is-finite, else1, at-off-segment) : tie.After-is-finite × tie.Else1 × tie.After-off-segment = search in
     simp (
       sym (at-is-finite .is-finite .ensures),
       not-false (at-is-finite .is-finite .result) (else1 .if1 .left),
       sym
-          (at-out-of-range .out-of-range .ensures),
+          (at-off-segment .off-segment .ensures),
       c .before .if2 .left,
       sym (c .facing .ensures),
     )

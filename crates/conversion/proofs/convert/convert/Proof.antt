@@ -4,7 +4,7 @@ use denote.Ref.{now}
 use mathlib.Core.Path.{sym, _∙_}
 use lib.ListN.{length}
 use borrow.Author.Tests.{not-true, not-false}
-use Rattle.record_forms.proofs.WritingLaws.{sizes}
+use Rattle.conversion.proofs.WritingLaws.{sizes}
 use Rattle.conversion.proofs.ConvertLaws.{known, malformed, no-room, unheld, done, size-for}
 use Rattle.conversion.proofs.Held.{held-fits-said}
 use borrow.Author.Needs.{needs}

@@ -3,7 +3,7 @@ use native.Mathlib.Omega.{arith}
 use denote.Ref.{now}
 use mathlib.Core.Path.{sym, _∙_}
 use borrow.Author.Tests.{not-true, not-false}
-use Rattle.record_forms.proofs.WritingLaws.{sizes}
+use Rattle.conversion.proofs.WritingLaws.{sizes}
 use Rattle.conversion.proofs.ConvertLaws.{ray-unheld, numbers-decide}
 use Rattle.conversion.proofs.convert.is_held.Statement.{statement}
 use Rattle.conversion.proofs.convert.is_held.Tie as tie

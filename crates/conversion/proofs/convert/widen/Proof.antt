@@ -2,9 +2,9 @@
 use native.Mathlib.Omega.{arith}
 use mathlib.Core.Path.{sym, _∙_}
 use Rattle.float_forms.specs.declared.forms.Form.the-variants.{Long, Short}
-use Rattle.record_forms.specs.declared.shape.Plan.{Plan}
-use Rattle.record_forms.specs.Plans.{Known}
-use Rattle.record_forms.proofs.WritingLaws.{sizes, size-below}
+use Rattle.conversion.specs.declared.shape.Plan.{Plan}
+use Rattle.conversion.specs.Plans.{Known}
+use Rattle.conversion.proofs.WritingLaws.{sizes, size-below}
 use Rattle.conversion.proofs.ConvertLaws.{known, size-for}
 use Rattle.conversion.proofs.Held.{long-fits-read}
 use Rattle.conversion.proofs.Widening.{no-record, whole-record}

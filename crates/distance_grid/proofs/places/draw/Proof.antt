@@ -1,25 +1,25 @@
 -- `distance_grid::places::draw` meets its contract. Assumes nothing.
 use mathlib.Core.Path.{sym}
-use Rattle.distance_grid.specs.Places.{drawnTo, drawn}
+use Rattle.distance_grid.specs.Places.{clampedTo, clamped}
 use borrow.Author.Needs.{needs}
 use Rattle.distance_grid.proofs.places.draw.Statement.{statement}
 use Rattle.distance_grid.proofs.places.draw.Tie as tie
 
 -- below the origin
 returns : tie.Need-returns
-unfolding drawn drawnTo
+unfolding clamped clampedTo
 returns c = simp (c .if1 .taken)
 
 -- above the last node
 returns-2 : tie.Need-returns-2
-unfolding drawn drawnTo
+unfolding clamped clampedTo
 returns-2 c =
     let (e, l) : tie.Else1 × tie.After-last-node = search in
     simp (e .if1 .left, sym (l .last-node .ensures), c .before .if2 .taken, sym (c .top .ensures))
 
 -- between them
 returns-3 : tie.Need-returns-3
-unfolding drawn drawnTo
+unfolding clamped clampedTo
 returns-3 c =
     let e : tie.Else1 = search in
     simp (e .if1 .left, sym (c .before .last-node .ensures), c .if2 .left)

@@ -1,12 +1,12 @@
 -- `distance_grid::places::draw_each` meets its contract. Assumes nothing.
 use mathlib.Core.Path.{sym}
-use Rattle.distance_grid.specs.Places.{drawnPoint}
+use Rattle.distance_grid.specs.Places.{clampedPoint}
 use borrow.Author.Needs.{needs}
 use Rattle.distance_grid.proofs.places.draw_each.Statement.{statement}
 use Rattle.distance_grid.proofs.places.draw_each.Tie as tie
 
 returns : tie.Need-returns
-unfolding drawnPoint
+unfolding clampedPoint
 returns c =
     let d : tie.After-draw = search in
     simp (sym (d .draw .ensures), sym (c .before .draw2 .ensures), sym (c .draw3 .ensures))

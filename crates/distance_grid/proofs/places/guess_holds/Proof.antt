@@ -1,6 +1,6 @@
 -- `distance_grid::places::guess_holds` meets its contract. Assumes nothing.
 use Prim.Native.Nat.{_+_}
-use borrow.Author.Tests.{lt-ltb, le-ltb, leb-true, leb-false}
+use borrow.Author.Tests.{lt-ltb, le-ltb}
 use native.Mathlib.Omega.{arith}
 use Rattle.distance_grid.specs.Places.{guessHolds}
 use borrow.Author.Needs.{needs}

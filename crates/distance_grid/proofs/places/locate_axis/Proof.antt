@@ -1,7 +1,7 @@
 -- `distance_grid::places::locate_axis` meets its contract. Assumes nothing.
 use mathlib.Core.Path.{sym, ap, _∙_}
 use lib.Ieee.Fits.{div-fits}
-use lib.Ieee.{Float, binary64}
+use lib.Ieee.{binary64}
 use Rattle.distance_grid.specs.Places.{locateAxis}
 use Rattle.distance_grid.specs.declared.places.Place.the-variants.{At}
 use Rattle.distance_grid.proofs.PlaceLaws.{guessed-place}

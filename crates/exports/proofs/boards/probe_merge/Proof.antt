@@ -2,8 +2,8 @@
 use mathlib.Core.Bool.{true}
 use mathlib.Core.Path.{_≡_, refl}
 use Rattle.lists.proofs.JoinedTests.{test-passed, test-failed}
-use Rattle.board_tests.specs.Merge.{Board, Areas, boardOf, areasOf, shapesAdmitted}
-use Rattle.exports.proofs.BoardCalls.{told-bad, told-short, told-merged, marks-kept}
+use Rattle.merge.specs.Merge.{Board, Areas, boardOf, areasOf, shapesAdmitted}
+use Rattle.exports.proofs.BoardCalls.{returned-bad, returned-short, returned-merged, marks-kept}
 use borrow.Author.Needs.{needs}
 use Rattle.exports.proofs.boards.probe_merge.Statement.{statement}
 use Rattle.exports.proofs.boards.probe_merge.Tie as tie
@@ -48,8 +48,9 @@ returns : tie.Need-returns
 unfolding shapesAdmitted
 returns c =
     let s : tie.Start = search in
-    let told = told-bad (one s) (other s) (old s) _ (s .args .nodes .now) (test-failed (c .before .shapes-fit .ensures) (c .if1 .taken)) in
-    (told .0, (λ _. refl, told .1))
+    let returned = returned-bad (one s) (other s) (old s) _ (s .args .nodes .now)
+    (test-failed (c .before .shapes-fit .ensures) (c .if1 .taken)) in
+    (returned .0, (λ _. refl, returned .1))
 
 -- 3, the place of the node count
 returns-2 : tie.Need-returns-2
@@ -57,8 +58,8 @@ unfolding start-of
 returns-2 c =
     let e : tie.Else1 = search in
     let s = start-of e in
-    let told = told-short (one s) (other s) (old s) _ (s .args .nodes .now) (shapes e) (c .if2 .taken) in
-    (told .0, (λ _. refl, told .1))
+    let returned = returned-short (one s) (other s) (old s) _ (s .args .nodes .now) (shapes e) (c .if2 .taken) in
+    (returned .0, (λ _. refl, returned .1))
 
 -- the merge's answer, told
 returns-3 : tie.Need-returns-3
@@ -70,10 +71,10 @@ returns-3 c =
     let e = shaped f in
     let s = start-of e in
     let place = s .args .nodes .now in
-    let told =
-    told-merged (one s) (other s) (old s) _ place (shapes e) (f .if2 .left) _ _ _ (m .merge .ensures .0) (p .put-merged .ensures) in (
-      told .0,
-      (λ failed. m .merge .ensures .1 (marks-kept (one s) (other s) (old s) _ place (shapes e) failed (f .if2 .left)), told .1),
+    let returned =
+    returned-merged (one s) (other s) (old s) _ place (shapes e) (f .if2 .left) _ _ _ (m .merge .ensures .0) (p .put-merged .ensures) in (
+      returned .0,
+      (λ failed. m .merge .ensures .1 (marks-kept (one s) (other s) (old s) _ place (shapes e) failed (f .if2 .left)), returned .1),
     )
 
 pub probe-merge-spec : {M : Type 1} → statement M

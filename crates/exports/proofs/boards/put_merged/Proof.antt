@@ -1,15 +1,15 @@
 -- `exports::boards::put_merged` meets its contract. Assumes nothing.
-use Rattle.exports.specs.Boards.{toldMerged}
+use Rattle.exports.specs.Boards.{returnedMerged}
 use borrow.Author.Needs.{needs}
 use Rattle.exports.proofs.boards.put_merged.Statement.{statement}
 use Rattle.exports.proofs.boards.put_merged.Tie as tie
 
 returns : tie.Need-returns
-unfolding toldMerged
+unfolding returnedMerged
 returns c = simp (c .before .merged .given .1)
 
 returns-2 : tie.Need-returns-2
-unfolding toldMerged
+unfolding returnedMerged
 returns-2 c = simp (c .before .merged2 .given .1)
 
 pub put-merged-spec : {M : Type 1} → statement M

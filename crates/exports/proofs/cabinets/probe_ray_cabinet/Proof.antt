@@ -1,5 +1,5 @@
--- `exports::cabinets::probe_ray_cabinet` meets its contract: a walk of its MIR, by hand, that calls `begin`, `cast_twice` and
--- `put_cabinet`.
+-- `exports::cabinets::probe_ray_cabinet` meets its contract: a walk of its MIR, by hand, that calls `begin`, `look_from`,
+-- `look_all`, `turn`, `cast_all` and `put_cabinet`.
 -- Assumes nothing.
 use mathlib.Core.Path.{_≡_, refl, sym, _∙_, ap, subst}
 use mathlib.Core.Bool.{Bool, true, false}
@@ -48,8 +48,10 @@ use denote.Triple.Clauses.{ensured, lasts}
 use denote.Exit.{yes}
 use Rattle.cabinet.specs.declared.part.Part.{Part}
 use Rattle.cabinet.specs.declared.part.State.{State}
+use Rattle.cabinet.specs.declared.part.Look.{Look}
+use Rattle.cabinet.specs.Looks.{lookFrom, lookParts, turnedBy}
 use Rattle.cabinet.specs.Cabinet.{withResults}
-use Rattle.cabinet.specs.Steps.{areas, begun, passes, KeptByBoth, lastAnswer}
+use Rattle.cabinet.specs.Steps.{areas, begun, isIdle, Kept, stepParts, between, passes, lastAnswer}
 use Rattle.cabinet.proofs.Promises.{limits-hold}
 use Rattle.cabinet_passes.proofs.Again.{LentAgain, lends-again, comes-back}
 use Rattle.cabinet_passes.proofs.PassTypes.{P, R, machS, word, partsTy, sharedTy0, sharedTy1, sharedTy2, sharedTy3, sharedTy4, sharedTy5}
@@ -57,13 +59,27 @@ use Rattle.cabinet_passes.proofs.PassTypes.{lentTy0, refTy0, againTy0, lentTy1,
 use Rattle.cabinet.proofs.part.Part as T
 use Rattle.cabinet.proofs.part.State as S
 use Rattle.cabinet.proofs.part.State.Laws as S′
-use Rattle.cabinet_passes.proofs.pass.cast_twice as step
-use Rattle.cabinet_passes.proofs.pass.cast_twice.Symbol as step-def
-use Rattle.cabinet_passes.proofs.pass.cast_twice.Symbol.{name as #step}
-use Rattle.cabinet_passes.proofs.pass.cast_twice.Met as step-thm
+use Rattle.cabinet.proofs.part.Look as B
+use Rattle.cabinet.proofs.part.Look.Laws as B′
+use Rattle.cabinet.proofs.look.look_from as opening
+use Rattle.cabinet.proofs.look.look_from.Symbol as opening-def
+use Rattle.cabinet.proofs.look.look_from.Symbol.{name as #opening}
+use Rattle.cabinet.proofs.look.look_from.Met as opening-thm
+use Rattle.cabinet_passes.proofs.pass.look_all as looking
+use Rattle.cabinet_passes.proofs.pass.look_all.Symbol as looking-def
+use Rattle.cabinet_passes.proofs.pass.look_all.Symbol.{name as #looking}
+use Rattle.cabinet_passes.proofs.pass.look_all.Met as looking-thm
+use Rattle.cabinet.proofs.look.turn as turn
+use Rattle.cabinet.proofs.look.turn.Symbol as turn-def
+use Rattle.cabinet.proofs.look.turn.Symbol.{name as #turn}
+use Rattle.cabinet.proofs.look.turn.Met as turn-thm
+use Rattle.cabinet_passes.proofs.pass.cast_all as step
+use Rattle.cabinet_passes.proofs.pass.cast_all.Symbol as step-def
+use Rattle.cabinet_passes.proofs.pass.cast_all.Symbol.{name as #step}
+use Rattle.cabinet_passes.proofs.pass.cast_all.Met as step-thm
 use Rattle.results.specs.Results.{rayFrom}
-use Rattle.exports.specs.CabinetResults.{cabinetFits, cabinetTold, toldCabinet, CabinetCall}
-use Rattle.exports.proofs.CabinetAnswers.{cabinet-answers, cabinet-keeps}
+use Rattle.exports.specs.CabinetResults.{cabinetFits, cabinetReturned, returnedCabinet, CabinetCall}
+use Rattle.exports.proofs.CabinetAnswers.{starts-second, ends-second, cabinet-answers, cabinet-keeps}
 use Rattle.exports.proofs.CabinetReads.{cabinet-reads}
 use Rattle.exports.proofs.cabinets.begin as first
 use Rattle.exports.proofs.cabinets.begin.Symbol as first-def
@@ -118,6 +134,12 @@ refTy5 = tyRef erased mut (tyInt w64)
 
 abbrev againTy5 : Ty
 againTy5 = sliceTy refTy5
+
+abbrev Q : RattleType
+Q = B.the-row
+
+abbrev machL : Look → Val
+machL = LL.val B.the-type B′.the-laws
 
 abbrev stayed : Stays (this.ended .signature .params) (this.ended .kept)
 stayed = (
@@ -186,6 +208,15 @@ module _ {M : Type 1} (𝓤 : URA M) (H : Heap 𝓤) (A : Atoms 𝓤) (mem : Mem
   -- the contracts that the proof cites
   abbrev FirstC : Contract 𝓤
   FirstC = tripleOf 𝓤 H A first.signature (first.spec 𝓤 H A mem run)
+
+  abbrev OpenC : Contract 𝓤
+  OpenC = tripleOf 𝓤 H A opening.signature (opening.spec 𝓤 H A mem run)
+
+  abbrev LookC : Contract 𝓤
+  LookC = tripleOf 𝓤 H A looking.signature (looking.spec 𝓤 H A mem run)
+
+  abbrev TurnC : Contract 𝓤
+  TurnC = tripleOf 𝓤 H A turn.signature (turn.spec 𝓤 H A mem run)
 
   abbrev StepC : Contract 𝓤
   StepC = tripleOf 𝓤 H A step.signature (step.spec 𝓤 H A mem run)
@@ -432,12 +463,12 @@ module _ {M : Type 1} (𝓤 : URA M) (H : Heap 𝓤) (A : Atoms 𝓤) (W : Given
   OwnW5 zs m = MutSlice (named 12) μ5 usize .own (z5 ω5 zs) (sliceVal (c5, o5) m ∷ [])
 
   -- the call's contract, at the lists that the areas end with
-  abbrev Told : ℕ → List ℕ → List ℕ → List Float → List ℕ → List ℕ → List ℕ → Type 0
-  Told r zs0 zs1 zs2 zs3 zs4 zs5 =
+  abbrev Returned : ℕ → List ℕ → List ℕ → List Float → List ℕ → List ℕ → List ℕ → Type 0
+  Returned r zs0 zs1 zs2 zs3 zs4 zs5 =
       CabinetCall (rayFrom d0 d1 d2 d3 d4 d5 d6 d7) (areas (now x0) (now x1) (now x2) (now x3) (now x4) (now x5)) limit ys w0 zs0 w1 zs1
-      w2 w3 w4 w5 (cabinetTold r zs2 zs3 zs4 zs5)
+      w2 w3 w4 w5 (cabinetReturned r zs2 zs3 zs4 zs5)
 
-  exits : (r : ℕ) (u : Val) (zs0 : List ℕ) (zs1 : List ℕ) (zs2 : List Float) (zs3 : List ℕ) (zs4 : List ℕ) (zs5 : List ℕ) → Told r zs0
+  exits : (r : ℕ) (u : Val) (zs0 : List ℕ) (zs1 : List ℕ) (zs2 : List Float) (zs3 : List ℕ) (zs4 : List ℕ) (zs5 : List ℕ) → Returned r zs0
       zs1 zs2 zs3 zs4 zs5 → length zs0 ≡ length w0 → length zs1 ≡ length w1 → length zs2 ≡ length w2 → length zs3 ≡ length w3 → length
       zs4 ≡ length w4 → length zs5 ≡ length w5 → Is u32 r (u ∷ [])
       → ent 𝓤 (⋆ 𝓤 H A (‵ (flft κ q) ∷ ‵ (flft κ0 q0) ∷ ‵ (flft κ1 q1) ∷ ‵ (flft κ2 q2) ∷ ‵ (flft κ3 q3) ∷ ‵ (flft κ4 q4) ∷ ‵
@@ -603,15 +634,20 @@ module _ {M : Type 1} (𝓤 : URA M) (H : Heap 𝓤) (A : Atoms 𝓤) (W : Given
       frame ! $ frame ! $ owned ! u32 (Is u32) (uint-makes 𝓤 H A W w32) r _ g $ done !
 
   module _ (𝓣 : Tables 𝓤 H) (known-first : Triple 𝓤 (𝓣 .C #first) (FirstC 𝓤 H A mem run))
+      (known-opening : Triple 𝓤 (𝓣 .C #opening) (OpenC 𝓤 H A mem run))
+      (known-looking : Triple 𝓤 (𝓣 .C #looking) (LookC 𝓤 H A mem run))
+      (known-turn : Triple 𝓤 (𝓣 .C #turn) (TurnC 𝓤 H A mem run))
       (known : Triple 𝓤 (𝓣 .C #step) (StepC 𝓤 H A mem run)) (known-last : Triple 𝓤 (𝓣 .C #last) (LastC 𝓤 H A mem run))
       (gd0 : Is f64 d0 (vfloat binary64 d0 ∷ [])) (gd1 : Is f64 d1 (vfloat binary64 d1 ∷ []))
       (gd2 : Is f64 d2 (vfloat binary64 d2 ∷ [])) (gd3 : Is f64 d3 (vfloat binary64 d3 ∷ []))
       (gd4 : Is f64 d4 (vfloat binary64 d4 ∷ [])) (gd5 : Is f64 d5 (vfloat binary64 d5 ∷ []))
       (gd6 : Is f64 d6 (vfloat binary64 d6 ∷ [])) (gd7 : Is f64 d7 (vfloat binary64 d7 ∷ [])) (gn : Room P n)
+      (gv0 : Room f64 (length (x0 .now))) (gv1 : Room u32 (length (x1 .now))) (gv2 : Room f64 (length (x2 .now)))
+      (gv3 : Room f64 (length (x3 .now))) (gv4 : Room u32 (length (x4 .now))) (gv5 : Room u32 (length (x5 .now)))
       (gl : Is usize limit (vint w64 limit ∷ [])) (gw0 : Room u32 (length w0)) (gw1 : Room u32 (length w1))
       (gw2 : Room f64 (length w2)) (gw3 : Room u32 (length w3)) (gw4 : Room usize (length w4)) (gw5 : Room usize (length w5))
       (l0 l1 l2 l3 l4 l5 l6 l7 l8 l9 l10 l11 l12 l13 l14 l15 l16 l17 l18 l19 l20 l21 l22 l23 l24 l25 l26 l27 l28 l29 l30 l31 l32 l33
-      l34 l35 l36 l37 l38 l39 l40 : ℕ) where
+      l34 l35 l36 l37 l38 l39 l40 k0 k1 k2 n0 n1 n2 n3 : ℕ) where
     abbrev C : Calls 𝓤 H
     C = 𝓣 .C
 
@@ -622,7 +658,10 @@ module _ {M : Type 1} (𝓤 : URA M) (H : Heap 𝓤) (A : Atoms 𝓤) (W : Given
     En = (tyInt w32, l0) ∷ (double, l1) ∷ (double, l2) ∷ (double, l3) ∷ (double, l4) ∷ (double, l5) ∷ (double, l6) ∷ (double, l7) ∷
         (double, l8) ∷ (partsTy, l9) ∷ (sharedTy0, l10) ∷ (sharedTy1, l11) ∷ (sharedTy2, l12) ∷ (sharedTy3, l13) ∷ (sharedTy4, l14) ∷
         (sharedTy5, l15) ∷ (word, l16) ∷ (lentTy0, l17) ∷ (lentTy1, l18) ∷ (lentTy2, l19) ∷ (lentTy3, l20) ∷ (lentTy4, l21) ∷
-        (lentTy5, l22) ∷ (S′.mir, l23) ∷ (S′.mir, l24) ∷ (word, l25) ∷ (word, l26) ∷ (word, l27) ∷ (word, l28) ∷ (refTy0, l29) ∷
+        (lentTy5, l22) ∷ (S′.mir, l23) ∷ (B′.mir, k0) ∷ (B′.mir, k1) ∷ (S′.mir, k2) ∷ (S′.mir, l24) ∷ (word, l25) ∷ (word, l26) ∷ (
+          word,
+          l27,
+        ) ∷ (word, l28) ∷ (word, n0) ∷ (word, n1) ∷ (word, n2) ∷ (word, n3) ∷ (refTy0, l29) ∷
         (againTy0, l30) ∷ (refTy1, l31) ∷ (againTy1, l32) ∷ (refTy2, l33) ∷ (againTy2, l34) ∷ (refTy3, l35) ∷ (againTy3, l36) ∷
         (refTy4, l37) ∷ (againTy4, l38) ∷ (refTy5, l39) ∷ (againTy5, l40) ∷ []
 
@@ -759,7 +798,7 @@ module _ {M : Type 1} (𝓤 : URA M) (H : Heap 𝓤) (A : Atoms 𝓤) (W : Given
         (d0, (d1, (d2, (d3, (d4, (d5, (d6, (d7, (limit, (length w2, (length w3, (length w4, (length w5, tt))))))))))))) ws))
         (fact 𝓤 (r ≡ begun (rayFrom d0 d1 d2 d3 d4 d5 d6 d7) limit (cabinetFits (length w2) (length w3) (length w4) (length w5)))))
 
-    -- the call of `cast_twice`, to which the work areas are lent again
+    -- the call of `cast_all`, to which the work areas are lent again
     abbrev Passed : Type 0
     Passed = RefT (List Part) × (RefT (List Float) × (RefT (List ℕ) ×
         (RefT (List Float) × (RefT (List Float) × (RefT (List ℕ) ×
@@ -806,6 +845,126 @@ module _ {M : Type 1} (𝓤 : URA M) (H : Heap 𝓤) (A : Atoms 𝓤) (W : Given
         (named 4) κ3 f64 ∷ ShrSlice (named 5) κ4 u32 ∷ ShrSlice (named 6) κ5 u32 ∷ MutSlice (named 7) (ν0 ∷ []) u32 ∷ MutSlice
         (named 8) (ν1 ∷ []) u32 ∷ R ∷ []) (given-to s δ0 δ1) (passed s ν0 ν1)) ∷ []) ∵ join ! $ frame ! $ done !
 
+    -- the call of `look_from`, with the state at the start and the lengths
+    abbrev Opened : Type 0
+    Opened = State × (ℕ × (ℕ × (ℕ × (ℕ × (ℕ × (ℕ × (ℕ × (ℕ × Unit {0}))))))))
+
+    abbrev opened : State → Opened
+    opened s = (
+      s,
+      (
+        length (x0 .now),
+        (
+          length (x1 .now),
+          (
+            length (x2 .now),
+            (
+              length (x3 .now),
+              (
+                length (x4 .now),
+                (
+                  length (x5 .now),
+                  (length w0, (length w1, tt)),
+                ),
+              ),
+            ),
+          ),
+        ),
+      ),
+    )
+
+    abbrev passed-opening : State → Vals opening.signature tt
+    passed-opening s = (
+      machS s ∷ [],
+      (
+        vint w64 (length (x0 .now)) ∷ [],
+        (
+          vint w64 (length (x1 .now)) ∷ [],
+          (
+            vint w64 (length (x2 .now)) ∷
+                [],
+            (
+              vint w64 (length (x3 .now)) ∷ [],
+              (
+                vint w64 (length (x4 .now)) ∷ [],
+                (
+                  vint w64 (length (x5 .now)) ∷ [],
+                  (
+                    vint w64 (length w0)
+                        ∷ [],
+                    (vint w64 (length w1) ∷ [], tt),
+                  ),
+                ),
+              ),
+            ),
+          ),
+        ),
+      ),
+    )
+
+    asked-opening : (s : State) → ent 𝓤 (onEntry 𝓤 H A opening.signature tt tt (opened s) (passed-opening s))
+        (OpenC 𝓤 H A mem run .pre ((tt, tt, tt, opened s, passed-opening s), tt))
+    asked-opening s = qed W (‵ ftrue ∷ ‵ (owns (R ∷ usize ∷ usize ∷ usize ∷ usize ∷ usize ∷ usize ∷ usize ∷ usize ∷ []) (opened s)
+        (passed-opening s)) ∷ []) ∵ join ! $ frame ! $ done !
+
+    -- what the first pass begins with
+    abbrev opens-with : State → Look
+    opens-with s = lookFrom s (length (x0 .now)) (length (x1 .now)) (length (x2 .now)) (length (x3 .now)) (length (x4 .now)) (length (x5
+        .now)) (length w0) (length w1)
+
+    said-opening : (s : State) (r : Look) → ent 𝓤 (ensured 𝓤 H A opening.ended (opening.clauses 𝓤 H A mem run) tt (opened s) tt r)
+        (fact 𝓤 (r ≡ opens-with s))
+    said-opening s r = exE 𝓤 _ (λ ws. snd∗ 𝓤 (sem 𝓤 H A (lasts opening.ended tt (opened s) ws)) (fact 𝓤 (r ≡ opens-with s)))
+
+    -- the call of `look_all`
+    asked-looking : (s : Look) → ent 𝓤 (onEntry 𝓤 H A looking.signature (κ, tt) (q, tt) (xp, (s, tt)) (vp ∷ [], (machL s ∷ [], tt)))
+        (LookC 𝓤 H A mem run .pre (((κ, tt), (q, tt), tt, (xp, (s, tt)), (vp ∷ [], (machL s ∷ [], tt))), tt))
+    asked-looking s = qed W ((‵ (flft κ q) ⊛ ‵ ftrue) ∷ ‵ (owns (ShrSlice (named 0) κ P ∷ Q ∷ []) (xp, (s, tt))
+        (vp ∷ [], (machL s ∷ [], tt))) ∷ []) ∵ join ! $ frame ! $ done !
+
+    said-looking : (s r : Look) → ent 𝓤 (ensured 𝓤 H A looking.ended (looking.clauses 𝓤 H A mem run) (κ, tt) (xp, (s, tt)) tt r) (fact 𝓤
+        (r ≡ lookParts s ys))
+    said-looking s r = exE 𝓤 _ (λ ws. snd∗ 𝓤 (sem 𝓤 H A (lasts looking.ended (κ, tt) (xp, (s, tt)) ws)) (fact 𝓤 (r ≡ lookParts s ys)))
+
+    -- the call of `turn`
+    asked-turn : (s : State) (l : Look) → ent 𝓤 (onEntry 𝓤 H A turn.signature tt tt (s, (l, tt)) (machS s ∷ [], (machL l ∷ [], tt)))
+        (TurnC 𝓤 H A mem run .pre ((tt, tt, tt, (s, (l, tt)), (machS s ∷ [], (machL l ∷ [], tt))), tt))
+    asked-turn s l = qed W (‵ ftrue ∷ ‵ (owns (R ∷ Q ∷ []) (s, (l, tt)) (machS s ∷ [], (machL l ∷ [], tt))) ∷ []) ∵ join ! $ frame ! $
+        done !
+
+    said-turn : (s : State) (l : Look) (r : State) → ent 𝓤 (ensured 𝓤 H A turn.ended (turn.clauses 𝓤 H A mem run) tt (s, (l, tt)) tt r)
+        (fact 𝓤 (r ≡ turnedBy s l))
+    said-turn s l r = exE 𝓤 _ (λ ws. snd∗ 𝓤 (sem 𝓤 H A (lasts turn.ended tt (s, (l, tt)) ws)) (fact 𝓤 (r ≡ turnedBy s l)))
+
+    -- what stands between two calls, by what the five structs hold and by the lists of the work areas
+    abbrev Stands : Item 𝓤 → Item 𝓤 → Item 𝓤 → Item 𝓤 → Item 𝓤 → List ℕ → List ℕ → List (Item 𝓤)
+    Stands start′ looking′ looked′ between′ end′ zs0 zs1 = ‵ (froom (tyInt w32) l0 0) ∷ ‵ (fat fullShare double l1 0 (vfloat binary64 d0))
+        ∷ ‵ (fat fullShare double l2 0 (vfloat binary64 d1)) ∷ ‵ (fat fullShare double l3 0 (vfloat binary64 d2)) ∷ ‵ (fat fullShare
+        double l4 0 (vfloat binary64 d3)) ∷ ‵ (fat fullShare double l5 0 (vfloat binary64 d4)) ∷ ‵ (fat fullShare double l6 0 (vfloat
+        binary64 d5)) ∷ ‵ (fat fullShare double l7 0 (vfloat binary64 d6)) ∷ ‵ (fat fullShare double l8 0 (vfloat binary64 d7)) ∷ ‵ (fat
+        fullShare partsTy l9 0 vp) ∷ ‵ (fat fullShare sharedTy0 l10 0 vs0) ∷ ‵ (fat fullShare sharedTy1 l11 0 vs1) ∷ ‵ (fat fullShare
+        sharedTy2 l12 0 vs2) ∷ ‵ (fat fullShare sharedTy3 l13 0 vs3) ∷ ‵ (fat fullShare sharedTy4 l14 0 vs4) ∷ ‵ (fat fullShare sharedTy5
+        l15 0 vs5) ∷ ‵ (fat fullShare word l16 0 (vint w64 limit)) ∷ ‵ (fat fullShare lentTy0 l17 0 vl0) ∷ ‵ (fat fullShare lentTy1 l18 0
+        vl1) ∷ ‵ (fat fullShare lentTy2 l19 0 vl2) ∷ ‵ (fat fullShare lentTy3 l20 0 vl3) ∷ ‵ (fat fullShare lentTy4 l21 0 vl4) ∷ ‵ (fat
+        fullShare lentTy5 l22 0 vl5) ∷ start′ ∷ end′ ∷ ‵ (froom word l25 0) ∷ ‵ (froom word l26 0) ∷ ‵ (froom word l27 0) ∷ ‵ (froom word
+        l28 0) ∷ ‵ (froom refTy0 l29 0) ∷ ‵ (froom againTy0 l30 0) ∷ ‵ (froom refTy1 l31 0) ∷ ‵ (froom againTy1 l32 0) ∷ ‵ (froom refTy2
+        l33 0) ∷ ‵ (froom againTy2 l34 0) ∷ ‵ (froom refTy3 l35 0) ∷ ‵ (froom againTy3 l36 0) ∷ ‵ (froom refTy4 l37 0) ∷ ‵ (froom againTy4
+        l38 0) ∷ ‵ (froom refTy5 l39 0) ∷ ‵ (froom againTy5 l40 0) ∷ ‵ (flft κ q) ∷ ‵ (flft κ0 q0) ∷ ‵ (flft κ1 q1) ∷ ‵ (flft κ2 q2) ∷ ‵
+        (flft κ3 q3) ∷ ‵ (flft κ4 q4) ∷ ‵ (flft κ5 q5) ∷ ‵ (flft μ0 p0) ∷ ‵ (flft μ1 p1) ∷ ‵ (flft μ2 p2) ∷ ‵ (flft μ3 p3) ∷ ‵ (flft μ4
+        p4) ∷ ‵ (flft μ5 p5) ∷ ‵ OwnD0 ∷ ‵ OwnD1 ∷ ‵ OwnD2 ∷ ‵ OwnD3 ∷ ‵ OwnD4 ∷ ‵ OwnD5 ∷ ‵ OwnD6 ∷ ‵ OwnD7 ∷ ‵ OwnP ∷ ‵ OwnV0 ∷ ‵ OwnV1
+        ∷ ‵ OwnV2 ∷ ‵ OwnV3 ∷ ‵ OwnV4 ∷ ‵ OwnV5 ∷ ‵ OwnN ∷ ‵ (OwnW0 zs0 (length w0)) ∷ ‵ (OwnW1 zs1 (length w1)) ∷ ‵ (OwnW2 w2 (length
+        w2)) ∷ ‵ (OwnW3 w3 (length w3)) ∷ ‵ (OwnW4 w4 (length w4)) ∷ ‵ (OwnW5 w5 (length w5)) ∷ ‵ (fdies (tyInt w32) l0) ∷ ‵ (fdies double
+        l1) ∷ ‵ (fdies double l2) ∷ ‵ (fdies double l3) ∷ ‵ (fdies double l4) ∷ ‵ (fdies double l5) ∷ ‵ (fdies double l6) ∷ ‵ (fdies
+        double l7) ∷ ‵ (fdies double l8) ∷ ‵ (fdies partsTy l9) ∷ ‵ (fdies sharedTy0 l10) ∷ ‵ (fdies sharedTy1 l11) ∷ ‵ (fdies sharedTy2
+        l12) ∷ ‵ (fdies sharedTy3 l13) ∷ ‵ (fdies sharedTy4 l14) ∷ ‵ (fdies sharedTy5 l15) ∷ ‵ (fdies word l16) ∷ ‵ (fdies lentTy0 l17) ∷
+        ‵ (fdies lentTy1 l18) ∷ ‵ (fdies lentTy2 l19) ∷ ‵ (fdies lentTy3 l20) ∷ ‵ (fdies lentTy4 l21) ∷ ‵ (fdies lentTy5 l22) ∷ ‵ (fdies
+        S′.mir l23) ∷ ‵ (fdies S′.mir l24) ∷ ‵ (fdies word l25) ∷ ‵ (fdies word l26) ∷ ‵ (fdies word l27) ∷ ‵ (fdies word l28) ∷ ‵ (fdies
+        refTy0 l29) ∷ ‵ (fdies againTy0 l30) ∷ ‵ (fdies refTy1 l31) ∷ ‵ (fdies againTy1 l32) ∷ ‵ (fdies refTy2 l33) ∷ ‵ (fdies againTy2
+        l34) ∷ ‵ (fdies refTy3 l35) ∷ ‵ (fdies againTy3 l36) ∷ ‵ (fdies refTy4 l37) ∷ ‵ (fdies againTy4 l38) ∷ ‵ (fdies refTy5 l39) ∷ ‵
+        (fdies againTy5 l40) ∷ looking′ ∷ looked′ ∷ between′ ∷ ‵ (froom word n0 0) ∷ ‵ (froom word n1 0) ∷ ‵ (froom word n2 0) ∷ ‵ (froom
+        word n3 0) ∷ ‵ (fdies B′.mir k0) ∷ ‵ (fdies B′.mir k1) ∷ ‵ (fdies S′.mir k2) ∷ ‵ (fdies word n0) ∷ ‵ (fdies word n1) ∷ ‵ (fdies
+        word n2) ∷ ‵ (fdies word n3) ∷ []
+
     -- the call of `put_cabinet`, to which the result slices are lent again
     abbrev Put : Type 0
     Put = State × (RefT (List Float) × (RefT (List ℕ) × (RefT (List ℕ) × (RefT (List ℕ) × Unit {0}))))
@@ -843,35 +1002,10 @@ module _ {M : Type 1} (𝓤 : URA M) (H : Heap 𝓤) (A : Atoms 𝓤) (W : Given
     writes : (f s : State) (zs0 zs1 : List ℕ) → Is R s (machS s ∷ []) → f ≡ begun (rayFrom d0 d1 d2 d3 d4 d5 d6 d7) limit
         (cabinetFits (length w2) (length w3) (length w4) (length w5)) → s ≡ passes (areas (now x0) (now x1) (now x2) (now x3) (now x4)
         (now x5)) (length w0) (length w1) f ys
-        → KeptByBoth (areas (now x0) (now x1) (now x2) (now x3) (now x4) (now x5)) (length w0) (length w1) f ys w0 zs0 w1 zs1 → length
+        → Kept (between (areas (now x0) (now x1) (now x2) (now x3) (now x4) (now x5)) (length w0) (length w1) f ys) w0 zs0 w1 zs1 → length
         zs0 ≡ length w0 → length zs1 ≡ length w1
-        → Sq W (‵ (froom (tyInt w32) l0 0) ∷ ‵ (fat fullShare double l1 0 (vfloat binary64 d0)) ∷ ‵
-        (fat fullShare double l2 0 (vfloat binary64 d1)) ∷ ‵ (fat fullShare double l3 0 (vfloat binary64 d2)) ∷ ‵
-        (fat fullShare double l4 0 (vfloat binary64 d3)) ∷ ‵ (fat fullShare double l5 0 (vfloat binary64 d4)) ∷ ‵
-        (fat fullShare double l6 0 (vfloat binary64 d5)) ∷ ‵ (fat fullShare double l7 0 (vfloat binary64 d6)) ∷ ‵
-        (fat fullShare double l8 0 (vfloat binary64 d7)) ∷ ‵ (fat fullShare partsTy l9 0 vp) ∷ ‵
-        (fat fullShare sharedTy0 l10 0 vs0) ∷ ‵ (fat fullShare sharedTy1 l11 0 vs1) ∷ ‵ (fat fullShare sharedTy2 l12 0 vs2) ∷ ‵
-        (fat fullShare sharedTy3 l13 0 vs3) ∷ ‵ (fat fullShare sharedTy4 l14 0 vs4) ∷ ‵ (fat fullShare sharedTy5 l15 0 vs5) ∷ ‵
-        (fat fullShare word l16 0 (vint w64 limit)) ∷ ‵ (fat fullShare lentTy0 l17 0 vl0) ∷ ‵ (fat fullShare lentTy1 l18 0 vl1) ∷ ‵
-        (fat fullShare lentTy2 l19 0 vl2) ∷ ‵ (fat fullShare lentTy3 l20 0 vl3) ∷ ‵ (fat fullShare lentTy4 l21 0 vl4) ∷ ‵
-        (fat fullShare lentTy5 l22 0 vl5) ∷ ‵ (fat fullShare S′.mir l23 0 (machS f)) ∷ ‵ (fat fullShare S′.mir l24 0 (machS s)) ∷ ‵
-        (froom word l25 0) ∷ ‵ (froom word l26 0) ∷ ‵ (froom word l27 0) ∷ ‵ (froom word l28 0) ∷ ‵ (froom refTy0 l29 0) ∷ ‵
-        (froom againTy0 l30 0) ∷ ‵ (froom refTy1 l31 0) ∷ ‵ (froom againTy1 l32 0) ∷ ‵ (froom refTy2 l33 0) ∷ ‵
-        (froom againTy2 l34 0) ∷ ‵ (froom refTy3 l35 0) ∷ ‵ (froom againTy3 l36 0) ∷ ‵ (froom refTy4 l37 0) ∷ ‵
-        (froom againTy4 l38 0) ∷ ‵ (froom refTy5 l39 0) ∷ ‵ (froom againTy5 l40 0) ∷ ‵ (flft κ q) ∷ ‵ (flft κ0 q0) ∷ ‵ (flft κ1 q1)
-        ∷ ‵ (flft κ2 q2) ∷ ‵ (flft κ3 q3) ∷ ‵ (flft κ4 q4) ∷ ‵ (flft κ5 q5) ∷ ‵ (flft μ0 p0) ∷ ‵ (flft μ1 p1) ∷ ‵ (flft μ2 p2) ∷ ‵
-        (flft μ3 p3) ∷ ‵ (flft μ4 p4) ∷ ‵ (flft μ5 p5) ∷ ‵ OwnD0 ∷ ‵ OwnD1 ∷ ‵ OwnD2 ∷ ‵ OwnD3 ∷ ‵ OwnD4 ∷ ‵ OwnD5 ∷ ‵ OwnD6 ∷ ‵
-        OwnD7 ∷ ‵ OwnP ∷ ‵ OwnV0 ∷ ‵ OwnV1 ∷ ‵ OwnV2 ∷ ‵ OwnV3 ∷ ‵ OwnV4 ∷ ‵ OwnV5 ∷ ‵ OwnN ∷ ‵ (OwnW0 zs0 (length w0)) ∷ ‵
-        (OwnW1 zs1 (length w1)) ∷ ‵ (OwnW2 w2 (length w2)) ∷ ‵ (OwnW3 w3 (length w3)) ∷ ‵ (OwnW4 w4 (length w4)) ∷ ‵
-        (OwnW5 w5 (length w5)) ∷ ‵ (fdies (tyInt w32) l0) ∷ ‵ (fdies double l1) ∷ ‵ (fdies double l2) ∷ ‵ (fdies double l3) ∷ ‵
-        (fdies double l4) ∷ ‵ (fdies double l5) ∷ ‵ (fdies double l6) ∷ ‵ (fdies double l7) ∷ ‵ (fdies double l8) ∷ ‵
-        (fdies partsTy l9) ∷ ‵ (fdies sharedTy0 l10) ∷ ‵ (fdies sharedTy1 l11) ∷ ‵ (fdies sharedTy2 l12) ∷ ‵ (fdies sharedTy3 l13)
-        ∷ ‵ (fdies sharedTy4 l14) ∷ ‵ (fdies sharedTy5 l15) ∷ ‵ (fdies word l16) ∷ ‵ (fdies lentTy0 l17) ∷ ‵ (fdies lentTy1 l18) ∷
-        ‵ (fdies lentTy2 l19) ∷ ‵ (fdies lentTy3 l20) ∷ ‵ (fdies lentTy4 l21) ∷ ‵ (fdies lentTy5 l22) ∷ ‵ (fdies S′.mir l23) ∷ ‵
-        (fdies S′.mir l24) ∷ ‵ (fdies word l25) ∷ ‵ (fdies word l26) ∷ ‵ (fdies word l27) ∷ ‵ (fdies word l28) ∷ ‵
-        (fdies refTy0 l29) ∷ ‵ (fdies againTy0 l30) ∷ ‵ (fdies refTy1 l31) ∷ ‵ (fdies againTy1 l32) ∷ ‵ (fdies refTy2 l33) ∷ ‵
-        (fdies againTy2 l34) ∷ ‵ (fdies refTy3 l35) ∷ ‵ (fdies againTy3 l36) ∷ ‵ (fdies refTy4 l37) ∷ ‵ (fdies againTy4 l38) ∷ ‵
-        (fdies refTy5 l39) ∷ ‵ (fdies againTy5 l40) ∷ []) (runs C Λ En pieces.t-11 (atRet En Post))
+        → Sq W (Stands (‵ (fat fullShare S′.mir l23 0 (machS f))) (‵ (froom B′.mir k0 0)) (‵ (froom B′.mir k1 0)) (‵ (froom S′.mir k2 0))
+        (‵ (fat fullShare S′.mir l24 0 (machS s))) zs0 zs1) (runs C Λ En pieces.t-22 (atRet En Post))
     writes f s zs0 zs1 is from-begin from-start kept el0 el1 =
         assigns ! (addr ! (from ! (fld ! refl (hop ! (look-in ! 19 (sub ! 0 refl (whole !))) (stop !))))) (from ! (stop !))
         (init ! 33 refl (tt, tt)) $
@@ -946,12 +1080,12 @@ module _ {M : Type 1} (𝓤 : URA M) (H : Heap 𝓤) (A : Atoms 𝓤) (W : Given
         move ! (1 ∷ []) $
         use1 W (some (λ (ls : Unit {0} × (List Float × (List ℕ × (List ℕ × (List ℕ × Unit {0}))))). ‵
         (lasts last.ended (ν2 ∷ [], (ν3 ∷ [], (ν4 ∷ [], (ν5 ∷ [], tt)))) (given-last s δ2 δ3 δ4 δ5) ls) ⊛ raw
-        (fact 𝓤 (cabinetTold r (ls .1 .0) (ls .1 .1 .0) (ls .1 .1 .1 .0) (ls .1 .1 .1 .1 .0) ≡ toldCabinet
+        (fact 𝓤 (cabinetReturned r (ls .1 .0) (ls .1 .1 .0) (ls .1 .1 .1 .0) (ls .1 .1 .1 .1 .0) ≡ returnedCabinet
         (withResults (cabinetFits (length w2) (length w3) (length w4) (length w5)) (lastAnswer (s .at))) w2 w3 w4 w5)))) (id⊢ 𝓤 _)
         $ pick ! (λ ls.
         split ! $
         move ! (1 ∷ []) $
-        heard ! (cabinetTold r (ls .1 .0) (ls .1 .1 .0) (ls .1 .1 .1 .0) (ls .1 .1 .1 .1 .0) ≡ toldCabinet
+        heard ! (cabinetReturned r (ls .1 .0) (ls .1 .1 .0) (ls .1 .1 .1 .0) (ls .1 .1 .1 .1 .0) ≡ returnedCabinet
         (withResults (cabinetFits (length w2) (length w3) (length w4) (length w5)) (lastAnswer (s .at))) w2 w3 w4 w5) (λ e.
         fsplit ! $
         drop ! $
@@ -1066,6 +1200,12 @@ module _ {M : Type 1} (𝓤 : URA M) (H : Heap 𝓤) (A : Atoms 𝓤) (W : Given
         free1 ! $
         move ! (8 ∷ 53 ∷ []) $
         free1 ! $
+        move ! (69 ∷ 76 ∷ []) $
+        free1 ! $
+        move ! (69 ∷ 75 ∷ []) $
+        free1 ! $
+        move ! (69 ∷ 74 ∷ []) $
+        free1 ! $
         move ! (8 ∷ 52 ∷ []) $
         free1 ! $
         move ! (8 ∷ 51 ∷ []) $
@@ -1075,6 +1215,14 @@ module _ {M : Type 1} (𝓤 : URA M) (H : Heap 𝓤) (A : Atoms 𝓤) (W : Given
         move ! (8 ∷ 49 ∷ []) $
         free1 ! $
         move ! (8 ∷ 48 ∷ []) $
+        free1 ! $
+        move ! (59 ∷ 63 ∷ []) $
+        free1 ! $
+        move ! (59 ∷ 62 ∷ []) $
+        free1 ! $
+        move ! (59 ∷ 61 ∷ []) $
+        free1 ! $
+        move ! (59 ∷ 60 ∷ []) $
         free1 ! $
         move ! (8 ∷ 47 ∷ []) $
         free1 ! $
@@ -1101,8 +1249,8 @@ module _ {M : Type 1} (𝓤 : URA M) (H : Heap 𝓤) (A : Atoms 𝓤) (W : Given
         move ! (8 ∷ 36 ∷ []) $
         free1 ! $
         free0 ! $
-        keep ! (8 ∷ 9 ∷ 10 ∷ 11 ∷ 12 ∷ 13 ∷ 14 ∷ 15 ∷ 16 ∷ 7 ∷ 5 ∷ 3 ∷ 1 ∷ 17 ∷ 18 ∷ 19 ∷ 20 ∷ 21 ∷ 22 ∷ 23 ∷ 24 ∷ 25 ∷ 26 ∷ 27 ∷ 28 ∷
-        29 ∷ 30 ∷ 31 ∷ 32 ∷ 33 ∷ 34 ∷ 6 ∷ 4 ∷ 2 ∷ 0 ∷ []) $
+        keep ! (8 ∷ 9 ∷ 10 ∷ 11 ∷ 12 ∷ 13 ∷ 14 ∷ 15 ∷ 16 ∷ 7 ∷ 5 ∷ 3 ∷ 1 ∷ 17 ∷ 18 ∷ 19 ∷ 20 ∷ 21 ∷ 22 ∷ 23 ∷ 24 ∷ 25 ∷ 26 ∷ 27 ∷ 28 ∷ 29
+        ∷ 30 ∷ 31 ∷ 32 ∷ 33 ∷ 34 ∷ 6 ∷ 4 ∷ 2 ∷ 0 ∷ []) $
         by ! (exits r u zs0 zs1 (ls .1 .0) (ls .1 .1 .0) (ls .1 .1 .1 .0) (ls .1 .1 .1 .1 .0) (
           cabinet-answers (rayFrom d0 d1 d2 d3 d4 d5 d6 d7) (areas (now x0) (now x1) (now x2) (now x3) (now x4) (now x5)) (length w0)
               (length w1) limit (cabinetFits (length w2) (length w3) (length w4) (length w5)) ys f s from-begin from-start w2 w3 w4 w5 _
@@ -1119,36 +1267,12 @@ module _ {M : Type 1} (𝓤 : URA M) (H : Heap 𝓤) (A : Atoms 𝓤) (W : Given
         )
         el0 el1 same2 same3 same4 same5 ir))))))))))))))))))
 
-    -- both passes
-    casts : (s : State) → Is R s (machS s ∷ []) → s ≡ begun (rayFrom d0 d1 d2 d3 d4 d5 d6 d7) limit
-        (cabinetFits (length w2) (length w3) (length w4) (length w5)) → Sq W
-        (‵ (froom (tyInt w32) l0 0) ∷ ‵ (fat fullShare double l1 0 (vfloat binary64 d0)) ∷ ‵
-        (fat fullShare double l2 0 (vfloat binary64 d1)) ∷ ‵ (fat fullShare double l3 0 (vfloat binary64 d2)) ∷ ‵
-        (fat fullShare double l4 0 (vfloat binary64 d3)) ∷ ‵ (fat fullShare double l5 0 (vfloat binary64 d4)) ∷ ‵
-        (fat fullShare double l6 0 (vfloat binary64 d5)) ∷ ‵ (fat fullShare double l7 0 (vfloat binary64 d6)) ∷ ‵
-        (fat fullShare double l8 0 (vfloat binary64 d7)) ∷ ‵ (fat fullShare partsTy l9 0 vp) ∷ ‵ (fat fullShare sharedTy0 l10 0 vs0) ∷
-        ‵ (fat fullShare sharedTy1 l11 0 vs1) ∷ ‵ (fat fullShare sharedTy2 l12 0 vs2) ∷ ‵ (fat fullShare sharedTy3 l13 0 vs3) ∷ ‵
-        (fat fullShare sharedTy4 l14 0 vs4) ∷ ‵ (fat fullShare sharedTy5 l15 0 vs5) ∷ ‵ (fat fullShare word l16 0 (vint w64 limit)) ∷ ‵
-        (fat fullShare lentTy0 l17 0 vl0) ∷ ‵ (fat fullShare lentTy1 l18 0 vl1) ∷ ‵ (fat fullShare lentTy2 l19 0 vl2) ∷ ‵
-        (fat fullShare lentTy3 l20 0 vl3) ∷ ‵ (fat fullShare lentTy4 l21 0 vl4) ∷ ‵ (fat fullShare lentTy5 l22 0 vl5) ∷ ‵
-        (fat fullShare S′.mir l23 0 (machS s)) ∷ ‵ (froom S′.mir l24 0) ∷ ‵ (froom word l25 0) ∷ ‵ (froom word l26 0) ∷ ‵
-        (froom word l27 0) ∷ ‵ (froom word l28 0) ∷ ‵ (froom refTy0 l29 0) ∷ ‵ (froom againTy0 l30 0) ∷ ‵ (froom refTy1 l31 0) ∷ ‵
-        (froom againTy1 l32 0) ∷ ‵ (froom refTy2 l33 0) ∷ ‵ (froom againTy2 l34 0) ∷ ‵ (froom refTy3 l35 0) ∷ ‵ (froom againTy3 l36 0)
-        ∷ ‵ (froom refTy4 l37 0) ∷ ‵ (froom againTy4 l38 0) ∷ ‵ (froom refTy5 l39 0) ∷ ‵ (froom againTy5 l40 0) ∷ ‵ (flft κ q) ∷ ‵
-        (flft κ0 q0) ∷ ‵ (flft κ1 q1) ∷ ‵ (flft κ2 q2) ∷ ‵ (flft κ3 q3) ∷ ‵ (flft κ4 q4) ∷ ‵ (flft κ5 q5) ∷ ‵ (flft μ0 p0) ∷ ‵
-        (flft μ1 p1) ∷ ‵ (flft μ2 p2) ∷ ‵ (flft μ3 p3) ∷ ‵ (flft μ4 p4) ∷ ‵ (flft μ5 p5) ∷ ‵ OwnD0 ∷ ‵ OwnD1 ∷ ‵ OwnD2 ∷ ‵ OwnD3 ∷ ‵
-        OwnD4 ∷ ‵ OwnD5 ∷ ‵ OwnD6 ∷ ‵ OwnD7 ∷ ‵ OwnP ∷ ‵ OwnV0 ∷ ‵ OwnV1 ∷ ‵ OwnV2 ∷ ‵ OwnV3 ∷ ‵ OwnV4 ∷ ‵ OwnV5 ∷ ‵ OwnN ∷ ‵
-        (OwnW0 w0 (length w0)) ∷ ‵ (OwnW1 w1 (length w1)) ∷ ‵ (OwnW2 w2 (length w2)) ∷ ‵ (OwnW3 w3 (length w3)) ∷ ‵
-        (OwnW4 w4 (length w4)) ∷ ‵ (OwnW5 w5 (length w5)) ∷ ‵ (fdies (tyInt w32) l0) ∷ ‵ (fdies double l1) ∷ ‵ (fdies double l2) ∷ ‵
-        (fdies double l3) ∷ ‵ (fdies double l4) ∷ ‵ (fdies double l5) ∷ ‵ (fdies double l6) ∷ ‵ (fdies double l7) ∷ ‵ (fdies double l8)
-        ∷ ‵ (fdies partsTy l9) ∷ ‵ (fdies sharedTy0 l10) ∷ ‵ (fdies sharedTy1 l11) ∷ ‵ (fdies sharedTy2 l12) ∷ ‵ (fdies sharedTy3 l13)
-        ∷ ‵ (fdies sharedTy4 l14) ∷ ‵ (fdies sharedTy5 l15) ∷ ‵ (fdies word l16) ∷ ‵ (fdies lentTy0 l17) ∷ ‵ (fdies lentTy1 l18) ∷ ‵
-        (fdies lentTy2 l19) ∷ ‵ (fdies lentTy3 l20) ∷ ‵ (fdies lentTy4 l21) ∷ ‵ (fdies lentTy5 l22) ∷ ‵ (fdies S′.mir l23) ∷ ‵
-        (fdies S′.mir l24) ∷ ‵ (fdies word l25) ∷ ‵ (fdies word l26) ∷ ‵ (fdies word l27) ∷ ‵ (fdies word l28) ∷ ‵ (fdies refTy0 l29) ∷
-        ‵ (fdies againTy0 l30) ∷ ‵ (fdies refTy1 l31) ∷ ‵ (fdies againTy1 l32) ∷ ‵ (fdies refTy2 l33) ∷ ‵ (fdies againTy2 l34) ∷ ‵
-        (fdies refTy3 l35) ∷ ‵ (fdies againTy3 l36) ∷ ‵ (fdies refTy4 l37) ∷ ‵ (fdies againTy4 l38) ∷ ‵ (fdies refTy5 l39) ∷ ‵
-        (fdies againTy5 l40) ∷ []) (runs C Λ En pieces.t-6 (atRet En Post))
-    casts s is from-begin =
+    -- the second pass, from the state s that stands between
+    casts : (f s : State) → Is R s (machS s ∷ []) → f ≡ begun (rayFrom d0 d1 d2 d3 d4 d5 d6 d7) limit (cabinetFits (length w2) (length w3)
+        (length w4) (length w5)) → s ≡ between (areas (now x0) (now x1) (now x2) (now x3) (now x4) (now x5)) (length w0) (length w1) f ys
+        → Sq W (Stands (‵ (fat fullShare S′.mir l23 0 (machS f))) (‵ (froom B′.mir k0 0)) (‵ (froom B′.mir k1 0)) (‵ (fat fullShare S′.mir
+        k2 0 (machS s))) (‵ (froom S′.mir l24 0)) w0 w1) (runs C Λ En pieces.t-17 (atRet En Post))
+    casts f s is from-begin from-first =
         assigns ! (addr ! (from ! (fld ! refl (hop ! (look-in ! 17 (sub ! 0 refl (whole !))) (stop !))))) (from ! (stop !))
         (init ! 29 refl (tt, tt)) $
         assigns ! (agg ! (and-then ! (load ! (from ! (stop !)) (look ! 29 refl))
@@ -1229,7 +1353,7 @@ module _ {M : Type 1} (𝓤 : URA M) (H : Heap 𝓤) (A : Atoms 𝓤) (W : Given
         (and-then ! (load ! (from ! (stop !)) (look ! 21 refl)) (and-then ! (load ! (from ! (stop !)) (look ! 22 refl))
         (and-then ! (load ! (from ! (stop !)) (look ! 23 refl)) (and-then ! (load ! (from ! (stop !)) (look ! 24 refl))
         (and-then ! (load ! (from ! (stop !)) (look ! 25 refl)) (and-then ! (load ! (from ! (stop !)) (look ! 40 refl))
-        (and-then ! (load ! (from ! (stop !)) (look ! 42 refl)) (and-then ! (load ! (from ! (stop !)) (look ! 33 refl))
+        (and-then ! (load ! (from ! (stop !)) (look ! 42 refl)) (and-then ! (load ! (from ! (stop !)) (look ! 111 refl))
         (no-more !))))))))))) (λ u.
         use1 W (later (some (λ (r : State). ((‵ (flft κ q) ⊛ (‵ (flft κ0 q0) ⊛
         (‵ (flft κ1 q1) ⊛ (‵ (flft κ2 q2) ⊛ (‵ (flft κ3 q3) ⊛
@@ -1242,13 +1366,13 @@ module _ {M : Type 1} (𝓤 : URA M) (H : Heap 𝓤) (A : Atoms 𝓤) (W : Given
         use1 W (some (λ (ls : Unit {0} × (Unit {0} × (Unit {0} ×
         (Unit {0} × (Unit {0} × (Unit {0} × (Unit {0} × (List ℕ × (List ℕ × (Unit {0} × Unit {0})))))))))). ‵
         (lasts step.ended (κ, (κ0, (κ1, (κ2, (κ3, (κ4, (κ5, (ν0 ∷ [], (ν1 ∷ [], tt))))))))) (given-to s δ0 δ1) ls) ⊛ raw
-        (fact 𝓤 ((r ≡ passes (areas (now x0) (now x1) (now x2) (now x3) (now x4) (now x5)) (length w0) (length w1) s ys) ×
-        KeptByBoth (areas (now x0) (now x1) (now x2) (now x3) (now x4) (now x5)) (length w0) (length w1) s ys w0
+        (fact 𝓤 ((r ≡ stepParts (areas (now x0) (now x1) (now x2) (now x3) (now x4) (now x5)) (length w0) (length w1) s ys) ×
+        Kept s w0
         (ls .1 .1 .1 .1 .1 .1 .1 .0) w1 (ls .1 .1 .1 .1 .1 .1 .1 .1 .0))))) (id⊢ 𝓤 _) $ pick ! (λ ls.
         split ! $
         move ! (1 ∷ []) $
-        heard ! ((r ≡ passes (areas (now x0) (now x1) (now x2) (now x3) (now x4) (now x5)) (length w0) (length w1) s ys) ×
-        KeptByBoth (areas (now x0) (now x1) (now x2) (now x3) (now x4) (now x5)) (length w0) (length w1) s ys w0
+        heard ! ((r ≡ stepParts (areas (now x0) (now x1) (now x2) (now x3) (now x4) (now x5)) (length w0) (length w1) s ys) ×
+        Kept s w0
         (ls .1 .1 .1 .1 .1 .1 .1 .0) w1 (ls .1 .1 .1 .1 .1 .1 .1 .1 .0)) (λ e.
         fsplit ! $
         drop ! $
@@ -1312,38 +1436,206 @@ module _ {M : Type 1} (𝓤 : URA M) (H : Heap 𝓤) (A : Atoms 𝓤) (W : Given
         (comes-back u32 μ1 (ν1 ∷ []) p1 ω1 c1 o1 𝓤 H A W (named 8) (named 8) w1 δ1 (ls .1 .1 .1 .1 .1 .1 .1 .1 .0) gw1 same1) $
         await ! tt $ split ! $
         rewrite ! 42 (λ (w : Val). ‵ (fat fullShare S′.mir l24 0 w)) (ap only (LL.tells S.the-type S′.the-laws r (u ∷ []) ir)) refl $
-        forget ! 47 refl $ forget ! 48 refl $ forget ! 49 refl $ forget ! 50 refl $
-        keep ! (18 ∷ 19 ∷ 20 ∷ 21 ∷ 22 ∷ 23 ∷ 24 ∷ 25 ∷ 26 ∷ 27 ∷ 28 ∷ 29 ∷ 30 ∷ 31 ∷ 32 ∷ 33 ∷ 34 ∷ 35 ∷ 36 ∷ 37 ∷ 38 ∷ 39 ∷ 40 ∷ 41 ∷
-        42 ∷ 43 ∷ 44 ∷ 45 ∷ 46 ∷ 47 ∷ 48 ∷ 49 ∷ 50 ∷ 51 ∷ 52 ∷ 53 ∷ 54 ∷ 55 ∷ 56 ∷ 57 ∷ 58 ∷ 10 ∷ 9 ∷ 8 ∷ 7 ∷ 6 ∷ 5 ∷ 4 ∷ 3 ∷ 1 ∷
-        59 ∷ 60 ∷ 61 ∷ 62 ∷ 63 ∷ 64 ∷ 65 ∷ 66 ∷ 67 ∷ 68 ∷ 69 ∷ 70 ∷ 17 ∷ 16 ∷ 15 ∷ 14 ∷ 13 ∷ 12 ∷ 11 ∷ 71 ∷ 2 ∷ 0 ∷ 72 ∷ 73 ∷ 74 ∷
-        75 ∷ 76 ∷ 77 ∷ 78 ∷ 79 ∷ 80 ∷ 81 ∷ 82 ∷ 83 ∷ 84 ∷ 85 ∷ 86 ∷ 87 ∷ 88 ∷ 89 ∷ 90 ∷ 91 ∷ 92 ∷ 93 ∷ 94 ∷ 95 ∷ 96 ∷ 97 ∷ 98 ∷ 99
-        ∷ 100 ∷ 101 ∷ 102 ∷ 103 ∷ 104 ∷ 105 ∷ 106 ∷ 107 ∷ 108 ∷ 109 ∷ 110 ∷ 111 ∷ 112 ∷ 113 ∷ 114 ∷ 115 ∷ 116 ∷ []) $
-        writes s r (ls .1 .1 .1 .1 .1 .1 .1 .0) (ls .1 .1 .1 .1 .1 .1 .1 .1 .0)
-        (subst (Is R r) (LL.tells S.the-type S′.the-laws r (u ∷ []) ir) ir) from-begin (e .0) (e .1) same0 same1)))))))))))
+        forget ! 47 refl $ forget ! 48 refl $ forget ! 49 refl $ forget ! 50 refl $ forget ! 119 refl $
+        keep ! (18 ∷ 19 ∷ 20 ∷ 21 ∷ 22 ∷ 23 ∷ 24 ∷ 25 ∷ 26 ∷ 27 ∷ 28 ∷ 29 ∷ 30 ∷ 31 ∷ 32 ∷ 33 ∷ 34 ∷ 35 ∷ 36 ∷ 37 ∷ 38 ∷ 39 ∷ 40 ∷ 41 ∷ 42
+        ∷ 43 ∷ 44 ∷ 45 ∷ 46 ∷ 47 ∷ 48 ∷ 49 ∷ 50 ∷ 51 ∷ 52 ∷ 53 ∷ 54 ∷ 55 ∷ 56 ∷ 57 ∷ 58 ∷ 10 ∷ 9 ∷ 8 ∷ 7 ∷ 6 ∷ 5 ∷ 4 ∷ 3 ∷ 1 ∷ 59 ∷ 60 ∷
+        61 ∷ 62 ∷ 63 ∷ 64 ∷ 65 ∷ 66 ∷ 67 ∷ 68 ∷ 69 ∷ 70 ∷ 17 ∷ 16 ∷ 15 ∷ 14 ∷ 13 ∷ 12 ∷ 11 ∷ 71 ∷ 2 ∷ 0 ∷ 72 ∷ 73 ∷ 74 ∷ 75 ∷ 76 ∷ 77 ∷ 78
+        ∷ 79 ∷ 80 ∷ 81 ∷ 82 ∷ 83 ∷ 84 ∷ 85 ∷ 86 ∷ 87 ∷ 88 ∷ 89 ∷ 90 ∷ 91 ∷ 92 ∷ 93 ∷ 94 ∷ 95 ∷ 96 ∷ 97 ∷ 98 ∷ 99 ∷ 100 ∷ 101 ∷ 102 ∷ 103 ∷
+        104 ∷ 105 ∷ 106 ∷ 107 ∷ 108 ∷ 109 ∷ 110 ∷ 111 ∷ 112 ∷ 113 ∷ 114 ∷ 115 ∷ 116 ∷ 117 ∷ 118 ∷ 119 ∷ 120 ∷ 121 ∷ 122 ∷ 123 ∷ 124 ∷ 125
+        ∷ 126 ∷ 127 ∷ 128 ∷ 129 ∷ 130 ∷ []) $
+        writes f r (ls .1 .1 .1 .1 .1 .1 .1 .0) (ls .1 .1 .1 .1 .1 .1 .1 .1 .0)
+        (subst (Is R r) (LL.tells S.the-type S′.the-laws r (u ∷ []) ir) ir) from-begin
+        (ends-second (areas (now x0) (now x1) (now x2) (now x3) (now x4) (now x5)) (length w0) (length w1) f ys s r from-first (e .0))
+        (λ idle. e .1 (ap isIdle from-first ∙ idle)) same0 same1)))))))))))
+
+    -- between the passes
+    middle : (f : State) (i l : Look) → Is R f (machS f ∷ []) → Is Q l (machL l ∷ []) → f ≡ begun (rayFrom d0 d1 d2 d3 d4 d5 d6 d7) limit
+        (cabinetFits (length w2) (length w3) (length w4) (length w5)) → i ≡ opens-with f → l ≡ lookParts i ys → Sq W (Stands (‵ (fat
+        fullShare S′.mir l23 0 (machS f))) (‵ (froom B′.mir k0 0)) (‵ (fat fullShare B′.mir k1 0 (machL l))) (‵ (froom S′.mir k2 0)) (‵
+        (froom S′.mir l24 0)) w0 w1) (runs C Λ En pieces.t-16 (atRet En Post))
+    middle f i l isf isl from-begin from-start looked-at =
+        nothing ! $
+        owned ! Q (Is Q) (LL.makes B.the-type B′.the-plain 𝓤 H A) l _ isl $
+        fjoin ! $
+        owned ! R (Is R) (LL.makes S.the-type S′.the-plain 𝓤 H A) f _ isf $
+        fjoin ! $
+        nothing ! $
+        use2 W (raw (TurnC 𝓤 H A mem run .pre ((tt, tt, tt, (f, (l, tt)), (machS f ∷ [], (machL l ∷ [], tt))), tt))) (asked-turn f l) $
+        calls-at ! (fmOf 𝓤 H (W .laws) 𝓣) (TurnC 𝓤 H A mem run) known-turn (
+          (
+            tt,
+            tt,
+            tt,
+            (f, (l, tt)),
+            (
+              machS f ∷ [],
+              (
+                machL l ∷ [],
+                tt,
+              ),
+            ),
+          ),
+          tt,
+        ) (and-then ! (load ! (from ! (stop !)) (look ! 24 refl)) (and-then ! (load ! (from ! (stop !)) (look ! 119 refl))
+        (no-more !))) (λ u.
+        use1 W (later (some (λ (r : State). (‵ ftrue ⊛ ‵ (R .own r (u ∷ []))) ⊛ raw (ensured 𝓤 H A turn.ended (turn.clauses 𝓤 H A mem run)
+        tt (f, (l, tt)) tt r)))) (id⊢ 𝓤 _) $ await ! tt $ pick ! (λ r.
+        split ! $
+        move ! (1 ∷ []) $
+        use1 W (raw (fact 𝓤 (r ≡ turnedBy f l))) (said-turn f l r) $ heard ! (r ≡ turnedBy f l) (λ e.
+        split ! $
+        move ! (1 ∷ []) $
+        peeks ! R (Is R) (shows 𝓤 H A R) r (u ∷ []) (λ ir.
+        land ! (from ! (stop !)) (init ! 121 refl (LL.lawful S.the-type S′.the-laws 𝓤 H A W .typed r (u ∷ []) ir .0)) $
+        rewrite ! 121 (λ (w : Val). ‵ (fat fullShare S′.mir k2 0 w)) (ap only (LL.tells S.the-type S′.the-laws r (u ∷ []) ir)) refl $
+        forget ! 120 refl $ drop ! $ drop ! $
+        casts f r (subst (Is R r) (LL.tells S.the-type S′.the-laws r (u ∷ []) ir) ir) from-begin (starts-second (areas (now x0) (now x1)
+        (now x2) (now x3) (now x4) (now x5)) (length w0) (length w1) f ys r i l from-start looked-at e)))))
+
+    -- the first pass
+    looks : (f : State) (i : Look) → Is R f (machS f ∷ []) → Is Q i (machL i ∷ []) → f ≡ begun (rayFrom d0 d1 d2 d3 d4 d5 d6 d7) limit
+        (cabinetFits (length w2) (length w3) (length w4) (length w5)) → i ≡ opens-with f → Sq W (Stands (‵ (fat fullShare S′.mir l23 0
+        (machS f))) (‵ (fat fullShare B′.mir k0 0 (machL i))) (‵ (froom B′.mir k1 0)) (‵ (froom S′.mir k2 0)) (‵ (froom S′.mir l24 0)) w0
+        w1) (runs C Λ En pieces.t-15 (atRet En Post))
+    looks f i isf isi from-begin from-start =
+        move ! (62 ∷ []) $
+        use1 W (‵ OwnP ⊛ ‵ OwnP) (shr-slice-copy 𝓤 H A W (named 0) κ P .twice xp (vp ∷ [])) $ split ! $
+        nothing ! $
+        owned ! Q (Is Q) (LL.makes B.the-type B′.the-plain 𝓤 H A) i _ isi $
+        fjoin ! $
+        move ! (2 ∷ 0 ∷ []) $
+        fjoin ! $
+        nothing ! $
+        move ! (44 ∷ 0 ∷ []) $
+        join ! $
+        use2 W (raw (LookC 𝓤 H A mem run .pre (((κ, tt), (q, tt), tt, (xp, (i, tt)), (vp ∷ [], (machL i ∷ [], tt))), tt))) (asked-looking
+        i) $
+        calls-at ! (fmOf 𝓤 H (W .laws) 𝓣) (LookC 𝓤 H A mem run) known-looking (
+          (
+            (κ, tt),
+            (q, tt),
+            tt,
+            (xp, (i, tt)),
+            (
+              vp ∷ [],
+              (
+                machL i ∷
+                    [],
+                tt,
+              ),
+            ),
+          ),
+          tt,
+        ) (and-then ! (load ! (from ! (stop !)) (look ! 11 refl)) (and-then ! (load ! (from ! (stop !)) (look ! 117 refl))
+        (no-more !))) (λ u.
+        use1 W (later (some (λ (r : Look). ((‵ (flft κ q) ⊛ ‵ ftrue) ⊛ ‵ (Q .own r (u ∷ []))) ⊛ raw (ensured 𝓤 H A looking.ended
+        (looking.clauses 𝓤 H A mem run) (κ, tt) (xp, (i, tt)) tt r)))) (id⊢ 𝓤 _) $ await ! tt $ pick ! (λ r.
+        split ! $
+        move ! (1 ∷ []) $
+        use1 W (raw (fact 𝓤 (r ≡ lookParts i ys))) (said-looking i r) $ heard ! (r ≡ lookParts i ys) (λ e.
+        split ! $
+        move ! (1 ∷ []) $
+        peeks ! Q (Is Q) (shows 𝓤 H A Q) r (u ∷ []) (λ ir.
+        land ! (from ! (stop !)) (init ! 119 refl (LL.lawful B.the-type B′.the-laws 𝓤 H A W .typed r (u ∷ []) ir .0)) $
+        rewrite ! 119 (λ (w : Val). ‵ (fat fullShare B′.mir k1 0 w)) (ap only (LL.tells B.the-type B′.the-laws r (u ∷ []) ir)) refl $
+        forget ! 118 refl $
+        move ! (1 ∷ []) $
+        split ! $
+        keep ! (4 ∷ 5 ∷ 6 ∷ 7 ∷ 8 ∷ 9 ∷ 10 ∷ 11 ∷ 12 ∷ 13 ∷ 14 ∷ 15 ∷ 16 ∷ 17 ∷ 18 ∷ 19 ∷ 20 ∷ 21 ∷ 22 ∷ 23 ∷ 24 ∷ 25 ∷ 26 ∷ 27 ∷ 28 ∷ 29
+        ∷ 30 ∷ 31 ∷ 32 ∷ 33 ∷ 34 ∷ 35 ∷ 36 ∷ 37 ∷ 38 ∷ 39 ∷ 40 ∷ 41 ∷ 42 ∷ 43 ∷ 44 ∷ 0 ∷ 45 ∷ 46 ∷ 47 ∷ 48 ∷ 49 ∷ 50 ∷ 51 ∷ 52 ∷ 53 ∷ 54 ∷
+        55 ∷ 56 ∷ 57 ∷ 58 ∷ 59 ∷ 60 ∷ 61 ∷ 62 ∷ 63 ∷ 64 ∷ 3 ∷ 65 ∷ 66 ∷ 67 ∷ 68 ∷ 69 ∷ 70 ∷ 71 ∷ 72 ∷ 73 ∷ 74 ∷ 75 ∷ 76 ∷ 77 ∷ 78 ∷ 79 ∷
+        80 ∷ 81 ∷ 82 ∷ 83 ∷ 84 ∷ 85 ∷ 86 ∷ 87 ∷ 88 ∷ 89 ∷ 90 ∷ 91 ∷ 92 ∷ 93 ∷ 94 ∷ 95 ∷ 96 ∷ 97 ∷ 98 ∷ 99 ∷ 100 ∷ 101 ∷ 102 ∷ 103 ∷ 104 ∷
+        105 ∷ 106 ∷ 107 ∷ 108 ∷ 109 ∷ 110 ∷ 111 ∷ 112 ∷ 113 ∷ 114 ∷ 115 ∷ 116 ∷ 117 ∷ 118 ∷ 119 ∷ 120 ∷ 121 ∷ 122 ∷ 123 ∷ 124 ∷ 125 ∷ 126
+        ∷ 127 ∷ 128 ∷ 129 ∷ 130 ∷ 131 ∷ 132 ∷ []) $
+        middle f i r isf (subst (Is Q r) (LL.tells B.the-type B′.the-laws r (u ∷ []) ir) ir) from-begin from-start e))))
+
+    -- what the first pass begins with
+    opens : (f : State) → Is R f (machS f ∷ []) → f ≡ begun (rayFrom d0 d1 d2 d3 d4 d5 d6 d7) limit (cabinetFits (length w2) (length w3)
+        (length w4) (length w5)) → Sq W (Stands (‵ (fat fullShare S′.mir l23 0 (machS f))) (‵ (froom B′.mir k0 0)) (‵ (froom B′.mir k1 0))
+        (‵ (froom S′.mir k2 0)) (‵ (froom S′.mir l24 0)) w0 w1) (runs C Λ En pieces.t-6 (atRet En Post))
+    opens f isf from-begin =
+        assigns ! (of-opd ! (load ! (from ! (fld ! refl (stop !))) (look-in ! 10 (sub ! 1 refl (whole !))))) (from ! (stop !)) (init ! 25
+        refl (tt, record { fits = gv0 .0 })) $
+        assigns ! (of-opd ! (load ! (from ! (fld ! refl (stop !))) (look-in ! 11 (sub ! 1 refl (whole !))))) (from ! (stop !)) (init ! 28
+        refl (tt, record { fits = gv1 .0 })) $
+        assigns ! (of-opd ! (load ! (from ! (fld ! refl (stop !))) (look-in ! 12 (sub ! 1 refl (whole !))))) (from ! (stop !)) (init ! 27
+        refl (tt, record { fits = gv2 .0 })) $
+        assigns ! (of-opd ! (load ! (from ! (fld ! refl (stop !))) (look-in ! 13 (sub ! 1 refl (whole !))))) (from ! (stop !)) (init ! 26
+        refl (tt, record { fits = gv3 .0 })) $
+        assigns ! (of-opd ! (load ! (from ! (fld ! refl (stop !))) (look-in ! 14 (sub ! 1 refl (whole !))))) (from ! (stop !)) (init ! 120
+        refl (tt, record { fits = gv4 .0 })) $
+        assigns ! (of-opd ! (load ! (from ! (fld ! refl (stop !))) (look-in ! 15 (sub ! 1 refl (whole !))))) (from ! (stop !)) (init ! 121
+        refl (tt, record { fits = gv5 .0 })) $
+        assigns ! (of-opd ! (load ! (from ! (fld ! refl (stop !))) (look-in ! 17 (sub ! 1 refl (whole !))))) (from ! (stop !)) (init ! 122
+        refl (tt, record { fits = gw0 .0 })) $
+        assigns ! (of-opd ! (load ! (from ! (fld ! refl (stop !))) (look-in ! 18 (sub ! 1 refl (whole !))))) (from ! (stop !)) (init ! 123
+        refl (tt, record { fits = gw1 .0 })) $
+        nothing ! $
+        owned ! usize (Is usize) (uint-makes 𝓤 H A W w64) (length w1) _ (refl, gw1 .0) $
+        fjoin ! $
+        owned ! usize (Is usize) (uint-makes 𝓤 H A W w64) (length w0) _ (refl, gw0 .0) $
+        fjoin ! $
+        owned ! usize (Is usize) (uint-makes 𝓤 H A W w64) (length (x5 .now)) _ (refl, gv5 .0) $
+        fjoin ! $
+        owned ! usize (Is usize) (uint-makes 𝓤 H A W w64) (length (x4 .now)) _ (refl, gv4 .0) $
+        fjoin ! $
+        owned ! usize (Is usize) (uint-makes 𝓤 H A W w64) (length (x3 .now)) _ (refl, gv3 .0) $
+        fjoin ! $
+        owned ! usize (Is usize) (uint-makes 𝓤 H A W w64) (length (x2 .now)) _ (refl, gv2 .0) $
+        fjoin ! $
+        owned ! usize (Is usize) (uint-makes 𝓤 H A W w64) (length (x1 .now)) _ (refl, gv1 .0) $
+        fjoin ! $
+        owned ! usize (Is usize) (uint-makes 𝓤 H A W w64) (length (x0 .now)) _ (refl, gv0 .0) $
+        fjoin ! $
+        owned ! R (Is R) (LL.makes S.the-type S′.the-plain 𝓤 H A) f _ isf $
+        fjoin ! $
+        nothing ! $
+        use2 W (raw (OpenC 𝓤 H A mem run .pre ((tt, tt, tt, opened f, passed-opening f), tt))) (asked-opening f) $
+        calls-at ! (fmOf 𝓤 H (W .laws) 𝓣) (OpenC 𝓤 H A mem run) known-opening ((tt, tt, tt, opened f, passed-opening f), tt) (and-then !
+        (load ! (from ! (stop !)) (look ! 24 refl)) (and-then ! (load ! (from ! (stop !)) (look ! 26 refl)) (and-then ! (load ! (from !
+        (stop !)) (look ! 29 refl)) (and-then ! (load ! (from ! (stop !)) (look ! 28 refl)) (and-then ! (load ! (from ! (stop !)) (look !
+        27 refl)) (and-then ! (load ! (from ! (stop !)) (look ! 121 refl)) (and-then ! (load ! (from ! (stop !)) (look ! 122 refl))
+        (and-then ! (load ! (from ! (stop !)) (look ! 123 refl)) (and-then ! (load ! (from ! (stop !)) (look ! 124 refl)) (no-more
+        !)))))))))) (λ u.
+        use1 W (later (some (λ (r : Look). (‵ ftrue ⊛ ‵ (Q .own r (u ∷ []))) ⊛ raw (ensured 𝓤 H A opening.ended (opening.clauses 𝓤 H A mem
+        run) tt (opened f) tt r)))) (id⊢ 𝓤 _) $ await ! tt $ pick ! (λ r.
+        split ! $
+        move ! (1 ∷ []) $
+        use1 W (raw (fact 𝓤 (r ≡ opens-with f))) (said-opening f r) $ heard ! (r ≡ opens-with f) (λ e.
+        split ! $
+        move ! (1 ∷ []) $
+        peeks ! Q (Is Q) (shows 𝓤 H A Q) r (u ∷ []) (λ ir.
+        land ! (from ! (stop !)) (init ! 119 refl (LL.lawful B.the-type B′.the-laws 𝓤 H A W .typed r (u ∷ []) ir .0)) $
+        rewrite ! 119 (λ (w : Val). ‵ (fat fullShare B′.mir k0 0 w)) (ap only (LL.tells B.the-type B′.the-laws r (u ∷ []) ir)) refl $
+        forget ! 27 refl $ forget ! 30 refl $ forget ! 29 refl $ forget ! 28 refl $ forget ! 122 refl $ forget ! 123 refl $ forget ! 124
+        refl $ forget ! 125 refl $
+        drop ! $ drop ! $
+        looks f r isf (subst (Is Q r) (LL.tells B.the-type B′.the-laws r (u ∷ []) ir) ir) from-begin e))))
 
     -- the locals after the parameters are passed, the last first, and what the parameters own
     abbrev Before : List (Item 𝓤)
-    Before = ‵ (froom againTy5 l40 0) ∷ ‵ (fdies againTy5 l40) ∷ ‵ (froom refTy5 l39 0) ∷ ‵ (fdies refTy5 l39) ∷ ‵
-        (froom againTy4 l38 0) ∷ ‵ (fdies againTy4 l38) ∷ ‵ (froom refTy4 l37 0) ∷ ‵ (fdies refTy4 l37) ∷ ‵ (froom againTy3 l36 0) ∷ ‵
-        (fdies againTy3 l36) ∷ ‵ (froom refTy3 l35 0) ∷ ‵ (fdies refTy3 l35) ∷ ‵ (froom againTy2 l34 0) ∷ ‵ (fdies againTy2 l34) ∷ ‵
-        (froom refTy2 l33 0) ∷ ‵ (fdies refTy2 l33) ∷ ‵ (froom againTy1 l32 0) ∷ ‵ (fdies againTy1 l32) ∷ ‵ (froom refTy1 l31 0) ∷ ‵
-        (fdies refTy1 l31) ∷ ‵ (froom againTy0 l30 0) ∷ ‵ (fdies againTy0 l30) ∷ ‵ (froom refTy0 l29 0) ∷ ‵ (fdies refTy0 l29) ∷ ‵
-        (froom word l28 0) ∷ ‵ (fdies word l28) ∷ ‵ (froom word l27 0) ∷ ‵ (fdies word l27) ∷ ‵ (froom word l26 0) ∷ ‵ (fdies word l26)
-        ∷ ‵ (froom word l25 0) ∷ ‵ (fdies word l25) ∷ ‵ (froom S′.mir l24 0) ∷ ‵ (fdies S′.mir l24) ∷ ‵ (froom S′.mir l23 0) ∷ ‵
-        (fdies S′.mir l23) ∷ ‵ (fat fullShare lentTy5 l22 0 vl5) ∷ ‵ (fdies lentTy5 l22) ∷ ‵ (fat fullShare lentTy4 l21 0 vl4) ∷ ‵
-        (fdies lentTy4 l21) ∷ ‵ (fat fullShare lentTy3 l20 0 vl3) ∷ ‵ (fdies lentTy3 l20) ∷ ‵ (fat fullShare lentTy2 l19 0 vl2) ∷ ‵
-        (fdies lentTy2 l19) ∷ ‵ (fat fullShare lentTy1 l18 0 vl1) ∷ ‵ (fdies lentTy1 l18) ∷ ‵ (fat fullShare lentTy0 l17 0 vl0) ∷ ‵
-        (fdies lentTy0 l17) ∷ ‵ (fat fullShare word l16 0 (vint w64 limit)) ∷ ‵ (fdies word l16) ∷ ‵
-        (fat fullShare sharedTy5 l15 0 vs5) ∷ ‵ (fdies sharedTy5 l15) ∷ ‵ (fat fullShare sharedTy4 l14 0 vs4) ∷ ‵ (fdies sharedTy4 l14)
-        ∷ ‵ (fat fullShare sharedTy3 l13 0 vs3) ∷ ‵ (fdies sharedTy3 l13) ∷ ‵ (fat fullShare sharedTy2 l12 0 vs2) ∷ ‵
-        (fdies sharedTy2 l12) ∷ ‵ (fat fullShare sharedTy1 l11 0 vs1) ∷ ‵ (fdies sharedTy1 l11) ∷ ‵ (fat fullShare sharedTy0 l10 0 vs0)
-        ∷ ‵ (fdies sharedTy0 l10) ∷ ‵ (fat fullShare partsTy l9 0 vp) ∷ ‵ (fdies partsTy l9) ∷ ‵
-        (fat fullShare double l8 0 (vfloat binary64 d7)) ∷ ‵ (fdies double l8) ∷ ‵ (fat fullShare double l7 0 (vfloat binary64 d6)) ∷ ‵
-        (fdies double l7) ∷ ‵ (fat fullShare double l6 0 (vfloat binary64 d5)) ∷ ‵ (fdies double l6) ∷ ‵
-        (fat fullShare double l5 0 (vfloat binary64 d4)) ∷ ‵ (fdies double l5) ∷ ‵ (fat fullShare double l4 0 (vfloat binary64 d3)) ∷ ‵
-        (fdies double l4) ∷ ‵ (fat fullShare double l3 0 (vfloat binary64 d2)) ∷ ‵ (fdies double l3) ∷ ‵
-        (fat fullShare double l2 0 (vfloat binary64 d1)) ∷ ‵ (fdies double l2) ∷ ‵ (fat fullShare double l1 0 (vfloat binary64 d0)) ∷ ‵
-        (fdies double l1) ∷ ‵ (froom (tyInt w32) l0 0) ∷ ‵ (fdies (tyInt w32) l0) ∷
+    Before = ‵ (froom againTy5 l40 0) ∷ ‵ (fdies againTy5 l40) ∷ ‵ (froom refTy5 l39 0) ∷ ‵ (fdies refTy5 l39) ∷ ‵ (froom againTy4 l38 0)
+        ∷ ‵ (fdies againTy4 l38) ∷ ‵ (froom refTy4 l37 0) ∷ ‵ (fdies refTy4 l37) ∷ ‵ (froom againTy3 l36 0) ∷ ‵ (fdies againTy3 l36) ∷ ‵
+        (froom refTy3 l35 0) ∷ ‵ (fdies refTy3 l35) ∷ ‵ (froom againTy2 l34 0) ∷ ‵ (fdies againTy2 l34) ∷ ‵ (froom refTy2 l33 0) ∷ ‵
+        (fdies refTy2 l33) ∷ ‵ (froom againTy1 l32 0) ∷ ‵ (fdies againTy1 l32) ∷ ‵ (froom refTy1 l31 0) ∷ ‵ (fdies refTy1 l31) ∷ ‵ (froom
+        againTy0 l30 0) ∷ ‵ (fdies againTy0 l30) ∷ ‵ (froom refTy0 l29 0) ∷ ‵ (fdies refTy0 l29) ∷ ‵ (froom word n3 0) ∷ ‵ (fdies word n3)
+        ∷ ‵ (froom word n2 0) ∷ ‵ (fdies word n2) ∷ ‵ (froom word n1 0) ∷ ‵ (fdies word n1) ∷ ‵ (froom word n0 0) ∷ ‵ (fdies word n0) ∷ ‵
+        (froom word l28 0) ∷ ‵ (fdies word l28) ∷ ‵ (froom word l27 0) ∷ ‵ (fdies word l27) ∷ ‵ (froom word l26 0) ∷ ‵ (fdies word l26) ∷
+        ‵ (froom word l25 0) ∷ ‵ (fdies word l25) ∷ ‵ (froom S′.mir l24 0) ∷ ‵ (fdies S′.mir l24) ∷ ‵ (froom S′.mir k2 0) ∷ ‵ (fdies
+        S′.mir k2) ∷ ‵ (froom B′.mir k1 0) ∷ ‵ (fdies B′.mir k1) ∷ ‵ (froom B′.mir k0 0) ∷ ‵ (fdies B′.mir k0) ∷ ‵ (froom S′.mir l23 0) ∷
+        ‵ (fdies S′.mir l23) ∷ ‵ (fat fullShare lentTy5 l22 0 vl5) ∷ ‵ (fdies lentTy5 l22) ∷ ‵ (fat fullShare lentTy4 l21 0 vl4) ∷ ‵
+        (fdies lentTy4 l21) ∷ ‵ (fat fullShare lentTy3 l20 0 vl3) ∷ ‵ (fdies lentTy3 l20) ∷ ‵ (fat fullShare lentTy2 l19 0 vl2) ∷ ‵ (fdies
+        lentTy2 l19) ∷ ‵ (fat fullShare lentTy1 l18 0 vl1) ∷ ‵ (fdies lentTy1 l18) ∷ ‵ (fat fullShare lentTy0 l17 0 vl0) ∷ ‵ (fdies
+        lentTy0 l17) ∷ ‵ (fat fullShare word l16 0 (vint w64 limit)) ∷ ‵ (fdies word l16) ∷ ‵ (fat fullShare sharedTy5 l15 0 vs5) ∷ ‵
+        (fdies sharedTy5 l15) ∷ ‵ (fat fullShare sharedTy4 l14 0 vs4) ∷ ‵ (fdies sharedTy4 l14) ∷ ‵ (fat fullShare sharedTy3 l13 0 vs3) ∷
+        ‵ (fdies sharedTy3 l13) ∷ ‵ (fat fullShare sharedTy2 l12 0 vs2) ∷ ‵ (fdies sharedTy2 l12) ∷ ‵ (fat fullShare sharedTy1 l11 0 vs1)
+        ∷ ‵ (fdies sharedTy1 l11) ∷ ‵ (fat fullShare sharedTy0 l10 0 vs0) ∷ ‵ (fdies sharedTy0 l10) ∷ ‵ (fat fullShare partsTy l9 0 vp) ∷
+        ‵ (fdies partsTy l9) ∷ ‵ (fat fullShare double l8 0 (vfloat binary64 d7)) ∷ ‵ (fdies double l8) ∷ ‵ (fat fullShare double l7 0
+        (vfloat binary64 d6)) ∷ ‵ (fdies double l7) ∷ ‵ (fat fullShare double l6 0 (vfloat binary64 d5)) ∷ ‵ (fdies double l6) ∷ ‵ (fat
+        fullShare double l5 0 (vfloat binary64 d4)) ∷ ‵ (fdies double l5) ∷ ‵ (fat fullShare double l4 0 (vfloat binary64 d3)) ∷ ‵ (fdies
+        double l4) ∷ ‵ (fat fullShare double l3 0 (vfloat binary64 d2)) ∷ ‵ (fdies double l3) ∷ ‵ (fat fullShare double l2 0 (vfloat
+        binary64 d1)) ∷ ‵ (fdies double l2) ∷ ‵ (fat fullShare double l1 0 (vfloat binary64 d0)) ∷ ‵ (fdies double l1) ∷ ‵ (froom (tyInt
+        w32) l0 0) ∷ ‵ (fdies (tyInt w32) l0) ∷
         (‵ (flft κ q) ⊛ (‵ (flft κ0 q0) ⊛ (‵ (flft κ1 q1) ⊛ (‵ (flft κ2 q2) ⊛
         (‵ (flft κ3 q3) ⊛ (‵ (flft κ4 q4) ⊛ (‵ (flft κ5 q5) ⊛ (‵ (flft μ0 p0) ⊛
         (‵ (flft μ1 p1) ⊛ (‵ (flft μ2 p2) ⊛ (‵ (flft μ3 p3) ⊛ (‵ (flft μ4 p4) ⊛ (‵ (flft μ5 p5) ⊛ ‵ ftrue))))))))))))) ∷ ‵
@@ -1354,15 +1646,15 @@ module _ {M : Type 1} (𝓤 : URA M) (H : Heap 𝓤) (A : Atoms 𝓤) (W : Given
 
     begins : Sq W Before (runs C Λ En pieces.t-1 (atRet En Post))
     begins =
-        assigns ! (of-opd ! (load ! (from ! (fld ! refl (stop !))) (look-in ! 42 (sub ! 1 refl (whole !))))) (from ! (stop !))
-        (init ! 30 refl (tt, record { fits = gw2 .0 })) $
-        assigns ! (of-opd ! (load ! (from ! (fld ! refl (stop !))) (look-in ! 40 (sub ! 1 refl (whole !))))) (from ! (stop !))
-        (init ! 28 refl (tt, record { fits = gw3 .0 })) $
-        assigns ! (of-opd ! (load ! (from ! (fld ! refl (stop !))) (look-in ! 38 (sub ! 1 refl (whole !))))) (from ! (stop !))
-        (init ! 26 refl (tt, record { fits = gw4 .0 })) $
-        assigns ! (of-opd ! (load ! (from ! (fld ! refl (stop !))) (look-in ! 36 (sub ! 1 refl (whole !))))) (from ! (stop !))
-        (init ! 24 refl (tt, record { fits = gw5 .0 })) $
-        move ! (83 ∷ []) $
+        assigns ! (of-opd ! (load ! (from ! (fld ! refl (stop !))) (look-in ! 56 (sub ! 1 refl (whole !))))) (from ! (stop !))
+        (init ! 38 refl (tt, record { fits = gw2 .0 })) $
+        assigns ! (of-opd ! (load ! (from ! (fld ! refl (stop !))) (look-in ! 54 (sub ! 1 refl (whole !))))) (from ! (stop !))
+        (init ! 36 refl (tt, record { fits = gw3 .0 })) $
+        assigns ! (of-opd ! (load ! (from ! (fld ! refl (stop !))) (look-in ! 52 (sub ! 1 refl (whole !))))) (from ! (stop !))
+        (init ! 34 refl (tt, record { fits = gw4 .0 })) $
+        assigns ! (of-opd ! (load ! (from ! (fld ! refl (stop !))) (look-in ! 50 (sub ! 1 refl (whole !))))) (from ! (stop !))
+        (init ! 32 refl (tt, record { fits = gw5 .0 })) $
+        move ! (97 ∷ []) $
         fsplit ! $
         move ! (1 ∷ []) $
         fsplit ! $
@@ -1408,7 +1700,7 @@ module _ {M : Type 1} (𝓤 : URA M) (H : Heap 𝓤) (A : Atoms 𝓤) (W : Given
         fsplit ! $
         move ! (1 ∷ []) $
         drop ! $
-        move ! (104 ∷ []) $
+        move ! (118 ∷ []) $
         split ! $
         move ! (1 ∷ []) $
         split ! $
@@ -1577,13 +1869,12 @@ module _ {M : Type 1} (𝓤 : URA M) (H : Heap 𝓤) (A : Atoms 𝓤) (W : Given
           ),
           tt,
         )
-        (and-then ! (load ! (from ! (stop !)) (look ! 114 refl)) (and-then ! (load ! (from ! (stop !)) (look ! 112 refl))
-        (and-then ! (load ! (from ! (stop !)) (look ! 110 refl)) (and-then ! (load ! (from ! (stop !)) (look ! 108 refl))
-        (and-then ! (load ! (from ! (stop !)) (look ! 106 refl)) (and-then ! (load ! (from ! (stop !)) (look ! 104 refl))
-        (and-then ! (load ! (from ! (stop !)) (look ! 102 refl)) (and-then ! (load ! (from ! (stop !)) (look ! 100 refl))
-        (and-then ! (load ! (from ! (stop !)) (look ! 84 refl)) (and-then ! (load ! (from ! (stop !)) (look ! 66 refl))
-        (and-then ! (load ! (from ! (stop !)) (look ! 64 refl)) (and-then ! (load ! (from ! (stop !)) (look ! 62 refl))
-        (and-then ! (load ! (from ! (stop !)) (look ! 60 refl)) (no-more !)))))))))))))) (λ u.
+        (and-then ! (load ! (from ! (stop !)) (look ! 128 refl)) (and-then ! (load ! (from ! (stop !)) (look ! 126 refl)) (and-then !
+        (load ! (from ! (stop !)) (look ! 124 refl)) (and-then ! (load ! (from ! (stop !)) (look ! 122 refl)) (and-then ! (load ! (from !
+        (stop !)) (look ! 120 refl)) (and-then ! (load ! (from ! (stop !)) (look ! 118 refl)) (and-then ! (load ! (from ! (stop !)) (look
+        ! 116 refl)) (and-then ! (load ! (from ! (stop !)) (look ! 114 refl)) (and-then ! (load ! (from ! (stop !)) (look ! 98 refl))
+        (and-then ! (load ! (from ! (stop !)) (look ! 74 refl)) (and-then ! (load ! (from ! (stop !)) (look ! 72 refl)) (and-then ! (load
+        ! (from ! (stop !)) (look ! 70 refl)) (and-then ! (load ! (from ! (stop !)) (look ! 68 refl)) (no-more !)))))))))))))) (λ u.
         use1 W (later (some (λ (r : State). (‵ ftrue ⊛ ‵ (R .own r (u ∷ []))) ⊛ raw
         (ensured 𝓤 H A first.ended (first.clauses 𝓤 H A mem run) tt
         (d0, (d1, (d2, (d3, (d4, (d5, (d6, (d7, (limit, (length w2, (length w3, (length w4, (length w5, tt))))))))))))) tt r))))
@@ -1596,17 +1887,20 @@ module _ {M : Type 1} (𝓤 : URA M) (H : Heap 𝓤) (A : Atoms 𝓤) (W : Given
         split ! $
         move ! (1 ∷ []) $
         peeks ! R (Is R) (shows 𝓤 H A R) r (u ∷ []) (λ ir.
-        land ! (from ! (stop !)) (init ! 71 refl (LL.lawful S.the-type S′.the-laws 𝓤 H A W .typed r (u ∷ []) ir .0)) $
-        rewrite ! 71 (λ (w : Val). ‵ (fat fullShare S′.mir l23 0 w)) (ap only (LL.tells S.the-type S′.the-laws r (u ∷ []) ir)) refl $
-        forget ! 67 refl $ forget ! 65 refl $ forget ! 63 refl $ forget ! 61 refl $
-        keep ! (117 ∷ 115 ∷ 113 ∷ 111 ∷ 109 ∷ 107 ∷ 105 ∷ 103 ∷ 101 ∷ 99 ∷ 97 ∷ 95 ∷ 93 ∷ 91 ∷ 89 ∷ 87 ∷ 85 ∷ 83 ∷ 81 ∷ 79 ∷ 77 ∷ 75 ∷
-        73 ∷ 71 ∷ 69 ∷ 67 ∷ 65 ∷ 63 ∷ 61 ∷ 59 ∷ 57 ∷ 55 ∷ 53 ∷ 51 ∷ 49 ∷ 47 ∷ 45 ∷ 43 ∷ 41 ∷ 39 ∷ 37 ∷ 14 ∷ 13 ∷ 12 ∷ 11 ∷ 10 ∷ 9 ∷
-        8 ∷ 7 ∷ 6 ∷ 5 ∷ 4 ∷ 3 ∷ 2 ∷ 36 ∷ 35 ∷ 34 ∷ 33 ∷ 32 ∷ 31 ∷ 30 ∷ 29 ∷ 28 ∷ 27 ∷ 26 ∷ 25 ∷ 24 ∷ 23 ∷ 22 ∷ 21 ∷ 20 ∷ 19 ∷ 18 ∷
-        17 ∷ 16 ∷ 15 ∷ 118 ∷ 116 ∷ 114 ∷ 112 ∷ 110 ∷ 108 ∷ 106 ∷ 104 ∷ 102 ∷ 100 ∷ 98 ∷ 96 ∷ 94 ∷ 92 ∷ 90 ∷ 88 ∷ 86 ∷ 84 ∷ 82 ∷ 80
-        ∷ 78 ∷ 76 ∷ 74 ∷ 72 ∷ 70 ∷ 68 ∷ 66 ∷ 64 ∷ 62 ∷ 60 ∷ 58 ∷ 56 ∷ 54 ∷ 52 ∷ 50 ∷ 48 ∷ 46 ∷ 44 ∷ 42 ∷ 40 ∷ 38 ∷ []) $
-        casts r (subst (Is R r) (LL.tells S.the-type S′.the-laws r (u ∷ []) ir) ir) e))))
+        land ! (from ! (stop !)) (init ! 85 refl (LL.lawful S.the-type S′.the-laws 𝓤 H A W .typed r (u ∷ []) ir .0)) $
+        rewrite ! 85 (λ (w : Val). ‵ (fat fullShare S′.mir l23 0 w)) (ap only (LL.tells S.the-type S′.the-laws r (u ∷ []) ir)) refl $
+        forget ! 75 refl $ forget ! 73 refl $ forget ! 71 refl $ forget ! 69 refl $
+        keep ! (131 ∷ 129 ∷ 127 ∷ 125 ∷ 123 ∷ 121 ∷ 119 ∷ 117 ∷ 115 ∷ 113 ∷ 111 ∷ 109 ∷ 107 ∷ 105 ∷ 103 ∷ 101 ∷ 99 ∷ 97 ∷ 95 ∷ 93 ∷ 91 ∷
+        89 ∷ 87 ∷ 85 ∷ 77 ∷ 75 ∷ 73 ∷ 71 ∷ 69 ∷ 59 ∷ 57 ∷ 55 ∷ 53 ∷ 51 ∷ 49 ∷ 47 ∷ 45 ∷ 43 ∷ 41 ∷ 39 ∷ 37 ∷ 14 ∷ 13 ∷ 12 ∷ 11 ∷ 10 ∷ 9 ∷ 8
+        ∷ 7 ∷ 6 ∷ 5 ∷ 4 ∷ 3 ∷ 2 ∷ 36 ∷ 35 ∷ 34 ∷ 33 ∷ 32 ∷ 31 ∷ 30 ∷ 29 ∷ 28 ∷ 27 ∷ 26 ∷ 25 ∷ 24 ∷ 23 ∷ 22 ∷ 21 ∷ 20 ∷ 19 ∷ 18 ∷ 17 ∷ 16 ∷
+        15 ∷ 132 ∷ 130 ∷ 128 ∷ 126 ∷ 124 ∷ 122 ∷ 120 ∷ 118 ∷ 116 ∷ 114 ∷ 112 ∷ 110 ∷ 108 ∷ 106 ∷ 104 ∷ 102 ∷ 100 ∷ 98 ∷ 96 ∷ 94 ∷ 92 ∷ 90
+        ∷ 88 ∷ 86 ∷ 78 ∷ 76 ∷ 74 ∷ 72 ∷ 70 ∷ 60 ∷ 58 ∷ 56 ∷ 54 ∷ 52 ∷ 50 ∷ 48 ∷ 46 ∷ 44 ∷ 42 ∷ 40 ∷ 38 ∷ 83 ∷ 81 ∷ 79 ∷ 67 ∷ 65 ∷ 63 ∷ 61
+        ∷ 84 ∷ 82 ∷ 80 ∷ 68 ∷ 66 ∷ 64 ∷ 62 ∷ []) $
+        opens r (subst (Is R r) (LL.tells S.the-type S′.the-laws r (u ∷ []) ir) ir) e))))
 
-  walk : (𝓣 : Tables 𝓤 H) → Triple 𝓤 (𝓣 .C #first) (FirstC 𝓤 H A mem run) → Triple 𝓤 (𝓣 .C #step) (StepC 𝓤 H A mem run) → Triple 𝓤
+  walk : (𝓣 : Tables 𝓤 H) → Triple 𝓤 (𝓣 .C #first) (FirstC 𝓤 H A mem run) → Triple 𝓤 (𝓣 .C #opening) (OpenC 𝓤 H A mem run) → Triple 𝓤 (𝓣
+      .C #looking)
+      (LookC 𝓤 H A mem run) → Triple 𝓤 (𝓣 .C #turn) (TurnC 𝓤 H A mem run) → Triple 𝓤 (𝓣 .C #step) (StepC 𝓤 H A mem run) → Triple 𝓤
       (𝓣 .C #last) (LastC 𝓤 H A mem run)
       → Is f64 d0 (vfloat binary64 d0 ∷ []) → Is f64 d1 (vfloat binary64 d1 ∷ []) → Is f64 d2 (vfloat binary64 d2 ∷ []) → Is f64 d3
       (vfloat binary64 d3 ∷ []) → Is f64 d4 (vfloat binary64 d4 ∷ []) → Is f64 d5 (vfloat binary64 d5 ∷ []) → Is f64 d6
@@ -1619,7 +1913,8 @@ module _ {M : Type 1} (𝓤 : URA M) (H : Heap 𝓤) (A : Atoms 𝓤) (W : Given
       (WpFn 𝓤 H (𝓣 .C) (𝓣 .Λ) code.function (vfloat binary64 d0 ∷ vfloat binary64 d1 ∷ vfloat binary64 d2 ∷ vfloat binary64 d3 ∷
       vfloat binary64 d4 ∷ vfloat binary64 d5 ∷ vfloat binary64 d6 ∷ vfloat binary64 d7 ∷ vp ∷ vs0 ∷ vs1 ∷ vs2 ∷ vs3 ∷ vs4 ∷ vs5 ∷
       vint w64 limit ∷ vl0 ∷ vl1 ∷ vl2 ∷ vl3 ∷ vl4 ∷ vl5 ∷ []) Post)
-  walk 𝓣 known-first known known-last gd0 gd1 gd2 gd3 gd4 gd5 gd6 gd7 gn gv0 gv1 gv2 gv3 gv4 gv5 gl gw0 gw1 gw2 gw3 gw4 gw5 =
+  walk 𝓣 known-first known-opening known-looking known-turn known known-last gd0 gd1 gd2 gd3 gd4 gd5 gd6 gd7 gn gv0 gv1 gv2 gv3 gv4 gv5 gl
+      gw0 gw1 gw2 gw3 gw4 gw5 =
       qed W ((‵ (flft κ q) ⊛ (‵ (flft κ0 q0) ⊛ (‵ (flft κ1 q1) ⊛
       (‵ (flft κ2 q2) ⊛ (‵ (flft κ3 q3) ⊛ (‵ (flft κ4 q4) ⊛
       (‵ (flft κ5 q5) ⊛ (‵ (flft μ0 p0) ⊛ (‵ (flft μ1 p1) ⊛
@@ -1631,45 +1926,45 @@ module _ {M : Type 1} (𝓤 : URA M) (H : Heap 𝓤) (A : Atoms 𝓤) (W : Given
       (vfloat binary64 d0 ∷ vfloat binary64 d1 ∷ vfloat binary64 d2 ∷ vfloat binary64 d3 ∷ vfloat binary64 d4 ∷ vfloat binary64 d5
       ∷ vfloat binary64 d6 ∷ vfloat binary64 d7 ∷ vp ∷ vs0 ∷ vs1 ∷ vs2 ∷ vs3 ∷ vs4 ∷ vs5 ∷ vint w64 limit ∷ vl0 ∷ vl1 ∷ vl2 ∷ vl3 ∷
       vl4 ∷ vl5 ∷ []) _ $
-      alloc1 ! (λ l0. alloc1 ! (λ l1. alloc1 ! (λ l2. alloc1 !
-      (λ l3. alloc1 ! (λ l4. alloc1 ! (λ l5. alloc1 ! (λ l6. alloc1 !
-      (λ l7. alloc1 ! (λ l8. alloc1 ! (λ l9. alloc1 ! (λ l10. alloc1 !
-      (λ l11. alloc1 ! (λ l12. alloc1 ! (λ l13. alloc1 ! (λ l14. alloc1 !
-      (λ l15. alloc1 ! (λ l16. alloc1 ! (λ l17. alloc1 ! (λ l18. alloc1 !
-      (λ l19. alloc1 ! (λ l20. alloc1 ! (λ l21. alloc1 ! (λ l22. alloc1 !
-      (λ l23. alloc1 ! (λ l24. alloc1 ! (λ l25. alloc1 ! (λ l26. alloc1 !
-      (λ l27. alloc1 ! (λ l28. alloc1 ! (λ l29. alloc1 ! (λ l30. alloc1 !
-      (λ l31. alloc1 ! (λ l32. alloc1 ! (λ l33. alloc1 ! (λ l34. alloc1 !
-      (λ l35. alloc1 ! (λ l36. alloc1 ! (λ l37. alloc1 ! (λ l38. alloc1 ! (λ l39. alloc1 ! (λ l40. alloc0 ! $ params1 ! $
-      pass1 ! (init ! 78 refl (float-lawful 𝓤 H A W binary64 .typed d0 (vfloat binary64 d0 ∷ []) gd0 .0)) $
-      pass1 ! (init ! 76 refl (float-lawful 𝓤 H A W binary64 .typed d1 (vfloat binary64 d1 ∷ []) gd1 .0)) $
-      pass1 ! (init ! 74 refl (float-lawful 𝓤 H A W binary64 .typed d2 (vfloat binary64 d2 ∷ []) gd2 .0)) $
-      pass1 ! (init ! 72 refl (float-lawful 𝓤 H A W binary64 .typed d3 (vfloat binary64 d3 ∷ []) gd3 .0)) $
-      pass1 ! (init ! 70 refl (float-lawful 𝓤 H A W binary64 .typed d4 (vfloat binary64 d4 ∷ []) gd4 .0)) $
-      pass1 ! (init ! 68 refl (float-lawful 𝓤 H A W binary64 .typed d5 (vfloat binary64 d5 ∷ []) gd5 .0)) $
-      pass1 ! (init ! 66 refl (float-lawful 𝓤 H A W binary64 .typed d6 (vfloat binary64 d6 ∷ []) gd6 .0)) $
-      pass1 ! (init ! 64 refl (float-lawful 𝓤 H A W binary64 .typed d7 (vfloat binary64 d7 ∷ []) gd7 .0)) $
-      pass1 ! (init ! 62 refl (tt, (tt, (record { fits = gn .0 }, tt)))) $
-      pass1 ! (init ! 60 refl (tt, (tt, (record { fits = gv0 .0 }, tt)))) $
-      pass1 ! (init ! 58 refl (tt, (tt, (record { fits = gv1 .0 }, tt)))) $
-      pass1 ! (init ! 56 refl (tt, (tt, (record { fits = gv2 .0 }, tt)))) $
-      pass1 ! (init ! 54 refl (tt, (tt, (record { fits = gv3 .0 }, tt)))) $
-      pass1 ! (init ! 52 refl (tt, (tt, (record { fits = gv4 .0 }, tt)))) $
-      pass1 ! (init ! 50 refl (tt, (tt, (record { fits = gv5 .0 }, tt)))) $
-      pass1 ! (init ! 48 refl (uint-lawful 𝓤 H A W w64 .typed limit (vint w64 limit ∷ []) gl .0)) $
-      pass1 ! (init ! 46 refl (tt, (tt, (record { fits = gw0 .0 }, tt)))) $
-      pass1 ! (init ! 44 refl (tt, (tt, (record { fits = gw1 .0 }, tt)))) $
-      pass1 ! (init ! 42 refl (tt, (tt, (record { fits = gw2 .0 }, tt)))) $
-      pass1 ! (init ! 40 refl (tt, (tt, (record { fits = gw3 .0 }, tt)))) $
-      pass1 ! (init ! 38 refl (tt, (tt, (record { fits = gw4 .0 }, tt)))) $
-      pass1 ! (init ! 36 refl (tt, (tt, (record { fits = gw5 .0 }, tt)))) $
+      alloc1 ! (λ l0. alloc1 ! (λ l1. alloc1 ! (λ l2. alloc1 ! (λ l3. alloc1 ! (λ l4. alloc1 ! (λ l5. alloc1 ! (λ l6. alloc1 ! (λ l7.
+      alloc1 ! (λ l8. alloc1 ! (λ l9. alloc1 ! (λ l10. alloc1 ! (λ l11. alloc1 ! (λ l12. alloc1 ! (λ l13. alloc1 ! (λ l14. alloc1 ! (λ
+      l15. alloc1 ! (λ l16. alloc1 ! (λ l17. alloc1 ! (λ l18. alloc1 ! (λ l19. alloc1 ! (λ l20. alloc1 ! (λ l21. alloc1 ! (λ l22. alloc1 !
+      (λ l23. alloc1 ! (λ k0. alloc1 ! (λ k1. alloc1 ! (λ k2. alloc1 ! (λ l24. alloc1 ! (λ l25. alloc1 ! (λ l26. alloc1 ! (λ l27. alloc1 !
+      (λ l28. alloc1 ! (λ n0. alloc1 ! (λ n1. alloc1 ! (λ n2. alloc1 ! (λ n3. alloc1 ! (λ l29. alloc1 ! (λ l30. alloc1 ! (λ l31. alloc1 !
+      (λ l32. alloc1 ! (λ l33. alloc1 ! (λ l34. alloc1 ! (λ l35. alloc1 ! (λ l36. alloc1 ! (λ l37. alloc1 ! (λ l38. alloc1 ! (λ l39.
+      alloc1 ! (λ l40. alloc0 ! $ params1 ! $
+      pass1 ! (init ! 92 refl (float-lawful 𝓤 H A W binary64 .typed d0 (vfloat binary64 d0 ∷ []) gd0 .0)) $
+      pass1 ! (init ! 90 refl (float-lawful 𝓤 H A W binary64 .typed d1 (vfloat binary64 d1 ∷ []) gd1 .0)) $
+      pass1 ! (init ! 88 refl (float-lawful 𝓤 H A W binary64 .typed d2 (vfloat binary64 d2 ∷ []) gd2 .0)) $
+      pass1 ! (init ! 86 refl (float-lawful 𝓤 H A W binary64 .typed d3 (vfloat binary64 d3 ∷ []) gd3 .0)) $
+      pass1 ! (init ! 84 refl (float-lawful 𝓤 H A W binary64 .typed d4 (vfloat binary64 d4 ∷ []) gd4 .0)) $
+      pass1 ! (init ! 82 refl (float-lawful 𝓤 H A W binary64 .typed d5 (vfloat binary64 d5 ∷ []) gd5 .0)) $
+      pass1 ! (init ! 80 refl (float-lawful 𝓤 H A W binary64 .typed d6 (vfloat binary64 d6 ∷ []) gd6 .0)) $
+      pass1 ! (init ! 78 refl (float-lawful 𝓤 H A W binary64 .typed d7 (vfloat binary64 d7 ∷ []) gd7 .0)) $
+      pass1 ! (init ! 76 refl (tt, (tt, (record { fits = gn .0 }, tt)))) $
+      pass1 ! (init ! 74 refl (tt, (tt, (record { fits = gv0 .0 }, tt)))) $
+      pass1 ! (init ! 72 refl (tt, (tt, (record { fits = gv1 .0 }, tt)))) $
+      pass1 ! (init ! 70 refl (tt, (tt, (record { fits = gv2 .0 }, tt)))) $
+      pass1 ! (init ! 68 refl (tt, (tt, (record { fits = gv3 .0 }, tt)))) $
+      pass1 ! (init ! 66 refl (tt, (tt, (record { fits = gv4 .0 }, tt)))) $
+      pass1 ! (init ! 64 refl (tt, (tt, (record { fits = gv5 .0 }, tt)))) $
+      pass1 ! (init ! 62 refl (uint-lawful 𝓤 H A W w64 .typed limit (vint w64 limit ∷ []) gl .0)) $
+      pass1 ! (init ! 60 refl (tt, (tt, (record { fits = gw0 .0 }, tt)))) $
+      pass1 ! (init ! 58 refl (tt, (tt, (record { fits = gw1 .0 }, tt)))) $
+      pass1 ! (init ! 56 refl (tt, (tt, (record { fits = gw2 .0 }, tt)))) $
+      pass1 ! (init ! 54 refl (tt, (tt, (record { fits = gw3 .0 }, tt)))) $
+      pass1 ! (init ! 52 refl (tt, (tt, (record { fits = gw4 .0 }, tt)))) $
+      pass1 ! (init ! 50 refl (tt, (tt, (record { fits = gw5 .0 }, tt)))) $
       pass0 ! $
-      begins 𝓣 known-first known known-last gd0 gd1 gd2 gd3 gd4 gd5 gd6 gd7 gn gl gw0 gw1 gw2 gw3 gw4 gw5 l0 l1 l2 l3 l4 l5 l6 l7 l8 l9
-      l10 l11 l12 l13 l14 l15 l16 l17 l18 l19 l20 l21 l22 l23 l24 l25 l26 l27 l28 l29 l30 l31 l32 l33 l34 l35 l36 l37 l38 l39
-      l40)))))))))))))))))))))))))))))))))))))))))
+      begins 𝓣 known-first known-opening known-looking known-turn known known-last gd0 gd1 gd2 gd3 gd4 gd5 gd6 gd7 gn gv0 gv1 gv2 gv3 gv4
+      gv5 gl gw0 gw1 gw2 gw3 gw4 gw5 l0 l1 l2 l3 l4 l5 l6 l7 l8 l9 l10 l11 l12 l13 l14 l15 l16 l17 l18 l19 l20 l21 l22 l23 l24 l25 l26 l27
+      l28 l29 l30 l31 l32 l33 l34 l35 l36 l37 l38 l39 l40 k0 k1 k2 n0 n1 n2 n3))))))))))))))))))))))))))))))))))))))))))))))))
 
 module _ {M : Type 1} (𝓤 : URA M) (H : Heap 𝓤) (A : Atoms 𝓤) (W : Given 𝓤 H A) (mem : Memory → SProp 𝓤) (run : Routine → Fun 𝓤)
     (𝓣 : Tables 𝓤 H) (known-first : Triple 𝓤 (𝓣 .C #first) (FirstC 𝓤 H A mem run))
+    (known-opening : Triple 𝓤 (𝓣 .C #opening) (OpenC 𝓤 H A mem run))
+    (known-looking : Triple 𝓤 (𝓣 .C #looking) (LookC 𝓤 H A mem run))
+    (known-turn : Triple 𝓤 (𝓣 .C #turn) (TurnC 𝓤 H A mem run))
     (known : Triple 𝓤 (𝓣 .C #step) (StepC 𝓤 H A mem run)) (known-last : Triple 𝓤 (𝓣 .C #last) (LastC 𝓤 H A mem run)) where
   walks : Walks 𝓤 H A this.ended stayed (WpFn 𝓤 H (𝓣 .C) (𝓣 .Λ) code.function) (this.clauses 𝓤 H A mem run)
   walks =
@@ -1820,7 +2115,8 @@ module _ {M : Type 1} (𝓤 : URA M) (H : Heap 𝓤) (A : Atoms 𝓤) (W : Given
       (a .1 .1 .1 .1 .1 .1 .1 .1 .1 .1 .1 .1 .1 .1 .1 .1 .1 .1 .1 .1 .0 .now) (a .1 .1 .1 .1 .1 .1 .1 .1 .1 .1 .1 .1 .1 .1 .1 .1 .1
       .1 .1 .1 .1 .0 .ptr .0) (a .1 .1 .1 .1 .1 .1 .1 .1 .1 .1 .1 .1 .1 .1 .1 .1 .1 .1 .1 .1 .1 .0 .ptr .1)
       (a .1 .1 .1 .1 .1 .1 .1 .1 .1 .1 .1 .1 .1 .1 .1 .1 .1 .1 .1 .1 .1 .0 .name) (a .1 .1 .1 .1 .1 .1 .1 .1 .1 .1 .1 .1 .1 .1 .1
-      .1 .1 .1 .1 .1 .1 .0 .now) 𝓣 known-first known known-last (are .0) (are .1 .0) (are .1 .1 .0) (are .1 .1 .1 .0)
+      .1 .1 .1 .1 .1 .1 .0 .now) 𝓣 known-first known-opening known-looking known-turn known known-last (are .0) (are .1 .0) (are .1 .1 .0)
+      (are .1 .1 .1 .0)
       (are .1 .1 .1 .1 .0) (are .1 .1 .1 .1 .1 .0) (are .1 .1 .1 .1 .1 .1 .0) (are .1 .1 .1 .1 .1 .1 .1 .0)
       (are .1 .1 .1 .1 .1 .1 .1 .1 .0 .0 .1) (are .1 .1 .1 .1 .1 .1 .1 .1 .1 .0 .0 .1) (are .1 .1 .1 .1 .1 .1 .1 .1 .1 .1 .0 .0 .1)
       (are .1 .1 .1 .1 .1 .1 .1 .1 .1 .1 .1 .0 .0 .1) (are .1 .1 .1 .1 .1 .1 .1 .1 .1 .1 .1 .1 .0 .0 .1)
@@ -1911,7 +2207,13 @@ probe-ray-cabinet-spec 𝓤 H 𝓜 𝓖 𝓡 =
     (meets 𝓤 H (𝓖 .A) (givenOf 𝓤 H 𝓜 𝓖) (𝓜 .mem) (𝓡 .run) (tablesOf 𝓤 H 𝓜 (tables 𝓤 H 𝓜 𝓡 code.env))
     (cited 𝓤 H (FirstC 𝓤 H (𝓖 .A) (𝓜 .mem) (𝓡 .run)) 𝓜 𝓡 code.env #first first-def.routine code.calls-exports·cabinets·begin
     (first-thm.met 𝓤 H 𝓜 𝓖 𝓡))
-    (cited 𝓤 H (StepC 𝓤 H (𝓖 .A) (𝓜 .mem) (𝓡 .run)) 𝓜 𝓡 code.env #step step-def.routine code.calls-cabinet-passes·pass·cast-twice
+    (cited 𝓤 H (OpenC 𝓤 H (𝓖 .A) (𝓜 .mem) (𝓡 .run)) 𝓜 𝓡 code.env #opening opening-def.routine code.calls-cabinet·look·look-from
+    (opening-thm.met 𝓤 H 𝓜 𝓖 𝓡))
+    (cited 𝓤 H (LookC 𝓤 H (𝓖 .A) (𝓜 .mem) (𝓡 .run)) 𝓜 𝓡 code.env #looking looking-def.routine code.calls-cabinet-passes·pass·look-all
+    (looking-thm.met 𝓤 H 𝓜 𝓖 𝓡))
+    (cited 𝓤 H (TurnC 𝓤 H (𝓖 .A) (𝓜 .mem) (𝓡 .run)) 𝓜 𝓡 code.env #turn turn-def.routine code.calls-cabinet·look·turn (turn-thm.met 𝓤 H 𝓜 𝓖
+    𝓡))
+    (cited 𝓤 H (StepC 𝓤 H (𝓖 .A) (𝓜 .mem) (𝓡 .run)) 𝓜 𝓡 code.env #step step-def.routine code.calls-cabinet-passes·pass·cast-all
     (step-thm.met 𝓤 H 𝓜 𝓖 𝓡))
     (cited 𝓤 H (LastC 𝓤 H (𝓖 .A) (𝓜 .mem) (𝓡 .run)) 𝓜 𝓡 code.env #last last-def.routine code.calls-exports·cabinets·put-cabinet
     (last-thm.met 𝓤 H 𝓜 𝓖 𝓡)))

@@ -3,7 +3,8 @@ use Rattle.lists.proofs.JoinedTests.{test-passed, test-failed}
 use borrow.Author.Tests.{eq-eqb, ne-eqb}
 use native.Mathlib.Omega.{arith}
 use Rattle.exports.proofs.CabinetAnswers.{Places, places-there}
-use Rattle.exports.proofs.CabinetAnswers.{none-short, none-told, hit-short, hit-told, refused-early, refused-short, refused-told}
+use Rattle.exports.proofs.CabinetAnswers.{none-short, none-returned, hit-short}
+use Rattle.exports.proofs.CabinetAnswers.{hit-told, refused-early, refused-short, refused-returned}
 use borrow.Author.Needs.{needs}
 use Rattle.exports.proofs.cabinets.put_cabinet.Statement.{statement}
 use Rattle.exports.proofs.cabinets.put_cabinet.Tie as tie
@@ -23,7 +24,7 @@ slice-write-spent c =
 returns-2 : tie.Need-returns-2
 returns-2 c =
     let (s, f, e) : tie.Start × tie.After-results-fit × tie.Else1 = search in
-    none-told (s .args .end .at) _ _ _ _ _ (test-passed (f .results-fit .ensures) (e .if1 .left)) (e .before .enum-told .given .1)
+    none-returned (s .args .end .at) _ _ _ _ _ (test-passed (f .results-fit .ensures) (e .if1 .left)) (e .before .enum-told .given .1)
 
 -- a hit
 returns-3 : tie.Need-returns-3
@@ -83,7 +84,7 @@ slice-write-spent-3 c =
 returns-7 : tie.Need-returns-7
 returns-7 c =
     let (s, f, k, e, g) : tie.Start × tie.After-results-fit × tie.After-found2 × tie.Else3 × tie.Else4 = search in
-    refused-told (s .args .end .at) _ _ _ _ _ (k .found2 .given .1) _ (test-passed (f .results-fit .ensures) (g .if4 .left))
+    refused-returned (s .args .end .at) _ _ _ _ _ (k .found2 .given .1) _ (test-passed (f .results-fit .ensures) (g .if4 .left))
     (ne-eqb _ _ (e .if3 .left))
 
 pub put-cabinet-spec : {M : Type 1} → statement M

@@ -3,7 +3,7 @@ use mathlib.Core.Path.{refl}
 use Rattle.tree.specs.Layout.{Tree, treeOf}
 use Rattle.tree.specs.Mesh.{Mesh, mesh}
 use Rattle.exports.proofs.Kept.{results-fit, hit-short, index-short, second-failed}
-use Rattle.exports.proofs.ExactCalls.{tree-short, tree-told, with-agreement}
+use Rattle.exports.proofs.ExactCalls.{tree-short, tree-returned, with-agreement}
 use borrow.Author.Needs.{needs}
 use Rattle.exports.proofs.exact.probe_ray_mesh_exact.Statement.{statement}
 use Rattle.exports.proofs.exact.probe_ray_mesh_exact.Tie as tie
@@ -43,10 +43,10 @@ returns-3 c =
     let (s, e1, e2, k, p) : tie.Start × tie.Else1 × tie.Else2 × tie.After-ray-mesh-exact × tie.After-put-indexed = search in
     let a = s .args in
     let fits = results-fit (a .hit .now) (a .index .now) (e1 .if1 .left) (e2 .if2 .left) in
-    let told = k .ray-mesh-exact .ensures in
+    let returned = k .ray-mesh-exact .ensures in
     with-agreement (a .hit .now) (a .index .now) _ (own s) (a .pose .now) (tree s) _ _ _
-    (tree-told (a .hit .now) (a .index .now) _ (own s) (a .pose .now) (tree s) _ _ _ fits (told .0) (p .put-indexed .ensures))
-    (λ failed. told .1 .0 (second-failed _ _ fits failed))
+    (tree-returned (a .hit .now) (a .index .now) _ (own s) (a .pose .now) (tree s) _ _ _ fits (returned .0) (p .put-indexed .ensures))
+    (λ failed. returned .1 .0 (second-failed _ _ fits failed))
 
 pub probe-ray-mesh-exact-spec : {M : Type 1} → statement M
 probe-ray-mesh-exact-spec =

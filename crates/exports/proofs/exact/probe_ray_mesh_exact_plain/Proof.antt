@@ -1,7 +1,7 @@
 -- `exports::exact::probe_ray_mesh_exact_plain` meets its contract. Assumes nothing.
 use Rattle.tree.specs.Mesh.{Mesh, mesh}
 use Rattle.exports.proofs.Kept.{results-fit, hit-short, index-short}
-use Rattle.exports.proofs.ExactCalls.{plain-short, plain-told, exact-certain}
+use Rattle.exports.proofs.ExactCalls.{plain-short, plain-returned, exact-certain}
 use borrow.Author.Needs.{needs}
 use Rattle.exports.proofs.exact.probe_ray_mesh_exact_plain.Statement.{statement}
 use Rattle.exports.proofs.exact.probe_ray_mesh_exact_plain.Tie as tie
@@ -35,7 +35,7 @@ returns-3 c =
     let a = s .args in
     let fits = results-fit (a .hit .now) (a .index .now) (e1 .if1 .left) (e2 .if2 .left) in
     exact-certain (a .hit .now) (a .index .now) _ (own s) _
-    (plain-told (a .hit .now) (a .index .now) _ (own s) _ _ fits (k .ray-mesh-exact-plain .ensures .0) (p .put-indexed .ensures))
+    (plain-returned (a .hit .now) (a .index .now) _ (own s) _ _ fits (k .ray-mesh-exact-plain .ensures .0) (p .put-indexed .ensures))
 
 pub probe-ray-mesh-exact-plain-spec : {M : Type 1} → statement M
 probe-ray-mesh-exact-plain-spec =

@@ -3,7 +3,7 @@ use mathlib.Core.Path.{refl}
 use native.Mathlib.Omega.{arith}
 use borrow.Author.Tests.{le-leb}
 use Rattle.mesh.specs.MeshCast.{shapeAdmitted}
-use Rattle.exports.proofs.FoundHits.{short-told, all-told, told-promises}
+use Rattle.exports.proofs.FoundHits.{short-returned, all-returned, returned-promises}
 use Rattle.exports.proofs.Kept.{second-failed}
 use borrow.Author.Needs.{needs}
 use Rattle.exports.proofs.listings.probe_ray_mesh_all.Statement.{statement}
@@ -14,7 +14,7 @@ returns : tie.Need-returns
 unfolding shapeAdmitted
 returns c =
     let (t, w) : tie.Then1 × tie.After-short-cast = search in (
-      short-told _ _ _ _ _ _ _ _ _ (t .if1 .taken) (w .short-cast .ensures),
+      short-returned _ _ _ _ _ _ _ _ _ (t .if1 .taken) (w .short-cast .ensures),
       ((λ _. (refl, refl)), λ there. absurd (omega (arith, there, t .if1 .taken))),
     )
 
@@ -22,11 +22,11 @@ returns c =
 returns-2 : tie.Need-returns-2
 returns-2 c =
     let (e, l, p) : tie.Else1 × tie.After-ray-mesh-all × tie.After-put-found = search in
-    let told = l .ray-mesh-all .ensures in (
-      all-told _ _ _ _ _ _ _ _ (e .if1 .left) _ (told .0) _ (p .put-found .ensures),
+    let returned = l .ray-mesh-all .ensures in (
+      all-returned _ _ _ _ _ _ _ _ (e .if1 .left) _ (returned .0) _ (p .put-found .ensures),
       (
-        (λ failed. told .1 .0 (second-failed _ _ (le-leb _ _ (e .if1 .left)) failed)),
-        λ there. told-promises _ _ _ _ _ _ _ _ there _ (told .0) _ (p .put-found .ensures) (told .1 .1),
+        (λ failed. returned .1 .0 (second-failed _ _ (le-leb _ _ (e .if1 .left)) failed)),
+        λ there. returned-promises _ _ _ _ _ _ _ _ there _ (returned .0) _ (p .put-found .ensures) (returned .1 .1),
       ),
     )
 

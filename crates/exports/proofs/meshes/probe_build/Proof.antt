@@ -3,7 +3,7 @@ use borrow.Author.Tests.{le-leb}
 use mathlib.Core.Path.{refl}
 use lib.ListN.{length}
 use Rattle.tree.specs.Mesh.{lengthsAdmitted}
-use Rattle.exports.proofs.Counts.{build-told, build-short}
+use Rattle.exports.proofs.Counts.{build-returned, build-short}
 use Rattle.exports.proofs.Kept.{second-failed}
 use Rattle.exports.proofs.Reading.{short-undone, built-read}
 use borrow.Author.Needs.{needs}
@@ -22,11 +22,11 @@ returns c =
 returns-2 : tie.Need-returns-2
 returns-2 c =
     let (e, b, p) : tie.Else1 × tie.After-build × tie.After-put-nodes = search in
-    let told = build-told _ _ _ _ _ _ _ (e .if1 .left) (b .build .ensures .0) (p .put-nodes .ensures) in (
-      told,
+    let returned = build-returned _ _ _ _ _ _ _ (e .if1 .left) (b .build .ensures .0) (p .put-nodes .ensures) in (
+      returned,
       (
         λ failed. b .build .ensures .1 (second-failed _ _ (le-leb _ _ (e .if1 .left)) failed),
-        built-read _ _ _ _ (e .if1 .left) _ told,
+        built-read _ _ _ _ (e .if1 .left) _ returned,
       ),
     )
 

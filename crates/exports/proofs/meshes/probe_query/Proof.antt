@@ -1,7 +1,7 @@
 -- `exports::meshes::probe_query` meets its contract. Assumes nothing.
 use borrow.Author.Tests.{le-leb}
 use mathlib.Core.Path.{refl}
-use Rattle.exports.proofs.Counts.{query-told, query-short}
+use Rattle.exports.proofs.Counts.{query-returned, query-short}
 use Rattle.exports.proofs.Kept.{second-failed}
 use borrow.Author.Needs.{needs}
 use Rattle.exports.proofs.meshes.probe_query.Statement.{statement}
@@ -17,7 +17,7 @@ returns c =
 returns-2 : tie.Need-returns-2
 returns-2 c =
     let (e, q, p) : tie.Else1 × tie.After-query × tie.After-put-found = search in (
-      query-told _ _ _ _ _ _ _ _ _ (e .if1 .left) (q .query .ensures .0) (p .put-found .ensures),
+      query-returned _ _ _ _ _ _ _ _ _ (e .if1 .left) (q .query .ensures .0) (p .put-found .ensures),
       λ failed. q .query .ensures .1 (second-failed _ _ (le-leb _ _ (e .if1 .left)) failed),
     )
 

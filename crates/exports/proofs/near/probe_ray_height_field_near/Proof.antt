@@ -5,8 +5,8 @@ use Rattle.exports.proofs.near.probe_ray_height_field_near.Tie as tie
 
 returns : tie.Need-returns
 returns c =
-    let k : tie.After-told-height-field = search in
-    k .told-height-field .ensures
+    let k : tie.After-answer-height-field = search in
+    k .answer-height-field .ensures
 
 pub probe-ray-height-field-near-spec : {M : Type 1} → statement M
 probe-ray-height-field-near-spec =

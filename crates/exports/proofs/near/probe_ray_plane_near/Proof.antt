@@ -5,8 +5,8 @@ use Rattle.exports.proofs.near.probe_ray_plane_near.Tie as tie
 
 returns : tie.Need-returns
 returns c =
-    let k : tie.After-told-plane = search in
-    k .told-plane .ensures
+    let k : tie.After-answer-plane = search in
+    k .answer-plane .ensures
 
 pub probe-ray-plane-near-spec : {M : Type 1} → statement M
 probe-ray-plane-near-spec =

@@ -4,7 +4,8 @@ use mathlib.Core.Path.{_≡_}
 use lib.ListN.{length}
 use Rattle.geometry.specs.Segment.{rayAdmitted}
 use Rattle.tree.specs.Mesh.{lengthsAdmitted}
-use Rattle.exports.proofs.PlainCalls.{told-for, told-invalid, told-bad, told-short-hit, told-short-index, told-passed}
+use Rattle.exports.proofs.PlainCalls.{returned-for, returned-invalid, returned-bad}
+use Rattle.exports.proofs.PlainCalls.{returned-short-hit, returned-short-index, returned-passed}
 use Rattle.lists.proofs.JoinedTests.{test-passed, test-failed}
 use borrow.Author.Needs.{needs}
 use Rattle.exports.proofs.plain.probe_ray_mesh_plain.Statement.{statement}
@@ -20,30 +21,30 @@ ray-passes e =
 returns : tie.Need-returns
 returns c =
     let (f, v) : tie.After-ray-from × tie.After-validate = search in
-    told-for _ _ (f .ray-from .ensures) _ _ _ _
-    (told-invalid _ _ _ _ (test-failed (v .validate .ensures) (c .if1 .taken)))
+    returned-for _ _ (f .ray-from .ensures) _ _ _ _
+    (returned-invalid _ _ _ _ (test-failed (v .validate .ensures) (c .if1 .taken)))
 
 -- 2
 returns-2 : tie.Need-returns-2
 returns-2 c =
     let (f, e) : tie.After-ray-from × tie.Else1 = search in
     let t = c .before in
-    told-for _ _ (f .ray-from .ensures) _ _ _ _
-    (told-bad _ _ _ _ (ray-passes e) (test-failed (t .lengths-admitted .ensures) (c .if2 .taken)))
+    returned-for _ _ (f .ray-from .ensures) _ _ _ _
+    (returned-bad _ _ _ _ (ray-passes e) (test-failed (t .lengths-admitted .ensures) (c .if2 .taken)))
 
 -- 3, the hit
 returns-3 : tie.Need-returns-3
 returns-3 c =
     let (f, e, t, g) : tie.After-ray-from × tie.Else1 × tie.After-lengths-admitted × tie.Else2 = search in
     let shape = test-passed (t .lengths-admitted .ensures) (g .if2 .left) in
-    told-for _ _ (f .ray-from .ensures) _ _ _ _ (told-short-hit _ _ _ _ (ray-passes e) shape (c .if3 .taken))
+    returned-for _ _ (f .ray-from .ensures) _ _ _ _ (returned-short-hit _ _ _ _ (ray-passes e) shape (c .if3 .taken))
 
 -- 3, the index
 returns-4 : tie.Need-returns-4
 returns-4 c =
     let (f, e, t, g, k) : tie.After-ray-from × tie.Else1 × tie.After-lengths-admitted × tie.Else2 × tie.Else3 = search in
     let shape = test-passed (t .lengths-admitted .ensures) (g .if2 .left) in
-    told-for _ _ (f .ray-from .ensures) _ _ _ _ (told-short-index _ _ _ _ (ray-passes e) shape (k .if3 .left) (c .if4 .taken))
+    returned-for _ _ (f .ray-from .ensures) _ _ _ _ (returned-short-index _ _ _ _ (ray-passes e) shape (k .if3 .left) (c .if4 .taken))
 
 plain-cast-requires : tie.Need-plain-cast-requires
 plain-cast-requires c κs =
@@ -58,8 +59,8 @@ returns-5 c =
     tie.After-put-indexed
     = search in
     let shape = test-passed (t .lengths-admitted .ensures) (g .if2 .left) in
-    told-for _ _ (f .ray-from .ensures) _ _ _ _
-    (told-passed _ _ _ _ (ray-passes e) shape (k .if3 .left) (l .if4 .left) _ _ (q .put-indexed .ensures) (p .plain-cast .ensures))
+    returned-for _ _ (f .ray-from .ensures) _ _ _ _
+    (returned-passed _ _ _ _ (ray-passes e) shape (k .if3 .left) (l .if4 .left) _ _ (q .put-indexed .ensures) (p .plain-cast .ensures))
 
 pub probe-ray-mesh-plain-spec : {M : Type 1} → statement M
 probe-ray-mesh-plain-spec =

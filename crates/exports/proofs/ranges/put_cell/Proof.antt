@@ -1,7 +1,7 @@
 -- `exports::ranges::put_cell` meets its contract. Assumes nothing.
 use mathlib.Core.Path.{sym}
 use borrow.Author.Tests.{le-leb, lt-leb}
-use Rattle.exports.specs.Ranges.{answeredCell, toldCell}
+use Rattle.exports.specs.Ranges.{answeredCell, returnedCell}
 use borrow.Author.Needs.{needs}
 use Rattle.exports.proofs.ranges.put_cell.Statement.{statement}
 use Rattle.exports.proofs.ranges.put_cell.Tie as tie
@@ -15,21 +15,21 @@ returns c =
 
 -- clear
 returns-2 : tie.Need-returns-2
-unfolding answeredCell toldCell
+unfolding answeredCell returnedCell
 returns-2 c =
     let e : tie.Else1 = search in
     simp (le-leb _ _ (e .if1 .left), c .enum-told .given .1)
 
 -- possible
 returns-3 : tie.Need-returns-3
-unfolding answeredCell toldCell
+unfolding answeredCell returnedCell
 returns-3 c =
     let e : tie.Else1 = search in
     simp (le-leb _ _ (e .if1 .left), c .before .answer .given .1)
 
 -- refused
 returns-4 : tie.Need-returns-4
-unfolding answeredCell toldCell
+unfolding answeredCell returnedCell
 returns-4 c =
     let e : tie.Else1 = search in
     simp (le-leb _ _ (e .if1 .left), c .before .answer2 .given .1)

@@ -5,8 +5,8 @@ use Rattle.exports.proofs.shapes.probe_ray_level_set.Tie as tie
 
 returns : tie.Need-returns
 returns c =
-    let k : tie.After-told-level-set = search in
-    k .told-level-set .ensures
+    let k : tie.After-answer-level-set = search in
+    k .answer-level-set .ensures
 
 pub probe-ray-level-set-spec : {M : Type 1} → statement M
 probe-ray-level-set-spec =

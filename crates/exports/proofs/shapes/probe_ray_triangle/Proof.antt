@@ -5,8 +5,8 @@ use Rattle.exports.proofs.shapes.probe_ray_triangle.Tie as tie
 
 returns : tie.Need-returns
 returns c =
-    let k : tie.After-told-triangle = search in
-    k .told-triangle .ensures
+    let k : tie.After-answer-triangle = search in
+    k .answer-triangle .ensures
 
 pub probe-ray-triangle-spec : {M : Type 1} → statement M
 probe-ray-triangle-spec =

@@ -5,8 +5,8 @@ use Rattle.exports.proofs.slices.probe_ray_plane_slices.Tie as tie
 
 returns : tie.Need-returns
 returns c =
-    let k : tie.After-told-plane = search in
-    k .told-plane .ensures
+    let k : tie.After-answer-plane = search in
+    k .answer-plane .ensures
 
 pub probe-ray-plane-slices-spec : {M : Type 1} → statement M
 probe-ray-plane-slices-spec =

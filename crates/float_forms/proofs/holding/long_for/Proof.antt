@@ -1,7 +1,7 @@
 -- `float_forms::holding::long_for` meets its contract. Assumes nothing.
 use mathlib.Core.Path.{sym, subst}
 use lib.Dec.{T}
-use Rattle.short_floats.proofs.Shorts.{number}
+use Rattle.arithmetic.proofs.Order.{ne-self-passes}
 use Rattle.float_forms.specs.declared.forms.Form.the-variants.{Long}
 use Rattle.float_forms.proofs.HoldLaws.{nan-unheld, long-bits}
 use Rattle.float_forms.proofs.holding.long_for.Statement.{statement}
@@ -11,7 +11,7 @@ returns : tie.Need-returns
 returns c = nan-unheld Long (c .before .args .x) (c .if1 .taken)
 
 float-to-bits-t3 : tie.Need-float-to-bits-t3
-float-to-bits-t3 c = number (c .before .args .x) (c .if1 .left)
+float-to-bits-t3 c = ne-self-passes (c .before .args .x) (c .if1 .left)
 
 returns-2 : tie.Need-returns-2
 returns-2 c = long-bits (c .before .args .x) (subst T (sym (c .before .good .0 .1)) tt) (c .if1 .left)

@@ -1,6 +1,5 @@
 -- `geometry::aabb::same_side` meets its contract. Assumes nothing.
 use Rattle.geometry.specs.Box.{sameSide}
-use mathlib.Core.Path.{sym}
 use Rattle.geometry.proofs.aabb.same_side.Statement.{statement}
 use Rattle.geometry.proofs.aabb.same_side.Tie as tie
 

@@ -1,6 +1,5 @@
 -- `geometry::aabb::touch_side` meets its contract. Assumes nothing.
 use Rattle.geometry.specs.Box.{touchSide}
-use mathlib.Core.Path.{sym}
 use Rattle.geometry.proofs.aabb.touch_side.Statement.{statement}
 use Rattle.geometry.proofs.aabb.touch_side.Tie as tie
 

@@ -1,6 +1,5 @@
 -- `geometry::aabb::within_side` meets its contract. Assumes nothing.
 use Rattle.geometry.specs.Box.{withinSide}
-use mathlib.Core.Path.{sym}
 use Rattle.geometry.proofs.aabb.within_side.Statement.{statement}
 use Rattle.geometry.proofs.aabb.within_side.Tie as tie
 

@@ -1,7 +1,7 @@
 -- `cast::visited_answer` meets its contract: no visited cell is clear, and the visited cells stand in the grid. Assumes nothing.
 use mathlib.Core.Path.{sym, _∙_}
 use native.Mathlib.Omega.{arith}
-use Rattle.height_field.proofs.Ranges.{Standing, visited-stands}
+use Rattle.height_field.proofs.Ranges.{visited-stands}
 use Rattle.height_field.specs.Grid.{Sized}
 use Rattle.lists.proofs.JoinedTests.{test-passed, test-failed}
 use Rattle.height_ranges.proofs.VisitedAnswer.{lows-sized, highs-sized, outside, out-of-order, ordered-first}

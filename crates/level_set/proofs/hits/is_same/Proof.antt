@@ -1,6 +1,6 @@
 -- `level_set::hits::is_same` meets its contract. Assumes nothing.
-use mathlib.Core.Path.{_≡_, sym, subst}
-use mathlib.Core.Bool.{true, false≢true}
+use mathlib.Core.Path.{sym, subst}
+use mathlib.Core.Bool.{false≢true}
 use lib.Dec.{T}
 use borrow.Author.Tests.{eqb-true}
 use Rattle.arithmetic.proofs.Numbers.{left-number, right-number, number-passes, same-bits}

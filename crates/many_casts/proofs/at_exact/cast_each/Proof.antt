@@ -7,7 +7,7 @@ use Rattle.tree.specs.Layout.{treeOf}
 use Rattle.tree.specs.Mesh.{mesh}
 use Rattle.many_casts.specs.Many.{places, answersOf, exactAnswer}
 use Rattle.many_casts.proofs.Answers.{answers-next, answers-all}
-use Rattle.many_casts.proofs.Progress.{Answered, same-exact}
+use Rattle.many_casts.proofs.Progress.{Answered, same-exact, still-ready-exact}
 use borrow.Author.Needs.{needs}
 use Rattle.many_casts.proofs.at_exact.cast_each.Statement.{statement}
 use Rattle.many_casts.proofs.at_exact.cast_each.Tie as tie
@@ -34,15 +34,28 @@ Within = tie.In-loop Inv-loop μ-loop
 
 loop-holds : tie.Need-loop-holds Inv-loop μ-loop
 unfolding answersOf
-loop-holds c = record { told = refl; most = omega arith; codes = refl; hits = refl; indices = refl; list-long = refl; stack-long = refl }
+loop-holds c = record {
+  returned = refl;
+  most = omega arith;
+  codes = refl;
+  hits = refl;
+  indices = refl;
+  list-long = refl;
+  stack-long =
+      refl;
+}
 
 cast-at-requires : tie.Need-cast-at-requires Inv-loop μ-loop
 cast-at-requires c κs =
     let (s, l, w) : Start × At × Within = search in
     let inv = l .loop .inv in
-    let less = w .loop-test .taken in (
-      omega (arith, s .pre, less),
-      (omega (arith, s .pre, less, inv .codes), (omega (arith, s .pre, less, inv .hits), omega (arith, s .pre, less, inv .indices))),
+    let less = w .loop-test .taken in
+    let before = s .pre .0 in (
+      (
+        omega (arith, before, less),
+        (omega (arith, before, less, inv .codes), (omega (arith, before, less, inv .hits), omega (arith, before, less, inv .indices))),
+      ),
+      still-ready-exact (inv .stack-long) (s .pre .1),
     )
 
 -- one more ray
@@ -51,7 +64,7 @@ loop-again c =
     let (s, l, w, k) : Start × At × Within × tie.After-cast-at Inv-loop μ-loop = search in
     let inv = l .loop .inv in
     let kept = k .cast-at .kept .1 .1 .1 .1 .1 .1 .1 .1 .1 .1 in record {
-      told = answers-next _ _ _ _ _ _ (inv .told)
+      returned = answers-next _ _ _ _ _ _ (inv .returned)
           (k .cast-at .ensures ∙ same-exact _ _ _ _ _ (inv .stack-long) _ _ _);
       most = omega (arith, w .loop-test .taken);
       codes = omega (arith, kept .1 .0, inv .codes);
@@ -79,7 +92,7 @@ returns c =
     let (s, l) : Start × At = search in
     let inv = l .loop .inv in
     let end : l .loop .i ≡ s .args .count = omega (arith, inv .most, c .loop-test .left) in
-    answers-all _ _ _ _ _ _ (inv .told) end
+    answers-all _ _ _ _ _ _ (inv .returned) end
 
 pub cast-each-spec : {M : Type 1} → statement M
 cast-each-spec =

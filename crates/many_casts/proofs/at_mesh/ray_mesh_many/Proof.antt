@@ -55,8 +55,14 @@ returns-5 c =
 
 cast-each-requires : tie.Need-cast-each-requires
 cast-each-requires c κs =
-    let f : tie.Else4 = search in
-    (omega arith, fits-inside _ _ _ _ (test-passed (f .before .places-fit .ensures) (f .if4 .left)))
+    let (b, d, f, g) : tie.Else2 × tie.Else3 × tie.Else4 × tie.Else5 = search in (
+      (omega arith, fits-inside _ _ _ _ (test-passed (f .before .places-fit .ensures) (f .if4 .left))),
+      record {
+        shaped = test-passed (b .before .shape-admitted .ensures) (b .if2 .left);
+        room = test-passed (d .before .walk-fits .ensures) (d .if3 .left);
+        posed = g .if5 .left;
+      },
+    )
 
 -- past them all
 returns-6 : tie.Need-returns-6

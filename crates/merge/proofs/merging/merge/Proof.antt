@@ -2,8 +2,8 @@
 use mathlib.Core.Path.{_≡_, refl}
 use mathlib.Core.Bool.{true}
 use lib.ListN.{length}
-use Rattle.board_tests.specs.Merge.{Board, Areas, boardOf, areasOf, shapesAdmitted}
-use Rattle.board_glue.proofs.TestsPassed.{shape-refused, room-refused, tree-refused, ready, tests-told, checkable, outcome-is}
+use Rattle.merge.specs.Merge.{Board, Areas, boardOf, areasOf, shapesAdmitted}
+use Rattle.merge.proofs.TestsPassed.{shape-refused, room-refused, tree-refused, ready, tests-told, checkable, outcome-is}
 use Rattle.lists.proofs.JoinedTests.{test-passed, test-failed}
 use borrow.Author.Needs.{needs}
 use Rattle.merge.proofs.merging.merge.Statement.{statement}

@@ -1,6 +1,6 @@
 -- `mesh::candidates::note_all` meets its contract: what is left of the notes gives the whole. Assumes nothing.
 use Rattle.mesh.proofs.Folding.{listed-below, Folding, folding-begins, folding-goes, folding-ends}
-use Rattle.nearest_hit.specs.Summary.{saysNotes}
+use Rattle.nearest_hit.specs.Summary.{saysNearestSoFar}
 use Rattle.tree.specs.Mesh.{triangleAnswer}
 use native.Mathlib.Omega.{arith}
 use Prim.Native.Nat.{_-_}
@@ -9,7 +9,7 @@ use Rattle.mesh.proofs.candidates.note_all.Statement.{statement}
 use Rattle.mesh.proofs.candidates.note_all.Tie as tie
 
 abbrev Inv-loop : tie.InvT-loop
-Inv-loop ray pose triangles list found notes₀ i₀ notes i = Folding (triangleAnswer ray pose triangles) list found (saysNotes notes) i
+Inv-loop ray pose triangles list found notes₀ i₀ notes i = Folding (triangleAnswer ray pose triangles) list found (saysNearestSoFar notes) i
 
 abbrev μ-loop : tie.MeasureT-loop
 μ-loop ray pose triangles list found notes₀ i₀ notes i = found - i

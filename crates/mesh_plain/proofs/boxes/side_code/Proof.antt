@@ -3,7 +3,8 @@ use mathlib.Core.Bool.{not}
 use mathlib.Core.Path.{refl}
 use native.Mathlib.Omega.{arith}
 use lib.Ieee.{le}
-use Rattle.mesh_plain.proofs.CodeLaws.{digit-small, small}
+use Rattle.index_sort.proofs.Splitting.{at-most-one}
+use Rattle.mesh_plain.proofs.CodeLaws.{small}
 use borrow.Author.Needs.{needs}
 use Rattle.mesh_plain.proofs.boxes.side_code.Statement.{statement}
 use Rattle.mesh_plain.proofs.boxes.side_code.Tie as tie
@@ -11,12 +12,12 @@ use Rattle.mesh_plain.proofs.boxes.side_code.Tie as tie
 mul-result : tie.Need-mul-result
 mul-result c =
     let s : tie.Start = search in
-    omega (arith, digit-small (not (le (s .args .x) (s .args .to))))
+    omega (arith, at-most-one (not (le (s .args .x) (s .args .to))))
 
 add-result : tie.Need-add-result
 add-result c =
     let s : tie.Start = search in
-    omega (arith, digit-small (not (le (s .args .x) (s .args .to))), digit-small (not (le (s .args .from) (s .args .x))))
+    omega (arith, at-most-one (not (le (s .args .x) (s .args .to))), at-most-one (not (le (s .args .from) (s .args .x))))
 
 returns : tie.Need-returns
 returns c =

@@ -6,7 +6,7 @@ use mathlib.Core.Logic.{⊎-elim}
 use native.Mathlib.Omega.{arith}
 use lib.ListN.{length}
 use Rattle.nearest_hit.specs.Nearest.{nextOf}
-use Rattle.crossed_hit.specs.Crossed.{facedIndexed, saysNear, Held}
+use Rattle.nearest_hit.specs.Deferred.{facedIndexed, saysNear, Held}
 use Rattle.tree.specs.Mesh.{Mesh, thirds, mesh}
 use Rattle.lists.proofs.JoinedTests.{test-passed, test-failed}
 use Rattle.mesh_plain.proofs.Passing.{Passing, passing-begins, passing-near, passing-far, passing-unfit, passing-ends}
@@ -67,8 +67,8 @@ corners-of-requires c κs =
     let (t, k, e) : Tested × Looked × Inside = search in
     (omega (arith, t .loop-test .taken), test-passed (k .corners-inside .ensures) (e .if1 .left))
 
-cast-next-crossed : tie.Need-cast-next-crossed Inv-loop μ-loop
-cast-next-crossed c =
+cast-next-deferred : tie.Need-cast-next-deferred Inv-loop μ-loop
+cast-next-deferred c =
     let (s, t) : Start × Tested = search in
     omega (arith, t .loop-test .taken, s .pre .0)
 
@@ -113,7 +113,7 @@ cast-all-spec =
     returns
     triangle-touches-requires
     corners-of-requires
-    cast-next-crossed
+    cast-next-deferred
     (λ c κs. search needs)  -- next-crossed-requires
     (search needs)  -- add-i
     (search needs)  -- loop-less

@@ -1,6 +1,5 @@
 -- `nearest_hit::nearest::nearer` meets its contract. Assumes nothing.
 use Rattle.nearest_hit.specs.Nearest.{nextOf}
-use mathlib.Core.Path.{sym}
 use borrow.Author.Needs.{needs}
 use Rattle.nearest_hit.proofs.nearest.nearer.Statement.{statement}
 use Rattle.nearest_hit.proofs.nearest.nearer.Tie as tie

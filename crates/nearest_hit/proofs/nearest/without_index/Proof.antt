@@ -1,6 +1,5 @@
 -- `nearest_hit::nearest::without_index` meets its contract. Assumes nothing.
 use Rattle.nearest_hit.specs.Nearest.{withoutIndex}
-use mathlib.Core.Path.{sym}
 use borrow.Author.Needs.{needs}
 use Rattle.nearest_hit.proofs.nearest.without_index.Statement.{statement}
 use Rattle.nearest_hit.proofs.nearest.without_index.Tie as tie

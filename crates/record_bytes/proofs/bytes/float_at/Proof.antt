@@ -1,6 +1,6 @@
 -- `record_bytes::bytes::float_at` meets its contract: its word is there, and is a NaN's pattern or a number's. Assumes nothing.
-use Rattle.words.specs.Words.{says}
-use Rattle.words.proofs.WordLaws.{bits-there, never-nothing}
+use Rattle.record_bytes.specs.Words.{says}
+use Rattle.record_bytes.proofs.WordLaws.{bits-there, never-nothing}
 use Rattle.record_bytes.proofs.Patterns.{zero-over-zero, nan-pattern, number-pattern, value-is-bits}
 use Rattle.record_bytes.specs.Bytes.{bitsAt, floatAt}
 use lib.Ieee.{binary64, ofBits}

@@ -1,5 +1,5 @@
 -- `tree::layout::box_at` meets its contract. Assumes nothing.
-use mathlib.Core.Path.{refl, sym}
+use mathlib.Core.Path.{sym}
 use Rattle.tree.specs.Layout.{boxAt}
 use borrow.Author.Needs.{needs}
 use Rattle.tree.proofs.layout.box_at.Statement.{statement}

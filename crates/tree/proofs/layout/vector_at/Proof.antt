@@ -1,5 +1,5 @@
 -- `tree::layout::vector_at` meets its contract. Assumes nothing.
-use mathlib.Core.Path.{refl, sym}
+use mathlib.Core.Path.{refl}
 use Rattle.tree.specs.Layout.{vectorAt}
 use borrow.Author.Needs.{needs}
 use Rattle.tree.proofs.layout.vector_at.Statement.{statement}

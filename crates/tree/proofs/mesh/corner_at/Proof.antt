@@ -1,5 +1,5 @@
 -- `tree::mesh::corner_at` meets its contract. Assumes nothing.
-use mathlib.Core.Path.{refl, sym}
+use mathlib.Core.Path.{sym}
 use Rattle.tree.specs.Mesh.{cornerAt}
 use borrow.Author.Needs.{needs}
 use Rattle.tree.proofs.mesh.corner_at.Statement.{statement}

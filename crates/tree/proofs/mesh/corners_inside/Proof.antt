@@ -1,5 +1,5 @@
 -- `tree::mesh::corners_inside` meets its contract. Assumes nothing.
-use mathlib.Core.Path.{refl, sym}
+use mathlib.Core.Path.{sym}
 use Rattle.tree.specs.Mesh.{cornersInside}
 use borrow.Author.Tests.{lt-ltb, le-ltb}
 use borrow.Author.Needs.{needs}

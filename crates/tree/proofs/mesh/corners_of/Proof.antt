@@ -1,5 +1,5 @@
 -- `tree::mesh::corners_of` meets its contract. Assumes nothing.
-use mathlib.Core.Path.{refl, sym}
+use mathlib.Core.Path.{sym}
 use native.Mathlib.Omega.{arith}
 use Rattle.tree.specs.Mesh.{cornersOf}
 use Rattle.tree.proofs.Corners.{first-fits, second-fits, third-fits}

@@ -1,5 +1,4 @@
 -- `tree::mesh::lengths_admitted` meets its contract. Assumes nothing.
-use mathlib.Core.Path.{refl, sym}
 use Rattle.tree.specs.Mesh.{lengthsAdmitted}
 use borrow.Author.Tests.{eq-eqb, ne-eqb, lt-leb, le-leb}
 use Rattle.tree.proofs.mesh.lengths_admitted.Statement.{statement}

@@ -1,11 +1,11 @@
 -- `tree::writing::put_triangle_box` meets its contract. Assumes nothing.
-use mathlib.Core.Path.{_≡_, refl, sym, ap, _∙_}
-use mathlib.Core.Bool.{Bool, true, false, _&&_, false≢true}
+use mathlib.Core.Path.{sym, ap, _∙_}
+use mathlib.Core.Bool.{false≢true}
 use Prim.Native.Nat.{_*_, _/_}
-use native.Mathlib.Omega.{arith}
 use lib.ListN.{length}
 use lib.Seq.{sets}
 use borrow.Author.Tests.{not-true, not-false}
+use Rattle.lists.proofs.JoinedTests.{and-not-first, and-not-second, and-both}
 use Rattle.geometry.specs.Box.{validBox}
 use Rattle.geometry.specs.declared.aabb.Aabb.{Aabb}
 use Rattle.tree.specs.Mesh.{cornersInside, triangleBox, triangleFits}
@@ -13,16 +13,6 @@ use Rattle.tree.specs.Layout.{boxNumbers}
 use borrow.Author.Needs.{needs}
 use Rattle.tree.proofs.writing.put_triangle_box.Statement.{statement}
 use Rattle.tree.proofs.writing.put_triangle_box.Tie as tie
-
-left-fails : (a b : Bool) → a ≡ false → (a && b) ≡ false
-left-fails a b h = rw h
-
-right-fails : (a b : Bool) → b ≡ false → (a && b) ≡ false
-right-fails true b h = h
-right-fails false b h = refl
-
-both-hold : (a b : Bool) → a ≡ true → b ≡ true → (a && b) ≡ true
-both-hold a b h k = rw (h, k)
 
 corners-inside-requires : tie.Need-corners-inside-requires
 corners-inside-requires c κs =
@@ -33,7 +23,7 @@ returns : tie.Need-returns
 unfolding triangleFits
 returns c =
     let start : tie.Start = search in (
-      sym (left-fails (cornersInside (length (start .args .vertices .now) / 3) (start .args .triangles .now) (start .args .index))
+      sym (and-not-first (cornersInside (length (start .args .vertices .now) / 3) (start .args .triangles .now) (start .args .index))
           (validBox (triangleBox (start .args .vertices .now) (start .args .triangles .now) (start .args .index)))
           (sym (c .before .corners-inside .ensures) ∙ not-true (c .before .corners-inside .result) (c .if1 .taken))),
       λ e. absurd (false≢true
@@ -50,7 +40,7 @@ unfolding triangleFits
 returns-2 c =
     let (start, at-triangle-box) : tie.Start × tie.After-triangle-box = search in
     let a = start .args in (
-      sym (right-fails (cornersInside (length (a .vertices .now) / 3) (a .triangles .now) (a .index))
+      sym (and-not-second (cornersInside (length (a .vertices .now) / 3) (a .triangles .now) (a .index))
           (validBox (triangleBox (a .vertices .now) (a .triangles .now) (a .index)))
           (ap validBox (sym (at-triangle-box .triangle-box .ensures)) ∙ sym (c .before .is-valid .ensures) ∙ not-true
           (c .before .is-valid .result) (c .if2 .taken))),
@@ -69,7 +59,7 @@ returns-3 c =
     tie.Start × tie.After-corners-inside × tie.Else1 × tie.After-triangle-box × tie.After-is-valid × tie.Else2 × tie.After-put-box =
     search in
     let a = start .args in (
-      sym (both-hold (cornersInside (length (a .vertices .now) / 3) (a .triangles .now) (a .index))
+      sym (and-both (cornersInside (length (a .vertices .now) / 3) (a .triangles .now) (a .index))
           (validBox (triangleBox (a .vertices .now) (a .triangles .now) (a .index)))
           (sym (at-corners-inside .corners-inside .ensures) ∙ not-false (at-corners-inside .corners-inside .result) (else1 .if1 .left))
           (ap validBox (sym (at-triangle-box .triangle-box .ensures)) ∙ sym (at-is-valid .is-valid .ensures) ∙ not-false

@@ -1,6 +1,6 @@
 -- `tree_copy::copying::copy_node` meets its contract. Assumes nothing.
 use mathlib.Core.Path.{ap, _∙_}
-use Prim.Native.Nat.{_+_, _-_, _*_}
+use Prim.Native.Nat.{_+_, _*_}
 use native.Mathlib.Omega.{arith}
 use lib.Seq.{sets}
 use Rattle.tree_copy.proofs.CopyLaws.{leaf-words, branch-words}

@@ -2,7 +2,6 @@
 use mathlib.Core.Path.{sym, ap, _∙_}
 use mathlib.Core.Bool.{Bool, cond}
 use mathlib.Core.List.{[]}
-use Prim.Native.Nat.{_-_}
 use lib.Seq.{sets}
 use Rattle.geometry.specs.Box.{unionOf}
 use Rattle.geometry.specs.declared.aabb.Aabb.{Aabb}

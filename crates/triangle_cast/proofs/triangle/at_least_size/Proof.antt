@@ -2,7 +2,6 @@
 use Rattle.arithmetic.specs.Extremes.{maximumOf}
 use lib.Ieee.{Float, neg}
 use mathlib.Core.Path.{ap, _∙_}
-use borrow.Author.Needs.{needs}
 use Rattle.triangle_cast.proofs.triangle.at_least_size.Statement.{statement}
 use Rattle.triangle_cast.proofs.triangle.at_least_size.Tie as tie
 

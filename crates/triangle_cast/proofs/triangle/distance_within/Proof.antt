@@ -23,14 +23,14 @@ returns-2 c =
 returns-3 : tie.Need-returns-3
 unfolding distanceWithin
 returns-3 c =
-    let (q, v, e1, e2, d, o) : tie.After-cross × tie.After-dot × tie.Else1 × tie.Else2 × tie.After-dot2 × tie.After-out-of-range = search in
+    let (q, v, e1, e2, d, o) : tie.After-cross × tie.After-dot × tie.Else1 × tie.Else2 × tie.After-dot2 × tie.After-off-segment = search in
     simp (
       sym (q .cross .ensures),
       sym (v .dot .ensures),
       e1 .if1 .left,
       e2 .if2 .left,
       sym (d .dot2 .ensures),
-      sym (o .out-of-range .ensures),
+      sym (o .off-segment .ensures),
       c .if3 .taken,
     )
 
@@ -38,14 +38,14 @@ returns-3 c =
 returns-4 : tie.Need-returns-4
 unfolding distanceWithin
 returns-4 c =
-    let (q, v, e1, e2, d, o) : tie.After-cross × tie.After-dot × tie.Else1 × tie.Else2 × tie.After-dot2 × tie.After-out-of-range = search in
+    let (q, v, e1, e2, d, o) : tie.After-cross × tie.After-dot × tie.Else1 × tie.Else2 × tie.After-dot2 × tie.After-off-segment = search in
     simp (
       sym (q .cross .ensures),
       sym (v .dot .ensures),
       e1 .if1 .left,
       e2 .if2 .left,
       sym (d .dot2 .ensures),
-      sym (o .out-of-range .ensures),
+      sym (o .off-segment .ensures),
       c .if3 .left,
     )
 
@@ -58,6 +58,6 @@ distance-within-spec =
     returns
     returns-2
     (λ c κs. search needs)  -- dot-requires-2
-    (λ c κs. search needs)  -- out-of-range-requires
+    (λ c κs. search needs)  -- off-segment-requires
     returns-3
     returns-4)

@@ -1,6 +1,5 @@
 -- `triangle_cast::triangle::is_flat` meets its contract. Assumes nothing.
 use Rattle.triangle_cast.proofs.FlatLaws.{flat-by-size}
-use mathlib.Core.Path.{sym, ap, _∙_}
 use borrow.Author.Needs.{needs}
 use Rattle.triangle_cast.proofs.triangle.is_flat.Statement.{statement}
 use Rattle.triangle_cast.proofs.triangle.is_flat.Tie as tie

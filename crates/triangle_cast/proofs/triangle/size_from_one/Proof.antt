@@ -2,7 +2,6 @@
 use Rattle.triangle_cast.specs.Size.{orSize}
 use lib.Ieee.{Float, isNan, ofBits}
 use mathlib.Core.Path.{refl, ap, _∙_}
-use borrow.Author.Needs.{needs}
 use Rattle.triangle_cast.proofs.triangle.size_from_one.Statement.{statement}
 use Rattle.triangle_cast.proofs.triangle.size_from_one.Tie as tie
 

@@ -1,6 +1,0 @@
--- The exact cast in any direction, on a grid of 2^-15 mm. Definitions only. Assumes nothing.
-pub mod Line
-pub mod Shear
-pub mod Surface
-pub mod Grid
-pub mod Box

@@ -1,3 +1,0 @@
--- The laws of the cast at one part. Assumes nothing.
-pub mod PartWalks
-pub mod Roots

@@ -1,1 +1,0 @@
-// What holds of the converters beside their contracts: proofs/. No code.

@@ -1,2 +1,0 @@
--- Laws about the order by depth. Assumes nothing.
-pub mod OrderLaws

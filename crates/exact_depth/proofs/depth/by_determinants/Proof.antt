@@ -1,0 +1,67 @@
+-- `exact_depth::depth::by_determinants` meets its contract. Assumes nothing.
+use mathlib.Core.Path.{_≡_, refl, sym, ap, _∙_, subst}
+use lib.IntN.{ℤ}
+use Rattle.exact_depth.specs.declared.projection.Projected.{Projected}
+use Rattle.wide_integers.specs.Determinant.{determinant}
+use Rattle.exact_depth.specs.FirstPoint.{seenDeterminant, byWeights, firstPoint}
+use Rattle.wide_integers.proofs.Reading.{bits, fits, held-fit, bits-back}
+use Rattle.wide_integers.specs.Value.{value, Weight}
+use Rattle.exact_depth.specs.Sizes.{Close}
+use Rattle.exact_depth.proofs.Laws.{finds-as, determinant-back, seen-weight}
+use borrow.Author.Needs.{needs}
+use Rattle.exact_depth.proofs.depth.by_determinants.Statement.{statement}
+use Rattle.exact_depth.proofs.depth.by_determinants.Tie as tie
+
+-- one turn, and its size
+module _ {p q : Projected} (h : Close p) (g : Close q) {x : ℤ}
+    (e : x ≡ determinant (bits (p .across)) (bits (p .up)) (bits (q .across)) (bits (q .up))) where
+  told : x ≡ seenDeterminant p q
+  told =
+      determinant-back (fits (held-fit (h .across))) (fits (held-fit (h .up))) (fits (held-fit (g .across))) (fits (held-fit (g .up))) e
+
+  small : Weight x
+  small = subst Weight (sym told) (seen-weight h g)
+
+-- the three turns
+abbrev begun : tie.After-determinant3 → tie.Start
+begun z = search
+
+abbrev first-of : tie.After-determinant3 → tie.After-determinant
+first-of z = search
+
+abbrev second-of : tie.After-determinant3 → tie.After-determinant2
+second-of z = search
+
+by-weights-requires : tie.Need-by-weights-requires
+by-weights-requires c κs =
+    let z : tie.After-determinant3 = search in
+    let h = begun z .pre in (
+      h,
+      (
+        small (h .1 .0) (h .1 .1) (first-of z .determinant .ensures),
+        (small (h .1 .1) (h .0) (second-of z .determinant2 .ensures), small (h .0) (h .1 .0) (z .determinant3 .ensures)),
+      ),
+    )
+
+returns : tie.Need-returns
+unfolding firstPoint
+returns c =
+    let z : tie.After-determinant3 = search in
+    let s = begun z in
+    let v = s .args in
+    let h = s .pre in
+    finds-as (c .by-weights .ensures)
+    (λ i. byWeights (v .a) (v .b) (v .c) (told (h .1 .0) (h .1 .1) (first-of z .determinant .ensures) i)
+    (told (h .1 .1) (h .0) (second-of z .determinant2 .ensures) i) (told (h .0) (h .1 .0) (z .determinant3 .ensures) i)
+    (bits-back (s .fits .near) i)
+    (bits-back (s .fits .far) i))
+
+pub by-determinants-spec : {M : Type 1} → statement M
+by-determinants-spec =
+    tie.close
+    (tie.spec
+    (search needs)  -- turn-requires
+    (search needs)  -- turn-requires-2
+    (search needs)  -- turn-requires-3
+    by-weights-requires
+    returns)

@@ -1,0 +1,20 @@
+-- The cast in any direction is certain of a triangle with area, and what lies apart from the segment's box is not met. Assumes nothing.
+pub mod Shears
+pub mod Areas
+pub mod SegmentCertainty
+pub mod Millimetres
+pub mod Floors
+pub mod Sides
+pub mod Touching
+pub mod Readings
+pub mod Moving
+pub mod Directions
+pub mod ClosestLaws
+pub mod RoundedReadings
+pub mod Laws
+pub mod Ratios
+pub mod Quotients
+pub mod Normals
+pub mod Certainty
+pub mod Hits
+pub mod Within

@@ -1,4 +1,0 @@
-// What the height grid and the distance grid share.
-
-// Which spacings are admitted.
-pub mod spacing;

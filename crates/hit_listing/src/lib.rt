@@ -1,4 +1,0 @@
-// The hits among a list of triangles, in order of depth.
-
-// The hits gathered, counted, sorted and written.
-pub mod listing;

@@ -1,0 +1,41 @@
+-- Document 01's worked example, computed from the definitions: the whole output for its three records is its three lines; and an example of
+-- both versions. Assumes nothing.
+use mathlib.Core.Path.{_≡_, refl}
+use lib.Ieee.{span, climb, size, odd, units, round, neg, sum, add, sub, mul, div, lt, eq, le, ne, ofInt, toUnsigned, isNan, ofFields}
+use lib.Ieee.{ofBits, toBits}
+use Rattle.arithmetic.specs.Basic.{isFinite, absolute, negative}
+use Rattle.arithmetic.specs.Root.{rootDigits, wholeRoot, rootRound, rootOf}
+use Rattle.vectors.specs.Vector.{finiteVec, negOf, dotOf, checkedDot, lengthOf}
+use Rattle.geometry.specs.Segment.{unitLength, rayAdmitted}
+use Rattle.casts.specs.Surface.{offSegment, facing}
+use Rattle.casts.specs.Plane.{planeAdmitted, planeAt, planeCast, rayPlane}
+use Rattle.record_bytes.specs.Bytes.{wordAt, bitsAt, floatAt, vectorAt}
+use Rattle.record_bytes.specs.Fields.{isVersion, nearOf, shapePlace, rayOf, planeOf}
+use Rattle.record_bytes.specs.Parse.{filled, wellFormed, shapeOf, parse}
+use Rattle.record_bytes.specs.Encode.{wordBytes, bitsBytes, floatBytes, vectorBytes, rayBytes, nearBytes, kindByte, shapeBytes, bodyBytes}
+use Rattle.record_bytes.specs.Encode.{framed}
+use Rattle.record_text.specs.Text.{glyph, digits, placesOf, decimal, hexadecimal, printedBits}
+use Rattle.record_text.specs.AnswerText.{floatText, hitText, answerText}
+use Rattle.records.specs.Lines.{shapeText, parsedText, lineWith}
+use Rattle.record_bytes.specs.Stream.{nextOf, longBody}
+use Rattle.records.specs.Output.{linesFrom, outputOf}
+use Rattle.records.specs.WorkedExample.{exampleRecords, exampleOutput, nearRecords, nearOutput}
+
+pub worked-example : outputOf exampleRecords ≡ exampleOutput
+unfolding exampleRecords exampleOutput outputOf linesFrom nextOf longBody lineWith parsedText shapeText answerText hitText floatText
+    printedBits hexadecimal decimal placesOf digits glyph parse shapeOf wellFormed filled isVersion nearOf shapePlace rayOf planeOf vectorAt
+    floatAt bitsAt wordAt framed bodyBytes shapeBytes kindByte nearBytes rayBytes vectorBytes floatBytes bitsBytes wordBytes rayPlane
+    planeCast planeAt planeAdmitted facing offSegment rayAdmitted unitLength lengthOf checkedDot dotOf negOf finiteVec rootOf rootRound
+    wholeRoot rootDigits negative absolute isFinite span climb size odd units round neg sum add sub mul div lt eq le ne ofInt toUnsigned
+    isNan ofFields ofBits toBits
+worked-example = refl
+
+-- near is the record's own: a hit below it is none, one at it is kept, and version 1 has none
+pub near-example : outputOf nearRecords ≡ nearOutput
+unfolding nearRecords nearOutput outputOf linesFrom nextOf longBody lineWith parsedText shapeText answerText hitText floatText printedBits
+    hexadecimal decimal placesOf digits glyph parse shapeOf wellFormed filled isVersion nearOf shapePlace rayOf planeOf vectorAt floatAt
+    bitsAt wordAt framed bodyBytes shapeBytes kindByte nearBytes rayBytes vectorBytes floatBytes bitsBytes wordBytes rayPlane planeCast
+    planeAt planeAdmitted facing offSegment rayAdmitted unitLength lengthOf checkedDot dotOf negOf finiteVec rootOf rootRound wholeRoot
+    rootDigits negative absolute isFinite span climb size odd units round neg sum add sub mul div lt eq le ne ofInt toUnsigned isNan
+    ofFields ofBits toBits
+near-example = refl

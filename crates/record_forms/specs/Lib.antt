@@ -1,4 +1,0 @@
--- Records with long and with short floats. Definitions only. Assumes nothing.
-pub mod Records
-pub mod Plans
-pub mod Writing

@@ -1,3 +1,0 @@
--- Laws about floats of 4 bytes. Assumes nothing.
-pub mod Narrow
-pub mod Shorts

@@ -1,2 +1,0 @@
--- Laws of the order of triangles on an axis. Assumes nothing.
-pub mod BeforeLaws

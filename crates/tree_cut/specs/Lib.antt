@@ -1,2 +1,0 @@
--- Where a range of triangles is cut. Definitions only. Assumes nothing.
-pub mod Cutting

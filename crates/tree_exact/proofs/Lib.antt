@@ -1,0 +1,22 @@
+-- Laws about the walk that looks for the nearest hit. Assumes nothing.
+pub mod Absorbing
+pub mod Unders
+pub mod Seekings
+pub mod Finding
+pub mod OnwardLaws
+pub mod Opening
+pub mod Standings
+pub mod Spans
+pub mod Rooms
+pub mod Reading
+pub mod Limits
+pub mod Corners
+pub mod Safely
+pub mod RoomSteps
+pub mod Answers
+pub mod Agreement
+pub mod BoxSteps
+pub mod LimitSteps
+pub mod WalkSteps
+pub mod NumberTests
+pub mod Casting

@@ -1,2 +1,0 @@
--- Laws of runs that are joined. Assumes nothing.
-pub mod JoinLaws

@@ -1,2 +1,0 @@
--- Ranges of plain boxes. Definitions only. Assumes nothing.
-pub mod Plain

@@ -1,4 +1,0 @@
--- Laws of parted ranges. Assumes nothing.
-pub mod SelectLaws
-pub mod Sides
-pub mod Lent

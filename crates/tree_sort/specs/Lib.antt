@@ -1,0 +1,3 @@
+-- Where a range of triangles is cut. Definitions only. Assumes nothing.
+pub mod Cutting
+pub mod Selecting

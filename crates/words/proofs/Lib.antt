@@ -1,2 +1,0 @@
--- Laws about words of eight bytes. Assumes nothing.
-pub mod WordLaws
