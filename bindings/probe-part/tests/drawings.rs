@@ -2,7 +2,7 @@
 mod board;
 mod drawing;
 
-use board::{board as made, circle, extruded, moved, rectangle, rounded, Cut, Side};
+use board::{board as made, circle, extruded, moved, rectangle, Cut, Side, RABBET_AND_GROOVE};
 use drawing::{is_same, Drawing, Place};
 use probe_part::dxf::{dxf, layer, NOT_UNDERSTOOD, NUMBERS, PART};
 use probe_part::model::{Check, End, Outline, Part, Row};
@@ -110,21 +110,9 @@ fn a_board_with_a_notch() {
 /// The outline goes around a rabbet and a groove, which are closed polylines of their own; the ends show the profile.
 #[test]
 fn a_board_with_a_rabbet_and_a_groove() {
-    let profile: [Place; 10] = [
-        [0.0, 0.0],
-        [400.0, 0.0],
-        [400.0, 10.0],
-        [385.0, 10.0],
-        [385.0, 18.0],
-        [106.0, 18.0],
-        [106.0, 10.0],
-        [100.0, 10.0],
-        [100.0, 18.0],
-        [0.0, 18.0],
-    ];
     // the profile's x is the board's y, so that the extrusion runs along x
     let facets = board::mapped(
-        &extruded(&profile, &[], 600.0),
+        &extruded(&RABBET_AND_GROOVE, &[], 600.0),
         |[y, z, x]| [x, y, z],
         false,
     );
@@ -132,8 +120,8 @@ fn a_board_with_a_rabbet_and_a_groove() {
     let whole = field([0.0, 0.0], [600.0, 400.0]);
     holds_outline(&part, "top", &[&whole]);
     holds_outline(&part, "bottom", &[&whole]);
-    holds_outline(&part, "right", &[&profile]);
-    let mirrored = profile.map(|[y, z]| [400.0 - y, z]);
+    holds_outline(&part, "right", &[&RABBET_AND_GROOVE]);
+    let mirrored = RABBET_AND_GROOVE.map(|[y, z]| [400.0 - y, z]);
     holds_outline(&part, "left", &[&mirrored]);
     let top = face(&part, "top");
     let rabbet = field([0.0, 385.0], [600.0, 400.0]);
@@ -225,24 +213,8 @@ fn what_is_doubtful_is_red() {
     assert_eq!(colours(&face(&part, "top")), [7, 1, 1]);
 }
 
-const SIZE: [f64; 3] = [400.0, 300.0, 19.0];
-
-/// A board with a stepped bore, a bore of 8.5, a pocket, and bores in two more faces.
 fn drilled() -> Part {
-    let pocket = rounded([250.0, 150.0], [120.0, 60.0], 8.0, 8);
-    let cuts = [
-        Cut::bore(Side::Top, [60.0, 70.0], 20.0, 5.0).with_inner(8.0, 12.0),
-        Cut::bore(Side::Top, [100.0, 200.0], 8.5, 12.25),
-        Cut::new(Side::Top, pocket, [250.0, 150.0], 6.0),
-        Cut::new(
-            Side::Bottom,
-            circle([90.0, 40.0], 15.0, 48),
-            [90.0, 40.0],
-            12.7,
-        ),
-        Cut::bore(Side::Left, [50.0, 9.5], 8.0, 30.0),
-    ];
-    certain(&moved(&made(SIZE, &cuts), [7.0, -3.0, 11.0]))
+    certain(&board::drilled())
 }
 
 /// Bores are circles where somebody sees them who looks at the face, on the layer of their diameter and depth, with the

@@ -1,7 +1,7 @@
 //! Each format is read back by another reader, Python's or a small one here, and held to the model's values.
 mod board;
 
-use board::{board as made, circle, rounded, Cut, Side};
+use board::DRILLED;
 use probe_part::corner::from_corner;
 use probe_part::csv::csv;
 use probe_part::deflate::zlib;
@@ -13,25 +13,9 @@ use probe_part::tables::Listing;
 use std::io::Write;
 use std::process::{Command, Stdio};
 
-const SIZE: [f64; 3] = [400.0, 300.0, 19.0];
-
-/// A board with a stepped bore, a bore of 8.5, a pocket, and bores in two more faces.
+/// What is recognised of the drilled board, as it is drawn.
 fn report() -> Report {
-    let pocket = rounded([250.0, 150.0], [120.0, 60.0], 8.0, 8);
-    let cuts = [
-        Cut::bore(Side::Top, [60.0, 70.0], 20.0, 5.0).with_inner(8.0, 12.0),
-        Cut::bore(Side::Top, [100.0, 200.0], 8.5, 12.25),
-        Cut::new(Side::Top, pocket, [250.0, 150.0], 6.0),
-        Cut::new(
-            Side::Bottom,
-            circle([90.0, 40.0], 15.0, 48),
-            [90.0, 40.0],
-            12.7,
-        ),
-        Cut::bore(Side::Left, [50.0, 9.5], 8.0, 30.0),
-    ];
-    let facets = board::moved(&made(SIZE, &cuts), [7.0, -3.0, 11.0]);
-    let shape = Shape::of(&facets).unwrap();
+    let shape = Shape::of(&board::drilled()).unwrap();
     let options = Options {
         as_drawn: true,
         ..Options::default()
@@ -94,7 +78,7 @@ fn wanted(report: &Report) -> Vec<Vec<f64>> {
         line.extend([row.entry_depth, row.depth]);
         line.extend(row.centre);
         line.extend(row.axis);
-        line.extend([SIZE[0], SIZE[1], SIZE[2], SIZE[2]]);
+        line.extend([DRILLED[0], DRILLED[1], DRILLED[2], DRILLED[2]]);
         line
     };
     report.parts[0].rows.iter().enumerate().map(row).collect()

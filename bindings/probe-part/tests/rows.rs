@@ -4,7 +4,7 @@ mod known;
 
 use board::{
     arc, board as made, circle, ellipse, extruded, finer, mapped, rectangle, rounded, turned,
-    Chance, Cut, Place, Point, Side, THROUGH,
+    Chance, Cut, Place, Point, Side, RABBET_AND_GROOVE, THROUGH,
 };
 use known::{bore, explains, hold, hold_anywhere, hold_posed, known, report, Known, Pose};
 use probe_part::model::{Check, End, Kind, Outline};
@@ -615,20 +615,7 @@ fn countersinks_and_tips() {
 /// A rabbet along one side is one row, and so is one all round, with the face as its island; grooves run out.
 #[test]
 fn rabbets_and_grooves() {
-    // a profile of x and y, extruded: 400 by 18 with a rabbet 15 by 8, and a groove 6 by 8
-    let profile = [
-        [0.0, 0.0],
-        [400.0, 0.0],
-        [400.0, 10.0],
-        [385.0, 10.0],
-        [385.0, 18.0],
-        [106.0, 18.0],
-        [106.0, 10.0],
-        [100.0, 10.0],
-        [100.0, 18.0],
-        [0.0, 18.0],
-    ];
-    let facets = extruded(&profile, &[], 600.0);
+    let facets = extruded(&RABBET_AND_GROOVE, &[], 600.0);
     let part = &report(&facets).parts[0];
     assert!(part.doubts.is_empty(), "{:?}", part.doubts);
     assert!((part.size()[0] - 600.0).abs() < 0.01 && (part.size()[2] - 18.0).abs() < 0.01);

@@ -10,6 +10,41 @@ pub type Point = [f64; 3];
 
 pub const THROUGH: f64 = f64::INFINITY;
 
+/// A profile of x and y, to be extruded: 400 by 18, with a rabbet 15 by 8 and a groove 6 by 8.
+pub const RABBET_AND_GROOVE: [Place; 10] = [
+    [0.0, 0.0],
+    [400.0, 0.0],
+    [400.0, 10.0],
+    [385.0, 10.0],
+    [385.0, 18.0],
+    [106.0, 18.0],
+    [106.0, 10.0],
+    [100.0, 10.0],
+    [100.0, 18.0],
+    [0.0, 18.0],
+];
+
+/// The size of the board below.
+pub const DRILLED: Point = [400.0, 300.0, 19.0];
+
+/// A board with a stepped bore, a bore of 8.5, a pocket, and bores in two more faces, away from the file's origin.
+pub fn drilled() -> Vec<Corners> {
+    let pocket = rounded([250.0, 150.0], [120.0, 60.0], 8.0, 8);
+    let cuts = [
+        Cut::bore(Side::Top, [60.0, 70.0], 20.0, 5.0).with_inner(8.0, 12.0),
+        Cut::bore(Side::Top, [100.0, 200.0], 8.5, 12.25),
+        Cut::new(Side::Top, pocket, [250.0, 150.0], 6.0),
+        Cut::new(
+            Side::Bottom,
+            circle([90.0, 40.0], 15.0, 48),
+            [90.0, 40.0],
+            12.7,
+        ),
+        Cut::bore(Side::Left, [50.0, 9.5], 8.0, 30.0),
+    ];
+    moved(&board(DRILLED, &cuts), [7.0, -3.0, 11.0])
+}
+
 /// A face of the board, by its own table: where a place of it, and a depth below it, lie.
 #[derive(Clone, Copy, Debug, PartialEq, Eq)]
 pub enum Side {
