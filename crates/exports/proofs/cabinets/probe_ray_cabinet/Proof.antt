@@ -1,5 +1,5 @@
 -- `exports::cabinets::probe_ray_cabinet` meets its contract: a walk of its MIR, by hand, that calls `begin`, `look_from`,
--- `look_all`, `turn`, `cast_all` and `put_cabinet`.
+-- `look_all`, `second_pass`, `cast_all` and `put_cabinet`.
 -- Assumes nothing.
 use mathlib.Core.Path.{_≡_, refl, sym, _∙_, ap, subst}
 use mathlib.Core.Bool.{Bool, true, false}
@@ -49,7 +49,7 @@ use denote.Exit.{yes}
 use Rattle.cabinet.specs.declared.part.Part.{Part}
 use Rattle.cabinet.specs.declared.part.State.{State}
 use Rattle.cabinet.specs.declared.part.Look.{Look}
-use Rattle.cabinet.specs.Looks.{lookFrom, lookParts, turnedBy}
+use Rattle.cabinet.specs.Looks.{lookFrom, lookParts, secondPass}
 use Rattle.cabinet.specs.Cabinet.{withResults}
 use Rattle.cabinet.specs.Steps.{areas, begun, isIdle, Kept, stepParts, between, passes, lastAnswer}
 use Rattle.cabinet.proofs.Promises.{limits-hold}
@@ -69,10 +69,10 @@ use Rattle.cabinet_passes.proofs.pass.look_all as looking
 use Rattle.cabinet_passes.proofs.pass.look_all.Symbol as looking-def
 use Rattle.cabinet_passes.proofs.pass.look_all.Symbol.{name as #looking}
 use Rattle.cabinet_passes.proofs.pass.look_all.Met as looking-thm
-use Rattle.cabinet.proofs.look.turn as turn
-use Rattle.cabinet.proofs.look.turn.Symbol as turn-def
-use Rattle.cabinet.proofs.look.turn.Symbol.{name as #turn}
-use Rattle.cabinet.proofs.look.turn.Met as turn-thm
+use Rattle.cabinet.proofs.look.second_pass as second
+use Rattle.cabinet.proofs.look.second_pass.Symbol as second-def
+use Rattle.cabinet.proofs.look.second_pass.Symbol.{name as #second}
+use Rattle.cabinet.proofs.look.second_pass.Met as second-thm
 use Rattle.cabinet_passes.proofs.pass.cast_all as step
 use Rattle.cabinet_passes.proofs.pass.cast_all.Symbol as step-def
 use Rattle.cabinet_passes.proofs.pass.cast_all.Symbol.{name as #step}
@@ -215,8 +215,8 @@ module _ {M : Type 1} (𝓤 : URA M) (H : Heap 𝓤) (A : Atoms 𝓤) (mem : Mem
   abbrev LookC : Contract 𝓤
   LookC = tripleOf 𝓤 H A looking.signature (looking.spec 𝓤 H A mem run)
 
-  abbrev TurnC : Contract 𝓤
-  TurnC = tripleOf 𝓤 H A turn.signature (turn.spec 𝓤 H A mem run)
+  abbrev SecondC : Contract 𝓤
+  SecondC = tripleOf 𝓤 H A second.signature (second.spec 𝓤 H A mem run)
 
   abbrev StepC : Contract 𝓤
   StepC = tripleOf 𝓤 H A step.signature (step.spec 𝓤 H A mem run)
@@ -636,7 +636,7 @@ module _ {M : Type 1} (𝓤 : URA M) (H : Heap 𝓤) (A : Atoms 𝓤) (W : Given
   module _ (𝓣 : Tables 𝓤 H) (known-first : Triple 𝓤 (𝓣 .C #first) (FirstC 𝓤 H A mem run))
       (known-opening : Triple 𝓤 (𝓣 .C #opening) (OpenC 𝓤 H A mem run))
       (known-looking : Triple 𝓤 (𝓣 .C #looking) (LookC 𝓤 H A mem run))
-      (known-turn : Triple 𝓤 (𝓣 .C #turn) (TurnC 𝓤 H A mem run))
+      (known-second : Triple 𝓤 (𝓣 .C #second) (SecondC 𝓤 H A mem run))
       (known : Triple 𝓤 (𝓣 .C #step) (StepC 𝓤 H A mem run)) (known-last : Triple 𝓤 (𝓣 .C #last) (LastC 𝓤 H A mem run))
       (gd0 : Is f64 d0 (vfloat binary64 d0 ∷ [])) (gd1 : Is f64 d1 (vfloat binary64 d1 ∷ []))
       (gd2 : Is f64 d2 (vfloat binary64 d2 ∷ [])) (gd3 : Is f64 d3 (vfloat binary64 d3 ∷ []))
@@ -926,15 +926,15 @@ module _ {M : Type 1} (𝓤 : URA M) (H : Heap 𝓤) (A : Atoms 𝓤) (W : Given
         (r ≡ lookParts s ys))
     said-looking s r = exE 𝓤 _ (λ ws. snd∗ 𝓤 (sem 𝓤 H A (lasts looking.ended (κ, tt) (xp, (s, tt)) ws)) (fact 𝓤 (r ≡ lookParts s ys)))
 
-    -- the call of `turn`
-    asked-turn : (s : State) (l : Look) → ent 𝓤 (onEntry 𝓤 H A turn.signature tt tt (s, (l, tt)) (machS s ∷ [], (machL l ∷ [], tt)))
-        (TurnC 𝓤 H A mem run .pre ((tt, tt, tt, (s, (l, tt)), (machS s ∷ [], (machL l ∷ [], tt))), tt))
-    asked-turn s l = qed W (‵ ftrue ∷ ‵ (owns (R ∷ Q ∷ []) (s, (l, tt)) (machS s ∷ [], (machL l ∷ [], tt))) ∷ []) ∵ join ! $ frame ! $
+    -- the call of `second_pass`
+    asked-second : (s : State) (l : Look) → ent 𝓤 (onEntry 𝓤 H A second.signature tt tt (s, (l, tt)) (machS s ∷ [], (machL l ∷ [], tt)))
+        (SecondC 𝓤 H A mem run .pre ((tt, tt, tt, (s, (l, tt)), (machS s ∷ [], (machL l ∷ [], tt))), tt))
+    asked-second s l = qed W (‵ ftrue ∷ ‵ (owns (R ∷ Q ∷ []) (s, (l, tt)) (machS s ∷ [], (machL l ∷ [], tt))) ∷ []) ∵ join ! $ frame ! $
         done !
 
-    said-turn : (s : State) (l : Look) (r : State) → ent 𝓤 (ensured 𝓤 H A turn.ended (turn.clauses 𝓤 H A mem run) tt (s, (l, tt)) tt r)
-        (fact 𝓤 (r ≡ turnedBy s l))
-    said-turn s l r = exE 𝓤 _ (λ ws. snd∗ 𝓤 (sem 𝓤 H A (lasts turn.ended tt (s, (l, tt)) ws)) (fact 𝓤 (r ≡ turnedBy s l)))
+    said-second : (s : State) (l : Look) (r : State) → ent 𝓤 (ensured 𝓤 H A second.ended (second.clauses 𝓤 H A mem run) tt (s, (l, tt)) tt r)
+        (fact 𝓤 (r ≡ secondPass s l))
+    said-second s l r = exE 𝓤 _ (λ ws. snd∗ 𝓤 (sem 𝓤 H A (lasts second.ended tt (s, (l, tt)) ws)) (fact 𝓤 (r ≡ secondPass s l)))
 
     -- what stands between two calls, by what the five structs hold and by the lists of the work areas
     abbrev Stands : Item 𝓤 → Item 𝓤 → Item 𝓤 → Item 𝓤 → Item 𝓤 → List ℕ → List ℕ → List (Item 𝓤)
@@ -1460,8 +1460,8 @@ module _ {M : Type 1} (𝓤 : URA M) (H : Heap 𝓤) (A : Atoms 𝓤) (W : Given
         owned ! R (Is R) (LL.makes S.the-type S′.the-plain 𝓤 H A) f _ isf $
         fjoin ! $
         nothing ! $
-        use2 W (raw (TurnC 𝓤 H A mem run .pre ((tt, tt, tt, (f, (l, tt)), (machS f ∷ [], (machL l ∷ [], tt))), tt))) (asked-turn f l) $
-        calls-at ! (fmOf 𝓤 H (W .laws) 𝓣) (TurnC 𝓤 H A mem run) known-turn (
+        use2 W (raw (SecondC 𝓤 H A mem run .pre ((tt, tt, tt, (f, (l, tt)), (machS f ∷ [], (machL l ∷ [], tt))), tt))) (asked-second f l) $
+        calls-at ! (fmOf 𝓤 H (W .laws) 𝓣) (SecondC 𝓤 H A mem run) known-second (
           (
             tt,
             tt,
@@ -1478,11 +1478,11 @@ module _ {M : Type 1} (𝓤 : URA M) (H : Heap 𝓤) (A : Atoms 𝓤) (W : Given
           tt,
         ) (and-then ! (load ! (from ! (stop !)) (look ! 24 refl)) (and-then ! (load ! (from ! (stop !)) (look ! 119 refl))
         (no-more !))) (λ u.
-        use1 W (later (some (λ (r : State). (‵ ftrue ⊛ ‵ (R .own r (u ∷ []))) ⊛ raw (ensured 𝓤 H A turn.ended (turn.clauses 𝓤 H A mem run)
+        use1 W (later (some (λ (r : State). (‵ ftrue ⊛ ‵ (R .own r (u ∷ []))) ⊛ raw (ensured 𝓤 H A second.ended (second.clauses 𝓤 H A mem run)
         tt (f, (l, tt)) tt r)))) (id⊢ 𝓤 _) $ await ! tt $ pick ! (λ r.
         split ! $
         move ! (1 ∷ []) $
-        use1 W (raw (fact 𝓤 (r ≡ turnedBy f l))) (said-turn f l r) $ heard ! (r ≡ turnedBy f l) (λ e.
+        use1 W (raw (fact 𝓤 (r ≡ secondPass f l))) (said-second f l r) $ heard ! (r ≡ secondPass f l) (λ e.
         split ! $
         move ! (1 ∷ []) $
         peeks ! R (Is R) (shows 𝓤 H A R) r (u ∷ []) (λ ir.
@@ -1900,7 +1900,7 @@ module _ {M : Type 1} (𝓤 : URA M) (H : Heap 𝓤) (A : Atoms 𝓤) (W : Given
 
   walk : (𝓣 : Tables 𝓤 H) → Triple 𝓤 (𝓣 .C #first) (FirstC 𝓤 H A mem run) → Triple 𝓤 (𝓣 .C #opening) (OpenC 𝓤 H A mem run) → Triple 𝓤 (𝓣
       .C #looking)
-      (LookC 𝓤 H A mem run) → Triple 𝓤 (𝓣 .C #turn) (TurnC 𝓤 H A mem run) → Triple 𝓤 (𝓣 .C #step) (StepC 𝓤 H A mem run) → Triple 𝓤
+      (LookC 𝓤 H A mem run) → Triple 𝓤 (𝓣 .C #second) (SecondC 𝓤 H A mem run) → Triple 𝓤 (𝓣 .C #step) (StepC 𝓤 H A mem run) → Triple 𝓤
       (𝓣 .C #last) (LastC 𝓤 H A mem run)
       → Is f64 d0 (vfloat binary64 d0 ∷ []) → Is f64 d1 (vfloat binary64 d1 ∷ []) → Is f64 d2 (vfloat binary64 d2 ∷ []) → Is f64 d3
       (vfloat binary64 d3 ∷ []) → Is f64 d4 (vfloat binary64 d4 ∷ []) → Is f64 d5 (vfloat binary64 d5 ∷ []) → Is f64 d6
@@ -1913,7 +1913,7 @@ module _ {M : Type 1} (𝓤 : URA M) (H : Heap 𝓤) (A : Atoms 𝓤) (W : Given
       (WpFn 𝓤 H (𝓣 .C) (𝓣 .Λ) code.function (vfloat binary64 d0 ∷ vfloat binary64 d1 ∷ vfloat binary64 d2 ∷ vfloat binary64 d3 ∷
       vfloat binary64 d4 ∷ vfloat binary64 d5 ∷ vfloat binary64 d6 ∷ vfloat binary64 d7 ∷ vp ∷ vs0 ∷ vs1 ∷ vs2 ∷ vs3 ∷ vs4 ∷ vs5 ∷
       vint w64 limit ∷ vl0 ∷ vl1 ∷ vl2 ∷ vl3 ∷ vl4 ∷ vl5 ∷ []) Post)
-  walk 𝓣 known-first known-opening known-looking known-turn known known-last gd0 gd1 gd2 gd3 gd4 gd5 gd6 gd7 gn gv0 gv1 gv2 gv3 gv4 gv5 gl
+  walk 𝓣 known-first known-opening known-looking known-second known known-last gd0 gd1 gd2 gd3 gd4 gd5 gd6 gd7 gn gv0 gv1 gv2 gv3 gv4 gv5 gl
       gw0 gw1 gw2 gw3 gw4 gw5 =
       qed W ((‵ (flft κ q) ⊛ (‵ (flft κ0 q0) ⊛ (‵ (flft κ1 q1) ⊛
       (‵ (flft κ2 q2) ⊛ (‵ (flft κ3 q3) ⊛ (‵ (flft κ4 q4) ⊛
@@ -1956,7 +1956,7 @@ module _ {M : Type 1} (𝓤 : URA M) (H : Heap 𝓤) (A : Atoms 𝓤) (W : Given
       pass1 ! (init ! 52 refl (tt, (tt, (record { fits = gw4 .0 }, tt)))) $
       pass1 ! (init ! 50 refl (tt, (tt, (record { fits = gw5 .0 }, tt)))) $
       pass0 ! $
-      begins 𝓣 known-first known-opening known-looking known-turn known known-last gd0 gd1 gd2 gd3 gd4 gd5 gd6 gd7 gn gv0 gv1 gv2 gv3 gv4
+      begins 𝓣 known-first known-opening known-looking known-second known known-last gd0 gd1 gd2 gd3 gd4 gd5 gd6 gd7 gn gv0 gv1 gv2 gv3 gv4
       gv5 gl gw0 gw1 gw2 gw3 gw4 gw5 l0 l1 l2 l3 l4 l5 l6 l7 l8 l9 l10 l11 l12 l13 l14 l15 l16 l17 l18 l19 l20 l21 l22 l23 l24 l25 l26 l27
       l28 l29 l30 l31 l32 l33 l34 l35 l36 l37 l38 l39 l40 k0 k1 k2 n0 n1 n2 n3))))))))))))))))))))))))))))))))))))))))))))))))
 
@@ -1964,7 +1964,7 @@ module _ {M : Type 1} (𝓤 : URA M) (H : Heap 𝓤) (A : Atoms 𝓤) (W : Given
     (𝓣 : Tables 𝓤 H) (known-first : Triple 𝓤 (𝓣 .C #first) (FirstC 𝓤 H A mem run))
     (known-opening : Triple 𝓤 (𝓣 .C #opening) (OpenC 𝓤 H A mem run))
     (known-looking : Triple 𝓤 (𝓣 .C #looking) (LookC 𝓤 H A mem run))
-    (known-turn : Triple 𝓤 (𝓣 .C #turn) (TurnC 𝓤 H A mem run))
+    (known-second : Triple 𝓤 (𝓣 .C #second) (SecondC 𝓤 H A mem run))
     (known : Triple 𝓤 (𝓣 .C #step) (StepC 𝓤 H A mem run)) (known-last : Triple 𝓤 (𝓣 .C #last) (LastC 𝓤 H A mem run)) where
   walks : Walks 𝓤 H A this.ended stayed (WpFn 𝓤 H (𝓣 .C) (𝓣 .Λ) code.function) (this.clauses 𝓤 H A mem run)
   walks =
@@ -2115,7 +2115,7 @@ module _ {M : Type 1} (𝓤 : URA M) (H : Heap 𝓤) (A : Atoms 𝓤) (W : Given
       (a .1 .1 .1 .1 .1 .1 .1 .1 .1 .1 .1 .1 .1 .1 .1 .1 .1 .1 .1 .1 .0 .now) (a .1 .1 .1 .1 .1 .1 .1 .1 .1 .1 .1 .1 .1 .1 .1 .1 .1
       .1 .1 .1 .1 .0 .ptr .0) (a .1 .1 .1 .1 .1 .1 .1 .1 .1 .1 .1 .1 .1 .1 .1 .1 .1 .1 .1 .1 .1 .0 .ptr .1)
       (a .1 .1 .1 .1 .1 .1 .1 .1 .1 .1 .1 .1 .1 .1 .1 .1 .1 .1 .1 .1 .1 .0 .name) (a .1 .1 .1 .1 .1 .1 .1 .1 .1 .1 .1 .1 .1 .1 .1
-      .1 .1 .1 .1 .1 .1 .0 .now) 𝓣 known-first known-opening known-looking known-turn known known-last (are .0) (are .1 .0) (are .1 .1 .0)
+      .1 .1 .1 .1 .1 .1 .0 .now) 𝓣 known-first known-opening known-looking known-second known known-last (are .0) (are .1 .0) (are .1 .1 .0)
       (are .1 .1 .1 .0)
       (are .1 .1 .1 .1 .0) (are .1 .1 .1 .1 .1 .0) (are .1 .1 .1 .1 .1 .1 .0) (are .1 .1 .1 .1 .1 .1 .1 .0)
       (are .1 .1 .1 .1 .1 .1 .1 .1 .0 .0 .1) (are .1 .1 .1 .1 .1 .1 .1 .1 .1 .0 .0 .1) (are .1 .1 .1 .1 .1 .1 .1 .1 .1 .1 .0 .0 .1)
@@ -2211,7 +2211,7 @@ probe-ray-cabinet-spec 𝓤 H 𝓜 𝓖 𝓡 =
     (opening-thm.met 𝓤 H 𝓜 𝓖 𝓡))
     (cited 𝓤 H (LookC 𝓤 H (𝓖 .A) (𝓜 .mem) (𝓡 .run)) 𝓜 𝓡 code.env #looking looking-def.routine code.calls-cabinet-passes·pass·look-all
     (looking-thm.met 𝓤 H 𝓜 𝓖 𝓡))
-    (cited 𝓤 H (TurnC 𝓤 H (𝓖 .A) (𝓜 .mem) (𝓡 .run)) 𝓜 𝓡 code.env #turn turn-def.routine code.calls-cabinet·look·turn (turn-thm.met 𝓤 H 𝓜 𝓖
+    (cited 𝓤 H (SecondC 𝓤 H (𝓖 .A) (𝓜 .mem) (𝓡 .run)) 𝓜 𝓡 code.env #second second-def.routine code.calls-cabinet·look·turn (second-thm.met 𝓤 H 𝓜 𝓖
     𝓡))
     (cited 𝓤 H (StepC 𝓤 H (𝓖 .A) (𝓜 .mem) (𝓡 .run)) 𝓜 𝓡 code.env #step step-def.routine code.calls-cabinet-passes·pass·cast-all
     (step-thm.met 𝓤 H 𝓜 𝓖 𝓡))
