@@ -14,23 +14,23 @@ use Rattle.conversion.specs.declared.shape.Planned.the-variants.{Is, Mal
 use Rattle.float_forms.specs.Forms.{sizeOf}
 use Rattle.float_forms.specs.Bytes.{numbersOf}
 use Rattle.conversion.specs.Records.{bodyLength, saidOf, wellFormed}
-use Rattle.float_forms.specs.Holding.{every, held}
+use Rattle.float_forms.specs.Representable.{every, representable}
 use Rattle.conversion.specs.Writing.{everySaid, turned}
-use Rattle.conversion.specs.Convert.{saidHeld, written, refused, Outcome, converted}
+use Rattle.conversion.specs.Convert.{saidRepresentable, written, refused, Outcome, converted}
 use Rattle.conversion.specs.Plans.{planOf, planned, Known, sizeFor}
 use Rattle.conversion.proofs.Lengths.{turned-length}
 use Rattle.conversion.proofs.WritingLaws.{Sizes, sizes}
 
 -- ---- the floats
 
-pub ray-unheld : (p q : Form) (l : List ℕ) → every (held q) (numbersOf p 8 (drop 6 l)) ≡ false → false ≡ saidHeld q (saidOf p l)
+pub ray-unrepresentable : (p q : Form) (l : List ℕ) → every (representable q) (numbersOf p 8 (drop 6 l)) ≡ false → false ≡ saidRepresentable q (saidOf p l)
 unfolding everySaid saidOf
-ray-unheld p q l h = rw h
+ray-unrepresentable p q l h = rw h
 
 pub numbers-decide : (p q : Form) (l : List ℕ) (plan : Plan) (place : ℕ) (r : Bool) → Sizes p l plan
     → place ≡ 6 + sizeOf p * 8 + 4 * plan .counts
-    → every (held q) (numbersOf p 8 (drop 6 l)) ≡ true → r ≡ every (held q) (numbersOf p (plan .numbers) (drop place l))
-    → r ≡ saidHeld q (saidOf p l)
+    → every (representable q) (numbersOf p 8 (drop 6 l)) ≡ true → r ≡ every (representable q) (numbersOf p (plan .numbers) (drop place l))
+    → r ≡ saidRepresentable q (saidOf p l)
 unfolding everySaid saidOf
 numbers-decide p q l plan place r s e h f = rw h (f ∙ (rw (e, s .countsAre, s .numbersAre)))
 
@@ -49,7 +49,7 @@ malformed p q l area e = go (wellFormed p l) e
     go : (b : Bool) → cond b (Is (planOf p l)) Malformed ≡ Malformed → _≡_ {A = Outcome} record { answer = refused 2; area = area }
         (cond b
         (cond (ltb (length area) (length (turned p q l))) record { answer = refused 3; area = area }
-        (cond (saidHeld q (saidOf p l)) record {
+        (cond (saidRepresentable q (saidOf p l)) record {
           answer = written (length (turned p q l));
           area = turned p q l ++ drop (length (turned p q
               l)) area;
@@ -78,14 +78,14 @@ module _ (p q : Form) (l area : List ℕ) (plan : Plan) (k : Known p l plan) whe
       let short : length area < length (turned p q l) = omega (arith, e, h, size-known) in
       rw (k .wellFormed, lt-ltb (length area) (length (turned p q l)) short)
 
-  pub unheld : (body : ℕ) → body ≡ sizeFor q plan → 4 + body ≤ length area → saidHeld q (saidOf p l) ≡ false
+  pub unrepresentable : (body : ℕ) → body ≡ sizeFor q plan → 4 + body ≤ length area → saidRepresentable q (saidOf p l) ≡ false
       → record { answer = refused 11; area = area } ≡ converted p q l area
   unfolding converted
-  unheld body e h f =
+  unrepresentable body e h f =
       let room : length (turned p q l) ≤ length area = omega (arith, e, h, size-known) in
       rw (k .wellFormed, le-ltb (length area) (length (turned p q l)) room, f)
 
-  pub done : (body : ℕ) (after : List ℕ) → body ≡ sizeFor q plan → 4 + body ≤ length area → saidHeld q (saidOf p l) ≡ true
+  pub done : (body : ℕ) (after : List ℕ) → body ≡ sizeFor q plan → 4 + body ≤ length area → saidRepresentable q (saidOf p l) ≡ true
       → after ≡ sets area 0 (turned p q l)
       → record { answer = written (4 + body); area = after } ≡ converted p q l area
   unfolding converted

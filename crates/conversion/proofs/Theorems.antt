@@ -11,13 +11,13 @@ use Rattle.float_forms.specs.declared.forms.Form.the-variants.{Long, Short}
 use Rattle.float_forms.specs.Forms.{sizeOf}
 use Rattle.float_forms.specs.Bytes.{IsBytes}
 use Rattle.conversion.specs.Records.{manyCounts, manyIndices, kindOf, countsOf, indicesPlace, saidOf, wellFormed, recordBytes}
-use Rattle.conversion.specs.Convert.{withoutNan, saidHeld, written, Outcome, converted, widened, toLong}
+use Rattle.conversion.specs.Convert.{withoutNan, saidRepresentable, written, Outcome, converted, widened, toLong}
 use Rattle.conversion.specs.Writing.{saidFits, turned}
 use Rattle.float_forms.proofs.Numbers.{drop-bytes}
 use Rattle.float_forms.proofs.RunLaws.{words-below}
 use Rattle.conversion.proofs.Parts.{Formed, formed, well-formed}
 use Rattle.conversion.proofs.RoundTrip.{Fitting, written-formed, said-back, same-bytes, longest-form}
-use Rattle.conversion.proofs.Held.{long-fits-said, held-fits, long-holds-said, own-holds-said, without-nan}
+use Rattle.conversion.proofs.Representable.{long-fits-said, representable-fits, long-represents-said, own-represents-said, without-nan}
 use Rattle.conversion.proofs.Outcomes.{success, succeeded, succeeds}
 use Rattle.conversion.proofs.Lengths.{read-measured, turned-length}
 use Rattle.conversion.proofs.Widening.{widened-is}
@@ -51,13 +51,13 @@ module _ (p q : Form) (l : List ℕ) (b : IsBytes l) (w : T (wellFormed p l)) (h
   pub turned-well-formed : T (wellFormed q (turned p q l))
   turned-well-formed = well-formed q (turned p q l) (written-formed q (saidOf p l) (read-fits p q l b (formed p l w) h))
 
-module _ (p q : Form) (l : List ℕ) (b : IsBytes l) (w : T (wellFormed p l)) (h : T (saidHeld q (saidOf p l))) where
+module _ (p q : Form) (l : List ℕ) (b : IsBytes l) (w : T (wellFormed p l)) (h : T (saidRepresentable q (saidOf p l))) where
   same-said : saidOf q (turned p q l) ≡ saidOf p l
-  same-said = says-the-same p q l b w (held-fits q (saidOf p l) h)
+  same-said = says-the-same p q l b w (representable-fits q (saidOf p l) h)
 
-  -- what comes back is held, and is the same bytes
-  pub back-held : T (saidHeld p (saidOf q (turned p q l)))
-  back-held = rw same-said (own-holds-said p l (without-nan q (saidOf p l) h))
+  -- what comes back is representable, and is the same bytes
+  pub back-representable : T (saidRepresentable p (saidOf q (turned p q l)))
+  back-representable = rw same-said (own-represents-said p l (without-nan q (saidOf p l) h))
 
   pub back-is : turned q p (turned p q l) ≡ l
   back-is = ap (recordBytes p) same-said ∙ same-bytes p l b (formed p l w) (without-nan q (saidOf p l) h)
@@ -69,21 +69,21 @@ pub comes-back : (p q : Form) (l area again : List ℕ) (n : ℕ) → IsBytes l 
 comes-back p q l area again n b e r =
     let s = succeeded p q l area n e in
     let new = turned p q l in
-    let done : converted p q l area ≡ success new area = succeeds p q l area (s .wellFormed) (s .room) (s .held) in
+    let done : converted p q l area ≡ success new area = succeeds p q l area (s .wellFormed) (s .room) (s .representable) in
     let front : take n (converted p q l area .area) ≡ new
     = ap (λ (o : Outcome). take n (o .area)) done ∙ take-at new (drop (length new) area) n (sym (s .counted)) in
-    let back : turned q p new ≡ l = back-is p q l b (s .wellFormed) (s .held) in
+    let back : turned q p new ≡ l = back-is p q l b (s .wellFormed) (s .representable) in
     let room : length (turned q p new) ≤ length again = rw back r in
     rw front
-    (succeeds q p new again (turned-well-formed p q l b (s .wellFormed) (held-fits q (saidOf p l) (s .held))) room
-    (back-held p q l b (s .wellFormed) (s .held))
+    (succeeds q p new again (turned-well-formed p q l b (s .wellFormed) (representable-fits q (saidOf p l) (s .representable))) room
+    (back-representable p q l b (s .wellFormed) (s .representable))
     ∙ ap (λ (z : List ℕ). success z again) back)
 
 -- "going from 3 succeeds for every well-formed record without NaN"
 pub from-short-succeeds : (l area : List ℕ) → T (wellFormed Short l) → T (withoutNan (saidOf Short l))
     → length (turned Short Long l) ≤ length area
     → toLong l area ≡ success (turned Short Long l) area
-from-short-succeeds l area w h r = succeeds Short Long l area w r (long-holds-said Short l h)
+from-short-succeeds l area w h r = succeeds Short Long l area w r (long-represents-said Short l h)
 
 -- ---- widening
 
@@ -95,7 +95,7 @@ pub widened-well-formed : (l : List ℕ) → IsBytes l → T (wellFormed Short l
 widened-well-formed l b w = rw (widened-is l w) (turned-well-formed Short Long l b w (long-fits-said Short l))
 
 -- where going to 3 succeeds, widening gives the bytes that were there
-pub widened-back : (l : List ℕ) → IsBytes l → T (wellFormed Long l) → T (saidHeld Short (saidOf Long l)) → widened (turned Long Short l) ≡ l
+pub widened-back : (l : List ℕ) → IsBytes l → T (wellFormed Long l) → T (saidRepresentable Short (saidOf Long l)) → widened (turned Long Short l) ≡ l
 widened-back l b w h =
-    widened-is (turned Long Short l) (turned-well-formed Long Short l b w (held-fits Short (saidOf Long l) h))
+    widened-is (turned Long Short l) (turned-well-formed Long Short l b w (representable-fits Short (saidOf Long l) h))
     ∙ back-is Long Short l b w h

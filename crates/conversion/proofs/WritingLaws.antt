@@ -15,7 +15,7 @@ use Rattle.float_forms.specs.Forms.{sizeOf, versionOf}
 use Rattle.float_forms.specs.Bytes.{wordBytes, numbersOf, numbersBytes, wordsOf, wordsBytes}
 use Rattle.conversion.specs.Records.{manyCounts, manyNumbers, manyIndices, bodyLength, kindOf, countsOf}
 use Rattle.conversion.specs.Records.{saidOf, wellFormed, fieldsBytes, recordBytes}
-use Rattle.float_forms.specs.Holding.{every}
+use Rattle.float_forms.specs.Representable.{every}
 use Rattle.conversion.specs.Writing.{everySaid, turned}
 use Rattle.conversion.specs.Plans.{planOf, Known, sizeFor}
 use Rattle.float_forms.proofs.Numbers.{word-length}

@@ -3,6 +3,6 @@ pub mod Numbers
 pub mod PlaceLaws
 pub mod RunLaws
 pub mod RunSteps
-pub mod HoldLaws
+pub mod RepresentableLaws
 pub mod Narrow
 pub mod Shorts

@@ -12,7 +12,7 @@ use Rattle.float_forms.specs.declared.forms.Form.{Form}
 use Rattle.float_forms.specs.Forms.{sizeOf, formatOf}
 use Rattle.float_forms.specs.Bytes.{wordOf, wordBytes, patternBytes, numberOf, numberBytes, numbersOf, numbersBytes, wordsOf}
 use Rattle.float_forms.specs.Bytes.{wordsBytes}
-use Rattle.float_forms.specs.Holding.{every, fitsIn, held}
+use Rattle.float_forms.specs.Representable.{every, fitsIn, representable}
 use Rattle.float_forms.proofs.Numbers.{word-length, number-length}
 use Rattle.float_forms.proofs.PlaceLaws.{sets-append}
 
@@ -28,7 +28,7 @@ both-true false b e = absurd (let z : _≡_ {A = ℕ} 0 1 = cc in omega arith)
 
 pub record Scanning (p q : Form) (l : List ℕ) (whole : Bool) (from left : ℕ) : Type 0 where
   pub enough : from + sizeOf p * left ≤ length l
-  pub same : every (held q) (numbersOf p left (drop from l)) ≡ whole
+  pub same : every (representable q) (numbersOf p left (drop from l)) ≡ whole
 
 -- the next float lies within the list
 pub next-inside : (size from left n : ℕ) → 0 < left → from + size * left ≤ n → from + size ≤ n
@@ -39,7 +39,7 @@ next-enough : (size from k n : ℕ) → from + size * suc k ≤ n → from + siz
 next-enough size from k n h = omega (arith, h, mul-suc size k)
 
 module _ (p q : Form) (l : List ℕ) (whole : Bool) where
-  pub scan-next : (from left : ℕ) → 0 < left → Scanning p q l whole from left → held q (numberOf p (drop from l)) ≡ true
+  pub scan-next : (from left : ℕ) → 0 < left → Scanning p q l whole from left → representable q (numberOf p (drop from l)) ≡ true
       → Scanning p q l whole (from + sizeOf p) (left - 1)
   unfolding numbersOf every
   scan-next from zero g s h = absurd (omega (arith, g))
@@ -48,10 +48,10 @@ module _ (p q : Form) (l : List ℕ) (whole : Bool) where
     same = rw (sym (drop-drop (sizeOf p) from l)) (rw h at (s .same));
   }
 
-  pub scan-unheld : (from left : ℕ) → 0 < left → Scanning p q l whole from left → held q (numberOf p (drop from l)) ≡ false → false ≡ whole
+  pub scan-unrepresentable : (from left : ℕ) → 0 < left → Scanning p q l whole from left → representable q (numberOf p (drop from l)) ≡ false → false ≡ whole
   unfolding numbersOf every
-  scan-unheld from zero g s h = absurd (omega (arith, g))
-  scan-unheld from (suc k) g s h = rw h at (s .same)
+  scan-unrepresentable from zero g s h = absurd (omega (arith, g))
+  scan-unrepresentable from (suc k) g s h = rw h at (s .same)
 
   pub scan-done : (from left : ℕ) → left ≤ 0 → Scanning p q l whole from left → true ≡ whole
   unfolding numbersOf every

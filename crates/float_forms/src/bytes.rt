@@ -1,4 +1,6 @@
 use crate::forms::Form;
+use crate::reader;
+use crate::reader::Word;
 use crate::short;
 ghost use mathlib.Core.Path.{_≡_};
 ghost use Prim.Native.Nat.{_+_, _*_, _<_, _≤_};
@@ -31,7 +33,10 @@ fn long_at(bytes: &[u8], place: usize) -> f64
     requires { ⌜ place + 8 ≤ length (now bytes) ⌝ }
     ensures { λ r. ⌜ r ≡ numberOf Form.Long (drop place (now (bytes .entry))) ⌝ }
 {
-    let bits = word_at(bytes, place) * 4294967296 + word_at(bytes, place + 4);
+    let word = reader::word_at(bytes, place);
+    let Word::Bits(bits) = word else {
+        return 0.0 / 0.0;
+    };
     if bits % 0x8000_0000_0000_0000 > 0x7ff0_0000_0000_0000 {
         return 0.0 / 0.0;
     }
@@ -53,6 +58,7 @@ pub fn number_at(form: Form, bytes: &[u8], place: usize) -> f64
     ensures { λ r. ⌜ r ≡ numberOf form (drop place (now (bytes .entry))) ⌝ }
 {
     match form {
+        Form::First => long_at(bytes, place),
         Form::Long => long_at(bytes, place),
         Form::Short => short_at(bytes, place),
     }
@@ -84,6 +90,7 @@ pub fn put_pattern(form: Form, out: &mut [u8], place: usize, bits: u64)
     ensures { λ r. ⌜ now (out .exit) ≡ sets (now (out .entry)) place (patternBytes form bits) ⌝ }
 {
     match form {
+        Form::First => put_long(out, place, bits),
         Form::Long => put_long(out, place, bits),
         Form::Short => put_word(out, place, bits),
     }

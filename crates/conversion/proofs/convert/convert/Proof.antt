@@ -5,8 +5,8 @@ use mathlib.Core.Path.{sym, _∙_}
 use lib.ListN.{length}
 use borrow.Author.Tests.{not-true, not-false}
 use Rattle.conversion.proofs.WritingLaws.{sizes}
-use Rattle.conversion.proofs.ConvertLaws.{known, malformed, no-room, unheld, done, size-for}
-use Rattle.conversion.proofs.Held.{held-fits-said}
+use Rattle.conversion.proofs.ConvertLaws.{known, malformed, no-room, unrepresentable, done, size-for}
+use Rattle.conversion.proofs.Representable.{representable-fits-said}
 use borrow.Author.Needs.{needs}
 use Rattle.conversion.proofs.convert.convert.Statement.{statement}
 use Rattle.conversion.proofs.convert.convert.Tie as tie
@@ -35,8 +35,8 @@ returns-2 c =
     (size-for (start .args .q) (at-planned .planned .given .0 .0) (c .before .body-length .result) (c .before .body-length .ensures .0))
     (c .if1 .taken)
 
-is-held-requires : tie.Need-is-held-requires
-is-held-requires c κs =
+is-representable-requires : tie.Need-is-representable-requires
+is-representable-requires c κs =
     let (start, at-plan-of, at-planned) : tie.Start × tie.After-plan-of × tie.After-planned = search in
     known (start .args .p) (now (start .args .source)) (at-planned .planned .given .0 .0)
     (sym (at-plan-of .plan-of .ensures) ∙ at-planned .planned .given .1)
@@ -45,19 +45,19 @@ returns-3 : tie.Need-returns-3
 returns-3 c =
     let (start, at-plan-of, at-planned, at-body-length, else1) :
     tie.Start × tie.After-plan-of × tie.After-planned × tie.After-body-length × tie.Else1 = search in
-    unheld (start .args .p) (start .args .q) (now (start .args .source)) (now (start .args .out)) (at-planned .planned .given .0 .0)
+    unrepresentable (start .args .p) (start .args .q) (now (start .args .source)) (now (start .args .out)) (at-planned .planned .given .0 .0)
     (known (start .args .p) (now (start .args .source)) (at-planned .planned .given .0 .0)
     (sym (at-plan-of .plan-of .ensures) ∙ at-planned .planned .given .1))
     (at-body-length .body-length .result)
     (size-for (start .args .q) (at-planned .planned .given .0 .0) (at-body-length .body-length .result)
     (at-body-length .body-length .ensures .0))
     (else1 .if1 .left)
-    (sym (c .before .is-held .ensures) ∙ not-true (c .before .is-held .result) (c .if2 .taken))
+    (sym (c .before .is-representable .ensures) ∙ not-true (c .before .is-representable .result) (c .if2 .taken))
 
 write-requires : tie.Need-write-requires
 write-requires c κs =
-    let (start, at-plan-of, at-planned, at-body-length, else1, at-is-held) :
-    tie.Start × tie.After-plan-of × tie.After-planned × tie.After-body-length × tie.Else1 × tie.After-is-held = search in (
+    let (start, at-plan-of, at-planned, at-body-length, else1, at-is-representable) :
+    tie.Start × tie.After-plan-of × tie.After-planned × tie.After-body-length × tie.Else1 × tie.After-is-representable = search in (
       (known (start .args .p) (now (start .args .source)) (at-planned .planned .given .0 .0)
           (sym (at-plan-of .plan-of .ensures) ∙ at-planned .planned .given .1)),
       (
@@ -66,15 +66,15 @@ write-requires c κs =
               (at-body-length .body-length .ensures .0)),
           else1 .if1 .left,
         ),
-        held-fits-said (start .args .q) _ (sym (at-is-held .is-held
-            .ensures) ∙ not-false (at-is-held .is-held .result) (c .before .if2 .left)),
+        representable-fits-said (start .args .q) _ (sym (at-is-representable .is-representable
+            .ensures) ∙ not-false (at-is-representable .is-representable .result) (c .before .if2 .left)),
       ),
     )
 
 returns-4 : tie.Need-returns-4
 returns-4 c =
-    let (start, at-plan-of, at-planned, at-body-length, else1, at-is-held, else2, at-write) :
-    tie.Start × tie.After-plan-of × tie.After-planned × tie.After-body-length × tie.Else1 × tie.After-is-held × tie.Else2 ×
+    let (start, at-plan-of, at-planned, at-body-length, else1, at-is-representable, else2, at-write) :
+    tie.Start × tie.After-plan-of × tie.After-planned × tie.After-body-length × tie.Else1 × tie.After-is-representable × tie.Else2 ×
     tie.After-write = search in
     done (start .args .p) (start .args .q) (now (start .args .source)) (now (start .args .out)) (at-planned .planned .given .0 .0)
     (known (start .args .p) (now (start .args .source)) (at-planned .planned .given .0 .0)
@@ -83,7 +83,7 @@ returns-4 c =
     (size-for (start .args .q) (at-planned .planned .given .0 .0) (at-body-length .body-length .result)
     (at-body-length .body-length .ensures .0))
     (else1 .if1 .left)
-    (sym (at-is-held .is-held .ensures) ∙ not-false (at-is-held .is-held .result) (else2 .if2 .left)) (at-write .write .ensures)
+    (sym (at-is-representable .is-representable .ensures) ∙ not-false (at-is-representable .is-representable .result) (else2 .if2 .left)) (at-write .write .ensures)
 
 pub convert-spec : {M : Type 1} → statement M
 convert-spec =
@@ -96,7 +96,7 @@ convert-spec =
     body-length-requires
     (λ c. search needs)  -- add-if1
     returns-2
-    is-held-requires
+    is-representable-requires
     returns-3
     write-requires
     (λ c. search needs)  -- add-t8

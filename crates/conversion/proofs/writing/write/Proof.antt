@@ -1,7 +1,7 @@
 -- `conversion::writing::write` meets its contract. Assumes nothing.
 use Prim.Native.Nat.{_+_, _*_}
 use Rattle.float_forms.specs.Forms.{sizeOf}
-use Rattle.float_forms.specs.Holding.{fitsIn}
+use Rattle.float_forms.specs.Representable.{fitsIn}
 use native.Mathlib.Omega.{arith}
 use denote.Ref.{now}
 use lib.ListN.{length}

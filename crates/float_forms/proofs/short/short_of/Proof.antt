@@ -4,14 +4,14 @@ use mathlib.Core.Path.{_≡_, sym, subst}
 use lib.Dec.{T}
 use lib.Ieee.{binary32, binary64, toBits, ofBits}
 use Rattle.arithmetic.proofs.Order.{ne-self-passes}
-use Rattle.float_forms.proofs.Shorts.{nan-unheld, nan-guess, number-pattern, pattern-number, widens, other-guess}
+use Rattle.float_forms.proofs.Shorts.{nan-unrepresentable, nan-guess, number-pattern, pattern-number, widens, other-guess}
 use Rattle.float_forms.proofs.Shorts.{right-guess}
 use borrow.Author.Needs.{needs}
 use Rattle.float_forms.proofs.short.short_of.Statement.{statement}
 use Rattle.float_forms.proofs.short.short_of.Tie as tie
 
 returns : tie.Need-returns
-returns c = nan-unheld (c .before .args .x) (c .if1 .taken)
+returns c = nan-unrepresentable (c .before .args .x) (c .if1 .taken)
 
 float-to-bits-bits : tie.Need-float-to-bits-bits
 float-to-bits-bits c = ne-self-passes (c .before .args .x) (c .if1 .left)
