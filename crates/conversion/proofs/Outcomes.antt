@@ -9,7 +9,7 @@ use lib.Dec.{T, ltb}
 use lib.Ieee.Bits.{is-true}
 use lib.ListN.{length, drop}
 use Rattle.float_forms.specs.declared.forms.Form.{Form}
-use Rattle.conversion.specs.Records.{saidOf, wellFormed}
+use Rattle.record_bytes.specs.Records.{saidOf, wellFormed}
 use Rattle.conversion.specs.Convert.{saidRepresentable, written, refused, Outcome, converted}
 use Rattle.conversion.specs.Writing.{turned}
 

@@ -29,10 +29,10 @@ fn write_head(q: Form, kind: u8, body: usize, out: &mut [u8])
 
 // The ray's floats, and the counts.
 fn write_ray(p: Form, q: Form, source: &[u8], counts: usize, out: &mut [u8])
-    requires { ⌜ raysOf p ≡ raysOf q ⌝ }
     requires { ⌜ (counts ≤ 3) × (6 + sizeOf p * raysOf p + 4 * counts ≤ length (now source)) ⌝ }
     requires { ⌜ 6 + sizeOf q * raysOf q + 4 * counts ≤ length (now out) ⌝ }
     requires { ⌜ every (fitsIn q) (numbersOf p (raysOf p) (drop 6 (now source))) ≡ true ⌝ }
+    requires { ⌜ raysOf p ≡ raysOf q ⌝ }
     ensures { λ r. ⌜ now (out .exit) ≡ sets (now (out .entry)) 6
         (numbersBytes q (numbersOf p (raysOf p) (drop 6 (now (source .entry)))) ++
         wordsBytes (wordsOf counts (drop (6 + sizeOf p * raysOf p) (now (source .entry))))) ⌝ }
@@ -69,10 +69,10 @@ fn write_shape(
 
 // The whole record in the form q, whose rays have as many floats.
 pub fn write(p: Form, q: Form, source: &[u8], plan: Plan, body: usize, out: &mut [u8])
-    requires { ⌜ raysOf p ≡ raysOf q ⌝ }
     requires { ⌜ Known p (now source) plan ⌝ }
     requires { ⌜ (body ≡ sizeFor q plan) × (4 + body ≤ length (now out)) ⌝ }
     requires { ⌜ saidFits q (saidOf p (now source)) ≡ true ⌝ }
+    requires { ⌜ raysOf p ≡ raysOf q ⌝ }
     ensures { λ r. ⌜ now (out .exit) ≡ sets (now (out .entry)) 0 (turned p q (now (source .entry))) ⌝ }
 {
     let from = shape::numbers_place(p, plan.counts);

@@ -7,20 +7,19 @@ use lib.Dec.{T}
 use lib.Ieee.{Float, nan, top, binary32, binary64, isNan, fits, ne, toBits}
 use lib.Ieee.Bits.{is-true, toBits-lt}
 use lib.Ieee.Fits.{and-i}
-use Rattle.arithmetic.proofs.Order.{ne-self-passes}
+use Rattle.arithmetic.proofs.Order.{is-nan, ne-self-passes}
 use Rattle.float_forms.specs.declared.short.Short.the-variants as shorts
 use Rattle.float_forms.specs.Short.{shortOf}
 use Rattle.float_forms.specs.Short as said
 use Rattle.float_forms.proofs.Shorts.{nan-number}
 use Rattle.float_forms.specs.declared.forms.Form.{Form}
-use Rattle.float_forms.specs.declared.forms.Form.the-variants.{Long, Short}
+use Rattle.float_forms.specs.declared.forms.Form.the-variants.{First, Long, Short}
 use Rattle.float_forms.specs.declared.representable.Pattern.{Pattern}
 use Rattle.float_forms.specs.declared.representable.Pattern.the-variants.{Bits, Unrepresentable}
 use Rattle.float_forms.specs.Forms.{formatOf}
 use Rattle.float_forms.specs.Representable.{fitsIn, representable}
 use Rattle.float_forms.specs.Representable.{patternFor}
 use Rattle.float_forms.proofs.RunLaws.{fits-representable}
-use Rattle.float_forms.proofs.PlaceLaws.{is-nan}
 
 -- ---- in eight bytes
 
@@ -31,6 +30,10 @@ nan-unrepresentable form x h = rw (nan-number x h)
 pub long-bits : (x : Float) → T (fits binary64 x) → ne x x ≡ false → Bits (toBits binary64 x) ≡ patternFor Long x
 unfolding patternFor representable
 long-bits x f h = rw (is-true (not (isNan x)) (ne-self-passes x h), is-true (fits binary64 x) f)
+
+pub first-for : (x : Float) → patternFor Long x ≡ patternFor First x
+unfolding patternFor representable
+first-for x = refl
 
 -- ---- in four: `float_forms::short::short_of` says the same
 

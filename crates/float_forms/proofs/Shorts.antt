@@ -2,14 +2,14 @@
 use Prim.Native.Nat.{ℕ, _%_, _<_, _≤_}
 use mathlib.Core.Path.{_≡_, refl, sym, ap, subst, _∙_}
 use mathlib.Core.Bool.{Bool, true, false, not, _&&_, cond}
-use borrow.Author.Tests.{lt-ltb, le-ltb}
 use lib.Dec.{T}
-use lib.Ieee.{Float, nan, binary32, binary64, isNan, nanBits, fits, ne, toBits, ofBits}
-use lib.Ieee.Bits.{ofBits-toBits, toBits-ofBits, ofBits-fits, nanBits-is, nanBits-above}
+use lib.Ieee.{Float, binary32, binary64, isNan, fits, ne, toBits, ofBits}
+use lib.Ieee.Bits.{ofBits-toBits, toBits-ofBits, ofBits-fits, nanBits-is}
 use lib.Ieee.Fits.{and-i, and-l, and-r, fits-widens}
 use Rattle.arithmetic.proofs.Order.{is-nan, ne-self-is-nan, ne-self-passes}
 use Rattle.float_forms.specs.declared.short.Short.the-variants.{Pattern, Unrepresentable}
 use Rattle.float_forms.specs.Short.{guess, representable, shortOf}
+use Rattle.float_forms.proofs.Patterns.{nan-pattern, number-pattern}
 use Rattle.float_forms.proofs.Narrow.{narrow-right, widened-representable}
 
 pub nan-number : (x : Float) → ne x x ≡ true → isNan x ≡ true
@@ -17,14 +17,8 @@ nan-number x h = sym (ne-self-is-nan x) ∙ h
 
 -- ---- patterns of 4 bytes
 
-pub nan-pattern : (bits : ℕ) → 0x7f80_0000 < bits % 0x8000_0000 → ofBits binary32 bits ≡ nan
-nan-pattern bits h = is-nan (ofBits binary32 bits) (sym (nanBits-is binary32 bits) ∙ (nanBits-above binary32 bits ∙ lt-ltb _ _ h))
-
-pub number-pattern : (bits : ℕ) → bits % 0x8000_0000 ≤ 0x7f80_0000 → T (not (nanBits binary32 bits))
-number-pattern bits h = subst T (sym (ap not (nanBits-above binary32 bits ∙ le-ltb _ _ h))) tt
-
 pub pattern-number : (bits : ℕ) → bits % 0x8000_0000 ≤ 0x7f80_0000 → T (not (isNan (ofBits binary32 bits)))
-pattern-number bits h = subst (λ (b : Bool). T (not b)) (nanBits-is binary32 bits) (number-pattern bits h)
+pattern-number bits h = subst (λ (b : Bool). T (not b)) (nanBits-is binary32 bits) (number-pattern binary32 bits h)
 
 pub widens : (bits : ℕ) → bits % 0x8000_0000 ≤ 0x7f80_0000 → T (fits binary64 (ofBits binary32 bits) && not (isNan (ofBits binary32 bits)))
 widens bits h =
@@ -57,7 +51,7 @@ unrepresentable x h = go (representable x) (λ t. h (guess-back x t))
 
 pub nan-guess : (x : Float) → ne x x ≡ false → 0x7f80_0000 < guess (toBits binary64 x) % 0x8000_0000 → Unrepresentable ≡ shortOf x
 unfolding isNan
-nan-guess x n h = unrepresentable x (λ e. subst (λ (z : Float). T (not (isNan z))) (sym e ∙ nan-pattern _ h) (ne-self-passes x n))
+nan-guess x n h = unrepresentable x (λ e. subst (λ (z : Float). T (not (isNan z))) (sym e ∙ nan-pattern binary32 _ h) (ne-self-passes x n))
 
 pub other-guess : (x : Float) → (toBits binary64 (ofBits binary32 (guess (toBits binary64 x))) ≡ toBits binary64 x → ⊥) → Unrepresentable ≡ shortOf x
 other-guess x h = unrepresentable x (λ e. h (ap (toBits binary64) e))

@@ -6,7 +6,7 @@ use mathlib.Core.Bool.{Bool, cond}
 use mathlib.Core.List.{List}
 use borrow.Author.Tests.{le-leb, lt-leb}
 use lib.ListN.{length}
-use Rattle.record_bytes.specs.Words.{Read, value, nothing, byteAt, valueAt, wordAt}
+use Rattle.float_forms.specs.Words.{Read, value, nothing, byteAt, valueAt, wordAt}
 
 pub nothing-left : (bytes : List ℕ) (place : ℕ) → length bytes < place + 8 → nothing ≡ wordAt bytes place
 unfolding wordAt

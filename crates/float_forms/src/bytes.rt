@@ -4,27 +4,19 @@ use crate::reader::Word;
 use crate::short;
 ghost use mathlib.Core.Path.{_≡_};
 ghost use Prim.Native.Nat.{_+_, _*_, _<_, _≤_};
-ghost use lib.ListN.{length, getD, drop};
+ghost use lib.ListN.{length, drop};
 ghost use lib.Seq.{sets};
 ghost use lib.Ieee.{top};
 ghost use Rattle.float_forms.specs.Forms.{sizeOf, formatOf};
 ghost use Rattle.float_forms.specs.Bytes.{wordOf, wordBytes, patternBytes, numberOf};
-
-// The byte at a place, as a wide number.
-fn byte_at(bytes: &[u8], place: usize) -> u64
-    requires { ⌜ place < length (now bytes) ⌝ }
-    ensures { λ r. ⌜ (r ≡ getD (now (bytes .entry)) place 0) × (r < 256) ⌝ }
-{
-    bytes[place] as u64
-}
 
 // The u32 whose four bytes begin at a place.
 pub fn word_at(bytes: &[u8], place: usize) -> u64
     requires { ⌜ place + 4 ≤ length (now bytes) ⌝ }
     ensures { λ r. ⌜ (r ≡ wordOf (drop place (now (bytes .entry)))) × (r < 4294967296) ⌝ }
 {
-    let high = byte_at(bytes, place) * 256 + byte_at(bytes, place + 1);
-    let low = byte_at(bytes, place + 2) * 256 + byte_at(bytes, place + 3);
+    let high = reader::byte_at(bytes, place) * 256 + reader::byte_at(bytes, place + 1);
+    let low = reader::byte_at(bytes, place + 2) * 256 + reader::byte_at(bytes, place + 3);
     high * 65536 + low
 }
 

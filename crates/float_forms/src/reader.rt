@@ -10,7 +10,7 @@ pub enum Word {
 }
 
 // The byte at a place, as a wide number.
-fn byte_at(bytes: &[u8], place: usize) -> u64
+pub fn byte_at(bytes: &[u8], place: usize) -> u64
     requires { ⌜ place < length (now bytes) ⌝ }
     ensures { λ r. ⌜ (r ≡ byteAt (now (bytes .entry)) place) × (r < 256) ⌝ }
 {

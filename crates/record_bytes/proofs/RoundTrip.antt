@@ -9,28 +9,26 @@ use lib.Ieee.{Float}
 use lib.ListN.{length, getD, take, drop, length-drop, take-append-drop}
 use lib.Seq.{take-all, drop-cons}
 use Rattle.float_forms.specs.declared.forms.Form.{Form}
-use Rattle.float_forms.specs.declared.forms.Form.the-variants.{Long, Short}
-use Rattle.float_forms.specs.Forms.{sizeOf, versionOf}
+use Rattle.float_forms.specs.declared.forms.Form.the-variants.{First, Long, Short}
+use Rattle.float_forms.specs.Forms.{sizeOf, raysOf, versionOf, longForm}
 use Rattle.float_forms.specs.Bytes.{IsBytes, wordOf, wordBytes, numbersOf, numbersBytes, wordsOf, wordsBytes}
-use Rattle.conversion.specs.Records.{Said, manyCounts, manyNumbers, manyIndices, bodyLength, kindOf, countsOf, numbersPlace}
-use Rattle.conversion.specs.Records.{indicesPlace, saidOf, isKind, fieldsBytes, recordBytes}
+use Rattle.record_bytes.specs.Records.{Said, manyCounts, manyNumbers, manyIndices, bodyLength, kindOf, countsOf, numbersPlace}
+use Rattle.record_bytes.specs.Records.{indicesPlace, saidOf, isKind, longest, fieldsBytes, recordBytes, saidFits, withoutNan}
 use Rattle.float_forms.specs.Representable.{isNumber, fitsIn}
-use Rattle.conversion.specs.Writing.{saidFits}
-use Rattle.conversion.specs.Convert.{withoutNan}
 use Rattle.float_forms.proofs.Numbers.{drop-bytes, word-back, word-bytes}
 use Rattle.float_forms.proofs.RunLaws.{numbers-length, words-length, numbers-read, numbers-bytes, AllWords, words-read, words-bytes}
-use Rattle.conversion.proofs.Parts.{Formed, behind, joined}
-use Rattle.conversion.proofs.Lengths.{Measured, written-length}
-use Rattle.conversion.proofs.Representable.{ray-of, numbers-of}
+use Rattle.record_bytes.proofs.Parts.{Formed, behind, joined}
+use Rattle.record_bytes.proofs.Lengths.{Measured, written-length}
+use Rattle.record_bytes.proofs.Tests.{ray-of, numbers-of}
 
 -- as many numbers as the kind and the counts say; each u32 is a u32, and each float one of the form's format
 pub record Fitting (form : Form) (s : Said) : Type 0 where
-  pub measured : Measured s
+  pub measured : Measured form s
   pub countsFit : AllWords (s .counts)
   pub indicesFit : AllWords (s .indices)
   pub floatsFit : T (saidFits form s)
   pub known : T (isKind (s .kind))
-  pub small : bodyLength Long (s .kind) (s .counts) ≤ 8192
+  pub small : bodyLength (longForm form) (s .kind) (s .counts) ≤ longest
 
 -- ---- the written record, from its front
 
@@ -61,29 +59,29 @@ said-of : {k k' : ℕ} {r r' n n' : List Float} {c c' i i' : List ℕ} → k ≡
 said-of p q r s t = cc
 
 module _ (form : Form) (s : Said) (f : Fitting form s) where
-  back-ray : numbersOf form 8 (drop 6 (recordBytes form s)) ≡ s .ray
+  back-ray : numbersOf form (raysOf form) (drop 6 (recordBytes form s)) ≡ s .ray
   back-ray =
       numbers-read form (s .ray) (wordsBytes (s .counts) ++ (numbersBytes form (s .numbers) ++ wordsBytes (s .indices)))
-      (drop 6 (recordBytes form s)) 8
+      (drop 6 (recordBytes form s)) (raysOf form)
       (written-fields form s) (f .measured .rayed) (ray-of (fitsIn form) s (f .floatsFit))
 
-  behind-ray : drop (6 + sizeOf form * 8) (recordBytes form s) ≡ wordsBytes (s .counts) ++
+  behind-ray : drop (6 + sizeOf form * raysOf form) (recordBytes form s) ≡ wordsBytes (s .counts) ++
       (numbersBytes form (s .numbers) ++ wordsBytes (s .indices))
   behind-ray =
-      behind (recordBytes form s) (numbersBytes form (s .ray)) _ 6 (sizeOf form * 8) (written-fields form s)
+      behind (recordBytes form s) (numbersBytes form (s .ray)) _ 6 (sizeOf form * raysOf form) (written-fields form s)
       (numbers-length form (s .ray) ∙ ap (λ (n : ℕ). sizeOf form * n) (f .measured .rayed))
 
   pub back-counts : countsOf form (recordBytes form s) ≡ s .counts
   unfolding countsOf
   back-counts =
-      ap (λ (k : ℕ). wordsOf (manyCounts k) (drop (6 + sizeOf form * 8) (recordBytes form s))) (written-kind form s)
-      ∙ words-read (s .counts) (numbersBytes form (s .numbers) ++ wordsBytes (s .indices)) (drop (6 + sizeOf form * 8) (recordBytes form s))
+      ap (λ (k : ℕ). wordsOf (manyCounts k) (drop (6 + sizeOf form * raysOf form) (recordBytes form s))) (written-kind form s)
+      ∙ words-read (s .counts) (numbersBytes form (s .numbers) ++ wordsBytes (s .indices)) (drop (6 + sizeOf form * raysOf form) (recordBytes form s))
       (manyCounts (s .kind))
       behind-ray (f .measured .counted) (f .countsFit)
 
   behind-counts : drop (numbersPlace form (s .kind)) (recordBytes form s) ≡ numbersBytes form (s .numbers) ++ wordsBytes (s .indices)
   behind-counts =
-      behind (recordBytes form s) (wordsBytes (s .counts)) _ (6 + sizeOf form * 8) (4 * manyCounts (s .kind)) behind-ray
+      behind (recordBytes form s) (wordsBytes (s .counts)) _ (6 + sizeOf form * raysOf form) (4 * manyCounts (s .kind)) behind-ray
       (words-length (s .counts) ∙ ap (λ (n : ℕ). 4 * n) (f .measured .counted))
 
   behind-numbers : drop (indicesPlace form (s .kind) (s .counts)) (recordBytes form s) ≡ wordsBytes (s .indices)
@@ -112,9 +110,10 @@ module _ (form : Form) (s : Said) (f : Fitting form s) where
       let c : countsOf form (recordBytes form s) ≡ s .counts = back-counts in
       rw (k, c) (said-of refl back-ray refl back-numbers back-indices)
 
--- no form is longer than the long one
-pub longest-form : (form : Form) (kind : ℕ) (counts : List ℕ) → bodyLength form kind counts ≤ bodyLength Long kind counts
+-- no form is longer than the one with floats of 8 bytes
+pub longest-form : (form : Form) (kind : ℕ) (counts : List ℕ) → bodyLength form kind counts ≤ bodyLength (longForm form) kind counts
 unfolding bodyLength
+longest-form First kind counts = omega arith
 longest-form Long kind counts = omega arith
 longest-form Short kind counts = omega arith
 
@@ -141,20 +140,20 @@ module _ (form : Form) (l : List ℕ) (b : IsBytes l) (g : Formed form l) (h : T
   abbrev counts : List ℕ
   counts = countsOf form l
 
-  whole : length l ≡ 6 + size * 8 + 4 * manyCounts (kindOf l) + size * manyNumbers (kindOf l) counts + 4 * manyIndices (kindOf l) counts
+  whole : length l ≡ 6 + size * raysOf form + 4 * manyCounts (kindOf l) + size * manyNumbers (kindOf l) counts + 4 * manyIndices (kindOf l) counts
   unfolding bodyLength
   whole = omega (arith, g .filled)
 
-  same-ray : numbersBytes form (numbersOf form 8 (drop 6 l)) ≡ take (size * 8) (drop 6 l)
+  same-ray : numbersBytes form (numbersOf form (raysOf form) (drop 6 l)) ≡ take (size * raysOf form) (drop 6 l)
   unfolding saidOf
   same-ray =
-      numbers-bytes form 8 (drop 6 l) (drop-bytes 6 l b) (omega (arith, whole, length-drop 6 l)) (ray-of isNumber (saidOf form l) h)
+      numbers-bytes form (raysOf form) (drop 6 l) (drop-bytes 6 l b) (omega (arith, whole, length-drop 6 l)) (ray-of isNumber (saidOf form l) h)
 
-  same-counts : wordsBytes counts ≡ take (4 * manyCounts (kindOf l)) (drop (6 + size * 8) l)
+  same-counts : wordsBytes counts ≡ take (4 * manyCounts (kindOf l)) (drop (6 + size * raysOf form) l)
   unfolding countsOf
   same-counts =
-      words-bytes (manyCounts (kindOf l)) (drop (6 + size * 8) l) (drop-bytes (6 + size * 8) l b)
-      (omega (arith, whole, length-drop (6 + size * 8) l))
+      words-bytes (manyCounts (kindOf l)) (drop (6 + size * raysOf form) l) (drop-bytes (6 + size * raysOf form) l b)
+      (omega (arith, whole, length-drop (6 + size * raysOf form) l))
 
   same-numbers : numbersBytes form (saidOf form l .numbers) ≡ take (size * manyNumbers (kindOf l) counts)
       (drop (numbersPlace form (kindOf l)) l)
@@ -180,8 +179,8 @@ module _ (form : Form) (l : List ℕ) (b : IsBytes l) (g : Formed form l) (h : T
         same-numbers,
         same-indices,
         joined l (numbersPlace form (kindOf l)) (size * manyNumbers (kindOf l) counts),
-        joined l (6 + size * 8) (4 * manyCounts (kindOf l)),
-        joined l 6 (size * 8),
+        joined l (6 + size * raysOf form) (4 * manyCounts (kindOf l)),
+        joined l 6 (size * raysOf form),
       )
 
   same-front : drop 4 l ≡ versionOf form ∷ (kindOf l ∷ drop 6 l)

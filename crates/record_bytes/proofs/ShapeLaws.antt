@@ -10,19 +10,24 @@ use lib.Dec.{ltb, eqb, leb}
 use lib.ListN.{length, getD, drop}
 use lib.Seq.{drop-drop}
 use Rattle.float_forms.specs.declared.forms.Form.{Form}
-use Rattle.float_forms.specs.declared.forms.Form.the-variants.{Long, Short}
-use Rattle.conversion.specs.declared.shape.Plan.{Plan}
-use Rattle.conversion.specs.declared.shape.Planned.{Planned}
-use Rattle.conversion.specs.declared.shape.Planned.the-variants.{Is, Malformed}
-use Rattle.float_forms.specs.Forms.{sizeOf, versionOf}
+use Rattle.float_forms.specs.declared.forms.Form.the-variants.{First, Long, Short}
+use Rattle.record_bytes.specs.declared.shape.Plan.{Plan}
+use Rattle.record_bytes.specs.declared.shape.Planned.{Planned}
+use Rattle.record_bytes.specs.declared.shape.Planned.the-variants.{Is, Malformed}
+use Rattle.float_forms.specs.Forms.{sizeOf, raysOf, versionOf, formOf, longForm}
 use Rattle.float_forms.specs.Bytes.{wordOf, wordsOf}
-use Rattle.conversion.specs.Records.{manyCounts, manyNumbers, manyIndices, bodyLength, kindOf, countsOf, isKind, framed, filled}
-use Rattle.conversion.specs.Records.{wellFormed}
-use Rattle.conversion.specs.Plans.{capped, planOf, filling, planned}
+use Rattle.record_bytes.specs.Records.{manyCounts, manyNumbers, manyIndices, bodyLength, kindOf, countsOf, isKind, framed, filled}
+use Rattle.record_bytes.specs.Records.{longest, wellFormed, formAt}
+use Rattle.record_bytes.specs.Plans.{capped, planOf, filling, planned}
 
-pub size-small : (form : Form) → sizeOf form ≤ 8
-size-small Long = omega arith
-size-small Short = omega arith
+-- the length in the form with floats of 8 bytes
+pub long-body : (form : Form) (kind : ℕ) (counts : List ℕ)
+    → bodyLength (longForm form) kind counts ≡ 2 + 8 * raysOf form + 4 * manyCounts kind + 8 * manyNumbers kind counts + 4 * manyIndices kind
+    counts
+unfolding bodyLength
+long-body First kind counts = refl
+long-body Long kind counts = refl
+long-body Short kind counts = refl
 
 -- ---- capped counts
 
@@ -98,21 +103,21 @@ none-of-run zero i l h = refl
 none-of-run (suc n) zero l h = absurd (omega (arith, h))
 none-of-run (suc n) (suc i) l h = none-of-run n i (drop 4 l) (omega (arith, h))
 
-pub count-read : (form : Form) (l : List ℕ) (kind many size i word : ℕ) → kind ≡ kindOf l → many ≡ manyCounts kind → size ≡ sizeOf form
-    → i < many → word ≡ wordOf (drop (6 + size * 8 + 4 * i) l) → word ≡ getD (countsOf form l) i 0
+pub count-read : (form : Form) (l : List ℕ) (kind many ray i word : ℕ) → kind ≡ kindOf l → many ≡ manyCounts kind
+    → ray ≡ sizeOf form * raysOf form → i < many → word ≡ wordOf (drop (6 + ray + 4 * i) l) → word ≡ getD (countsOf form l) i 0
 unfolding countsOf
-count-read form l kind many size i word k m s h e =
-    let place : drop (6 + sizeOf form * 8 + 4 * i) l ≡ drop (4 * i) (drop (6 + sizeOf form * 8) l) = sym
-    (drop-drop (4 * i) (6 + sizeOf form * 8) l) in
+count-read form l kind many ray i word k m s h e =
+    let place : drop (6 + sizeOf form * raysOf form + 4 * i) l ≡ drop (4 * i) (drop (6 + sizeOf form * raysOf form) l) = sym
+    (drop-drop (4 * i) (6 + sizeOf form * raysOf form) l) in
     e ∙
-    (rw (s, place) (word-of-run (manyCounts (kindOf l)) i (drop (6 + sizeOf form * 8) l) (subst (λ (z : ℕ). i < z) (m ∙ ap manyCounts k)
+    (rw (s, place) (word-of-run (manyCounts (kindOf l)) i (drop (6 + sizeOf form * raysOf form) l) (subst (λ (z : ℕ). i < z) (m ∙ ap manyCounts k)
     h)))
 
 pub count-none : (form : Form) (l : List ℕ) (kind many i : ℕ) → kind ≡ kindOf l → many ≡ manyCounts kind → many ≤ i
     → 0 ≡ getD (countsOf form l) i 0
 unfolding countsOf
 count-none form l kind many i k m h =
-    none-of-run (manyCounts (kindOf l)) i (drop (6 + sizeOf form * 8) l) (subst (λ (z : ℕ). z ≤ i) (m ∙ ap manyCounts k) h)
+    none-of-run (manyCounts (kindOf l)) i (drop (6 + sizeOf form * raysOf form) l) (subst (λ (z : ℕ). z ≤ i) (m ∙ ap manyCounts k) h)
 
 -- ---- the frame
 
@@ -120,6 +125,10 @@ beyond : (l : List ℕ) (i : ℕ) → length l ≤ i → getD l i 0 ≡ 0
 beyond [] i h = refl
 beyond (x ∷ l) zero h = absurd (omega (arith, h))
 beyond (x ∷ l) (suc i) h = beyond l i (omega (arith, h))
+
+pub no-version : (l : List ℕ) → length l < 5 → Long ≡ formAt l
+unfolding formAt formOf
+no-version l h = rw (beyond l 4 (omega (arith, h)))
 
 never : (a : Bool) → false ≡ (a && false)
 never true = refl
@@ -179,7 +188,7 @@ counted form l kind counts numbers indices a b c k m ea eb ec n i = record {
 }
 
 unfilled : (form : Form) (l : List ℕ)
-    → (4 + bodyLength form (kindOf l) (countsOf form l) ≡ length l → bodyLength Long (kindOf l) (countsOf form l) ≤ 8192 → ⊥)
+    → (4 + bodyLength form (kindOf l) (countsOf form l) ≡ length l → bodyLength (longForm form) (kindOf l) (countsOf form l) ≤ longest → ⊥)
     → Malformed ≡ filling form l
 unfolding filling filled
 unfilled form l h =
@@ -189,20 +198,20 @@ unfilled form l h =
     n = bodyLength form (kindOf l) (countsOf form l)
 
     m : ℕ
-    m = bodyLength Long (kindOf l) (countsOf form l)
+    m = bodyLength (longForm form) (kindOf l) (countsOf form l)
 
     go : (a b : Bool) → (a ≡ true → 4 + n ≡ length l) → (b ≡ true → m ≤ 8192) → Malformed ≡ cond (a && b) (Is (planOf form l)) Malformed
     go true true p q = absurd (h (p refl) (q refl))
     go true false p q = refl
     go false b p q = refl
 
-pub unfilled-short : (form : Form) (l : List ℕ) (kind counts size : ℕ) → kind ≡ kindOf l → counts ≡ manyCounts kind → size ≡ sizeOf form
-    → length l < 6 + size * 8 + 4 * counts → Malformed ≡ filling form l
+pub unfilled-short : (form : Form) (l : List ℕ) (kind counts ray : ℕ) → kind ≡ kindOf l → counts ≡ manyCounts kind
+    → ray ≡ sizeOf form * raysOf form → length l < 6 + ray + 4 * counts → Malformed ≡ filling form l
 unfolding bodyLength
-unfilled-short form l kind counts size k m s h =
+unfilled-short form l kind counts ray k m s h =
     let e : counts ≡ manyCounts (kindOf l) = m ∙ ap manyCounts k in
-    let g : length l < 6 + sizeOf form * 8 + 4 * manyCounts (kindOf l) = subst (λ (z : ℕ). length l < 6 + z * 8 + 4 * manyCounts (kindOf l))
-    s (rw e at h) in
+    let g : length l < 6 + sizeOf form * raysOf form + 4 * manyCounts (kindOf l) = subst
+    (λ (z : ℕ). length l < 6 + z + 4 * manyCounts (kindOf l)) s (rw e at h) in
     unfilled form l (λ f _. omega (arith, f, g))
 
 module _ (form : Form) (l : List ℕ) (kind counts numbers indices : ℕ) (f : Counted form l kind counts numbers indices) where
@@ -210,34 +219,40 @@ module _ (form : Form) (l : List ℕ) (kind counts numbers indices : ℕ) (f : C
   cap = rw (f .numbersAre) (is-capped (manyNumbers (kindOf l) (countsOf form l)))
 
   pub unfilled-many : 1024 < numbers → Malformed ≡ filling form l
-  unfolding bodyLength
-  unfilled-many h = unfilled form l (λ _ g. omega (arith, g, cap .more h))
+  unfilled-many h = unfilled form l (λ _ g. omega (arith, g, long-body form (kindOf l) (countsOf form l), cap .more h))
 
   -- the length that was added up
-  lengths : (other : Form) (sum : ℕ) → numbers ≤ 1024 → sum ≡ 2 + sizeOf other * 8 + 4 * counts + sizeOf other * numbers + 4 * indices
+  lengths : (other : Form) (sum : ℕ) → numbers ≤ 1024 → sum ≡ 2 + sizeOf other * raysOf other + 4 * counts + sizeOf other * numbers + 4 * indices
       → sum ≡ bodyLength other (kindOf l) (countsOf form l)
   unfolding bodyLength
   lengths other sum h e = e ∙ (rw (f .countsAre, f .indicesAre, sym (cap .few h)))
 
-  pub unfilled-length : (sum : ℕ) → numbers ≤ 1024 → sum ≡ 2 + sizeOf form * 8 + 4 * counts + sizeOf form * numbers + 4 * indices
+  pub unfilled-length : (sum : ℕ) → numbers ≤ 1024 → sum ≡ 2 + sizeOf form * raysOf form + 4 * counts + sizeOf form * numbers + 4 * indices
       → (4 + sum ≡ length l → ⊥) → Malformed ≡ filling form l
   unfilled-length sum h e g = unfilled form l (λ k _. g (ap (λ (z : ℕ). 4 + z) (lengths form sum h e) ∙ k))
 
-  pub unfilled-long : (sum : ℕ) → numbers ≤ 1024 → sum ≡ 2 + sizeOf Long * 8 + 4 * counts + sizeOf Long * numbers + 4 * indices
-      → 8192 < sum → Malformed ≡ filling form l
-  unfilled-long sum h e g = unfilled form l (λ _ k. omega (arith, g, k, lengths Long sum h e))
+  -- and that of the form with floats of 8 bytes
+  long-lengths : (other : Form) (sum : ℕ) → other ≡ longForm form → numbers ≤ 1024
+      → sum ≡ 2 + sizeOf other * raysOf other + 4 * counts + sizeOf other * numbers + 4 * indices
+      → sum ≡ bodyLength (longForm form) (kindOf l) (countsOf form l)
+  long-lengths other sum o h e = lengths other sum h e ∙ ap (λ (z : Form). bodyLength z (kindOf l) (countsOf form l)) o
 
-  pub fills : (sum long : ℕ) → numbers ≤ 1024 → sum ≡ 2 + sizeOf form * 8 + 4 * counts + sizeOf form * numbers + 4 * indices
+  pub unfilled-long : (other : Form) (sum : ℕ) → other ≡ longForm form → numbers ≤ 1024
+      → sum ≡ 2 + sizeOf other * raysOf other + 4 * counts + sizeOf other * numbers + 4 * indices
+      → 8192 < sum → Malformed ≡ filling form l
+  unfilled-long other sum o h e g = unfilled form l (λ _ k. omega (arith, g, k, long-lengths other sum o h e))
+
+  pub fills : (other : Form) (sum long : ℕ) → other ≡ longForm form → numbers ≤ 1024 → sum ≡ 2 + sizeOf form * raysOf form + 4 * counts + sizeOf form * numbers + 4 * indices
       → 4 + sum ≡ length l
-      → long ≡ 2 + sizeOf Long * 8 + 4 * counts + sizeOf Long * numbers + 4 * indices → long ≤ 8192
+      → long ≡ 2 + sizeOf other * raysOf other + 4 * counts + sizeOf other * numbers + 4 * indices → long ≤ 8192
       → Is record { kind = kind; counts = counts; numbers = numbers; indices = indices } ≡ filling form l
   unfolding filling filled planOf
-  fills sum long h e g d k =
+  fills other sum long o h e g d k =
       let whole : 4 + bodyLength form (kindOf l) (countsOf form l) ≡ length l = ap (λ (z : ℕ). 4 + z) (sym (lengths form sum h e)) ∙ g in
-      let small : bodyLength Long (kindOf l) (countsOf form l) ≤ 8192 = subst (λ (z : ℕ). z ≤ 8192) (lengths Long long h d) k in
+      let small : bodyLength (longForm form) (kindOf l) (countsOf form l) ≤ 8192 = subst (λ (z : ℕ). z ≤ 8192) (long-lengths other long o h d) k in
       rw (
         eq-eqb (4 + bodyLength form (kindOf l) (countsOf form l)) (length l) whole,
-        le-leb (bodyLength Long (kindOf l) (countsOf form l)) 8192 small,
+        le-leb (bodyLength (longForm form) (kindOf l) (countsOf form l)) 8192 small,
         f .kindIs,
         f .countsAre,
         f .indicesAre,

@@ -1,9 +1,9 @@
--- `record_bytes::reader::byte_at` meets its contract. Assumes nothing.
+-- `float_forms::reader::byte_at` meets its contract. Assumes nothing.
 use mathlib.Core.Path.{refl}
 use native.Mathlib.Omega.{arith}
 use borrow.Author.Needs.{needs}
-use Rattle.record_bytes.proofs.reader.byte_at.Statement.{statement}
-use Rattle.record_bytes.proofs.reader.byte_at.Tie as tie
+use Rattle.float_forms.proofs.reader.byte_at.Statement.{statement}
+use Rattle.float_forms.proofs.reader.byte_at.Tie as tie
 
 cast-result : tie.Need-cast-result
 cast-result c = omega (arith, c .shared-slice-known .given (c .before .args .place))

@@ -1,11 +1,10 @@
--- `record_bytes::reader::word_at` meets its contract: nothing past the end or with fewer than eight bytes left, else the four pairs.
--- Assumes
--- nothing.
-use Rattle.record_bytes.proofs.WordLaws.{nothing-left, from-pairs}
+-- `float_forms::reader::word_at` meets its contract: nothing past the end or with fewer than eight bytes left, else the four pairs.
+-- Assumes nothing.
+use Rattle.float_forms.proofs.WordLaws.{nothing-left, from-pairs}
 use native.Mathlib.Omega.{arith}
 use borrow.Author.Needs.{needs}
-use Rattle.record_bytes.proofs.reader.word_at.Statement.{statement}
-use Rattle.record_bytes.proofs.reader.word_at.Tie as tie
+use Rattle.float_forms.proofs.reader.word_at.Statement.{statement}
+use Rattle.float_forms.proofs.reader.word_at.Tie as tie
 
 returns : tie.Need-returns
 returns c = nothing-left _ _ (omega arith)

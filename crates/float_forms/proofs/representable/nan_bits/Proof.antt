@@ -15,5 +15,9 @@ returns-2 : tie.Need-returns-2
 unfolding toBits
 returns-2 c = ap (λ (z : Form). toBits (formatOf z) nan) (sym (c .enum-told2 .given .1))
 
+returns-3 : tie.Need-returns-3
+unfolding toBits
+returns-3 c = ap (λ (z : Form). toBits (formatOf z) nan) (sym (c .enum-told3 .given .1))
+
 pub nan-bits-spec : {M : Type 1} → statement M
-nan-bits-spec = tie.close (tie.spec (search needs) (search needs) returns returns-2)
+nan-bits-spec = tie.close (tie.spec (search needs) (search needs) (search needs) returns returns-2 returns-3)

@@ -1,7 +1,7 @@
--- `conversion::shape::capped` meets its contract. Assumes nothing.
-use Rattle.conversion.proofs.ShapeLaws.{capped-more, capped-few}
-use Rattle.conversion.proofs.shape.capped.Statement.{statement}
-use Rattle.conversion.proofs.shape.capped.Tie as tie
+-- `record_bytes::shape::capped` meets its contract. Assumes nothing.
+use Rattle.record_bytes.proofs.ShapeLaws.{capped-more, capped-few}
+use Rattle.record_bytes.proofs.shape.capped.Statement.{statement}
+use Rattle.record_bytes.proofs.shape.capped.Tie as tie
 
 returns : tie.Need-returns
 returns c = capped-more (c .before .args .count) (c .if1 .taken)

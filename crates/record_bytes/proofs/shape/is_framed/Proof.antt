@@ -1,9 +1,9 @@
--- `conversion::shape::is_framed` meets its contract. Assumes nothing.
+-- `record_bytes::shape::is_framed` meets its contract. Assumes nothing.
 use denote.Ref.{now}
-use Rattle.conversion.proofs.ShapeLaws.{unframed-short, unframed-length, unframed-version, unframed-kind, framed-kind}
+use Rattle.record_bytes.proofs.ShapeLaws.{unframed-short, unframed-length, unframed-version, unframed-kind, framed-kind}
 use borrow.Author.Needs.{needs}
-use Rattle.conversion.proofs.shape.is_framed.Statement.{statement}
-use Rattle.conversion.proofs.shape.is_framed.Tie as tie
+use Rattle.record_bytes.proofs.shape.is_framed.Statement.{statement}
+use Rattle.record_bytes.proofs.shape.is_framed.Tie as tie
 
 returns : tie.Need-returns
 returns c =

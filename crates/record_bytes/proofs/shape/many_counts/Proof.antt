@@ -1,9 +1,9 @@
--- `conversion::shape::many_counts` meets its contract. Assumes nothing.
+-- `record_bytes::shape::many_counts` meets its contract. Assumes nothing.
 use native.Mathlib.Omega.{arith}
-use Rattle.conversion.specs.Records.{manyCounts}
+use Rattle.record_bytes.specs.Records.{manyCounts}
 use borrow.Author.Tests.{eq-eqb, ne-eqb}
-use Rattle.conversion.proofs.shape.many_counts.Statement.{statement}
-use Rattle.conversion.proofs.shape.many_counts.Tie as tie
+use Rattle.record_bytes.proofs.shape.many_counts.Statement.{statement}
+use Rattle.record_bytes.proofs.shape.many_counts.Tie as tie
 
 returns : tie.Need-returns
 unfolding manyCounts

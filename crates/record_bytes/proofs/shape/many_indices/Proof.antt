@@ -1,10 +1,10 @@
--- `conversion::shape::many_indices` meets its contract. Assumes nothing.
+-- `record_bytes::shape::many_indices` meets its contract. Assumes nothing.
 use native.Mathlib.Omega.{arith}
-use Rattle.conversion.specs.Records.{manyIndices}
+use Rattle.record_bytes.specs.Records.{manyIndices}
 use borrow.Author.Tests.{eq-eqb, ne-eqb}
 use borrow.Author.Needs.{needs}
-use Rattle.conversion.proofs.shape.many_indices.Statement.{statement}
-use Rattle.conversion.proofs.shape.many_indices.Tie as tie
+use Rattle.record_bytes.proofs.shape.many_indices.Statement.{statement}
+use Rattle.record_bytes.proofs.shape.many_indices.Tie as tie
 
 returns : tie.Need-returns
 unfolding manyIndices

@@ -1,9 +1,9 @@
--- `conversion::shape::many_numbers` meets its contract. Assumes nothing.
+-- `record_bytes::shape::many_numbers` meets its contract. Assumes nothing.
 use mathlib.Core.List.{[], _∷_}
-use Rattle.conversion.proofs.ShapeLaws.{numbers-one, numbers-two, numbers-three, numbers-four, numbers-five}
+use Rattle.record_bytes.proofs.ShapeLaws.{numbers-one, numbers-two, numbers-three, numbers-four, numbers-five}
 use borrow.Author.Needs.{needs}
-use Rattle.conversion.proofs.shape.many_numbers.Statement.{statement}
-use Rattle.conversion.proofs.shape.many_numbers.Tie as tie
+use Rattle.record_bytes.proofs.shape.many_numbers.Statement.{statement}
+use Rattle.record_bytes.proofs.shape.many_numbers.Tie as tie
 
 returns : tie.Need-returns
 returns c = numbers-one (c .before .args .kind) (c .before .args .a ∷ (c .before .args .b ∷ (c .before .args .c ∷ []))) (c .if1 .taken)

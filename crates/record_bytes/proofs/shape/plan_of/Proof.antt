@@ -1,11 +1,11 @@
--- `conversion::shape::plan_of` meets its contract. Assumes nothing.
+-- `record_bytes::shape::plan_of` meets its contract. Assumes nothing.
 use mathlib.Core.Path.{sym, _∙_}
 use borrow.Author.Tests.{not-true, not-false}
 use denote.Ref.{now}
-use Rattle.conversion.proofs.ShapeLaws.{unplanned, unframed-short, planned-by-fields}
+use Rattle.record_bytes.proofs.ShapeLaws.{unplanned, unframed-short, planned-by-fields}
 use borrow.Author.Needs.{needs}
-use Rattle.conversion.proofs.shape.plan_of.Statement.{statement}
-use Rattle.conversion.proofs.shape.plan_of.Tie as tie
+use Rattle.record_bytes.proofs.shape.plan_of.Statement.{statement}
+use Rattle.record_bytes.proofs.shape.plan_of.Tie as tie
 
 returns : tie.Need-returns
 returns c =

@@ -1,13 +1,13 @@
--- `conversion::shape::product` meets its contract. Assumes nothing.
+-- `record_bytes::shape::product` meets its contract. Assumes nothing.
 use Prim.Native.Nat.{_<_}
 use native.Mathlib.Omega.{arith}
 use Prim.Native.Nat.{ℕ, _*_}
 use mathlib.Core.Path.{_≡_, ap, _∙_}
-use Rattle.conversion.specs.Plans.{capped}
-use Rattle.conversion.proofs.ShapeLaws.{product-fits, is-capped, capped-product}
+use Rattle.record_bytes.specs.Plans.{capped}
+use Rattle.record_bytes.proofs.ShapeLaws.{product-fits, is-capped, capped-product}
 use borrow.Author.Needs.{needs}
-use Rattle.conversion.proofs.shape.product.Statement.{statement}
-use Rattle.conversion.proofs.shape.product.Tie as tie
+use Rattle.record_bytes.proofs.shape.product.Statement.{statement}
+use Rattle.record_bytes.proofs.shape.product.Tie as tie
 
 mul-capped : tie.Need-mul-capped
 mul-capped c = omega (arith, product-fits (c .args .a) (c .args .b) (c .pre .0) (c .pre .1 .0))
