@@ -74,8 +74,8 @@ enum class Refusal : std::uint32_t {
     bad_range = PROBE_REFUSED_BAD_RANGE,
     limit_reached = PROBE_REFUSED_LIMIT_REACHED,
 /* of calls that not every release has */
-#ifdef PROBE_REFUSED_NOT_HELD
-    not_held = PROBE_REFUSED_NOT_HELD,
+#ifdef PROBE_REFUSED_NOT_REPRESENTABLE
+    not_representable = PROBE_REFUSED_NOT_REPRESENTABLE,
 #endif
 #ifdef PROBE_REFUSED_OUT_OF_RANGE
     out_of_range = PROBE_REFUSED_OUT_OF_RANGE,
@@ -99,8 +99,8 @@ inline std::string told(Refusal refusal)
     case Refusal::not_convergent: words = "not convergent: the walk through the grid has no answer"; break;
     case Refusal::bad_range: words = "bad range: a range of heights is out of order or not finite"; break;
     case Refusal::limit_reached: words = "limit reached: the cast would look at more nodes than admitted"; break;
-#ifdef PROBE_REFUSED_NOT_HELD
-    case Refusal::not_held: words = "not held: a record's float is NaN, or is no f32 exactly"; break;
+#ifdef PROBE_REFUSED_NOT_REPRESENTABLE
+    case Refusal::not_representable: words = "not representable: a record's float is NaN, or is no f32 exactly"; break;
 #endif
 #ifdef PROBE_REFUSED_OUT_OF_RANGE
     case Refusal::out_of_range: words = "out of range: the origin or a corner is not within 8,192, near or the maximum above 32,768"; break;

@@ -18,7 +18,7 @@ _WORDS = {
     "NOT_CONVERGENT": "not convergent: the walk through the grid has no answer",
     "BAD_RANGE": "bad range: a range of heights is out of order or not finite",
     "LIMIT_REACHED": "limit reached: the cast would look at more nodes than admitted",
-    "NOT_HELD": "not held: a record's float is NaN, or is no f32 exactly",
+    "NOT_REPRESENTABLE": "not representable: a record's float is NaN, or is no f32 exactly",
     "OUT_OF_RANGE": "out of range: the origin or a corner is not within 8,192, near or the maximum above 32,768",
 }
 

@@ -102,7 +102,7 @@ pub enum Refusal {
     /// 10: the next node of a cabinet's walks would exceed the limit.
     LimitReached,
     /// 11: a float of a record is NaN, or no f32 is exactly that number.
-    NotHeld,
+    NotRepresentable,
     /// 12: the origin or a corner of a triangle of the mesh is not a number from -8,192 to 8,192, or near or the maximum
     /// is above 32,768.
     OutOfRange,
@@ -131,7 +131,7 @@ impl Refusal {
             sys::REFUSED_NOT_CONVERGENT => Refusal::NotConvergent,
             sys::REFUSED_BAD_RANGE => Refusal::BadRange,
             sys::REFUSED_LIMIT_REACHED => Refusal::LimitReached,
-            sys::REFUSED_NOT_HELD => Refusal::NotHeld,
+            sys::REFUSED_NOT_REPRESENTABLE => Refusal::NotRepresentable,
             sys::REFUSED_OUT_OF_RANGE => Refusal::OutOfRange,
             other => Refusal::Other(other),
         }
@@ -150,7 +150,7 @@ impl Refusal {
             Refusal::NotConvergent => sys::REFUSED_NOT_CONVERGENT,
             Refusal::BadRange => sys::REFUSED_BAD_RANGE,
             Refusal::LimitReached => sys::REFUSED_LIMIT_REACHED,
-            Refusal::NotHeld => sys::REFUSED_NOT_HELD,
+            Refusal::NotRepresentable => sys::REFUSED_NOT_REPRESENTABLE,
             Refusal::OutOfRange => sys::REFUSED_OUT_OF_RANGE,
             Refusal::Other(number) => number,
         }
@@ -187,7 +187,7 @@ impl fmt::Display for Refusal {
             Refusal::LimitReached => {
                 "limit reached: the cast would look at more nodes than admitted"
             }
-            Refusal::NotHeld => "not held: a record's float is NaN, or is no f32 exactly",
+            Refusal::NotRepresentable => "not representable: a record's float is NaN, or is no f32 exactly",
             Refusal::OutOfRange => {
                 "out of range: the origin or a corner is not within 8,192, near or the maximum above 32,768"
             }

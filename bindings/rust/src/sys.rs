@@ -720,6 +720,6 @@ pub const REFUSED_BAD_RANGE: u32 = 9;
 /// Refusal 10.
 pub const REFUSED_LIMIT_REACHED: u32 = 10;
 /// A float of a record is NaN, or no f32 is exactly that number.
-pub const REFUSED_NOT_HELD: u32 = 11;
+pub const REFUSED_NOT_REPRESENTABLE: u32 = 11;
 /// Refusal 12.
 pub const REFUSED_OUT_OF_RANGE: u32 = 12;
