@@ -387,7 +387,7 @@ FAULTS = [
     (RUST, "        rays: *const f64,", "        rays: *mut f64,"),
     (RATTLE + "/many.rt", "    codes: &mut [u32],\n    hits: &mut [f64],", "    hits: &mut [f64],\n    codes: &mut [u32],"),
     (HEADER, " *   12   out of range  ", " *   12   out of reach  "),
-    ("include/probe_rays.hpp", "no room: a lent slice", "no room: a slice"),
+    ("include/probe_rays.hpp", "no room: a buffer", "no room: a slice"),
     ("bindings/rust/src/answer.rs", "out of range: the origin or", "out of range: an origin or"),
     ("bindings/python/probe_rays/answers.py", '    "NOT_REPRESENTABLE"', '    "REPRESENTABLE"'),
 ]

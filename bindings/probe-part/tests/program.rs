@@ -238,7 +238,7 @@ fn a_file_that_is_no_stl_is_named() {
     let file = folder.file("w.stl", b"nothing that anybody knows");
     let (_, _, err) = said(&["cast", &file], b"");
     assert!(
-        err.contains("no STL file: 26 bytes that do not begin with 'solid'"),
+        err.contains("not an STL file: 26 bytes that do not begin with 'solid'"),
         "{err}"
     );
     let (status, _, err) = said(&["cast", folder.0.to_str().unwrap()], b"");
@@ -254,7 +254,7 @@ fn rays_from_words_a_file_and_standard_input() {
     // the files have the crate's words on refusal 1; the tool says which test the ray fails
     let told = |name: &str| {
         read(name).replace(
-            "a ray or a query's box that is not admitted",
+            "the ray or the query box is not valid",
             "the maximum is below 0",
         )
     };

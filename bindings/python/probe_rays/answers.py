@@ -8,18 +8,18 @@ from ._library import HIT, NONE, REFUSALS
 from .faults import fault_of
 
 _WORDS = {
-    "INVALID_INPUT": "invalid input: a ray or a query's box that is not admitted",
-    "BAD_SHAPE": "bad shape: a count, length or parameter outside the limits",
-    "NO_ROOM": "no room: a lent slice is too short",
-    "WRONG_POSE": "wrong pose: not as many vertices as the mesh has",
-    "OUT_OF_BOUNDS": "out of bounds: an index or a box that does not fit",
-    "OVERFLOW": "overflow: a number on the way is not finite",
-    "NO_NORMAL": "no normal: the surface hit has no unit normal",
-    "NOT_CONVERGENT": "not convergent: the walk through the grid has no answer",
+    "INVALID_INPUT": "invalid input: the ray or the query box is not valid",
+    "BAD_SHAPE": "bad shape: a count, a length or a parameter is outside the limits, or a record is malformed",
+    "NO_ROOM": "no room: a buffer is too short",
+    "WRONG_POSE": "wrong pose: the pose does not have as many vertices as the mesh",
+    "OUT_OF_BOUNDS": "out of bounds: an index, a box or a tree does not fit",
+    "OVERFLOW": "overflow: a computed number is not finite",
+    "NO_NORMAL": "no normal: the surface that is hit has no unit normal",
+    "NOT_CONVERGENT": "not convergent: the traversal of the distance grid has no answer",
     "BAD_RANGE": "bad range: a range of heights is out of order or not finite",
-    "LIMIT_REACHED": "limit reached: the cast would look at more nodes than admitted",
-    "NOT_REPRESENTABLE": "not representable: a record's float is NaN, or is no f32 exactly",
-    "OUT_OF_RANGE": "out of range: the origin or a corner is not within 8,192, near or the maximum above 32,768",
+    "LIMIT_REACHED": "limit reached: the cast would visit more nodes than the limit allows",
+    "NOT_REPRESENTABLE": "not representable: a float of the record is NaN, or no f32 is exactly that number",
+    "OUT_OF_RANGE": "out of range: the origin or a corner is not within 8,192, or near or the maximum is above 32,768",
 }
 
 

@@ -45,13 +45,13 @@ def _fault(length, count, is_solid):
     if count is None and is_solid:
         return f"cut short: a binary file has 84 bytes before its facets, and this {length}"
     if count is None:
-        return f"no STL file: {length} bytes that do not begin with 'solid'"
+        return f"not an STL file: {length} bytes that do not begin with 'solid'"
     wanted = f"a binary file of {count} facets has {84 + 50 * count} bytes, not {length}"
     if count <= _MOST_FACETS and length < 84 + 50 * count:
         return f"cut short: {wanted}"
     if is_solid:
-        return f"no STL file: it begins with 'solid' and is no text, and {wanted}"
-    return f"no STL file: it does not begin with 'solid', and {wanted}"
+        return f"not an STL file: it begins with 'solid' but is not text, and {wanted}"
+    return f"not an STL file: it does not begin with 'solid', and {wanted}"
 
 
 def _finite(corners, place):
@@ -92,7 +92,7 @@ def _ascii(text):
                 raise StlError(f"{place}: a facet of {len(corners) // 3} vertices")
             facets.append(_finite(tuple(corners), place))
         elif word not in ("", "outer", "endloop"):
-            raise StlError(f'{place}: "{word[:20]}" is no word of an STL file')
+            raise StlError(f'{place}: "{word[:20]}" is not a word of an STL file')
     if is_open:
         raise StlError("cut short: the last solid has no 'endsolid'")
     return facets

@@ -175,21 +175,21 @@ impl Refusal {
 impl fmt::Display for Refusal {
     fn fmt(&self, out: &mut fmt::Formatter<'_>) -> fmt::Result {
         let words = match self {
-            Refusal::InvalidInput => "invalid input: a ray or a query's box that is not admitted",
-            Refusal::BadShape => "bad shape: a count, length or parameter outside the limits",
-            Refusal::NoRoom => "no room: a lent slice is too short",
-            Refusal::WrongPose => "wrong pose: not as many vertices as the mesh has",
-            Refusal::OutOfBounds => "out of bounds: an index or a box that does not fit",
-            Refusal::Overflow => "overflow: a number on the way is not finite",
-            Refusal::NoNormal => "no normal: the surface hit has no unit normal",
-            Refusal::NotConvergent => "not convergent: the walk through the grid has no answer",
+            Refusal::InvalidInput => "invalid input: the ray or the query box is not valid",
+            Refusal::BadShape => "bad shape: a count, a length or a parameter is outside the limits, or a record is malformed",
+            Refusal::NoRoom => "no room: a buffer is too short",
+            Refusal::WrongPose => "wrong pose: the pose does not have as many vertices as the mesh",
+            Refusal::OutOfBounds => "out of bounds: an index, a box or a tree does not fit",
+            Refusal::Overflow => "overflow: a computed number is not finite",
+            Refusal::NoNormal => "no normal: the surface that is hit has no unit normal",
+            Refusal::NotConvergent => "not convergent: the traversal of the distance grid has no answer",
             Refusal::BadRange => "bad range: a range of heights is out of order or not finite",
             Refusal::LimitReached => {
-                "limit reached: the cast would look at more nodes than admitted"
+                "limit reached: the cast would visit more nodes than the limit allows"
             }
-            Refusal::NotRepresentable => "not representable: a record's float is NaN, or is no f32 exactly",
+            Refusal::NotRepresentable => "not representable: a float of the record is NaN, or no f32 is exactly that number",
             Refusal::OutOfRange => {
-                "out of range: the origin or a corner is not within 8,192, near or the maximum above 32,768"
+                "out of range: the origin or a corner is not within 8,192, or near or the maximum is above 32,768"
             }
             Refusal::Other(_) => "a refusal that this version does not know",
         };

@@ -71,17 +71,17 @@ fn read(bytes: &[u8]) -> Result<Vec<Corners>, String> {
             bytes.len()
         ),
         Some(count) if is_solid => format!(
-            "no STL file: it begins with 'solid' and is no text, and a binary file of {count} facets has {} bytes, not {}",
+            "not an STL file: it begins with 'solid' but is not text, and a binary file of {count} facets has {} bytes, not {}",
             84 + 50 * count,
             bytes.len()
         ),
         Some(count) => format!(
-            "no STL file: it does not begin with 'solid', and a binary file of {count} facets has {} bytes, not {}",
+            "not an STL file: it does not begin with 'solid', and a binary file of {count} facets has {} bytes, not {}",
             84 + 50 * count,
             bytes.len()
         ),
         None if is_solid => format!("cut short: a binary file has 84 bytes before its facets, and this {}", bytes.len()),
-        None => format!("no STL file: {} bytes that do not begin with 'solid'", bytes.len()),
+        None => format!("not an STL file: {} bytes that do not begin with 'solid'", bytes.len()),
     })
 }
 
@@ -127,7 +127,10 @@ fn ascii(text: &str) -> Result<Vec<Corners>, String> {
             }
             other => {
                 let start: String = other.chars().take(20).collect();
-                return Err(format!("{}: {start:?} is no word of an STL file", place()));
+                return Err(format!(
+                    "{}: {start:?} is not a word of an STL file",
+                    place()
+                ));
             }
         }
     }
