@@ -43,7 +43,7 @@ def _facets(data):
 def _fault(length, count, is_solid):
     """Why bytes are no STL file."""
     if count is None and is_solid:
-        return f"cut short: a binary file has 84 bytes before its facets, and this {length}"
+        return f"cut short: a binary file has 84 bytes before its facets, and this file has {length}"
     if count is None:
         return f"not an STL file: {length} bytes that do not begin with 'solid'"
     wanted = f"a binary file of {count} facets has {84 + 50 * count} bytes, not {length}"
