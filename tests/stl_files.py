@@ -51,7 +51,7 @@ wrong(
     "cut short: a binary file of 120 facets has 6084 bytes, not 6083",
 )
 wrong("cut-solid-binary", binary(panel)[:-50], "cut short: a binary file of 120 facets has 6084 bytes, not 6034")
-wrong("cut-header", binary(panel)[:82], "cut short: a binary file has 84 bytes before its facets, and this 82")
+wrong("cut-header", binary(panel)[:82], "cut short: a binary file has 84 bytes before its facets, and this file has 82")
 wrong(
     "long-binary",
     b"panel".ljust(80) + binary(panel)[80:] + b"more",
@@ -76,5 +76,5 @@ wrong("not-finite", text.replace(first, "vertex 100 inf 18", 1).encode(), "line 
 wrong("not-finite-binary", binary([(0, 0, 0, 1, 0, 0, 0, float("nan"), 0)]), "facet 0: a coordinate is not finite")
 inner = text.replace(" outer loop", " inner loop", 1)
 wrong("another-word", inner.encode(), 'line 3: "inner" is not a word of an STL file')
-wrong("triangles", binary(strip(1) * 65537), "65537 triangles: at most 65536 are admitted")
-wrong("vertices", binary(strip(32768)), "65537 different vertices: at most 65536 are admitted")
+wrong("triangles", binary(strip(1) * 65537), "65537 triangles: at most 65536 are allowed")
+wrong("vertices", binary(strip(32768)), "65537 different vertices: at most 65536 are allowed")

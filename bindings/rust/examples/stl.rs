@@ -140,7 +140,7 @@ fn merged(facets: &[Corners]) -> Result<Mesh, String> {
         (vertices.len(), "different vertices"),
     ] {
         if count > MAX_COUNT {
-            return Err(format!("{count} {what}: at most {MAX_COUNT} are admitted"));
+            return Err(format!("{count} {what}: at most {MAX_COUNT} are allowed"));
         }
     }
     Mesh::build(vertices, triangles).map_err(|refusal| refusal.to_string())
