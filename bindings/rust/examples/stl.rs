@@ -68,13 +68,13 @@ fn run(words: &[String]) -> Result<bool, String> {
 fn rays(words: &[String]) -> Result<Vec<Ray>, String> {
     if words.len() % 7 != 0 {
         return Err(format!(
-            "a ray is seven numbers, and {} are given\n{USAGE}",
+            "a ray is seven numbers, but {} are given\n{USAGE}",
             words.len()
         ));
     }
     let numbers: Vec<f64> = words
         .iter()
-        .map(|word| word.parse().map_err(|_| format!("no number: {word}")))
+        .map(|word| word.parse().map_err(|_| format!("not a number: {word}")))
         .collect::<Result<_, _>>()?;
     let ray = |n: &[f64]| Ray::toward([n[0], n[1], n[2]], [n[3], n[4], n[5]], n[6]);
     Ok(numbers.chunks_exact(7).map(ray).collect())
@@ -140,7 +140,7 @@ fn merged(facets: &[Corners]) -> Result<Mesh, String> {
         (vertices.len(), "different vertices"),
     ] {
         if count > MAX_COUNT {
-            return Err(format!("{count} {what}: at most {MAX_COUNT} are admitted"));
+            return Err(format!("{count} {what}: at most {MAX_COUNT} are allowed"));
         }
     }
     Mesh::build(vertices, triangles).map_err(|refusal| refusal.to_string())

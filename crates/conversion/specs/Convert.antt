@@ -4,7 +4,7 @@ use mathlib.Core.Bool.{Bool, cond}
 use mathlib.Core.List.{List, _++_}
 use lib.Dec.{ltb}
 use lib.ListN.{length, drop}
-use Rattle.casts.specs.Answer.{badShape, noRoom, notHeld}
+use Rattle.casts.specs.Answer.{badShape, noRoom, notRepresentable}
 use Rattle.float_forms.specs.declared.forms.Form.{Form}
 use Rattle.float_forms.specs.declared.forms.Form.the-variants.{Long, Short}
 use Rattle.float_forms.specs.declared.forms.Converted.{Converted}
@@ -39,7 +39,7 @@ converted p q bytes area =
     (cond (ltb (length area) (length (turned p q bytes))) record { answer = refused noRoom; area = area }
     (cond (saidRepresentable q (saidOf p bytes))
     record { answer = written (length (turned p q bytes)); area = turned p q bytes ++ drop (length (turned p q bytes)) area }
-    record { answer = refused notHeld; area = area }))
+    record { answer = refused notRepresentable; area = area }))
     record { answer = refused badShape; area = area }
 
 abbrev pub toShort : List ℕ → List ℕ → Outcome
