@@ -29,7 +29,8 @@ use Rattle.cabinet.specs.Cabinet.{castCabinet}
 use Rattle.cabinet.specs.Cabinet.{withResults, testsPass}
 use Rattle.cabinet.specs.Looks.{lowerNumber, lowered, lookShape, lookRoom, lookPart, lookParts, numberOf, foundBy, lookFrom}
 use Rattle.cabinet.specs.Looks.{secondPass}
-use Rattle.cabinet.specs.Steps.{isOver, isIdle, ownStep, stepPart, stepParts, looking, begun, castingFrom, between, passes, lastAnswer}
+use Rattle.cabinet.specs.Steps.{isOver, isIdle, ownStep, stepPart, stepParts, looking, begun, castingFrom, between, passes}
+use Rattle.cabinet.specs.Steps.{lastAnswer}
 use Rattle.cabinet.proofs.PartSteps.{Inside, inside-is}
 use Rattle.cabinet.proofs.Limits.{after-refused}
 use Rattle.cabinet.proofs.Alone.{all-first, all-rest}
@@ -295,7 +296,8 @@ module _ (a : Areas) (list stack : ℕ) where
       unfolding lastAnswer
       refused-answers number = ap (λ (s : State). lastAnswer (s .at)) (refused-stays number parts)
 
-      cast-answers : shapes ≡ true → rooms ≡ true → ends (castingFrom (looking r limit Nothing)) ≡ answerOf (castParts r a limit beginning parts)
+      cast-answers : shapes ≡ true → rooms ≡ true → ends (castingFrom (looking r limit Nothing)) ≡ answerOf
+      (castParts r a limit beginning parts)
       cast-answers f g = ap (λ (s : State). lastAnswer (s .at)) (cast-steps beginning parts f g) ∙ last-of-casts r a limit parts
 
       -- an answer of the casts, where the result slices do not fit

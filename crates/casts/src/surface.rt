@@ -44,8 +44,8 @@ pub fn facing(normal: Vec3, along: f64) -> Vec3
     }
 }
 
-// The same, where `flips` tells beforehand whether the normal is to be flipped. It nearly always tells right, and a jump tells that it does,
-// so that what is done with the normal need not wait for `along`; whatever it tells, the normal faces the ray.
+// The same, where `flips` tells beforehand whether the normal is to be flipped. It nearly always tells right, and a jump tells that it
+// does, so that what is done with the normal need not wait for `along`; whatever it tells, the normal faces the ray.
 pub fn facing_as(normal: Vec3, along: f64, flips: bool) -> Vec3
     ensures { λ r. ⌜ r ≡ facing normal along ⌝ }
 {

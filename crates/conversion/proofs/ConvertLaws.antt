@@ -23,13 +23,15 @@ use Rattle.conversion.proofs.WritingLaws.{turned-length}
 
 -- ---- the floats
 
-pub ray-unrepresentable : (p q : Form) (l : List ℕ) → every (representable q) (numbersOf p (raysOf p) (drop 6 l)) ≡ false → false ≡ saidRepresentable q (saidOf p l)
+pub ray-unrepresentable : (p q : Form) (l : List ℕ) → every (representable q) (numbersOf p (raysOf p) (drop 6 l)) ≡ false
+    → false ≡ saidRepresentable q (saidOf p l)
 unfolding everySaid saidOf
 ray-unrepresentable p q l h = rw h
 
 pub numbers-decide : (p q : Form) (l : List ℕ) (plan : Plan) (place : ℕ) (r : Bool) → Sizes p l plan
     → place ≡ 6 + sizeOf p * raysOf p + 4 * plan .counts
-    → every (representable q) (numbersOf p (raysOf p) (drop 6 l)) ≡ true → r ≡ every (representable q) (numbersOf p (plan .numbers) (drop place l))
+    → every (representable q) (numbersOf p (raysOf p) (drop 6 l)) ≡ true → r ≡ every (representable q) (numbersOf p (plan .numbers)
+    (drop place l))
     → r ≡ saidRepresentable q (saidOf p l)
 unfolding everySaid saidOf
 numbers-decide p q l plan place r s e h f = rw h (f ∙ (rw (e, s .countsAre, s .numbersAre)))
@@ -76,7 +78,8 @@ module _ (p q : Form) (l area : List ℕ) (plan : Plan) (r : raysOf p ≡ raysOf
       (sets-eq (turned p q l) area 0 (omega (arith, room)) ∙ (rw here)) in
       rw (k .wellFormed, le-ltb (length area) (length (turned p q l)) room, f, n, whole)
 
-pub size-for : (q : Form) (plan : Plan) (r : ℕ) → r ≡ 2 + sizeOf q * raysOf q + 4 * plan .counts + sizeOf q * plan .numbers + 4 * plan .indices
+pub size-for : (q : Form) (plan : Plan) (r : ℕ) → r ≡ 2 + sizeOf q * raysOf q + 4 * plan .counts + sizeOf q * plan .numbers + 4 * plan
+    .indices
     → r ≡ sizeFor q plan
 unfolding sizeFor
 size-for q plan r e = e

@@ -57,4 +57,9 @@ pub succeeds : (p q : Form) (bytes area : List ℕ) → T (wellFormed p bytes) �
     → converted p q bytes area ≡ success (turned p q bytes) area
 unfolding converted
 succeeds p q bytes area w r h =
-    rw (is-true (wellFormed p bytes) w, le-ltb (length area) (length (turned p q bytes)) r, is-true (saidRepresentable q (saidOf p bytes)) h)
+    rw (
+      is-true (wellFormed p bytes) w,
+      le-ltb (length area) (length (turned p q bytes)) r,
+      is-true (saidRepresentable q
+          (saidOf p bytes)) h,
+    )

@@ -10,7 +10,8 @@ use Rattle.float_forms.specs.declared.forms.Form.{Form}
 use Rattle.float_forms.specs.declared.forms.Form.the-variants.{Long, Short}
 use Rattle.float_forms.specs.Forms.{sizeOf, raysOf, longForm}
 use Rattle.float_forms.specs.Bytes.{IsBytes}
-use Rattle.record_bytes.specs.Records.{manyCounts, manyIndices, bodyLength, kindOf, countsOf, indicesPlace, saidOf, wellFormed, recordBytes, saidFits}
+use Rattle.record_bytes.specs.Records.{manyCounts, manyIndices, bodyLength, kindOf, countsOf, indicesPlace, saidOf, wellFormed, recordBytes}
+use Rattle.record_bytes.specs.Records.{saidFits}
 use Rattle.record_bytes.specs.Records.{withoutNan}
 use Rattle.conversion.specs.Convert.{saidRepresentable, written, Outcome, converted, toLong}
 use Rattle.conversion.specs.Writing.{turned}

@@ -111,7 +111,8 @@ module _ (p q : Form) (l out : List ℕ) (plan : Plan) (r : raysOf p ≡ raysOf 
   pub all-written : (o1 o2 o3 : List ℕ) (body from to : ℕ) → body ≡ sizeFor q plan → from ≡ 6 + sizeOf p * raysOf p + 4 * plan .counts
       → to ≡ 6 + sizeOf q * raysOf q + 4 * plan .counts
       → o1 ≡ sets out 0 (wordBytes body ++ (versionOf q ∷ (plan .kind ∷ [])))
-      → o2 ≡ sets o1 6 (numbersBytes q (numbersOf p (raysOf p) (drop 6 l)) ++ wordsBytes (wordsOf (plan .counts) (drop (6 + sizeOf p * raysOf p) l)))
+      → o2 ≡ sets o1 6 (numbersBytes q (numbersOf p (raysOf p) (drop 6 l)) ++ wordsBytes (wordsOf (plan .counts) (drop
+      (6 + sizeOf p * raysOf p) l)))
       → o3 ≡ sets o2 to
       (numbersBytes q (numbersOf p (plan .numbers) (drop from l)) ++ wordsBytes
       (wordsOf (plan .indices) (drop (from + sizeOf p * plan .numbers) l)))

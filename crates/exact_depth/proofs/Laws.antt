@@ -124,7 +124,8 @@ entering-kept f s h g = go (ltZ (s .fall) (pos 0)) (ltZ (heightOf s f) (pos 0))
     go true false = h
     go true true = record { t = negated-size (g .level); w = negated-size (g .fall) }
 
-pub entering-shallow : {m r : PlaneDepth} {s : Edge} → Shallow m → Bounded s → planeDepthOf r ≡ entering (planeDepthOf m) (sideAs s) → Shallow r
+pub entering-shallow : {m r : PlaneDepth} {s : Edge} → Shallow m → Bounded s → planeDepthOf r ≡ entering (planeDepthOf m) (sideAs s)
+    → Shallow r
 entering-shallow {m} {r} {s} h g e =
     let k : Kept (planeDepthOf r) =
     subst Kept (sym e) (entering-kept (planeDepthOf m) (sideAs s) (record { t = h .t; w = h .w })

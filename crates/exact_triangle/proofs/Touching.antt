@@ -82,7 +82,8 @@ line-sizes r h =
     let far : natAbs (nearestTo units (r .«max_distance»)) ≤ 1073741824 =
     within-size units 15 longest (r .«max_distance») longest-is (and-second (within longest (r .near)) _ h₃) in
     let sizes : (p q : Float) → within furthest p ≡ true → within two q ≡ true
-    → EndsSized (nearestTo units p) (nearestTo parts q) (natAbs (nearestTo units (r .near))) (natAbs (nearestTo units (r .«max_distance»))) =
+    → EndsSized (nearestTo units p) (nearestTo parts q) (natAbs (nearestTo units (r .near))) (natAbs (nearestTo units
+    (r .«max_distance»))) =
     λ p q u v. record {
       origin = within-size units 13 furthest p furthest-is u;
       direction = within-size parts 1 two q two-is v;

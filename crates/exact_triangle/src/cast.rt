@@ -79,7 +79,8 @@ fn distance(at: WideDepth, gain: i64) -> f64
 // The same by a smaller fraction, 2^15 n · (a - o) / n · d with n the cross of the edges, where the line crosses the triangle's plane.
 fn distance_on(line: View, a: Point, b: Point, c: Point, at: WideDepth) -> f64
     requires { ⌜ (ViewSized line × (Near a × (Near b × Near c))) × Middling (value (at .w)) ⌝ }
-    ensures { λ r. ⌜ ((l : Line) → Sees line l → depthOf l a b c ≡ inUnits (gain l) (Met (wideDepthOf at)) → r ≡ millimetres at (gain l)) ⌝ }
+    ensures { λ r. ⌜ ((l : Line) → Sees line l → depthOf l a b c ≡ inUnits (gain l) (Met (wideDepthOf at)) → r ≡ millimetres at
+        (gain l)) ⌝ }
 {
     let n = normal::cross_of(a, b, c);
     let direction = line.direction;

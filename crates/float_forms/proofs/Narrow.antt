@@ -341,4 +341,5 @@ back-short bits h n =
 -- what 4 bytes stand for is representable by 4 bytes
 pub widened-representable : (bits : ℕ) → T (not (isNan (ofBits binary32 bits))) → T (representable (ofBits binary32 bits))
 unfolding representable
-widened-representable bits n = and-i (not (isNan (ofBits binary32 bits))) (fits binary32 (ofBits binary32 bits)) n (ofBits-fits binary32 bits)
+widened-representable bits n = and-i (not (isNan (ofBits binary32 bits))) (fits binary32 (ofBits binary32 bits)) n
+    (ofBits-fits binary32 bits)

@@ -107,7 +107,8 @@ module _ (p q : Form) (l : List ℕ) (whole : Bool) where
     same = rw (sym (drop-drop (sizeOf p) from l)) (rw h at (s .same));
   }
 
-  pub scan-unrepresentable : (from left : ℕ) → 0 < left → Scanning p q l whole from left → representable q (numberOf p (drop from l)) ≡ false
+  pub scan-unrepresentable : (from left : ℕ) → 0 < left → Scanning p q l whole from left → representable q (numberOf p
+      (drop from l)) ≡ false
       → false ≡ whole
   unfolding numbersOf every
   scan-unrepresentable from zero g s h = absurd (omega (arith, g))

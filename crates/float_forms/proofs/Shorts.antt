@@ -53,7 +53,8 @@ pub nan-guess : (x : Float) → ne x x ≡ false → 0x7f80_0000 < guess (toBits
 unfolding isNan
 nan-guess x n h = unrepresentable x (λ e. subst (λ (z : Float). T (not (isNan z))) (sym e ∙ nan-pattern binary32 _ h) (ne-self-passes x n))
 
-pub other-guess : (x : Float) → (toBits binary64 (ofBits binary32 (guess (toBits binary64 x))) ≡ toBits binary64 x → ⊥) → Unrepresentable ≡ shortOf x
+pub other-guess : (x : Float) → (toBits binary64 (ofBits binary32 (guess (toBits binary64 x))) ≡ toBits binary64 x → ⊥)
+    → Unrepresentable ≡ shortOf x
 other-guess x h = unrepresentable x (λ e. h (ap (toBits binary64) e))
 
 pub right-guess : (x : Float) (p : ℕ) → T (fits binary64 x) → p < 0x1_0000_0000 → p % 0x8000_0000 ≤ 0x7f80_0000

@@ -315,7 +315,8 @@ column-clear = record {
 -- so the cast through that tree and the exact cast agree
 pub odd-agrees : Agree ray mesh (rayMesh ray mesh vertices oddTree 3 4) (rayMeshExactPlain ray mesh)
 unfolding lengthsAdmitted roomFor treeFits
-odd-agrees = whole-numbers-agree ray mesh oddTree 3 4 plan refl (record { marks = 9; says-yes = odd-passes }) refl column others column-clear
+odd-agrees = whole-numbers-agree ray mesh oddTree 3 4 plan refl (record { marks = 9; says-yes = odd-passes }) refl column others
+    column-clear
 
 -- .. in the depth: where the cast through the tree is a hit, its distance lies within 2^-51 of the least depth, and 1 is nearest to that
 pub odd-hit : (normal : Vec3) (distance : Float) (index : ℕ) → rayMesh ray mesh vertices oddTree 3 4 ≡ hitAt normal distance index

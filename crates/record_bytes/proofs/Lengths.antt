@@ -31,7 +31,8 @@ written-length form s f =
     let lc : length c ≡ sizeOf form * manyNumbers (s .kind) (s .counts) = numbers-length form (s .numbers) ∙ ap (λ (n : ℕ). sizeOf form * n)
     (f .numbered) in
     let ld : length d ≡ 4 * manyIndices (s .kind) (s .counts) = words-length (s .indices) ∙ ap (λ (n : ℕ). 4 * n) (f .indexed) in
-    let n = 2 + sizeOf form * raysOf form + 4 * manyCounts (s .kind) + sizeOf form * manyNumbers (s .kind) (s .counts) + 4 * manyIndices (s .kind)
+    let n = 2 + sizeOf form * raysOf form + 4 * manyCounts (s .kind) + sizeOf form * manyNumbers (s .kind) (s .counts) + 4 * manyIndices
+    (s .kind)
     (s .counts) in
     omega (
       arith,

@@ -75,7 +75,8 @@ module _ (form : Form) (s : Said) (f : Fitting form s) where
   unfolding countsOf
   back-counts =
       ap (λ (k : ℕ). wordsOf (manyCounts k) (drop (6 + sizeOf form * raysOf form) (recordBytes form s))) (written-kind form s)
-      ∙ words-read (s .counts) (numbersBytes form (s .numbers) ++ wordsBytes (s .indices)) (drop (6 + sizeOf form * raysOf form) (recordBytes form s))
+      ∙ words-read (s .counts) (numbersBytes form (s .numbers) ++ wordsBytes (s .indices)) (drop (6 + sizeOf form * raysOf form)
+      (recordBytes form s))
       (manyCounts (s .kind))
       behind-ray (f .measured .counted) (f .countsFit)
 
@@ -140,14 +141,16 @@ module _ (form : Form) (l : List ℕ) (b : IsBytes l) (g : Formed form l) (h : T
   abbrev counts : List ℕ
   counts = countsOf form l
 
-  whole : length l ≡ 6 + size * raysOf form + 4 * manyCounts (kindOf l) + size * manyNumbers (kindOf l) counts + 4 * manyIndices (kindOf l) counts
+  whole : length l ≡ 6 + size * raysOf form + 4 * manyCounts (kindOf l) + size * manyNumbers (kindOf l) counts + 4 * manyIndices
+      (kindOf l) counts
   unfolding bodyLength
   whole = omega (arith, g .filled)
 
   same-ray : numbersBytes form (numbersOf form (raysOf form) (drop 6 l)) ≡ take (size * raysOf form) (drop 6 l)
   unfolding saidOf
   same-ray =
-      numbers-bytes form (raysOf form) (drop 6 l) (drop-bytes 6 l b) (omega (arith, whole, length-drop 6 l)) (ray-of isNumber (saidOf form l) h)
+      numbers-bytes form (raysOf form) (drop 6 l) (drop-bytes 6 l b) (omega (arith, whole, length-drop 6 l)) (ray-of isNumber
+      (saidOf form l) h)
 
   same-counts : wordsBytes counts ≡ take (4 * manyCounts (kindOf l)) (drop (6 + size * raysOf form) l)
   unfolding countsOf

@@ -22,7 +22,8 @@ use Rattle.record_bytes.specs.Plans.{capped, planOf, filling, planned}
 
 -- the length in the form with floats of 8 bytes
 pub long-body : (form : Form) (kind : ℕ) (counts : List ℕ)
-    → bodyLength (longForm form) kind counts ≡ 2 + 8 * raysOf form + 4 * manyCounts kind + 8 * manyNumbers kind counts + 4 * manyIndices kind
+    → bodyLength (longForm form) kind counts ≡ 2 + 8 * raysOf form + 4 * manyCounts kind + 8 * manyNumbers kind counts + 4 * manyIndices
+    kind
     counts
 unfolding bodyLength
 long-body First kind counts = refl
@@ -110,7 +111,8 @@ count-read form l kind many ray i word k m s h e =
     let place : drop (6 + sizeOf form * raysOf form + 4 * i) l ≡ drop (4 * i) (drop (6 + sizeOf form * raysOf form) l) = sym
     (drop-drop (4 * i) (6 + sizeOf form * raysOf form) l) in
     e ∙
-    (rw (s, place) (word-of-run (manyCounts (kindOf l)) i (drop (6 + sizeOf form * raysOf form) l) (subst (λ (z : ℕ). i < z) (m ∙ ap manyCounts k)
+    (rw (s, place) (word-of-run (manyCounts (kindOf l)) i (drop (6 + sizeOf form * raysOf form) l) (subst (λ (z : ℕ). i < z) (m
+    ∙ ap manyCounts k)
     h)))
 
 pub count-none : (form : Form) (l : List ℕ) (kind many i : ℕ) → kind ≡ kindOf l → many ≡ manyCounts kind → many ≤ i
@@ -222,7 +224,8 @@ module _ (form : Form) (l : List ℕ) (kind counts numbers indices : ℕ) (f : C
   unfilled-many h = unfilled form l (λ _ g. omega (arith, g, long-body form (kindOf l) (countsOf form l), cap .more h))
 
   -- the length that was added up
-  lengths : (other : Form) (sum : ℕ) → numbers ≤ 1024 → sum ≡ 2 + sizeOf other * raysOf other + 4 * counts + sizeOf other * numbers + 4 * indices
+  lengths : (other : Form) (sum : ℕ) → numbers ≤ 1024 → sum ≡ 2 + sizeOf other * raysOf other + 4 * counts + sizeOf other * numbers + 4 *
+      indices
       → sum ≡ bodyLength other (kindOf l) (countsOf form l)
   unfolding bodyLength
   lengths other sum h e = e ∙ (rw (f .countsAre, f .indicesAre, sym (cap .few h)))
@@ -242,14 +245,16 @@ module _ (form : Form) (l : List ℕ) (kind counts numbers indices : ℕ) (f : C
       → 8192 < sum → Malformed ≡ filling form l
   unfilled-long other sum o h e g = unfilled form l (λ _ k. omega (arith, g, k, long-lengths other sum o h e))
 
-  pub fills : (other : Form) (sum long : ℕ) → other ≡ longForm form → numbers ≤ 1024 → sum ≡ 2 + sizeOf form * raysOf form + 4 * counts + sizeOf form * numbers + 4 * indices
+  pub fills : (other : Form) (sum long : ℕ) → other ≡ longForm form → numbers ≤ 1024
+      → sum ≡ 2 + sizeOf form * raysOf form + 4 * counts + sizeOf form * numbers + 4 * indices
       → 4 + sum ≡ length l
       → long ≡ 2 + sizeOf other * raysOf other + 4 * counts + sizeOf other * numbers + 4 * indices → long ≤ 8192
       → Is record { kind = kind; counts = counts; numbers = numbers; indices = indices } ≡ filling form l
   unfolding filling filled planOf
   fills other sum long o h e g d k =
       let whole : 4 + bodyLength form (kindOf l) (countsOf form l) ≡ length l = ap (λ (z : ℕ). 4 + z) (sym (lengths form sum h e)) ∙ g in
-      let small : bodyLength (longForm form) (kindOf l) (countsOf form l) ≤ 8192 = subst (λ (z : ℕ). z ≤ 8192) (long-lengths other long o h d) k in
+      let small : bodyLength (longForm form) (kindOf l) (countsOf form l) ≤ 8192 = subst (λ (z : ℕ). z ≤ 8192)
+      (long-lengths other long o h d) k in
       rw (
         eq-eqb (4 + bodyLength form (kindOf l) (countsOf form l)) (length l) whole,
         le-leb (bodyLength (longForm form) (kindOf l) (countsOf form l)) 8192 small,

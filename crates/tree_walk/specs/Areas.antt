@@ -77,7 +77,8 @@ KeptBy n nodes entry from limit Stopped list stack = Unit
 
 -- a branch, whatever else the tree and the list hold
 pub record Pushed (nodes node left right : ℕ) (entry : List ℕ) (top found : ℕ) (r : Stepped) (exit : List ℕ) : Type 0 where
-  pub holds : (t : Tree) (n : ℕ) (box : Aabb) (list : List ℕ) → t .nodeCount ≡ nodes → walkingAfter r list exit ≡ atBranch t n box node left right
+  pub holds : (t : Tree) (n : ℕ) (box : Aabb) (list : List ℕ) → t .nodeCount ≡ nodes
+      → walkingAfter r list exit ≡ atBranch t n box node left right
       (onStack entry top) (take found list)
   pub kept : (n : ℕ) (list₀ list : List ℕ) (from : ℕ) → Grown n list₀ list from found → KeptBy n nodes list₀ from (top + 1) r list exit
 

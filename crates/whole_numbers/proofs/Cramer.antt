@@ -81,7 +81,8 @@ pos-np k (negsuc n) = neg-np (pos (k * suc n))
 pub parts : (K δ : ℕ) (w n d : ℤ) → δ ≡ natAbs d → pos K *ℤ n ≡ w *ℤ d
     → (K * pp (signedBy d n) ≡ δ * pp w) × (K * np (signedBy d n) ≡ δ * np w)
 parts K δ w n d e h =
-    let q : pos K *ℤ signedBy d n ≡ pos δ *ℤ w = sign-moves (pos K) w n d h ∙ times-comm w (pos (natAbs d)) ∙ ap (λ (z : ℕ). pos z *ℤ w) (sym e) in
+    let q : pos K *ℤ signedBy d n ≡ pos δ *ℤ w = sign-moves (pos K) w n d h ∙ times-comm w (pos (natAbs d)) ∙ ap (λ (z : ℕ). pos z *ℤ w)
+    (sym e) in
     (sym (pos-pp K (signedBy d n)) ∙ ap pp q ∙ pos-pp δ w, sym (pos-np K (signedBy d n)) ∙ ap np q ∙ pos-np δ w)
 
 -- ---- and back: where the determinant is not 0 the line meets the plane there

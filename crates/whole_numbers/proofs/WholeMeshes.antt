@@ -21,7 +21,8 @@ use Rattle.mesh.specs.MeshCast.{rayMesh}
 use Rattle.mesh.specs.Demand3.{Candidate, answerOf, IsHit, MeetsDemand}
 use Rattle.mesh.proofs.Demand3.{demand3}
 use Rattle.whole_numbers.specs.WholeTriangle.{WholeTriangle, Parallel, Crossing, Within, ExactOnWholeNumbers}
-use Rattle.whole_numbers.specs.WholeMesh.{Plan, drawingOf, WholeMesh, Met, Missed, parallel, outside, behind, beyond, AtMost, MeshExact}
+use Rattle.whole_numbers.specs.WholeMesh.{Plan, drawingOf, WholeMesh, Met, Missed, parallel, outside, behind, beyond, AtMost}
+use Rattle.whole_numbers.specs.WholeMesh.{MeshExact}
 use Rattle.whole_numbers.specs.WholeMesh.{MeshesExact}
 use Rattle.whole_numbers.proofs.Drawings.{drawn, drawn-at}
 use Rattle.whole_numbers.proofs.Vectors.{whole-add, whole-mul}

@@ -99,7 +99,8 @@ module _ (r : Ray) (vs : List Vec3) (g : Drawing) (whole-triangle : WholeTriangl
 -- ---- both calls
 pub near-call-exact : NearCallExact
 near-call-exact ox oy oz dx dy dz maximum least ax ay az bx by bz cx cy cz g number before after whole-triangle room says =
-    returned-exact (rayFrom ox oy oz dx dy dz maximum least) (cornersOf ax ay az bx by bz cx cy cz) g whole-triangle number before after room says
+    returned-exact (rayFrom ox oy oz dx dy dz maximum least) (cornersOf ax ay az bx by bz cx cy cz) g whole-triangle number before after
+    room says
 
 pub call-exact : CallExact
 call-exact ox oy oz dx dy dz maximum ax ay az bx by bz cx cy cz g number before after whole-triangle room says =

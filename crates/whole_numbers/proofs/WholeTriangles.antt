@@ -21,7 +21,8 @@ use Rattle.arithmetic.specs.Scaling.{unit}
 use Rattle.arithmetic.proofs.SignedOrder.{less}
 use Rattle.wide_integers.proofs.Integers.{no-factor, pp, np, size-is, add-parts, size-zero}
 use Rattle.whole_numbers.specs.Points.{Point, crossP, dotP}
-use Rattle.whole_numbers.specs.WholeTriangle.{Drawing, WholeTriangle, Parallel, Degenerate, Crossing, Inside, Outside, first, second, sum, Within}
+use Rattle.whole_numbers.specs.WholeTriangle.{Drawing, WholeTriangle, Parallel, Degenerate, Crossing, Inside, Outside, first, second}
+use Rattle.whole_numbers.specs.WholeTriangle.{sum, Within}
 use Rattle.whole_numbers.specs.WholeTriangle.{ExactOnWholeNumbers, firstEdge, secondEdge}
 use Rattle.arithmetic.proofs.ScalingLaws.{unit-pos}
 use Rattle.whole_numbers.proofs.Decisions.{Ratio, signedBy, negative}
@@ -209,7 +210,8 @@ module _ (r : Ray) (vs : List Vec3) (g : Drawing) (whole-triangle : WholeTriangl
     behind : t <ℤ pos 0 → rayTriangle r vs ≡ none
     unfolding t' δ
     behind h =
-        by-size (λ (p : 0 < natAbs Δ). C.t-negative r vs g whole-triangle p (kept-some K (natAbs Δ) (np t') (np t) p (parts-t .1) (minus t h)))
+        by-size (λ (p : 0 < natAbs Δ). C.t-negative r vs g whole-triangle p (kept-some K (natAbs Δ) (np t') (np t) p (parts-t .1)
+        (minus t h)))
 
     beyond : pos (g .maximum * K) <ℤ t → rayTriangle r vs ≡ none
     unfolding t' δ
@@ -220,12 +222,14 @@ module _ (r : Ray) (vs : List Vec3) (g : Drawing) (whole-triangle : WholeTriangl
     left-side : u <ℤ pos 0 → rayTriangle r vs ≡ none
     unfolding u' δ
     left-side h =
-        by-size (λ (p : 0 < natAbs Δ). C.u-negative r vs g whole-triangle p (kept-some K (natAbs Δ) (np u') (np u) p (parts-u .1) (minus u h)))
+        by-size (λ (p : 0 < natAbs Δ). C.u-negative r vs g whole-triangle p (kept-some K (natAbs Δ) (np u') (np u) p (parts-u .1)
+        (minus u h)))
 
     right-side : v <ℤ pos 0 → rayTriangle r vs ≡ none
     unfolding v' δ
     right-side h =
-        by-size (λ (p : 0 < natAbs Δ). C.v-negative r vs g whole-triangle p (kept-some K (natAbs Δ) (np v') (np v) p (parts-v .1) (minus v h)))
+        by-size (λ (p : 0 < natAbs Δ). C.v-negative r vs g whole-triangle p (kept-some K (natAbs Δ) (np v') (np v) p (parts-v .1)
+        (minus v h)))
 
     far-side : pos K <ℤ (u +ℤ v) → rayTriangle r vs ≡ none
     unfolding u' v' δ
@@ -272,7 +276,8 @@ module _ (r : Ray) (vs : List Vec3) (g : Drawing) (whole-triangle : WholeTriangl
     unfolding t'
     forward p e = elim (eq-zero-or-pos (np t')) [
       | inl z ↦ z
-      | inr k ↦ absurd (subst (λ (b : Bool). T b) (sym (negative (C.t r vs g whole-triangle) t' (natAbs Δ) p (C.ratio-t r vs g whole-triangle p) k) ∙ e) tt)
+      | inr k ↦ absurd (subst (λ (b : Bool). T b) (sym (negative (C.t r vs g whole-triangle) t' (natAbs Δ) p
+          (C.ratio-t r vs g whole-triangle p) k) ∙ e) tt)
     ]
 
     near : (normal : Vec3) (distance : Float) → rayTriangle r vs ≡ hit normal distance → Within distance (natAbs t) K
@@ -294,7 +299,8 @@ module _ (r : Ray) (vs : List Vec3) (g : Drawing) (whole-triangle : WholeTriangl
   answers number h = elim (eq-zero-or-pos (natAbs Δ)) [
     | inl z ↦ none-no-refusal number (sym (C.flat-none r vs g whole-triangle z) ∙ h)
     | inr p ↦
-        chain-answers _ _ _ _ _ _ number (λ e. hit-no-refusal _ _ number (sym (C.normal-is r vs g whole-triangle p (C.t r vs g whole-triangle)) ∙ e))
+        chain-answers _ _ _ _ _ _ number (λ e. hit-no-refusal _ _ number (sym (C.normal-is r vs g whole-triangle p
+        (C.t r vs g whole-triangle)) ∙ e))
         (sym (C.answer-is r vs g whole-triangle p) ∙ h)
   ]
 

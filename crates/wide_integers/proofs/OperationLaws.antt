@@ -197,7 +197,8 @@ moved-not : (x y z : ℕ) → x ≤ y → x + z ≤ y + z
 moved-not x y z h = omega (arith, h)
 
 module _ (a b : Wide) (l m h : Digit) where
-  pub below-told : Subtracted (a .low) (b .low) 0 l → Subtracted (a .middle) (b .middle) (l .over) m → Subtracted (a .high) (b .high) (m .over) h
+  pub below-told : Subtracted (a .low) (b .low) 0 l → Subtracted (a .middle) (b .middle) (l .over) m → Subtracted (a .high) (b .high)
+      (m .over) h
       → ltb 0 (h .over) ≡ ltZ (value a) (value b)
   below-told e f g =
       go (h .over) (g .over) (three-below base half (h .word) (m .word) (l .word) (g .word) (f .word) (e .word))

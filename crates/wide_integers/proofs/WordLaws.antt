@@ -112,7 +112,11 @@ module _ (X : ℤ) (g : Negative X) where
       let s = g .small in
       (subst (λ (z : ℤ). T (nonNeg z)) (sym other-read) tt, record { fits = omega arith })
 
-  pub negative-split-sign : (x : ℤ) → X ≡ x → SplitSign x (record { word = 18446744073709551615 - natAbs (bits (negsuc 0 -ℤ X)); below = 1 })
+  pub negative-split-sign : (x : ℤ) → X ≡ x → SplitSign x (record {
+    word = 18446744073709551615 - natAbs (bits
+        (negsuc 0 -ℤ X));
+    below = 1;
+  })
   negative-split-sign x e =
       let k = other-size in
       let s = g .small in

@@ -33,7 +33,8 @@ returns c =
     let l = a .source .now in
     let to = m .numbers-place2 .result in
     let from : n .numbers-place .result ≡ 6 + sizeOf (a .p) * raysOf (a .p) = omega (arith, n .numbers-place .ensures .0) in
-    two-parts (a .out .now) (after-ray w) (v .put-words .last .1 .1 .1 .0) (numbersBytes (a .q) (numbersOf (a .p) (raysOf (a .p)) (drop 6 l)))
+    two-parts (a .out .now) (after-ray w) (v .put-words .last .1 .1 .1 .0) (numbersBytes (a .q) (numbersOf (a .p) (raysOf (a .p))
+    (drop 6 l)))
     (wordsBytes (wordsOf (a .counts) (drop (6 + sizeOf (a .p) * raysOf (a .p)) l))) 6 to
     (w .put-floats .ensures ∙ ap (λ (i : ℕ). sets (a .out .now) 6 (numbersBytes (a .q) (numbersOf (a .p) i (drop 6 l))))
     (k .ray-count .ensures))

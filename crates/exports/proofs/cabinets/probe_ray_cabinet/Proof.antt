@@ -932,7 +932,8 @@ module _ {M : Type 1} (𝓤 : URA M) (H : Heap 𝓤) (A : Atoms 𝓤) (W : Given
     asked-second s l = qed W (‵ ftrue ∷ ‵ (owns (R ∷ Q ∷ []) (s, (l, tt)) (machS s ∷ [], (machL l ∷ [], tt))) ∷ []) ∵ join ! $ frame ! $
         done !
 
-    said-second : (s : State) (l : Look) (r : State) → ent 𝓤 (ensured 𝓤 H A second.ended (second.clauses 𝓤 H A mem run) tt (s, (l, tt)) tt r)
+    said-second : (s : State) (l : Look) (r : State) → ent 𝓤 (ensured 𝓤 H A second.ended (second.clauses 𝓤 H A mem run) tt (s,
+    (l, tt)) tt r)
         (fact 𝓤 (r ≡ secondPass s l))
     said-second s l r = exE 𝓤 _ (λ ws. snd∗ 𝓤 (sem 𝓤 H A (lasts second.ended tt (s, (l, tt)) ws)) (fact 𝓤 (r ≡ secondPass s l)))
 
@@ -1478,7 +1479,8 @@ module _ {M : Type 1} (𝓤 : URA M) (H : Heap 𝓤) (A : Atoms 𝓤) (W : Given
           tt,
         ) (and-then ! (load ! (from ! (stop !)) (look ! 24 refl)) (and-then ! (load ! (from ! (stop !)) (look ! 119 refl))
         (no-more !))) (λ u.
-        use1 W (later (some (λ (r : State). (‵ ftrue ⊛ ‵ (R .own r (u ∷ []))) ⊛ raw (ensured 𝓤 H A second.ended (second.clauses 𝓤 H A mem run)
+        use1 W (later (some (λ (r : State). (‵ ftrue ⊛ ‵ (R .own r (u ∷ []))) ⊛ raw (ensured 𝓤 H A second.ended
+        (second.clauses 𝓤 H A mem run)
         tt (f, (l, tt)) tt r)))) (id⊢ 𝓤 _) $ await ! tt $ pick ! (λ r.
         split ! $
         move ! (1 ∷ []) $
@@ -2211,7 +2213,8 @@ probe-ray-cabinet-spec 𝓤 H 𝓜 𝓖 𝓡 =
     (opening-thm.met 𝓤 H 𝓜 𝓖 𝓡))
     (cited 𝓤 H (LookC 𝓤 H (𝓖 .A) (𝓜 .mem) (𝓡 .run)) 𝓜 𝓡 code.env #looking looking-def.routine code.calls-cabinet-passes·pass·look-all
     (looking-thm.met 𝓤 H 𝓜 𝓖 𝓡))
-    (cited 𝓤 H (SecondC 𝓤 H (𝓖 .A) (𝓜 .mem) (𝓡 .run)) 𝓜 𝓡 code.env #second second-def.routine code.calls-cabinet·look·turn (second-thm.met 𝓤 H 𝓜 𝓖
+    (cited 𝓤 H (SecondC 𝓤 H (𝓖 .A) (𝓜 .mem) (𝓡 .run)) 𝓜 𝓡 code.env #second second-def.routine code.calls-cabinet·look·second_pass
+    (second-thm.met 𝓤 H 𝓜 𝓖
     𝓡))
     (cited 𝓤 H (StepC 𝓤 H (𝓖 .A) (𝓜 .mem) (𝓡 .run)) 𝓜 𝓡 code.env #step step-def.routine code.calls-cabinet-passes·pass·cast-all
     (step-thm.met 𝓤 H 𝓜 𝓖 𝓡))

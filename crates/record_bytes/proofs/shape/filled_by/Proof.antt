@@ -10,7 +10,8 @@ returns : tie.Need-returns
 returns c =
     let (start, at-many-counts) : tie.Start × tie.After-many-counts = search in
     unfilled-short (start .args .form) (now (start .args .source)) (start .args .kind) (at-many-counts .many-counts .result)
-    (c .before .ray-length .result) (start .pre) (at-many-counts .many-counts .ensures .0) (c .before .ray-length .ensures .0) (c .if1 .taken)
+    (c .before .ray-length .result) (start .pre) (at-many-counts .many-counts .ensures .0) (c .before .ray-length .ensures .0)
+    (c .if1 .taken)
 
 returns-2 : tie.Need-returns-2
 returns-2 c =
@@ -52,7 +53,8 @@ returns-4 c =
     (at-count-at2 .count-at2 .result) (at-count-at3 .count-at3 .result) (start .pre) (at-many-counts .many-counts .ensures .0)
     (at-count-at .count-at .ensures .0) (at-count-at2 .count-at2 .ensures .0) (at-count-at3 .count-at3 .ensures .0)
     (at-many-numbers .many-numbers .ensures) (at-many-indices .many-indices .ensures .0))
-    (k .long-form .result) (c .before .body-length2 .result) (k .long-form .ensures) (else2 .if2 .left) (c .before .body-length2 .ensures .0)
+    (k .long-form .result) (c .before .body-length2 .result) (k .long-form .ensures) (else2 .if2 .left)
+    (c .before .body-length2 .ensures .0)
     (c .if4 .taken)
 
 returns-5 : tie.Need-returns-5
@@ -68,7 +70,8 @@ returns-5 c =
     (at-count-at2 .count-at2 .result) (at-count-at3 .count-at3 .result) (start .pre) (at-many-counts .many-counts .ensures .0)
     (at-count-at .count-at .ensures .0) (at-count-at2 .count-at2 .ensures .0) (at-count-at3 .count-at3 .ensures .0)
     (at-many-numbers .many-numbers .ensures) (at-many-indices .many-indices .ensures .0))
-    (k .long-form .result) (at-body-length .body-length .result) (c .before .body-length2 .result) (k .long-form .ensures) (else2 .if2 .left)
+    (k .long-form .result) (at-body-length .body-length .result) (c .before .body-length2 .result) (k .long-form .ensures)
+    (else2 .if2 .left)
     (at-body-length .body-length .ensures .0)
     (else3 .if3 .left) (c .before .body-length2 .ensures .0) (c .if4 .left)
 

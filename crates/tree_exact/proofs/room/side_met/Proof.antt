@@ -35,7 +35,8 @@ holds-zero-requires c κs =
     let (s, k, l) : tie.Start × tie.After-multiple × tie.After-multiple2 = search in
     let h = s .pre in
     let v = s .args in
-    difference-small _ _ (c .difference .ensures) (multiple-small (v .side) (v .onward) (k .multiple .ensures) (onward s) (h .0 .0) (h .1 .0))
+    difference-small _ _ (c .difference .ensures) (multiple-small (v .side) (v .onward) (k .multiple .ensures) (onward s) (h .0 .0)
+    (h .1 .0))
     (multiple-small (v .depth) (v .aside) (l .multiple2 .ensures) (aside s) (h .0 .1) (h .1 .1))
 
 returns : tie.Need-returns

@@ -31,8 +31,10 @@ returns : tie.Need-returns
 returns c =
     let (s, x, y, d, o, t) : tie.Start × tie.After-split-sign × tie.After-split-sign2 × tie.After-times × tie.After-subtract
     × tie.After-subtract2 = search in
-    product-signed (x .split-sign .result) (y .split-sign2 .result) (d .times .result) (o .subtract .result) (t .subtract2 .result) (x .split-sign .ensures)
-    (y .split-sign2 .ensures) (plain-fits (s .fits .a)) (plain-fits (s .fits .b)) (d .times .ensures) (o .subtract .ensures) (t .subtract2 .ensures)
+    product-signed (x .split-sign .result) (y .split-sign2 .result) (d .times .result) (o .subtract .result) (t .subtract2 .result)
+    (x .split-sign .ensures)
+    (y .split-sign2 .ensures) (plain-fits (s .fits .a)) (plain-fits (s .fits .b)) (d .times .ensures) (o .subtract .ensures)
+    (t .subtract2 .ensures)
     ∙ (λ i. bits-back (s .fits .a) i *ℤ bits-back (s .fits .b) i)
 
 pub product-spec : {M : Type 1} → statement M
@@ -46,5 +48,6 @@ product-spec =
     (search needs)  -- subtract-requires
     mul-subtract-2
     (search needs)  -- subtract-requires-2
-    (λ c. let (o, t) : tie.After-subtract × tie.After-subtract2 = search in quotient (t .subtract2 .result .word) (t .subtract2 .ensures .word))
+    (λ c. let (o, t) : tie.After-subtract × tie.After-subtract2 = search in quotient (t .subtract2 .result .word)
+    (t .subtract2 .ensures .word))
     returns)

@@ -13,7 +13,8 @@ add-wrapping-add-u64 c =
 returns : tie.Need-returns
 returns c =
     let (s, l, m, o) : tie.Start × tie.After-add-carry × tie.After-add-carry2 × tie.After-wrapping-add-u64 = search in
-    sum-told (s .args .a) (s .args .b) (l .add-carry .result) (m .add-carry2 .result) (o .wrapping-add-u64 .result) (c .wrapping-add-u642 .result)
+    sum-told (s .args .a) (s .args .b) (l .add-carry .result) (m .add-carry2 .result) (o .wrapping-add-u64 .result)
+    (c .wrapping-add-u642 .result)
     (l .add-carry .ensures) (m .add-carry2 .ensures) (o .wrapping-add-u64 .ensures) (c .wrapping-add-u642 .ensures) (s .pre)
 
 pub sum-spec : {M : Type 1} → statement M

@@ -52,11 +52,14 @@ mul-wrapping-sub-u64-2 c =
 returns : tie.Need-returns
 returns c =
     let (s, y, k, lo, up, o, t, w, f, g) : tie.Start × tie.After-split-sign × tie.After-struct-known × tie.After-times × tie.After-times2
-    × tie.After-add-carry × tie.After-subtract × tie.After-wrapping-add-u64 × tie.After-wrapping-sub-u64 × tie.After-wrapping-sub-u642 = search in
+    × tie.After-add-carry × tie.After-subtract × tie.After-wrapping-add-u64 × tie.After-wrapping-sub-u64
+    × tie.After-wrapping-sub-u642 = search in
     times-told (s .args .a) (middle-word k) (low-word k) (s .pre) (y .split-sign .result) (lo .times .result) (up .times2 .result)
     (o .add-carry .result) (t .subtract .result) (w .wrapping-add-u64 .result) (f .wrapping-sub-u64 .result) (g .wrapping-sub-u642 .result)
-    (c .wrapping-sub-u643 .result) (y .split-sign .ensures) (plain-fits (s .fits .k)) (omega arith) (lo .times .ensures) (up .times2 .ensures)
-    (o .add-carry .ensures) (t .subtract .ensures) (w .wrapping-add-u64 .ensures) (f .wrapping-sub-u64 .ensures) (g .wrapping-sub-u642 .ensures)
+    (c .wrapping-sub-u643 .result) (y .split-sign .ensures) (plain-fits (s .fits .k)) (omega arith) (lo .times .ensures)
+    (up .times2 .ensures)
+    (o .add-carry .ensures) (t .subtract .ensures) (w .wrapping-add-u64 .ensures) (f .wrapping-sub-u64 .ensures)
+    (g .wrapping-sub-u642 .ensures)
     (c .wrapping-sub-u643 .ensures)
     ∙ ap (λ (x : ℤ). value (s .args .a) *ℤ x) (bits-back (s .fits .k))
 
