@@ -297,7 +297,7 @@ module _ (a : Areas) (list stack : ℕ) where
       refused-answers number = ap (λ (s : State). lastAnswer (s .at)) (refused-stays number parts)
 
       cast-answers : shapes ≡ true → rooms ≡ true → ends (castingFrom (looking r limit Nothing)) ≡ answerOf
-      (castParts r a limit beginning parts)
+          (castParts r a limit beginning parts)
       cast-answers f g = ap (λ (s : State). lastAnswer (s .at)) (cast-steps beginning parts f g) ∙ last-of-casts r a limit parts
 
       -- an answer of the casts, where the result slices do not fit

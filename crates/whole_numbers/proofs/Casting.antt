@@ -272,7 +272,7 @@ module _ (r : Ray) (vs : List Vec3) (g : Drawing) (whole-triangle : WholeTriangl
     v-negative h = answer-is ∙ third-fails (le zeroᶠ u) (le u oneᶠ) _ _ _ _ (negative v (signedBy Δ W) δ some ratio-v h)
 
     pub sum-above : np (signedBy Δ U) ≡ 0 → np (signedBy Δ W) ≡ 0 → δ < natAbs (signedBy Δ U) + natAbs (signedBy Δ W)
-    → rayTriangle r vs ≡ none
+        → rayTriangle r vs ≡ none
     sum-above p q h =
         answer-is ∙ fourth-fails (le zeroᶠ u) (le u oneᶠ) (lt v zeroᶠ) _ _ _
         (sum-above-one u v (signedBy Δ U) (signedBy Δ W) δ some ratio-u ratio-v p q (let l = δ-small in omega (arith, l)) h

@@ -932,8 +932,8 @@ module _ {M : Type 1} (𝓤 : URA M) (H : Heap 𝓤) (A : Atoms 𝓤) (W : Given
     asked-second s l = qed W (‵ ftrue ∷ ‵ (owns (R ∷ Q ∷ []) (s, (l, tt)) (machS s ∷ [], (machL l ∷ [], tt))) ∷ []) ∵ join ! $ frame ! $
         done !
 
-    said-second : (s : State) (l : Look) (r : State) → ent 𝓤 (ensured 𝓤 H A second.ended (second.clauses 𝓤 H A mem run) tt (s,
-    (l, tt)) tt r)
+    said-second : (s : State) (l : Look) (r : State) → ent 𝓤 (ensured 𝓤 H A second.ended (second.clauses 𝓤 H A mem run) tt
+        (s, (l, tt)) tt r)
         (fact 𝓤 (r ≡ secondPass s l))
     said-second s l r = exE 𝓤 _ (λ ws. snd∗ 𝓤 (sem 𝓤 H A (lasts second.ended tt (s, (l, tt)) ws)) (fact 𝓤 (r ≡ secondPass s l)))
 
@@ -2213,7 +2213,7 @@ probe-ray-cabinet-spec 𝓤 H 𝓜 𝓖 𝓡 =
     (opening-thm.met 𝓤 H 𝓜 𝓖 𝓡))
     (cited 𝓤 H (LookC 𝓤 H (𝓖 .A) (𝓜 .mem) (𝓡 .run)) 𝓜 𝓡 code.env #looking looking-def.routine code.calls-cabinet-passes·pass·look-all
     (looking-thm.met 𝓤 H 𝓜 𝓖 𝓡))
-    (cited 𝓤 H (SecondC 𝓤 H (𝓖 .A) (𝓜 .mem) (𝓡 .run)) 𝓜 𝓡 code.env #second second-def.routine code.calls-cabinet·look·second_pass
+    (cited 𝓤 H (SecondC 𝓤 H (𝓖 .A) (𝓜 .mem) (𝓡 .run)) 𝓜 𝓡 code.env #second second-def.routine code.calls-cabinet·look·second-pass
     (second-thm.met 𝓤 H 𝓜 𝓖
     𝓡))
     (cited 𝓤 H (StepC 𝓤 H (𝓖 .A) (𝓜 .mem) (𝓡 .run)) 𝓜 𝓡 code.env #step step-def.routine code.calls-cabinet-passes·pass·cast-all
