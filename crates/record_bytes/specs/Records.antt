@@ -1,7 +1,7 @@
 -- What a record says; its layout, of every version, is stated once, over the form. Definitions only. Assumes nothing.
 use Prim.Native.Nat.{ℕ, _+_, _*_}
-use mathlib.Core.Bool.{Bool, cond, false, _&&_}
-use mathlib.Core.List.{List, [], _∷_, _++_}
+use mathlib.Core.Bool.{Bool, cond, _&&_}
+use mathlib.Core.List.{List, _∷_, _++_}
 use lib.Dec.{leb, eqb}
 use lib.Ieee.{Float}
 use lib.ListN.{length, getD, drop}
@@ -48,11 +48,15 @@ bodyLength form kind counts =
 abbrev pub kindOf : List ℕ → ℕ
 kindOf bytes = getD bytes 5 0
 
+-- where the counts, the floats and the indices begin
+abbrev pub countsPlace : Form → ℕ
+countsPlace form = 6 + sizeOf form * raysOf form
+
 unfoldable pub countsOf : Form → List ℕ → List ℕ
-countsOf form bytes = wordsOf (manyCounts (kindOf bytes)) (drop (6 + sizeOf form * raysOf form) bytes)
+countsOf form bytes = wordsOf (manyCounts (kindOf bytes)) (drop (countsPlace form) bytes)
 
 abbrev pub numbersPlace : Form → ℕ → ℕ
-numbersPlace form kind = 6 + sizeOf form * raysOf form + 4 * manyCounts kind
+numbersPlace form kind = countsPlace form + 4 * manyCounts kind
 
 abbrev pub indicesPlace : Form → ℕ → List ℕ → ℕ
 indicesPlace form kind counts = numbersPlace form kind + sizeOf form * manyNumbers kind counts
