@@ -11,7 +11,8 @@ use Rattle.float_forms.specs.Forms.{sizeOf, raysOf}
 use Rattle.float_forms.specs.Bytes.{numbersOf, wordsOf}
 use Rattle.record_bytes.specs.declared.shape.Plan.{Plan}
 use Rattle.record_bytes.specs.declared.shape.Planned.the-variants.{Is, Malformed}
-use Rattle.record_bytes.specs.Records.{manyCounts, manyNumbers, manyIndices, bodyLength, kindOf, countsPlace, countsOf, saidOf, wellFormed}
+use Rattle.record_bytes.specs.Records.{manyCounts, manyNumbers, manyIndices, bodyLength, kindOf, countsPlace, countsOf, saidOf}
+use Rattle.record_bytes.specs.Records.{wellFormed}
 use Rattle.record_bytes.specs.Plans.{planOf, planned, Known}
 use Rattle.record_bytes.proofs.Parts.{Formed, formed}
 use Rattle.record_bytes.proofs.ShapeLaws.{long-body}

@@ -13,7 +13,8 @@ use Rattle.float_forms.specs.declared.forms.Form.the-variants.{First, Long, Sho
 use Rattle.float_forms.specs.Forms.{sizeOf, raysOf, versionOf, longForm}
 use Rattle.float_forms.specs.Bytes.{IsBytes, wordOf, wordBytes, numbersOf, numbersBytes, wordsOf, wordsBytes}
 use Rattle.record_bytes.specs.Records.{Said, manyCounts, manyNumbers, manyIndices, bodyLength, kindOf, countsPlace, countsOf}
-use Rattle.record_bytes.specs.Records.{numbersPlace, indicesPlace, saidOf, isKind, longest, fieldsBytes, recordBytes, saidFits, withoutNan}
+use Rattle.record_bytes.specs.Records.{numbersPlace, indicesPlace, saidOf, isKind, longest, fieldsBytes, recordBytes, saidFits}
+use Rattle.record_bytes.specs.Records.{withoutNan}
 use Rattle.float_forms.specs.Representable.{isNumber, fitsIn}
 use Rattle.float_forms.proofs.Numbers.{drop-bytes, word-back, word-bytes}
 use Rattle.float_forms.proofs.RunLaws.{numbers-length, words-length, numbers-read, numbers-bytes, AllWords, words-read, words-bytes}

@@ -14,7 +14,8 @@ use Rattle.float_forms.specs.declared.forms.Form.the-variants.{First, Long, Sho
 use Rattle.record_bytes.specs.declared.shape.Planned.the-variants.{Is, Malformed}
 use Rattle.float_forms.specs.Forms.{sizeOf, raysOf, versionOf, formOf, longForm}
 use Rattle.float_forms.specs.Bytes.{wordOf, wordsOf}
-use Rattle.record_bytes.specs.Records.{manyCounts, manyNumbers, manyIndices, bodyLength, kindOf, countsPlace, countsOf, framed, filled}
+use Rattle.record_bytes.specs.Records.{manyCounts, manyNumbers, manyIndices, bodyLength, kindOf, countsPlace, countsOf, framed}
+use Rattle.record_bytes.specs.Records.{filled}
 use Rattle.record_bytes.specs.Records.{longest, wellFormed, formAt}
 use Rattle.record_bytes.specs.Plans.{capped, planOf, filling, planned}
 
