@@ -14,9 +14,10 @@
  *   - A slice that a call writes (no const) shares no element with another slice of the same call.
  *     Slices that are only read may be the same slice.
  *   - All elements are initialised, also in a buffer that is only written: use calloc or a static array.
- * The caller must ensure this: neither a C compiler nor the library checks it. Every other argument may have any value.
+ * The caller must ensure this: a C compiler does not check it, and the library cannot. Every other argument may have any
+ * value.
  *
- * No call allocates memory, takes a lock, keeps anything between calls, or reads anything but its arguments.
+ * No call allocates memory, takes a lock, keeps anything between calls, or reads anything but what it is given.
  * Every call terminates.
  * The calls are thread-safe: any number of threads may call at the same time, as long as no slice that one call writes
  * is used by another.
@@ -70,7 +71,7 @@
  *
  * Otherwise the result slices are written only with PROBE_HIT, PROBE_DONE and PROBE_POSSIBLE, and spent with PROBE_NONE
  * too. Their places past those stated are unchanged.
- * If a call of many rays refuses one ray, the call itself does not refuse: the ray's number stands in codes, and its
+ * If a call of many rays refuses one ray, the call itself does not refuse: the ray's number is in codes, and its
  * places of hits and indices are unchanged.
  * The work buffers are: the list and the stack of a mesh cast, of a call of many rays, of a listing and of a cabinet;
  * the query's stack; the build's work; and the marks of the check and of the merge. They need not be cleared before a
@@ -177,7 +178,7 @@ extern "C" {
 #define PROBE_RAYS_LENGTH(rays) ((size_t)8 * (rays))
 #define PROBE_HITS_LENGTH(rays) ((size_t)4 * (rays))
 
-/* The greatest length of a record of version 2 or 3, in bytes, its four length bytes included. */
+/* No record of version 2 or 3 has more bytes, its four length bytes included. */
 #define PROBE_MAX_RECORD 8196u
 
 /* The version of the linked library. It is PROBE_VERSION if this header belongs to that library. */
@@ -513,7 +514,7 @@ uint32_t probe_ray_triangle_slices(
 );
 
 /* Casts a ray at a mesh without a tree: for parts of few triangles, such as a drawer front of a dozen. It takes no
- * buffers but the mesh and the result slices. It visits every triangle in index order, and skips those whose box does not
+ * buffers but the mesh and the result slices. It visits every triangle by its index, and skips those whose box does not
  * touch the box of the ray's segment. Surfaces nearer than near_distance are passed over. near_distance must be finite
  * and from 0 to max_distance; otherwise the call refuses with 1.
  *
@@ -585,7 +586,7 @@ uint32_t probe_ray_mesh_exact_plain(
  * At the mesh's own vertices, through a tree for which probe_tree_check returns PROBE_YES, and for a mesh for which
  * probe_mesh_has_numbers returns PROBE_YES, the call returns what probe_ray_mesh_exact_plain returns: the two are proved
  * to agree, and a miss is certain there. At other vertices, or through any other tree, the call terminates too, and a hit
- * is one of its triangle at `pose`, but a surface may be missed.
+ * is a true hit of its triangle at `pose`, but a surface may be missed.
  *
  * Returns PROBE_HIT or PROBE_NONE, or refuses with 1, 12 (for the ray), 2, 3 or 4, tested in this order, and then with 5
  * (the tree is broken where the traversal meets it, or an index is past the vertices) or 12 (a corner is not a number from

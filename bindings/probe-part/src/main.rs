@@ -1,6 +1,6 @@
 //! `probe-part`: probes a part in an STL file. `probe-part --help` says how.
 //!
-//! Exit status: 0 if every ray was answered, 1 if a cast was refused, 2 if the command line or a file is wrong, 3 if a list may
+//! Exit status: 0 if every cast was answered, 1 if a cast was refused, 2 if the command line or a file is wrong, 3 if a list may
 //! be incomplete or wrong.
 use probe_part::batch::{run as run_batch, Job};
 use probe_part::corner::from_corner;
@@ -52,7 +52,7 @@ probe-part probes a part in an STL file, binary or ASCII, in millimetres.
 Faces: top (+z), bottom (-z), front (-y), back (+y), left (-x), right (+x).
 A part of more than 65,536 triangles is cast at in pieces.
 The casts are proved. What `bores` recognises, and the pictures, are tested but not proved.
-Exit status: 0 if every ray was answered, and a list is complete and confirmed; 1 if a cast was refused; 2 if the command line
+Exit status: 0 if every cast was answered, and a list is complete and confirmed; 1 if a cast was refused; 2 if the command line
 or a file is wrong; 3 if a list may be incomplete or wrong.
 ";
 

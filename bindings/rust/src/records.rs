@@ -2,7 +2,7 @@
 use crate::answer::Refusal;
 use crate::{calls, sys};
 
-/// The greatest length of a record of version 2 or 3, in bytes, its four length bytes included.
+/// The maximum number of bytes of a record of version 2 or 3, its four length bytes included.
 pub const MAX_RECORD: usize = 8_196;
 
 /// Converts a record of version 2, with floats of eight bytes, to version 3, with floats of four.

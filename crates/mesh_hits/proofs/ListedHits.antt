@@ -197,8 +197,8 @@ module _ (answer : ℕ → Answer) (n k : ℕ) (indices : List ℕ) (numbers : L
       reached none h = absurd (true≢false (sym h ∙ unfold isHit in refl))
       reached (refused number) h = absurd (true≢false (sym h ∙ unfold isHit in refl))
 
-      pub sorted-hits : HitsInPlaces answer n (exit ++ drop k indices) k (exitN ++ drop (4 * k) numbers)
-      sorted-hits = record {
+      pub sorted-in-places : HitsInPlaces answer n (exit ++ drop k indices) k (exitN ++ drop (4 * k) numbers)
+      sorted-in-places = record {
         inside = omega (arith, length-append exit (drop k indices), exit-long);
         fits = omega (arith, length-append exitN (drop (4 * k) numbers), exitN-long);
         below = λ (j : ℕ) (h : j < k). subst (λ (x : ℕ). x < n) (sym (first j h)) (at-place j h .0);
