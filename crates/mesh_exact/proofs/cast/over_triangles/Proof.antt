@@ -37,7 +37,7 @@ winner-of-requires c κs =
 returns-2 : tie.Need-returns-2
 returns-2 c =
     let (s, w) : tie.Start × tie.After-winner-of = search in
-    nobody-won (s .args .ray) (own s) _ (w .winner-of .ensures _ (s .pre .1)) (c .enum-coded .given .1)
+    nobody-won (s .args .ray) (own s) _ (w .winner-of .ensures _ (s .pre .1)) (c .enum-told .given .1)
 
 -- a refusal
 returns-3 : tie.Need-returns-3
@@ -75,7 +75,7 @@ over-triangles-spec =
     (λ c κs. search needs)  -- put-codes-requires
     (search needs)  -- slice-aggregate-winner-of
     winner-of-requires
-    (search needs)  -- enum-coded
+    (search needs)  -- enum-told
     returns-2
     (search needs)  -- enum-known-winner
     returns-3

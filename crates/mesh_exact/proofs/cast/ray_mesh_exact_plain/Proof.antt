@@ -20,7 +20,7 @@ returns-2 c =
     let (s, v, e, l) : tie.Start × tie.After-validate × tie.Else1 × tie.After-view-of = search in
     answer-certain _ _ _
     (exact-out _ _ (test-passed (v .validate .ensures) (e .if1 .left))
-    (subst (Viewed (s .args .ray)) (c .enum-coded .given .1) (l .view-of .ensures)))
+    (subst (Viewed (s .args .ray)) (c .enum-told .given .1) (l .view-of .ensures)))
 
 -- the line is the ray's
 shown : (k : tie.After-viewed) → let s : tie.Start = search in Shown (s .args .ray) (k .viewed .given .0 .0)
@@ -60,7 +60,7 @@ ray-mesh-exact-plain-spec =
     returns
     (search needs)  -- sight-of-requires
     (search needs)  -- enum-known-viewed
-    (search needs)  -- enum-coded
+    (search needs)  -- enum-told
     returns-2
     (search needs)  -- lengths-admitted-requires
     returns-3
