@@ -15,7 +15,7 @@ use Rattle.record_bytes.specs.declared.stream.Found.the-variants.{Record, Cut, 
 use Rattle.record_bytes.proofs.Frames.{next-within}
 use Rattle.records.proofs.Lengths.{length-line, length-bad-line}
 use Rattle.record_stream.specs.declared.answers.AtHand.{AtHand}
-use Rattle.record_stream.specs.AtHand.{outputFrom, outputAfter, MayCome, Step, stepBy, stepOf, Turned, goesOn, Answered}
+use Rattle.record_stream.specs.AtHand.{outputFrom, outputAfter, MayCome, Step, stepOf, Turned, goesOn, Answered}
 use Rattle.record_stream.proofs.StreamLaws.{Enough, all, long}
 use Rattle.record_stream.proofs.HandLaws.{step-output}
 
@@ -27,7 +27,7 @@ pub record Fair (number : ℕ) (hand : List ℕ) (t : Step) : Type 0 where
   pub grows : t .last ≡ false → (4 ≤ t .taken) × (t .number ≡ number + 1)
 
 pub step-fair : (number : ℕ) (hand : List ℕ) (found : Found) → nextOf hand ≡ found → Fair number hand (stepOf number hand found)
-unfolding stepOf stepBy
+unfolding stepOf
 step-fair number hand End e = record { short = omega arith; inside = omega arith; grows = λ h. absurd (true≢false h) }
 step-fair number hand Cut e = record { short = length-bad-line number; inside = omega arith; grows = λ h. absurd (true≢false h) }
 step-fair number hand (Record end) e =

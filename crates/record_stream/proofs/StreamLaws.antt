@@ -5,11 +5,11 @@ use mathlib.Core.Bool.{Bool, true, false, cond}
 use mathlib.Core.List.{List, [], _++_, append-nil}
 use native.Mathlib.Omega.{arith}
 use borrow.Author.Tests.{eq-eqb}
-use lib.ListN.{length, drop, length-drop}
+use lib.ListN.{length, take, drop, length-drop}
 use lib.Seq.{take-append-le, drop-append-le}
-use Rattle.record_bytes.specs.Parse.{wellFormed}
+use Rattle.record_bytes.specs.Records.{isRecord}
 use Rattle.records.specs.Lines.{lineOf, badLine}
-use Rattle.record_bytes.specs.Stream.{nextOf, longBody, bodyOf}
+use Rattle.record_bytes.specs.Stream.{nextOf}
 use Rattle.records.specs.Output.{linesFrom, outputOf}
 use Rattle.record_bytes.specs.declared.stream.Found.{Found}
 use Rattle.record_bytes.specs.declared.stream.Found.the-variants.{Record, Cut, End}
@@ -43,7 +43,7 @@ turns (suc f) (suc g) number bytes h k = go (nextOf bytes) (λ end e. next-withi
         let high : end ≤ length bytes = w end refl .1 in
         let p : length (drop end bytes) ≤ f = omega (arith, low, high, h, length-drop end bytes) in
         let q : length (drop end bytes) ≤ g = omega (arith, low, high, k, length-drop end bytes) in
-        ap (λ (rest : List ℕ). cond (wellFormed (bodyOf end bytes)) (lineOf number (bodyOf end bytes) ++ rest) (badLine number))
+        ap (λ (rest : List ℕ). cond (isRecord (take end bytes)) (lineOf number (take end bytes) ++ rest) (badLine number))
         (ih end low p q)
 
 -- ---- the output, by what stands at the front
@@ -69,8 +69,8 @@ unfolding outputFrom linesFrom
 output-cut number bytes e = turns (length bytes) (suc (length bytes)) number bytes (omega arith) (omega arith) ∙ (rw e)
 
 record-step : (number : ℕ) (bytes : List ℕ) (end : ℕ) → nextOf bytes ≡ Record end
-    → outputFrom number bytes ≡ cond (wellFormed (bodyOf end bytes))
-    (lineOf number (bodyOf end bytes) ++ outputFrom (suc number) (drop end bytes)) (badLine number)
+    → outputFrom number bytes ≡ cond (isRecord (take end bytes))
+    (lineOf number (take end bytes) ++ outputFrom (suc number) (drop end bytes)) (badLine number)
 unfolding outputFrom linesFrom
 record-step number bytes end e =
     let w : (4 ≤ end) × (end ≤ length bytes) = next-within bytes end e in
@@ -79,11 +79,11 @@ record-step number bytes end e =
     turns (length bytes) (suc (length bytes)) number bytes (omega arith) (omega arith)
     ∙ (rw (e, turns (length bytes) (length rest) (suc number) rest less (omega arith)))
 
-pub output-good : (number : ℕ) (bytes : List ℕ) (end : ℕ) → nextOf bytes ≡ Record end → wellFormed (bodyOf end bytes) ≡ true
-    → outputFrom number bytes ≡ lineOf number (bodyOf end bytes) ++ outputFrom (suc number) (drop end bytes)
+pub output-good : (number : ℕ) (bytes : List ℕ) (end : ℕ) → nextOf bytes ≡ Record end → isRecord (take end bytes) ≡ true
+    → outputFrom number bytes ≡ lineOf number (take end bytes) ++ outputFrom (suc number) (drop end bytes)
 output-good number bytes end e w = record-step number bytes end e ∙ (rw w)
 
-pub output-bad : (number : ℕ) (bytes : List ℕ) (end : ℕ) → nextOf bytes ≡ Record end → wellFormed (bodyOf end bytes) ≡ false
+pub output-bad : (number : ℕ) (bytes : List ℕ) (end : ℕ) → nextOf bytes ≡ Record end → isRecord (take end bytes) ≡ false
     → outputFrom number bytes ≡ badLine number
 output-bad number bytes end e w = record-step number bytes end e ∙ (rw w)
 
@@ -102,9 +102,6 @@ pub next-kept : (hand more : List ℕ) (ended : Bool) → Enough ended hand → 
 next-kept hand more ended (all e) m = ap (λ (z : List ℕ). nextOf (hand ++ z)) (m e) ∙ ap nextOf (append-nil hand)
 next-kept hand more ended (long h) m = next-stays hand more h
 
-body-kept : (hand more : List ℕ) (end : ℕ) → 4 ≤ end → end ≤ length hand → bodyOf end (hand ++ more) ≡ bodyOf end hand
-body-kept hand more end low high = ap longBody (take-append-le end hand more high)
-
 -- ---- one record at hand, for each answer
 
 module _ (number : ℕ) (hand more : List ℕ) (ended : Bool) (n : Enough ended hand) (m : MayCome ended more) where
@@ -114,17 +111,17 @@ module _ (number : ℕ) (hand more : List ℕ) (ended : Bool) (n : Enough ended 
   pub hand-cut : nextOf hand ≡ Cut → outputFrom number (hand ++ more) ≡ badLine number
   hand-cut e = output-cut number (hand ++ more) (next-kept hand more ended n m ∙ e)
 
-  pub hand-good : (end : ℕ) → nextOf hand ≡ Record end → wellFormed (bodyOf end hand) ≡ true
-      → outputFrom number (hand ++ more) ≡ lineOf number (bodyOf end hand) ++ outputFrom (suc number) (drop end hand ++ more)
+  pub hand-good : (end : ℕ) → nextOf hand ≡ Record end → isRecord (take end hand) ≡ true
+      → outputFrom number (hand ++ more) ≡ lineOf number (take end hand) ++ outputFrom (suc number) (drop end hand ++ more)
   hand-good end e w =
       let within : (4 ≤ end) × (end ≤ length hand) = next-within hand end e in
-      let body : bodyOf end (hand ++ more) ≡ bodyOf end hand = body-kept hand more end (within .0) (within .1) in
-      output-good number (hand ++ more) end (next-kept hand more ended n m ∙ e) (ap wellFormed body ∙ w)
-      ∙ (rw (body, drop-append-le end hand more (within .1)))
+      let kept : take end (hand ++ more) ≡ take end hand = take-append-le end hand more (within .1) in
+      output-good number (hand ++ more) end (next-kept hand more ended n m ∙ e) (ap isRecord kept ∙ w)
+      ∙ (rw (kept, drop-append-le end hand more (within .1)))
 
-  pub hand-bad : (end : ℕ) → nextOf hand ≡ Record end → wellFormed (bodyOf end hand) ≡ false
+  pub hand-bad : (end : ℕ) → nextOf hand ≡ Record end → isRecord (take end hand) ≡ false
       → outputFrom number (hand ++ more) ≡ badLine number
   hand-bad end e w =
       let within : (4 ≤ end) × (end ≤ length hand) = next-within hand end e in
-      let body : bodyOf end (hand ++ more) ≡ bodyOf end hand = body-kept hand more end (within .0) (within .1) in
-      output-bad number (hand ++ more) end (next-kept hand more ended n m ∙ e) (ap wellFormed body ∙ w)
+      let kept : take end (hand ++ more) ≡ take end hand = take-append-le end hand more (within .1) in
+      output-bad number (hand ++ more) end (next-kept hand more ended n m ∙ e) (ap isRecord kept ∙ w)

@@ -5,10 +5,10 @@ use mathlib.Core.Bool.{Bool, true, false, not, _&&_, _||_}
 use lib.Dec.{leb}
 use mathlib.Core.List.{List, [], _∷_, _++_}
 use lib.ListN.{length, take, drop}
-use Rattle.record_bytes.specs.Parse.{wellFormed}
+use Rattle.record_bytes.specs.Records.{isRecord}
 use Rattle.record_text.specs.Text.{Put}
 use Rattle.records.specs.Lines.{lineOf, badLine}
-use Rattle.record_bytes.specs.Stream.{nextOf, bodyOf}
+use Rattle.record_bytes.specs.Stream.{nextOf}
 use Rattle.records.specs.Output.{linesFrom}
 use Rattle.record_bytes.specs.declared.stream.Found.{Found}
 use Rattle.record_bytes.specs.declared.stream.Found.the-variants.{Record, Cut, End}
@@ -41,14 +41,15 @@ pub record Step : Type 0 where
   pub number : ℕ
   pub last : Bool
 
--- by the record's body and how many bytes it takes
-unfoldable pub stepBy : ℕ → ℕ → List ℕ → Step
-stepBy number end body = record { line = lineOf number body; taken = end; number = number + 1; last = not (wellFormed body) }
-
 unfoldable pub stepOf : ℕ → List ℕ → Found → Step
 stepOf number hand End = record { line = []; taken = 0; number = number; last = true }
 stepOf number hand Cut = record { line = badLine number; taken = 0; number = number; last = true }
-stepOf number hand (Record end) = stepBy number end (bodyOf end hand)
+stepOf number hand (Record end) = record {
+  line = lineOf number (take end hand);
+  taken = end;
+  number = number + 1;
+  last = not (isRecord (take end hand));
+}
 
 -- what a turn does to the state and to the output area
 pub record Turned (t : Step) (before after : AtHand) (out last : List ℕ) : Type 0 where

@@ -1,17 +1,12 @@
-use conversion::convert;
-use record_bytes::parse;
 use record_bytes::stream;
 use record_bytes::stream::Found;
-use record_text::text;
 use records::lines;
 ghost use mathlib.Core.Path.{_≡_};
 ghost use mathlib.Core.Bool.{false};
 ghost use Prim.Native.Nat.{_+_, _<_, _≤_};
 ghost use lib.ListN.{length, take, drop};
-ghost use Rattle.record_text.specs.Text.{Put};
-ghost use Rattle.records.specs.Lines.{lineOf, badLine};
 ghost use Rattle.record_bytes.specs.Stream.{nextOf};
-ghost use Rattle.record_stream.specs.AtHand.{stepBy, stepOf, Turned, Answered, goesOn};
+ghost use Rattle.record_stream.specs.AtHand.{stepOf, Turned, Answered, goesOn};
 
 // What is left to do, after some records were answered.
 pub struct AtHand {
@@ -25,55 +20,10 @@ pub struct AtHand {
     pub over: bool,
 }
 
-// The line of a record's body, in the output area from a place on; returns the place behind it.
-fn put_line(
-    number: u64,
-    body: &[u8],
-    work: &mut [f64; 1024],
-    triangles: &mut [u32; 2031],
-    node_boxes: &mut [f64; 8124],
-    triangle_boxes: &mut [f64; 4062],
-    node_words: &mut [u32; 4062],
-    order: &mut [u32; 677],
-    list: &mut [u32; 677],
-    stack: &mut [u32; 1355],
-    output: &mut [u8],
-    filled: usize,
-) -> usize
-    requires { ⌜ filled + 114 ≤ length (now output) ⌝ }
-    ensures { λ r. ⌜ Put (now (output .entry)) filled (lineOf number (now (body .entry))) (now (output .exit)) r ⌝ }
-{
-    let mut line = [0u8; 114];
-    let count = lines::line(
-        number,
-        body,
-        work,
-        triangles,
-        node_boxes,
-        triangle_boxes,
-        node_words,
-        order,
-        list,
-        stack,
-        &mut line,
-    );
-    text::put_text(output, filled, &line[..count])
-}
-
-// The line of a record that is cut short or over length.
-fn put_bad(number: u64, output: &mut [u8], filled: usize) -> usize
-    requires { ⌜ filled + 114 ≤ length (now output) ⌝ }
-    ensures { λ r. ⌜ Put (now (output .entry)) filled (badLine number) (now (output .exit)) r ⌝ }
-{
-    let mut line = [0u8; 114];
-    let count = lines::bad_line(number, &mut line);
-    text::put_text(output, filled, &line[..count])
-}
-
-// After a record of that many bytes at the front of what is left: itself, or what it is widened to.
-fn body_step(
+// After the record of that many bytes at the front of what is left.
+fn record_step(
     s: AtHand,
-    whole: &[u8],
+    rest: &[u8],
     end: usize,
     work: &mut [f64; 1024],
     triangles: &mut [u32; 2031],
@@ -85,14 +35,13 @@ fn body_step(
     stack: &mut [u32; 1355],
     output: &mut [u8],
 ) -> AtHand
-    requires { ⌜ (4 ≤ length (now whole)) × (s .filled + 114 ≤ length (now output)) ⌝ }
+    requires { ⌜ (end ≤ length (now rest)) × (s .filled + 114 ≤ length (now output)) ⌝ }
     requires { ⌜ (s .next < 18446744073709551615) × (s .used + end < 18446744073709551616) ⌝ }
-    ensures { λ r. ⌜ Turned (stepBy (s .next) end (drop 4 (now (whole .entry)))) s r (now (output .entry)) (now (output .exit)) ⌝ }
+    ensures { λ r. ⌜ Turned (stepOf (s .next) (now (rest .entry)) (Found.Record end)) s r (now (output .entry)) (now (output .exit)) ⌝ }
 {
-    let body = &whole[4..];
-    let filled = put_line(
+    let printed = lines::line(
         s.next,
-        body,
+        &rest[..end],
         work,
         triangles,
         node_boxes,
@@ -106,72 +55,16 @@ fn body_step(
     );
     AtHand {
         used: s.used + end,
-        filled: filled,
+        filled: printed.end,
         next: s.next + 1,
-        over: !parse::is_well_formed(body),
+        over: printed.malformed,
     }
-}
-
-// After the record of that many bytes at the front of what is left. One of version 3 is read as version 2, in an area of its own.
-fn record_step(
-    s: AtHand,
-    rest: &[u8],
-    end: usize,
-    wide: &mut [u8],
-    work: &mut [f64; 1024],
-    triangles: &mut [u32; 2031],
-    node_boxes: &mut [f64; 8124],
-    triangle_boxes: &mut [f64; 4062],
-    node_words: &mut [u32; 4062],
-    order: &mut [u32; 677],
-    list: &mut [u32; 677],
-    stack: &mut [u32; 1355],
-    output: &mut [u8],
-) -> AtHand
-    requires { ⌜ (4 ≤ end) × ((end ≤ length (now rest)) × (s .filled + 114 ≤ length (now output))) ⌝ }
-    requires { ⌜ 8196 ≤ length (now wide) ⌝ }
-    requires { ⌜ (s .next < 18446744073709551615) × (s .used + end < 18446744073709551616) ⌝ }
-    ensures { λ r. ⌜ Turned (stepOf (s .next) (now (rest .entry)) (Found.Record end)) s r (now (output .entry)) (now (output .exit)) ⌝ }
-{
-    let whole = &rest[..end];
-    if convert::is_short(whole) {
-        let stop = 4 + convert::widen(whole, wide);
-        return body_step(
-            s,
-            &wide[..stop],
-            end,
-            work,
-            triangles,
-            node_boxes,
-            triangle_boxes,
-            node_words,
-            order,
-            list,
-            stack,
-            output,
-        );
-    }
-    body_step(
-        s,
-        whole,
-        end,
-        work,
-        triangles,
-        node_boxes,
-        triangle_boxes,
-        node_words,
-        order,
-        list,
-        stack,
-        output,
-    )
 }
 
 // After the record at the front of what is left, whatever stands there.
 fn step(
     s: AtHand,
     input: &[u8],
-    wide: &mut [u8; 8196],
     work: &mut [f64; 1024],
     triangles: &mut [u32; 2031],
     node_boxes: &mut [f64; 8124],
@@ -196,7 +89,6 @@ fn step(
                 s,
                 rest,
                 end,
-                wide,
                 work,
                 triangles,
                 node_boxes,
@@ -211,7 +103,7 @@ fn step(
         Found::Cut => {
             return AtHand {
                 used: used,
-                filled: put_bad(s.next, output, s.filled),
+                filled: lines::bad_line(s.next, output, s.filled),
                 next: s.next,
                 over: true,
             };
@@ -250,7 +142,6 @@ pub fn answer_at_hand(
     number: u64,
     ended: bool,
     input: &[u8],
-    wide: &mut [u8; 8196],
     work: &mut [f64; 1024],
     triangles: &mut [u32; 2031],
     node_boxes: &mut [f64; 8124],
@@ -277,7 +168,6 @@ pub fn answer_at_hand(
         s = step(
             s,
             input,
-            wide,
             work,
             triangles,
             node_boxes,

@@ -19,7 +19,7 @@ start k = search
 
 -- the output area as the answer leaves it
 abbrev output : tie.After-answer-at-hand → List ℕ
-output k = k .answer-at-hand .last .1 .1 .1 .1 .1 .1 .1 .1 .1 .1 .1 .1 .0
+output k = k .answer-at-hand .last .1 .1 .1 .1 .1 .1 .1 .1 .1 .1 .1 .0
 
 held-within : (s : tie.Start) → s .args .run .held ≤ length (s .args .input .now)
 held-within s = omega (arith, s .pre .0, s .pre .1 .0)
@@ -30,7 +30,7 @@ held-length s = length-take-le (s .args .run .held) (s .args .input .now) (held-
 whole : (k : tie.After-answer-at-hand) → length (output k) ≡ 65536
 whole k =
     let s : tie.Start = search in
-    omega (arith, s .pre .1 .1, k .answer-at-hand .kept .1 .1 .1 .1 .1 .1 .1 .1 .1 .1 .1 .1 .0)
+    omega (arith, s .pre .1 .1, k .answer-at-hand .kept .1 .1 .1 .1 .1 .1 .1 .1 .1 .1 .1 .0)
 
 answered : (k : tie.After-answer-at-hand) → let run = start k .args .run in let done = k .answer-at-hand .result in
     Answered (heldOf run (start k .args .input .now)) (run .ended) (run .next) 65536 (take (done .filled) (output k)) (done .used)

@@ -13,14 +13,14 @@ use Rattle.record_stream.proofs.answers.answer_at_hand.Tie as tie
 
 abbrev Inv-loop : tie.InvT-loop
 Inv-loop number ended input
-    wide₀ work₀ triangles₀ node-boxes₀ triangle-boxes₀ node-words₀ order₀ list₀ stack₀ output₀ s₀
-    wide work triangles node-boxes triangle-boxes node-words order list stack output s =
+    work₀ triangles₀ node-boxes₀ triangle-boxes₀ node-words₀ order₀ list₀ stack₀ output₀ s₀
+    work triangles node-boxes triangle-boxes node-words order list stack output s =
     Going input ended number (length output₀) output s
 
 abbrev μ-loop : tie.MeasureT-loop
 μ-loop number ended input
-    wide₀ work₀ triangles₀ node-boxes₀ triangle-boxes₀ node-words₀ order₀ list₀ stack₀ output₀ s₀
-    wide work triangles node-boxes triangle-boxes node-words order list stack output s =
+    work₀ triangles₀ node-boxes₀ triangle-boxes₀ node-words₀ order₀ list₀ stack₀ output₀ s₀
+    work triangles node-boxes triangle-boxes node-words order list stack output s =
     measure input s
 
 abbrev Start : Type 0
@@ -40,7 +40,7 @@ Turned = tie.After-step Inv-loop μ-loop
 
 -- the output area as a turn leaves it
 abbrev output : Turned → List ℕ
-output t = t .step .last .1 .1 .1 .1 .1 .1 .1 .1 .1 .1 .1 .0
+output t = t .step .last .1 .1 .1 .1 .1 .1 .1 .1 .1 .1 .0
 
 loop-holds : tie.Need-loop-holds Inv-loop μ-loop
 loop-holds c =
@@ -70,7 +70,7 @@ loop-again c =
     let a = s .args in
     going-next (a .input .now) (a .ended) (a .number) (length (a .output .now)) (l .loop .output) (output r) (l .loop .s) (r .step .result)
     (l .loop .inv) (sym (g .goes-on .ensures) ∙ t .if1 .taken) (r .step .ensures)
-    (r .step .kept .1 .1 .1 .1 .1 .1 .1 .1 .1 .1 .1 .0)
+    (r .step .kept .1 .1 .1 .1 .1 .1 .1 .1 .1 .1 .0)
 
 same-length : tie.Need-same-length Inv-loop μ-loop
 same-length c = let l : Loop = search in l .loop .inv .kept
