@@ -10,12 +10,12 @@ use lib.ListN.{length}
 use lib.Seq.{sets}
 use Rattle.casts.specs.Answer.{badShape, noRoom}
 use Rattle.float_forms.specs.declared.forms.Form.{Form}
-use Rattle.conversion.specs.declared.shape.Plan.{Plan}
-use Rattle.conversion.specs.declared.shape.Planned.{Planned}
-use Rattle.conversion.specs.declared.shape.Planned.the-variants.{Is, Malformed}
-use Rattle.conversion.specs.Records.{wellFormed}
+use Rattle.record_bytes.specs.declared.shape.Plan.{Plan}
+use Rattle.record_bytes.specs.declared.shape.Planned.{Planned}
+use Rattle.record_bytes.specs.declared.shape.Planned.the-variants.{Is, Malformed}
+use Rattle.record_bytes.specs.Records.{wellFormed}
 use Rattle.conversion.specs.Convert.{Answer, Outcome, converted}
-use Rattle.conversion.specs.Plans.{planOf, planned}
+use Rattle.record_bytes.specs.Plans.{planOf, planned}
 use Rattle.results.specs.Results.{Counted, doneCode}
 use Rattle.exports.specs.Conversions.{returnedConverted, withoutPlace, ConvertReturned, convertReturned}
 

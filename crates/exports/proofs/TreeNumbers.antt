@@ -26,7 +26,7 @@ use Rattle.tree_check.specs.Check.{treePasses}
 use Rattle.tree_check.specs.Verdict as Verdict
 use Rattle.merge.specs.Merge as Merge
 use Rattle.float_forms.specs.declared.forms.Form.{Form}
-use Rattle.conversion.specs.Records.{saidOf, wellFormed}
+use Rattle.record_bytes.specs.Records.{saidOf, wellFormed}
 use Rattle.conversion.specs.Writing.{turned}
 use Rattle.conversion.specs.Convert.{saidHeld, Answer as Converted, written, refused as notConverted, Outcome, converted}
 use Rattle.tree_walk.specs.Looking.{Looked, looked, usedUp, walkWithin}

@@ -14,7 +14,7 @@ use Rattle.float_forms.specs.declared.forms.Form.{Form}
 use Rattle.float_forms.specs.declared.forms.Form.the-variants.{Long, Short}
 use Rattle.float_forms.specs.Forms.{sizeOf, formatOf}
 use Rattle.float_forms.specs.Bytes.{IsBytes, wordOf, wordBytes, numberOf, numberBytes, numbersOf, numbersBytes, wordsOf, wordsBytes}
-use Rattle.float_forms.specs.Holding.{every, isNumber, fitsIn, held}
+use Rattle.float_forms.specs.Representable.{every, isNumber, fitsIn, representable}
 use Rattle.float_forms.proofs.Numbers.{drop-bytes, word-back, word-length, word-below, word-bytes, number-length, number-back}
 use Rattle.float_forms.proofs.Numbers.{number-bytes}
 
@@ -43,15 +43,15 @@ unfolding wordsBytes
 words-length [] = refl
 words-length (w ∷ ws) = omega (arith, length-append (wordBytes w) (wordsBytes ws), word-length w, words-length ws)
 
--- ---- what is held
+-- ---- what is representable
 
-pub number-held : (form : Form) (x : Float) → T (held form x) → T (not (isNan x))
-unfolding held
-number-held form x h = and-l (not (isNan x)) (fits (formatOf form) x) h
+pub number-representable : (form : Form) (x : Float) → T (representable form x) → T (not (isNan x))
+unfolding representable
+number-representable form x h = and-l (not (isNan x)) (fits (formatOf form) x) h
 
-pub fits-held : (form : Form) (x : Float) → T (held form x) → T (fits (formatOf form) x)
-unfolding held
-fits-held form x h = and-r (not (isNan x)) (fits (formatOf form) x) h
+pub fits-representable : (form : Form) (x : Float) → T (representable form x) → T (fits (formatOf form) x)
+unfolding representable
+fits-representable form x h = and-r (not (isNan x)) (fits (formatOf form) x) h
 
 module _ (test : Float → Bool) (x : Float) (xs : List Float) (h : T (every test (x ∷ xs))) where
   pub first-of : T (test x)

@@ -5,7 +5,7 @@ use mathlib.Core.Bool.{Bool, not, _&&_, cond}
 use lib.Dec.{leb, ltb, eqb}
 use lib.Ieee.{Float, binary32, isNan, fits, toBits}
 use Rattle.float_forms.specs.declared.short.Short.{Short}
-use Rattle.float_forms.specs.declared.short.Short.the-variants.{Pattern, Unheld}
+use Rattle.float_forms.specs.declared.short.Short.the-variants.{Pattern, Unrepresentable}
 
 -- the guess at a magnitude: infinity; a normal number; zero, or too small; a subnormal number
 unfoldable pub guessSize : ℕ → ℕ
@@ -19,8 +19,8 @@ unfoldable pub guess : ℕ → ℕ
 guess bits = bits / 0x8000_0000_0000_0000 * 0x8000_0000 + guessSize (bits % 0x8000_0000_0000_0000)
 
 -- not "a float that f32 does not hold exactly or that is NaN"
-unfoldable pub held : Float → Bool
-held x = not (isNan x) && fits binary32 x
+unfoldable pub representable : Float → Bool
+representable x = not (isNan x) && fits binary32 x
 
 unfoldable pub shortOf : Float → Short
-shortOf x = cond (held x) (Pattern (toBits binary32 x)) Unheld
+shortOf x = cond (representable x) (Pattern (toBits binary32 x)) Unrepresentable

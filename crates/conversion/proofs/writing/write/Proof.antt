@@ -1,11 +1,12 @@
 -- `conversion::writing::write` meets its contract. Assumes nothing.
 use Prim.Native.Nat.{_+_, _*_}
-use Rattle.float_forms.specs.Forms.{sizeOf}
-use Rattle.float_forms.specs.Holding.{fitsIn}
+use Rattle.float_forms.specs.Forms.{sizeOf, raysOf}
+use Rattle.float_forms.specs.Representable.{fitsIn}
 use native.Mathlib.Omega.{arith}
 use denote.Ref.{now}
 use lib.ListN.{length}
-use Rattle.conversion.proofs.WritingLaws.{sizes, kept-by, head-room, ray-room, shape-room, ray-passes, numbers-pass, all-written}
+use Rattle.record_bytes.proofs.PlanLaws.{sizes}
+use Rattle.conversion.proofs.WritingLaws.{kept-by, head-room, ray-room, shape-room, ray-passes, numbers-pass, all-written}
 use borrow.Author.Needs.{needs}
 use Rattle.conversion.proofs.writing.write.Statement.{statement}
 use Rattle.conversion.proofs.writing.write.Tie as tie
@@ -23,7 +24,7 @@ numbers-place-requires-2 c κs =
 write-head-requires : tie.Need-write-head-requires
 write-head-requires c κs =
     let start : tie.Start = search in
-    head-room (start .args .p) (start .args .q) (now (start .args .source)) (start .args .plan)
+    head-room (start .args .p) (start .args .q) (now (start .args .source)) (start .args .plan) (start .pre .1 .1 .1)
     (sizes (start .args .p) (now (start .args .source)) (start .args .plan) (start .pre .0)) (start .args .body)
     (length (now (start .args .out))) (start .pre .1 .0 .0) (start .pre .1 .0 .1)
 
@@ -37,11 +38,14 @@ write-ray-requires c κs =
       ),
       (
         kept-by (now (start .args .out)) (at-write-head .write-head .last .1 .1 .1 .0)
-            (6 + sizeOf (start .args .q) * 8 + 4 * start .args .plan .counts) (at-write-head .write-head .kept .1 .1 .1 .0)
-            (ray-room (start .args .p) (start .args .q) (now (start .args .source)) (start .args .plan)
+            (6 + sizeOf (start .args .q) * raysOf (start .args .q) + 4 * start .args .plan .counts) (at-write-head .write-head .kept .1 .1 .1 .0)
+            (ray-room (start .args .p) (start .args .q) (now (start .args .source)) (start .args .plan) (start .pre .1 .1 .1)
             (sizes (start .args .p) (now (start .args .source)) (start .args .plan) (start .pre .0)) (start .args .body)
             (length (now (start .args .out))) (start .pre .1 .0 .0) (start .pre .1 .0 .1)),
-        ray-passes (start .args .p) (fitsIn (start .args .q)) (now (start .args .source)) (start .pre .1 .1),
+        (
+          ray-passes (start .args .p) (fitsIn (start .args .q)) (now (start .args .source)) (start .pre .1 .1 .0),
+          start .pre .1 .1 .1,
+        ),
       ),
     )
 
@@ -66,11 +70,11 @@ write-shape-requires c κs =
             (kept-by (now (start .args .out)) (at-write-head .write-head .last .1 .1 .1 .0)
             (at-numbers-place2 .numbers-place2 .result + sizeOf (start .args .q) * start .args .plan .numbers + 4 * start .args .plan
             .indices) (at-write-head .write-head .kept .1 .1 .1 .0) (shape-room (start .args .p) (start .args .q)
-            (now (start .args .source)) (start .args .plan)
+            (now (start .args .source)) (start .args .plan) (start .pre .1 .1 .1)
             (sizes (start .args .p) (now (start .args .source)) (start .args .plan) (start .pre .0)) (start .args .body)
             (length (now (start .args .out))) (start .pre .1 .0 .0) (start .pre .1 .0 .1) (at-numbers-place2 .numbers-place2 .result)
             (at-numbers-place2 .numbers-place2 .ensures .0))),
-        numbers-pass (start .args .p) (fitsIn (start .args .q)) (now (start .args .source)) (start .pre .1 .1) (start .args .plan)
+        numbers-pass (start .args .p) (fitsIn (start .args .q)) (now (start .args .source)) (start .pre .1 .1 .0) (start .args .plan)
             (at-numbers-place .numbers-place .result)
             (sizes (start .args .p) (now (start .args .source)) (start .args .plan) (start .pre .0))
             (at-numbers-place .numbers-place .ensures .0),
@@ -83,6 +87,7 @@ returns c =
     tie.Start × tie.After-numbers-place × tie.After-numbers-place2 × tie.After-write-head × tie.After-write-ray × tie.After-write-shape
     = search in
     all-written (start .args .p) (start .args .q) (now (start .args .source)) (now (start .args .out)) (start .args .plan)
+    (start .pre .1 .1 .1)
     (sizes (start .args .p) (now (start .args .source)) (start .args .plan) (start .pre .0))
     (at-write-head .write-head .last .1 .1 .1 .0) (at-write-ray .write-ray .last .1 .1 .1 .1 .0)
     (at-write-shape .write-shape .last .1 .1 .1 .1 .1 .1 .0) (start .args .body) (at-numbers-place .numbers-place .result)

@@ -9,7 +9,7 @@ use lib.Seq.{sets}
 use borrow.Author.Needs.{needs}
 use Rattle.float_forms.specs.Forms.{sizeOf, formatOf}
 use Rattle.float_forms.specs.Bytes.{numbersOf, numbersBytes}
-use Rattle.float_forms.specs.Holding.{fitsIn}
+use Rattle.float_forms.specs.Representable.{fitsIn}
 use Rattle.float_forms.proofs.RunSteps.{Writing, next-inside, next-fits, write-next, write-done}
 use Rattle.float_forms.proofs.runs.put_floats.Statement.{statement}
 use Rattle.float_forms.proofs.runs.put_floats.Tie as tie
