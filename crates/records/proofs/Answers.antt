@@ -1,6 +1,7 @@
 -- What the cast at a shape answers is the record's text; and the parts of a line, stored one behind another, are the line. Assumes nothing.
 use Prim.Native.Nat.{ℕ, _+_, _-_, _*_, _≤_}
-use mathlib.Core.Path.{_≡_, ap, _∙_}
+use mathlib.Core.Path.{_≡_, sym, ap, _∙_}
+use mathlib.Core.Bool.{Bool, true, false, not}
 use mathlib.Core.List.{List, [], _∷_, _++_}
 use native.Mathlib.Omega.{arith}
 use borrow.Author.Tests.{ne-eqb}
@@ -17,14 +18,15 @@ use Rattle.level_set.specs.Walk.{rayLevelSet}
 use Rattle.height_field.specs.declared.field.Field.{Field}
 use Rattle.distance_grid.specs.declared.grid.Grid.{Grid}
 use Rattle.tree.specs.Mesh.{mesh}
-use Rattle.conversion.specs.Records.{manyCounts, manyNumbers}
+use Rattle.float_forms.specs.declared.forms.Form.{Form}
+use Rattle.record_bytes.specs.Records.{manyCounts, manyNumbers, saidOf, wellFormed, formAt, isRecord}
 use Rattle.record_text.specs.Text.{decimal, Put}
 use Rattle.record_text.specs.AnswerText.{answerText, indexedText}
 use Rattle.record_text.proofs.Storing.{put-then}
 use Rattle.records.specs.Areas.{Sized}
 use Rattle.records.specs.MeshAnswer.{meshAnswer}
-use Rattle.records.specs.Shapes.{planeBy, cornersBy, fieldBy, gridBy, shapeFrom}
-use Rattle.records.specs.Lines.{shapeText, lineWith}
+use Rattle.records.specs.Shapes.{rayBy, planeBy, cornersBy, fieldBy, gridBy, shapeFrom, shapeBy, parse}
+use Rattle.records.specs.Lines.{badWord, shapeText, parsedText, recordText, lineWith}
 
 -- ---- the kinds
 
@@ -104,6 +106,23 @@ pub values-cast : (ray : Ray) (grid : Grid) (counts : List ℕ) (numbers : List 
     → a ≡ rayLevelSet ray grid (take (length numbers - 6) (drop 6 numbers)) → grid ≡ gridBy counts numbers
     → a ≡ rayLevelSet ray (gridBy counts numbers) (drop 6 numbers)
 values-cast ray grid counts numbers a e f = rw (rest-is numbers 6, f) at e
+
+-- ---- a record
+
+-- by the form that its version byte names
+module _ {form : Form} (l : List ℕ) (f : form ≡ formAt l) where
+  is-record : (b : Bool) → wellFormed form l ≡ b → isRecord l ≡ b
+  unfolding isRecord
+  is-record b w = ap (λ (p : Form). wellFormed p l) (sym f) ∙ w
+
+  pub bad-text : wellFormed form l ≡ false → (badWord ≡ recordText l) × (true ≡ not (isRecord l))
+  unfolding parse parsedText
+  bad-text w = let e = is-record false w in (rw e, rw e)
+
+  pub good-text : wellFormed form l ≡ true
+      → (shapeText (rayBy (saidOf form l .ray)) (shapeBy (saidOf form l)) ≡ recordText l) × (false ≡ not (isRecord l))
+  unfolding parse parsedText
+  good-text w = let e = is-record true w in (rw (e, f), rw e)
 
 -- ---- the line
 

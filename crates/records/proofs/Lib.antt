@@ -3,3 +3,4 @@ pub mod Lengths
 pub mod Reading
 pub mod MeshAnswers
 pub mod Answers
+pub mod RoundTrip

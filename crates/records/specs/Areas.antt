@@ -4,7 +4,7 @@ use mathlib.Core.Path.{_≡_}
 use mathlib.Core.List.{List}
 use lib.Ieee.{Float}
 use lib.ListN.{length}
-use Rattle.conversion.specs.Records.{manyCounts, manyNumbers}
+use Rattle.record_bytes.specs.Records.{manyCounts, manyNumbers}
 
 -- the counts and floats of a shape of a kind, as many as the kind says
 pub record Sized (kind : ℕ) (counts : List ℕ) (numbers : List Float) : Type 0 where

@@ -3,3 +3,5 @@ pub mod Shapes
 pub mod MeshAnswer
 pub mod Areas
 pub mod Lines
+pub mod Output
+pub mod WorkedExample

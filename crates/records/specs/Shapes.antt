@@ -15,19 +15,9 @@ use Rattle.distance_grid.specs.declared.grid.Grid.{Grid}
 use Rattle.tree.specs.Mesh.{Mesh, thirds}
 use Rattle.tree.specs.Layout.{numberAt, wordAt, vectorAt}
 use Rattle.float_forms.specs.declared.forms.Form.{Form}
-use Rattle.float_forms.specs.declared.forms.Form.the-variants.{Long, Short}
-use Rattle.conversion.specs.Records.{Said, saidOf, wellFormed}
-
--- TEMP
-use mathlib.Core.Bool.{Bool}
-abbrev formAt : List ℕ → Form
-formAt bytes = cond (eqb (getD bytes 4 0) 3) Short Long
-abbrev isRecord : List ℕ → Bool
-isRecord bytes = wellFormed (formAt bytes) bytes
-abbrev raysOf : Form → ℕ
-raysOf Long = 8
-raysOf Short = 8
--- ENDTEMP
+use Rattle.float_forms.specs.declared.forms.Form.the-variants.{First, Long, Short}
+use Rattle.float_forms.specs.Forms.{raysOf}
+use Rattle.record_bytes.specs.Records.{Said, saidOf, formAt, isRecord}
 
 -- the shapes, in mission order
 pub data Shape : Type 0 where
@@ -142,7 +132,13 @@ saidFor form r s = record {
   indices = shapeIndices s;
 }
 
--- ---- what can be encoded, beside the floats, which are all of the form's format (`saidFits`)
+-- ---- what can be encoded; each float is of the form's format besides (`saidFits`)
+
+-- "version 1 means near 0"
+abbrev pub NearFits : Form → Ray → Type 0
+NearFits First r = r .near ≡ zeroᶠ
+NearFits Long r = Unit {0}
+NearFits Short r = Unit {0}
 
 -- a count or an index is a u32
 abbrev pub WordFits : ℕ → Type 0
