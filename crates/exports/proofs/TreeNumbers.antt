@@ -28,7 +28,7 @@ use Rattle.merge.specs.Merge as Merge
 use Rattle.float_forms.specs.declared.forms.Form.{Form}
 use Rattle.record_bytes.specs.Records.{saidOf, wellFormed}
 use Rattle.conversion.specs.Writing.{turned}
-use Rattle.conversion.specs.Convert.{saidHeld, Answer as Converted, written, refused as notConverted, Outcome, converted}
+use Rattle.conversion.specs.Convert.{saidRepresentable, Answer as Converted, written, refused as notConverted, Outcome, converted}
 use Rattle.tree_walk.specs.Looking.{Looked, looked, usedUp, walkWithin}
 use Rattle.cabinet.specs.declared.part.Part.{Part}
 use Rattle.cabinet.specs.declared.part.Found.{Found}
@@ -118,7 +118,7 @@ pub converted-small : (p q : Form) (bytes area : List ℕ) → Small (λ (o : Ou
 unfolding converted convertedNumber
 converted-small p q bytes area =
     chosen (wellFormed p bytes) (chosen (ltb (length area) (length (turned p q bytes))) (converts (notConverted 3) _ refl)
-    (chosen (saidHeld q (saidOf p bytes)) (converts (written _) _ refl) (converts (notConverted 11) _ refl)))
+    (chosen (saidRepresentable q (saidOf p bytes)) (converts (written _) _ refl) (converts (notConverted 11) _ refl)))
     (converts (notConverted 2) _ refl)
 
 -- ---- the cabinet
