@@ -1,11 +1,10 @@
 -- The converter's steps, from a well-formed record's plan. Assumes nothing.
 use Prim.Native.Nat.{ℕ, _+_, _*_, _<_, _≤_}
-use mathlib.Core.Path.{_≡_, refl, sym, ap, _∙_}
-use mathlib.Core.Bool.{Bool, true, false, cond}
+use mathlib.Core.Path.{_≡_, sym, ap, _∙_}
+use mathlib.Core.Bool.{Bool, true, false}
 use mathlib.Core.List.{List, _++_}
 use native.Mathlib.Omega.{arith}
 use borrow.Author.Tests.{lt-ltb, le-ltb}
-use lib.Dec.{ltb}
 use lib.ListN.{length, drop}
 use lib.Seq.{sets, sets-eq}
 use Rattle.float_forms.specs.declared.forms.Form.{Form}
@@ -13,23 +12,25 @@ use Rattle.record_bytes.specs.declared.shape.Plan.{Plan}
 use Rattle.record_bytes.specs.declared.shape.Planned.the-variants.{Malformed}
 use Rattle.float_forms.specs.Forms.{sizeOf, raysOf}
 use Rattle.float_forms.specs.Bytes.{numbersOf}
-use Rattle.record_bytes.specs.Records.{bodyLength, saidOf, wellFormed, everySaid}
+use Rattle.record_bytes.specs.Records.{bodyLength, countsPlace, saidOf, wellFormed, everySaid}
 use Rattle.float_forms.specs.Representable.{every, representable}
 use Rattle.conversion.specs.Writing.{turned}
-use Rattle.conversion.specs.Convert.{saidRepresentable, written, refused, Outcome, converted}
+use Rattle.conversion.specs.Convert.{saidRepresentable, written, refused, converted}
 use Rattle.record_bytes.specs.Plans.{planned, Known, sizeFor}
 use Rattle.record_bytes.proofs.PlanLaws.{Sizes, sizes, not-formed}
 use Rattle.conversion.proofs.WritingLaws.{turned-length}
 
 -- ---- the floats
 
-pub ray-unrepresentable : (p q : Form) (l : List ℕ) → every (representable q) (numbersOf p (raysOf p) (drop 6 l)) ≡ false → false ≡ saidRepresentable q (saidOf p l)
+pub ray-unrepresentable : (p q : Form) (l : List ℕ) → every (representable q) (numbersOf p (raysOf p) (drop 6 l)) ≡ false
+    → false ≡ saidRepresentable q (saidOf p l)
 unfolding everySaid saidOf
 ray-unrepresentable p q l h = rw h
 
 pub numbers-decide : (p q : Form) (l : List ℕ) (plan : Plan) (place : ℕ) (r : Bool) → Sizes p l plan
-    → place ≡ 6 + sizeOf p * raysOf p + 4 * plan .counts
-    → every (representable q) (numbersOf p (raysOf p) (drop 6 l)) ≡ true → r ≡ every (representable q) (numbersOf p (plan .numbers) (drop place l))
+    → place ≡ countsPlace p + 4 * plan .counts
+    → every (representable q) (numbersOf p (raysOf p) (drop 6 l)) ≡ true
+    → r ≡ every (representable q) (numbersOf p (plan .numbers) (drop place l))
     → r ≡ saidRepresentable q (saidOf p l)
 unfolding everySaid saidOf
 numbers-decide p q l plan place r s e h f = rw h (f ∙ (rw (e, s .countsAre, s .numbersAre)))
@@ -76,7 +77,8 @@ module _ (p q : Form) (l area : List ℕ) (plan : Plan) (r : raysOf p ≡ raysOf
       (sets-eq (turned p q l) area 0 (omega (arith, room)) ∙ (rw here)) in
       rw (k .wellFormed, le-ltb (length area) (length (turned p q l)) room, f, n, whole)
 
-pub size-for : (q : Form) (plan : Plan) (r : ℕ) → r ≡ 2 + sizeOf q * raysOf q + 4 * plan .counts + sizeOf q * plan .numbers + 4 * plan .indices
+pub size-for : (q : Form) (plan : Plan) (r : ℕ)
+    → r ≡ 2 + sizeOf q * raysOf q + 4 * plan .counts + sizeOf q * plan .numbers + 4 * plan .indices
     → r ≡ sizeFor q plan
 unfolding sizeFor
 size-for q plan r e = e

@@ -1,8 +1,8 @@
 -- When the converter succeeds, and with what. Assumes nothing.
-use Prim.Native.Nat.{ℕ, _<_, _≤_}
-use mathlib.Core.Path.{_≡_, refl, sym, ap, _∙_}
+use Prim.Native.Nat.{ℕ, _≤_}
+use mathlib.Core.Path.{_≡_, refl}
 use mathlib.Core.Bool.{Bool, true, false, cond}
-use mathlib.Core.List.{List, [], _∷_, _++_}
+use mathlib.Core.List.{List, _++_}
 use native.Mathlib.Omega.{arith}
 use borrow.Author.Tests.{ltb-false, le-ltb}
 use lib.Dec.{T, ltb}
@@ -57,4 +57,8 @@ pub succeeds : (p q : Form) (bytes area : List ℕ) → T (wellFormed p bytes) �
     → converted p q bytes area ≡ success (turned p q bytes) area
 unfolding converted
 succeeds p q bytes area w r h =
-    rw (is-true (wellFormed p bytes) w, le-ltb (length area) (length (turned p q bytes)) r, is-true (saidRepresentable q (saidOf p bytes)) h)
+    rw (
+      is-true (wellFormed p bytes) w,
+      le-ltb (length area) (length (turned p q bytes)) r,
+      is-true (saidRepresentable q (saidOf p bytes)) h,
+    )

@@ -31,7 +31,9 @@ number-represents form x n f = and-i (not (isNan x)) (fits (formatOf form) x) n 
 
 -- the long form represents what any record without a NaN says; and so does the record's own
 pub long-represents-said : (form : Form) (l : List ℕ) → T (withoutNan (saidOf form l)) → T (saidRepresentable Long (saidOf form l))
-long-represents-said form l h = said-both isNumber (fitsIn Long) (representable Long) (number-represents Long) (saidOf form l) h (long-fits-said form l)
+long-represents-said form l h =
+    said-both isNumber (fitsIn Long) (representable Long) (number-represents Long) (saidOf form l) h (long-fits-said form l)
 
 pub own-represents-said : (form : Form) (l : List ℕ) → T (withoutNan (saidOf form l)) → T (saidRepresentable form (saidOf form l))
-own-represents-said form l h = said-both isNumber (fitsIn form) (representable form) (number-represents form) (saidOf form l) h (own-fits-said form l)
+own-represents-said form l h =
+    said-both isNumber (fitsIn form) (representable form) (number-represents form) (saidOf form l) h (own-fits-said form l)

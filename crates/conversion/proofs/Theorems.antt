@@ -1,5 +1,5 @@
 -- What document 02 promises of the converter. Assumes nothing.
-use Prim.Native.Nat.{ℕ, _+_, _*_, _≤_}
+use Prim.Native.Nat.{ℕ, _≤_}
 use mathlib.Core.Path.{_≡_, sym, ap, _∙_}
 use mathlib.Core.List.{List}
 use native.Mathlib.Omega.{arith}
@@ -8,10 +8,10 @@ use lib.ListN.{length, take, drop}
 use lib.Seq.{take-at}
 use Rattle.float_forms.specs.declared.forms.Form.{Form}
 use Rattle.float_forms.specs.declared.forms.Form.the-variants.{Long, Short}
-use Rattle.float_forms.specs.Forms.{sizeOf, raysOf, longForm}
+use Rattle.float_forms.specs.Forms.{raysOf, longForm}
 use Rattle.float_forms.specs.Bytes.{IsBytes}
-use Rattle.record_bytes.specs.Records.{manyCounts, manyIndices, bodyLength, kindOf, countsOf, indicesPlace, saidOf, wellFormed, recordBytes, saidFits}
-use Rattle.record_bytes.specs.Records.{withoutNan}
+use Rattle.record_bytes.specs.Records.{manyCounts, manyIndices, bodyLength, kindOf, countsOf, countsPlace, indicesPlace, saidOf}
+use Rattle.record_bytes.specs.Records.{wellFormed, recordBytes, saidFits, withoutNan}
 use Rattle.conversion.specs.Convert.{saidRepresentable, written, Outcome, converted, toLong}
 use Rattle.conversion.specs.Writing.{turned}
 use Rattle.float_forms.proofs.Numbers.{drop-bytes}
@@ -30,7 +30,7 @@ unfolding saidOf countsOf
 read-fits p q l r b g h =
     let kind = kindOf l in
     let counts = countsOf p l in
-    let from = 6 + sizeOf p * raysOf p in
+    let from = countsPlace p in
     record {
       measured = read-measured p q l r;
       countsFit = words-below (manyCounts kind) (drop from l) (drop-bytes from l b);

@@ -1,10 +1,9 @@
 -- A record's parts, written one behind another, from a well-formed record's plan. Assumes nothing.
 use Prim.Native.Nat.{ℕ, _+_, _*_, _<_, _≤_}
 use mathlib.Core.Path.{_≡_, refl, sym, ap, subst, _∙_}
-use mathlib.Core.Bool.{Bool, true, false, _&&_, cond, false≢true}
+use mathlib.Core.Bool.{Bool, true}
 use mathlib.Core.List.{List, [], _∷_, _++_, append-assoc}
 use native.Mathlib.Omega.{arith}
-use lib.Dec.{T, eqb}
 use lib.Ieee.{Float}
 use lib.ListN.{length, drop, length-append}
 use lib.Seq.{sets}
@@ -13,7 +12,7 @@ use Rattle.float_forms.specs.declared.forms.Form.the-variants.{First, Long, Sho
 use Rattle.record_bytes.specs.declared.shape.Plan.{Plan}
 use Rattle.float_forms.specs.Forms.{sizeOf, raysOf, versionOf}
 use Rattle.float_forms.specs.Bytes.{wordBytes, numbersOf, numbersBytes, wordsOf, wordsBytes}
-use Rattle.record_bytes.specs.Records.{manyCounts, manyNumbers, manyIndices, bodyLength, kindOf, countsOf}
+use Rattle.record_bytes.specs.Records.{bodyLength, kindOf, countsPlace, countsOf}
 use Rattle.record_bytes.specs.Records.{saidOf, fieldsBytes, recordBytes, everySaid}
 use Rattle.float_forms.specs.Representable.{every}
 use Rattle.conversion.specs.Writing.{turned}
@@ -22,23 +21,19 @@ use Rattle.float_forms.proofs.Numbers.{word-length}
 use Rattle.float_forms.proofs.RunLaws.{numbers-count, words-count, numbers-length, words-length}
 use Rattle.record_bytes.proofs.Lengths.{written-length, read-measured}
 use Rattle.record_bytes.proofs.PlanLaws.{Sizes}
+use Rattle.lists.proofs.JoinedTests.{and-parts}
 use Rattle.lists.proofs.Runs.{sets-append}
-
-both-true : (a b : Bool) → (a && b) ≡ true → (a ≡ true) × (b ≡ true)
-both-true true true e = (refl, refl)
-both-true true false e = absurd (false≢true e)
-both-true false b e = absurd (false≢true e)
 
 -- what every float passes, the ray's do, and the shape's
 module _ (p : Form) (test : Float → Bool) (l : List ℕ) (h : everySaid test (saidOf p l) ≡ true) where
   both-runs : (every test (numbersOf p (raysOf p) (drop 6 l)) ≡ true) × (every test (saidOf p l .numbers) ≡ true)
   unfolding everySaid saidOf
-  both-runs = both-true (every test (numbersOf p (raysOf p) (drop 6 l))) (every test (saidOf p l .numbers)) h
+  both-runs = and-parts (every test (numbersOf p (raysOf p) (drop 6 l))) (every test (saidOf p l .numbers)) h
 
   pub ray-passes : every test (numbersOf p (raysOf p) (drop 6 l)) ≡ true
   ray-passes = both-runs .0
 
-  pub numbers-pass : (plan : Plan) (place : ℕ) → Sizes p l plan → place ≡ 6 + sizeOf p * raysOf p + 4 * plan .counts
+  pub numbers-pass : (plan : Plan) (place : ℕ) → Sizes p l plan → place ≡ countsPlace p + 4 * plan .counts
       → every test (numbersOf p (plan .numbers) (drop place l)) ≡ true
   unfolding saidOf
   numbers-pass plan place s e = rw (e, s .countsAre, s .numbersAre) (both-runs .1)
@@ -77,14 +72,14 @@ module _ (p q : Form) (l out : List ℕ) (plan : Plan) (r : raysOf p ≡ raysOf 
   front body = wordBytes body ++ (versionOf q ∷ (plan .kind ∷ []))
 
   middle : List ℕ
-  middle = numbersBytes q (numbersOf p (raysOf p) (drop 6 l)) ++ wordsBytes (wordsOf (plan .counts) (drop (6 + sizeOf p * raysOf p) l))
+  middle = numbersBytes q (numbersOf p (raysOf p) (drop 6 l)) ++ wordsBytes (wordsOf (plan .counts) (drop (countsPlace p) l))
 
   rear : ℕ → List ℕ
   rear from =
       numbersBytes q (numbersOf p (plan .numbers) (drop from l)) ++ wordsBytes
       (wordsOf (plan .indices) (drop (from + sizeOf p * plan .numbers) l))
 
-  parts-are : front (sizeFor q plan) ++ (middle ++ rear (6 + sizeOf p * raysOf p + 4 * plan .counts)) ≡ turned p q l
+  parts-are : front (sizeFor q plan) ++ (middle ++ rear (countsPlace p + 4 * plan .counts)) ≡ turned p q l
   unfolding front middle rear recordBytes fieldsBytes saidOf countsOf sizeFor bodyLength
   parts-are =
       rw (s .kindIs, s .countsAre, s .numbersAre, s .indicesAre) (simp append-assoc)
@@ -97,7 +92,7 @@ module _ (p q : Form) (l out : List ℕ) (plan : Plan) (r : raysOf p ≡ raysOf 
   unfolding middle
   middle-length =
       let ray = numbersBytes q (numbersOf p (raysOf p) (drop 6 l)) in
-      let counts = wordsOf (plan .counts) (drop (6 + sizeOf p * raysOf p) l) in
+      let counts = wordsOf (plan .counts) (drop (countsPlace p) l) in
       omega (
         arith,
         length-append ray (wordsBytes counts),
@@ -105,13 +100,14 @@ module _ (p q : Form) (l out : List ℕ) (plan : Plan) (r : raysOf p ≡ raysOf 
         ap (λ (n : ℕ). sizeOf q * n) r,
         words-length counts,
         words-count (plan .counts)
-            (drop (6 + sizeOf p * raysOf p) l),
+            (drop (countsPlace p) l),
       )
 
-  pub all-written : (o1 o2 o3 : List ℕ) (body from to : ℕ) → body ≡ sizeFor q plan → from ≡ 6 + sizeOf p * raysOf p + 4 * plan .counts
-      → to ≡ 6 + sizeOf q * raysOf q + 4 * plan .counts
+  pub all-written : (o1 o2 o3 : List ℕ) (body from to : ℕ) → body ≡ sizeFor q plan → from ≡ countsPlace p + 4 * plan .counts
+      → to ≡ countsPlace q + 4 * plan .counts
       → o1 ≡ sets out 0 (wordBytes body ++ (versionOf q ∷ (plan .kind ∷ [])))
-      → o2 ≡ sets o1 6 (numbersBytes q (numbersOf p (raysOf p) (drop 6 l)) ++ wordsBytes (wordsOf (plan .counts) (drop (6 + sizeOf p * raysOf p) l)))
+      → o2 ≡ sets o1 6
+      (numbersBytes q (numbersOf p (raysOf p) (drop 6 l)) ++ wordsBytes (wordsOf (plan .counts) (drop (countsPlace p) l)))
       → o3 ≡ sets o2 to
       (numbersBytes q (numbersOf p (plan .numbers) (drop from l)) ++ wordsBytes
       (wordsOf (plan .indices) (drop (from + sizeOf p * plan .numbers) l)))
@@ -147,10 +143,10 @@ module _
     unfolding sizeFor
     head-room = (omega (arith, e, room), omega (arith, e, size-below q p l plan r s))
 
-    pub ray-room : 6 + sizeOf q * raysOf q + 4 * plan .counts ≤ n
+    pub ray-room : countsPlace q + 4 * plan .counts ≤ n
     unfolding sizeFor
     ray-room = omega (arith, e, room)
 
-    pub shape-room : (to : ℕ) → to ≡ 6 + sizeOf q * raysOf q + 4 * plan .counts → to + sizeOf q * plan .numbers + 4 * plan .indices ≤ n
+    pub shape-room : (to : ℕ) → to ≡ countsPlace q + 4 * plan .counts → to + sizeOf q * plan .numbers + 4 * plan .indices ≤ n
     unfolding sizeFor
     shape-room to f = omega (arith, e, f, room)

@@ -32,7 +32,8 @@ pub record Outcome : Type 0 where
   pub answer : Answer
   pub area : List ℕ
 
--- "it takes exactly one record of the version it converts from, length bytes included, else malformed", and "number 11 .. follows 2 .., and 3 for a short output area, and the output area is then unchanged"
+-- "it takes exactly one record of the version it converts from, length bytes included, else malformed", and "number 11 .. follows 2 .., and
+-- 3 for a short output area, and the output area is then unchanged"
 unfoldable pub converted : Form → Form → List ℕ → List ℕ → Outcome
 converted p q bytes area =
     cond (wellFormed p bytes)

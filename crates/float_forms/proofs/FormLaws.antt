@@ -1,10 +1,10 @@
 -- Sizes that each form has. Assumes nothing.
-use Prim.Native.Nat.{ℕ, _*_, _≤_}
+use Prim.Native.Nat.{_*_, _≤_}
 use mathlib.Core.Path.{_≡_, refl}
 use native.Mathlib.Omega.{arith}
 use Rattle.float_forms.specs.declared.forms.Form.{Form}
 use Rattle.float_forms.specs.declared.forms.Form.the-variants.{First, Long, Short}
-use Rattle.float_forms.specs.Forms.{sizeOf, raysOf, versionOf, formOf, longForm}
+use Rattle.float_forms.specs.Forms.{sizeOf, raysOf, versionOf, formOf}
 
 -- a float has 4 bytes or 8, a ray 7 floats or 8
 pub record Small (form : Form) : Type 0 where

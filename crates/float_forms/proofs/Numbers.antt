@@ -1,14 +1,14 @@
 -- Numbers from bytes and bytes from numbers are each other's inverse. Assumes nothing.
-use Prim.Native.Nat.{ℕ, zero, suc, _+_, _-_, _*_, _/_, _%_, _<_, _≤_}
-use mathlib.Core.Path.{_≡_, refl, sym, ap, subst, _∙_}
-use mathlib.Core.Bool.{Bool, true, false, not}
+use Prim.Native.Nat.{ℕ, _+_, _*_, _/_, _%_, _<_, _≤_}
+use mathlib.Core.Path.{_≡_, refl, sym, ap, _∙_}
+use mathlib.Core.Bool.{not}
 use mathlib.Core.List.{List, [], _∷_, _++_, append-assoc}
 use native.Mathlib.Omega.{arith}
 use lib.Dec.{T}
-use lib.Ieee.{Float, top, binary32, binary64, ofBits, toBits, fits, isNan}
+use lib.Ieee.{Float, top, binary64, ofBits, toBits, fits, isNan}
 use lib.Ieee.Bits.{ofBits-toBits, toBits-ofBits, toBits-lt, ofBits-fits}
-use lib.ListN.{length, getD, take, drop, length-drop, length-append}
-use lib.Seq.{getD-drop, take-add, drop-at, take-at}
+use lib.ListN.{length, take, drop, length-drop}
+use lib.Seq.{getD-drop, take-add, drop-at}
 use Rattle.float_forms.specs.declared.forms.Form.{Form}
 use Rattle.float_forms.specs.declared.forms.Form.the-variants.{First, Long, Short}
 use Rattle.float_forms.specs.Forms.{sizeOf, formatOf}

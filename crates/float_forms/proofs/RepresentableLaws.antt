@@ -1,16 +1,14 @@
 -- The pattern of a float, for each return of the functions that find it. Assumes nothing.
 use Prim.Native.Nat.{ℕ, _*_, _<_}
 use mathlib.Core.Path.{_≡_, refl, sym, ap, subst, _∙_}
-use mathlib.Core.Bool.{Bool, true, false, not, _&&_, cond}
+use mathlib.Core.Bool.{Bool, true, false, not, cond}
 use native.Mathlib.Omega.{arith}
 use lib.Dec.{T}
 use lib.Ieee.{Float, nan, top, binary32, binary64, isNan, fits, ne, toBits}
 use lib.Ieee.Bits.{is-true, toBits-lt}
-use lib.Ieee.Fits.{and-i}
 use Rattle.arithmetic.proofs.Order.{is-nan, ne-self-passes}
 use Rattle.float_forms.specs.declared.short.Short.the-variants as shorts
 use Rattle.float_forms.specs.Short.{shortOf}
-use Rattle.float_forms.specs.Short as said
 use Rattle.float_forms.proofs.Shorts.{nan-number}
 use Rattle.float_forms.specs.declared.forms.Form.{Form}
 use Rattle.float_forms.specs.declared.forms.Form.the-variants.{First, Long, Short}
@@ -37,13 +35,9 @@ first-for x = refl
 
 -- ---- in four: `float_forms::short::short_of` says the same
 
-short-is : (x : Float) → patternFor Short x ≡ cond (said.representable x) (Bits (toBits binary32 x)) Unrepresentable
-unfolding patternFor representable said.representable
-short-is x = refl
-
 pub short-representable : (x : Float) (bits : ℕ) → shortOf x ≡ shorts.Pattern bits → Bits bits ≡ patternFor Short x
-unfolding shortOf
-short-representable x bits e = go (said.representable x) e ∙ sym (short-is x)
+unfolding shortOf patternFor
+short-representable x bits e = go (representable Short x) e
   where
     go : (b : Bool) → cond b (shorts.Pattern (toBits binary32 x)) shorts.Unrepresentable ≡ shorts.Pattern bits
         → Bits bits ≡ cond b (Bits (toBits binary32 x)) Unrepresentable
@@ -51,8 +45,8 @@ short-representable x bits e = go (said.representable x) e ∙ sym (short-is x)
     go false e = absurd (let z : _≡_ {A = ℕ} 0 1 = cc in omega arith)
 
 pub short-unrepresentable : (x : Float) → shortOf x ≡ shorts.Unrepresentable → Unrepresentable ≡ patternFor Short x
-unfolding shortOf
-short-unrepresentable x e = go (said.representable x) e ∙ sym (short-is x)
+unfolding shortOf patternFor
+short-unrepresentable x e = go (representable Short x) e
   where
     go : (b : Bool) → cond b (shorts.Pattern (toBits binary32 x)) shorts.Unrepresentable ≡ shorts.Unrepresentable
         → Unrepresentable ≡ cond b (Bits (toBits binary32 x)) Unrepresentable

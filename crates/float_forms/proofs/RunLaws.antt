@@ -1,17 +1,16 @@
 -- Runs of floats and of u32: read back what was written, and write what was read. Assumes nothing.
-use Prim.Native.Nat.{ℕ, zero, suc, _+_, _-_, _*_, _<_, _≤_}
-use mathlib.Core.Path.{_≡_, refl, sym, ap, subst, _∙_}
-use mathlib.Core.Bool.{Bool, true, false, not, _&&_}
+use Prim.Native.Nat.{ℕ, zero, suc, _+_, _*_, _<_, _≤_}
+use mathlib.Core.Path.{_≡_, refl, sym, ap}
+use mathlib.Core.Bool.{Bool, not}
 use mathlib.Core.List.{List, [], _∷_, _++_, append-assoc}
 use native.Mathlib.Nat.{mul-zero, mul-suc}
 use native.Mathlib.Omega.{arith}
 use lib.Dec.{T}
 use lib.Ieee.{Float, fits, isNan}
-use lib.Ieee.Fits.{and-i, and-l, and-r}
-use lib.ListN.{length, getD, take, drop, length-drop, length-append}
-use lib.Seq.{take-add, drop-at, take-at}
+use lib.Ieee.Fits.{and-l, and-r}
+use lib.ListN.{length, take, drop, length-drop, length-append}
+use lib.Seq.{take-add, drop-at}
 use Rattle.float_forms.specs.declared.forms.Form.{Form}
-use Rattle.float_forms.specs.declared.forms.Form.the-variants.{Long, Short}
 use Rattle.float_forms.specs.Forms.{sizeOf, formatOf}
 use Rattle.float_forms.specs.Bytes.{IsBytes, wordOf, wordBytes, numberOf, numberBytes, numbersOf, numbersBytes, wordsOf, wordsBytes}
 use Rattle.float_forms.specs.Representable.{every, isNumber, fitsIn, representable}

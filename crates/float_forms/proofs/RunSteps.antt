@@ -1,14 +1,15 @@
 -- One turn of each loop over a run: what is left gives the whole. Assumes nothing.
 use Prim.Native.Nat.{ℕ, zero, suc, _+_, _-_, _*_, _<_, _≤_}
-use mathlib.Core.Path.{_≡_, refl, sym, ap, subst, _∙_}
-use mathlib.Core.Bool.{Bool, true, false, _&&_}
+use mathlib.Core.Path.{_≡_, refl, sym, ap, _∙_}
+use mathlib.Core.Bool.{Bool, true, false}
 use mathlib.Core.List.{List, [], _∷_, _++_}
 use native.Mathlib.Nat.{mul-suc}
 use native.Mathlib.Omega.{arith}
 use native.Mathlib.Numerals.{add-one}
-use lib.Ieee.{Float, toBits}
+use lib.Ieee.{toBits}
 use lib.ListN.{length, set, drop, length-set}
 use lib.Seq.{drop-drop, sets, length-sets}
+use Rattle.lists.proofs.JoinedTests.{and-first, and-second}
 use Rattle.lists.proofs.Runs.{sets-append}
 use Rattle.float_forms.specs.declared.forms.Form.{Form}
 use Rattle.float_forms.specs.Forms.{sizeOf, formatOf}
@@ -19,11 +20,6 @@ use Rattle.float_forms.proofs.Numbers.{word-length, number-length}
 
 less-one : (k : ℕ) → suc k - 1 ≡ k
 less-one k = omega arith
-
-both-true : (a b : Bool) → (a && b) ≡ true → (a ≡ true) × (b ≡ true)
-both-true true true e = (refl, refl)
-both-true true false e = absurd (let z : _≡_ {A = ℕ} 0 1 = cc in omega arith)
-both-true false b e = absurd (let z : _≡_ {A = ℕ} 0 1 = cc in omega arith)
 
 -- ---- reading a run to the front of an area
 
@@ -107,8 +103,8 @@ module _ (p q : Form) (l : List ℕ) (whole : Bool) where
     same = rw (sym (drop-drop (sizeOf p) from l)) (rw h at (s .same));
   }
 
-  pub scan-unrepresentable : (from left : ℕ) → 0 < left → Scanning p q l whole from left → representable q (numberOf p (drop from l)) ≡ false
-      → false ≡ whole
+  pub scan-unrepresentable : (from left : ℕ) → 0 < left → Scanning p q l whole from left
+      → representable q (numberOf p (drop from l)) ≡ false → false ≡ whole
   unfolding numbersOf every
   scan-unrepresentable from zero g s h = absurd (omega (arith, g))
   scan-unrepresentable from (suc k) g s h = rw h at (s .same)
@@ -133,7 +129,7 @@ module _ (p q : Form) (l whole : List ℕ) (size : ℕ) where
   unfolding numbersOf every
   next-fits out from to zero g s = absurd (omega (arith, g))
   next-fits out from to (suc k) g s =
-      both-true (fitsIn q (numberOf p (drop from l))) (every (fitsIn q) (numbersOf p k (drop (sizeOf p) (drop from l)))) (s .allFit) .0
+      and-first (fitsIn q (numberOf p (drop from l))) (every (fitsIn q) (numbersOf p k (drop (sizeOf p) (drop from l)))) (s .allFit)
 
   pub write-next : (out after : List ℕ) (from to left bits : ℕ) → 0 < left → Writing p q l whole size out from to left
       → bits ≡ toBits (formatOf q) (numberOf p (drop from l)) → after ≡ sets out to (patternBytes q bits)
@@ -151,7 +147,7 @@ module _ (p q : Form) (l whole : List ℕ) (size : ℕ) where
         enough = next-enough (sizeOf p) from k (length l) (s .enough);
         room = rw long (next-enough (sizeOf q) to k (length out) (s .room));
         kept = long ∙ s .kept;
-        allFit = rw (sym here) (both-true (fitsIn q x) (every (fitsIn q) (numbersOf p k (drop (sizeOf p) (drop from l)))) (s .allFit) .1);
+        allFit = rw (sym here) (and-second (fitsIn q x) (every (fitsIn q) (numbersOf p k (drop (sizeOf p) (drop from l)))) (s .allFit));
         same = rw (put, sym (number-length q x)) (sym (sets-append out to (numberBytes q x) (numbersBytes q rest)) ∙ all);
       }
 

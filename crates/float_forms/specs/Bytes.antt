@@ -1,4 +1,5 @@
--- Numbers at the front of a list of bytes, and the bytes of numbers, all big-endian. Definitions only. Assumes nothing.
+-- "Floats are 8 bytes and u32 4, all big-endian.": numbers at the front of a list of bytes, and the bytes of numbers. Definitions only.
+-- Assumes nothing.
 use Prim.Native.Nat.{ℕ, zero, suc, _+_, _*_, _/_, _%_, _<_}
 use mathlib.Core.List.{List, [], _∷_, _++_}
 use lib.Ieee.{Float, ofBits, toBits}

@@ -1,5 +1,5 @@
--- The forms of a record, by its version byte: "Version byte 2 carries near after the maximum; version 1 means near 0." and "Version byte 3
--- is version 2 with every float as an f32". Definitions only. Assumes nothing.
+-- The forms of a record, by its version byte: "Version byte 2 carries near after the maximum; version 1 means near 0."
+-- Definitions only. Assumes nothing.
 use Prim.Native.Nat.{ℕ}
 use mathlib.Core.Bool.{cond}
 use lib.Dec.{eqb}
@@ -13,6 +13,7 @@ sizeOf First = 8
 sizeOf Long = 8
 sizeOf Short = 4
 
+-- "Version byte 3 is version 2 with every float as an f32"
 abbrev pub formatOf : Form → Format
 formatOf First = binary64
 formatOf Long = binary64

@@ -1,16 +1,15 @@
 -- The first record of a stream lies within it, and what follows 8,196 bytes does not change it. Assumes nothing.
-use Prim.Native.Nat.{ℕ, zero, suc, _+_, _≤_, _<_}
-use mathlib.Core.Path.{_≡_, refl, sym, ap, _∙_}
+use Prim.Native.Nat.{ℕ, _+_, _≤_}
+use mathlib.Core.Path.{_≡_, refl}
 use mathlib.Core.Bool.{Bool, true, false, cond}
 use mathlib.Core.List.{List, _++_}
 use native.Mathlib.Omega.{arith}
-use borrow.Author.Tests.{ltb-true, ltb-false, eqb-true, le-ltb, lt-ltb, ne-eqb}
+use borrow.Author.Tests.{ltb-false, le-ltb, ne-eqb}
 use lib.Dec.{ltb, eqb}
-use lib.ListN.{length, getD, length-append, List·getD-append}
+use lib.ListN.{length, length-append, List·getD-append}
 use Rattle.float_forms.specs.Bytes.{wordOf}
 use Rattle.record_bytes.specs.Records.{longest}
 use Rattle.record_bytes.specs.Stream.{nextOf}
-use Rattle.record_bytes.specs.declared.stream.Found.{Found}
 use Rattle.record_bytes.specs.declared.stream.Found.the-variants.{Record, Cut, End}
 
 -- ---- a record that is found lies within the bytes

@@ -7,8 +7,8 @@ use lib.ListN.{length, drop, length-append}
 use Rattle.float_forms.specs.declared.forms.Form.{Form}
 use Rattle.float_forms.specs.Forms.{sizeOf, raysOf, versionOf}
 use Rattle.float_forms.specs.Bytes.{wordBytes, numbersBytes, wordsBytes}
-use Rattle.record_bytes.specs.Records.{Said, manyCounts, manyNumbers, manyIndices, bodyLength, kindOf, countsOf, numbersPlace}
-use Rattle.record_bytes.specs.Records.{indicesPlace, saidOf, fieldsBytes, recordBytes}
+use Rattle.record_bytes.specs.Records.{Said, manyCounts, manyNumbers, manyIndices, bodyLength, kindOf, countsPlace, countsOf}
+use Rattle.record_bytes.specs.Records.{numbersPlace, indicesPlace, saidOf, fieldsBytes, recordBytes}
 use Rattle.float_forms.proofs.Numbers.{word-length}
 use Rattle.float_forms.proofs.RunLaws.{numbers-count, words-count, numbers-length, words-length}
 
@@ -31,8 +31,7 @@ written-length form s f =
     let lc : length c ≡ sizeOf form * manyNumbers (s .kind) (s .counts) = numbers-length form (s .numbers) ∙ ap (λ (n : ℕ). sizeOf form * n)
     (f .numbered) in
     let ld : length d ≡ 4 * manyIndices (s .kind) (s .counts) = words-length (s .indices) ∙ ap (λ (n : ℕ). 4 * n) (f .indexed) in
-    let n = 2 + sizeOf form * raysOf form + 4 * manyCounts (s .kind) + sizeOf form * manyNumbers (s .kind) (s .counts) + 4 * manyIndices (s .kind)
-    (s .counts) in
+    let n = bodyLength form (s .kind) (s .counts) in
     omega (
       arith,
       length-append (wordBytes n) (versionOf form ∷ (s .kind ∷ (a ++ (b ++ (c ++ d))))),
@@ -54,7 +53,7 @@ read-measured p q l r =
     let counts = countsOf p l in
     record {
       rayed = numbers-count p (raysOf p) (drop 6 l) ∙ r;
-      counted = words-count (manyCounts kind) (drop (6 + sizeOf p * raysOf p) l);
+      counted = words-count (manyCounts kind) (drop (countsPlace p) l);
       numbered = numbers-count p (manyNumbers kind counts) (drop (numbersPlace p kind) l);
       indexed = words-count (manyIndices kind counts) (drop (indicesPlace p kind counts) l);
     }

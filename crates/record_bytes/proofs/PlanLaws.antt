@@ -11,7 +11,8 @@ use Rattle.float_forms.specs.Forms.{sizeOf, raysOf}
 use Rattle.float_forms.specs.Bytes.{numbersOf, wordsOf}
 use Rattle.record_bytes.specs.declared.shape.Plan.{Plan}
 use Rattle.record_bytes.specs.declared.shape.Planned.the-variants.{Is, Malformed}
-use Rattle.record_bytes.specs.Records.{manyCounts, manyNumbers, manyIndices, bodyLength, kindOf, countsOf, Said, saidOf, wellFormed}
+use Rattle.record_bytes.specs.Records.{manyCounts, manyNumbers, manyIndices, bodyLength, kindOf, countsPlace, countsOf, saidOf}
+use Rattle.record_bytes.specs.Records.{wellFormed}
 use Rattle.record_bytes.specs.Plans.{planOf, planned, Known}
 use Rattle.record_bytes.proofs.Parts.{Formed, formed}
 use Rattle.record_bytes.proofs.ShapeLaws.{long-body}
@@ -42,7 +43,7 @@ pub record Sizes (form : Form) (l : List ℕ) (plan : Plan) : Type 0 where
   pub numbersAre : plan .numbers ≡ manyNumbers (kindOf l) (countsOf form l)
   pub indicesAre : plan .indices ≡ manyIndices (kindOf l) (countsOf form l)
   pub few : plan .counts ≤ 3
-  pub whole : 6 + sizeOf form * raysOf form + 4 * plan .counts + sizeOf form * plan .numbers + 4 * plan .indices ≡ length l
+  pub whole : countsPlace form + 4 * plan .counts + sizeOf form * plan .numbers + 4 * plan .indices ≡ length l
   pub small : 2 + 8 * raysOf form + 4 * plan .counts + 8 * plan .numbers + 4 * plan .indices ≤ 8192
 
 counts-few : (kind : ℕ) → manyCounts kind ≤ 3
@@ -56,7 +57,7 @@ counts-few kind = go (eqb kind 3) (eqb kind 4) (eqb kind 5)
     go false false false = omega arith
 
 whole-length : (form : Form) (l : List ℕ) → Formed form l
-    → 6 + sizeOf form * raysOf form + 4 * manyCounts (kindOf l) + sizeOf form * manyNumbers (kindOf l) (countsOf form l)
+    → countsPlace form + 4 * manyCounts (kindOf l) + sizeOf form * manyNumbers (kindOf l) (countsOf form l)
     + 4 * manyIndices (kindOf l) (countsOf form l) ≡ length l
 unfolding bodyLength
 whole-length form l g = omega (arith, g .filled)
@@ -79,16 +80,16 @@ sizes form l plan k = rw (k .isPlan) (sizes-of form l (formed form l (subst T (s
 -- ---- what the record says, read by the plan
 
 module _ (form : Form) (l : List ℕ) (plan : Plan) (s : Sizes form l plan) where
-  pub said-counts : saidOf form l .counts ≡ wordsOf (plan .counts) (drop (6 + sizeOf form * raysOf form) l)
+  pub said-counts : saidOf form l .counts ≡ wordsOf (plan .counts) (drop (countsPlace form) l)
   unfolding saidOf countsOf
   said-counts = rw (s .countsAre)
 
   pub said-numbers : saidOf form l .numbers
-      ≡ numbersOf form (plan .numbers) (drop (6 + sizeOf form * raysOf form + 4 * plan .counts) l)
+      ≡ numbersOf form (plan .numbers) (drop (countsPlace form + 4 * plan .counts) l)
   unfolding saidOf
   said-numbers = rw (s .countsAre, s .numbersAre)
 
   pub said-indices : saidOf form l .indices
-      ≡ wordsOf (plan .indices) (drop (6 + sizeOf form * raysOf form + 4 * plan .counts + sizeOf form * plan .numbers) l)
+      ≡ wordsOf (plan .indices) (drop (countsPlace form + 4 * plan .counts + sizeOf form * plan .numbers) l)
   unfolding saidOf
   said-indices = rw (s .countsAre, s .numbersAre, s .indicesAre)

@@ -12,8 +12,9 @@ use Rattle.float_forms.specs.declared.forms.Form.{Form}
 use Rattle.float_forms.specs.declared.forms.Form.the-variants.{First, Long, Short}
 use Rattle.float_forms.specs.Forms.{sizeOf, raysOf, versionOf, longForm}
 use Rattle.float_forms.specs.Bytes.{IsBytes, wordOf, wordBytes, numbersOf, numbersBytes, wordsOf, wordsBytes}
-use Rattle.record_bytes.specs.Records.{Said, manyCounts, manyNumbers, manyIndices, bodyLength, kindOf, countsOf, numbersPlace}
-use Rattle.record_bytes.specs.Records.{indicesPlace, saidOf, isKind, longest, fieldsBytes, recordBytes, saidFits, withoutNan}
+use Rattle.record_bytes.specs.Records.{Said, manyCounts, manyNumbers, manyIndices, bodyLength, kindOf, countsPlace, countsOf}
+use Rattle.record_bytes.specs.Records.{numbersPlace, indicesPlace, saidOf, isKind, longest, fieldsBytes, recordBytes, saidFits}
+use Rattle.record_bytes.specs.Records.{withoutNan}
 use Rattle.float_forms.specs.Representable.{isNumber, fitsIn}
 use Rattle.float_forms.proofs.Numbers.{drop-bytes, word-back, word-bytes}
 use Rattle.float_forms.proofs.RunLaws.{numbers-length, words-length, numbers-read, numbers-bytes, AllWords, words-read, words-bytes}
@@ -65,7 +66,7 @@ module _ (form : Form) (s : Said) (f : Fitting form s) where
       (drop 6 (recordBytes form s)) (raysOf form)
       (written-fields form s) (f .measured .rayed) (ray-of (fitsIn form) s (f .floatsFit))
 
-  behind-ray : drop (6 + sizeOf form * raysOf form) (recordBytes form s) ≡ wordsBytes (s .counts) ++
+  behind-ray : drop (countsPlace form) (recordBytes form s) ≡ wordsBytes (s .counts) ++
       (numbersBytes form (s .numbers) ++ wordsBytes (s .indices))
   behind-ray =
       behind (recordBytes form s) (numbersBytes form (s .ray)) _ 6 (sizeOf form * raysOf form) (written-fields form s)
@@ -74,14 +75,14 @@ module _ (form : Form) (s : Said) (f : Fitting form s) where
   pub back-counts : countsOf form (recordBytes form s) ≡ s .counts
   unfolding countsOf
   back-counts =
-      ap (λ (k : ℕ). wordsOf (manyCounts k) (drop (6 + sizeOf form * raysOf form) (recordBytes form s))) (written-kind form s)
-      ∙ words-read (s .counts) (numbersBytes form (s .numbers) ++ wordsBytes (s .indices)) (drop (6 + sizeOf form * raysOf form) (recordBytes form s))
+      ap (λ (k : ℕ). wordsOf (manyCounts k) (drop (countsPlace form) (recordBytes form s))) (written-kind form s)
+      ∙ words-read (s .counts) (numbersBytes form (s .numbers) ++ wordsBytes (s .indices)) (drop (countsPlace form) (recordBytes form s))
       (manyCounts (s .kind))
       behind-ray (f .measured .counted) (f .countsFit)
 
   behind-counts : drop (numbersPlace form (s .kind)) (recordBytes form s) ≡ numbersBytes form (s .numbers) ++ wordsBytes (s .indices)
   behind-counts =
-      behind (recordBytes form s) (wordsBytes (s .counts)) _ (6 + sizeOf form * raysOf form) (4 * manyCounts (s .kind)) behind-ray
+      behind (recordBytes form s) (wordsBytes (s .counts)) _ (countsPlace form) (4 * manyCounts (s .kind)) behind-ray
       (words-length (s .counts) ∙ ap (λ (n : ℕ). 4 * n) (f .measured .counted))
 
   behind-numbers : drop (indicesPlace form (s .kind) (s .counts)) (recordBytes form s) ≡ wordsBytes (s .indices)
@@ -140,20 +141,21 @@ module _ (form : Form) (l : List ℕ) (b : IsBytes l) (g : Formed form l) (h : T
   abbrev counts : List ℕ
   counts = countsOf form l
 
-  whole : length l ≡ 6 + size * raysOf form + 4 * manyCounts (kindOf l) + size * manyNumbers (kindOf l) counts + 4 * manyIndices (kindOf l) counts
+  whole : length l ≡ countsPlace form + 4 * manyCounts (kindOf l) + size * manyNumbers (kindOf l) counts + 4 * manyIndices (kindOf l) counts
   unfolding bodyLength
   whole = omega (arith, g .filled)
 
   same-ray : numbersBytes form (numbersOf form (raysOf form) (drop 6 l)) ≡ take (size * raysOf form) (drop 6 l)
   unfolding saidOf
   same-ray =
-      numbers-bytes form (raysOf form) (drop 6 l) (drop-bytes 6 l b) (omega (arith, whole, length-drop 6 l)) (ray-of isNumber (saidOf form l) h)
+      numbers-bytes form (raysOf form) (drop 6 l) (drop-bytes 6 l b) (omega (arith, whole, length-drop 6 l))
+      (ray-of isNumber (saidOf form l) h)
 
-  same-counts : wordsBytes counts ≡ take (4 * manyCounts (kindOf l)) (drop (6 + size * raysOf form) l)
+  same-counts : wordsBytes counts ≡ take (4 * manyCounts (kindOf l)) (drop (countsPlace form) l)
   unfolding countsOf
   same-counts =
-      words-bytes (manyCounts (kindOf l)) (drop (6 + size * raysOf form) l) (drop-bytes (6 + size * raysOf form) l b)
-      (omega (arith, whole, length-drop (6 + size * raysOf form) l))
+      words-bytes (manyCounts (kindOf l)) (drop (countsPlace form) l) (drop-bytes (countsPlace form) l b)
+      (omega (arith, whole, length-drop (countsPlace form) l))
 
   same-numbers : numbersBytes form (saidOf form l .numbers) ≡ take (size * manyNumbers (kindOf l) counts)
       (drop (numbersPlace form (kindOf l)) l)
@@ -179,7 +181,7 @@ module _ (form : Form) (l : List ℕ) (b : IsBytes l) (g : Formed form l) (h : T
         same-numbers,
         same-indices,
         joined l (numbersPlace form (kindOf l)) (size * manyNumbers (kindOf l) counts),
-        joined l (6 + size * raysOf form) (4 * manyCounts (kindOf l)),
+        joined l (countsPlace form) (4 * manyCounts (kindOf l)),
         joined l 6 (size * raysOf form),
       )
 

@@ -1,29 +1,28 @@
 -- Counts, and which records are filled by their fields, for each return of the functions that find out. Assumes nothing.
-use Prim.Native.Nat.{ℕ, zero, suc, _+_, _-_, _*_, _<_, _≤_}
+use Prim.Native.Nat.{ℕ, zero, suc, _+_, _*_, _<_, _≤_}
 use mathlib.Core.Path.{_≡_, refl, sym, ap, subst, _∙_}
 use mathlib.Core.Bool.{Bool, true, false, _&&_, cond}
-use mathlib.Core.List.{List, [], _∷_, _++_}
+use mathlib.Core.List.{List, [], _∷_}
 use native.Mathlib.Nat.{mul-zero, mul-one, mul-le-mul-right}
 use native.Mathlib.Omega.{arith}
 use borrow.Author.Tests.{ltb-true, ltb-false, eqb-true, leb-true, lt-ltb, le-ltb, le-leb, lt-leb, eq-eqb, ne-eqb}
 use lib.Dec.{ltb, eqb, leb}
-use lib.ListN.{length, getD, drop}
+use lib.ListN.{length, getD, drop, List·getD-eq-default}
 use lib.Seq.{drop-drop}
 use Rattle.float_forms.specs.declared.forms.Form.{Form}
 use Rattle.float_forms.specs.declared.forms.Form.the-variants.{First, Long, Short}
-use Rattle.record_bytes.specs.declared.shape.Plan.{Plan}
-use Rattle.record_bytes.specs.declared.shape.Planned.{Planned}
 use Rattle.record_bytes.specs.declared.shape.Planned.the-variants.{Is, Malformed}
 use Rattle.float_forms.specs.Forms.{sizeOf, raysOf, versionOf, formOf, longForm}
 use Rattle.float_forms.specs.Bytes.{wordOf, wordsOf}
-use Rattle.record_bytes.specs.Records.{manyCounts, manyNumbers, manyIndices, bodyLength, kindOf, countsOf, isKind, framed, filled}
+use Rattle.record_bytes.specs.Records.{manyCounts, manyNumbers, manyIndices, bodyLength, kindOf, countsPlace, countsOf, framed}
+use Rattle.record_bytes.specs.Records.{filled}
 use Rattle.record_bytes.specs.Records.{longest, wellFormed, formAt}
 use Rattle.record_bytes.specs.Plans.{capped, planOf, filling, planned}
 
 -- the length in the form with floats of 8 bytes
 pub long-body : (form : Form) (kind : ℕ) (counts : List ℕ)
-    → bodyLength (longForm form) kind counts ≡ 2 + 8 * raysOf form + 4 * manyCounts kind + 8 * manyNumbers kind counts + 4 * manyIndices kind
-    counts
+    → bodyLength (longForm form) kind counts
+    ≡ 2 + 8 * raysOf form + 4 * manyCounts kind + 8 * manyNumbers kind counts + 4 * manyIndices kind counts
 unfolding bodyLength
 long-body First kind counts = refl
 long-body Long kind counts = refl
@@ -107,28 +106,23 @@ pub count-read : (form : Form) (l : List ℕ) (kind many ray i word : ℕ) → k
     → ray ≡ sizeOf form * raysOf form → i < many → word ≡ wordOf (drop (6 + ray + 4 * i) l) → word ≡ getD (countsOf form l) i 0
 unfolding countsOf
 count-read form l kind many ray i word k m s h e =
-    let place : drop (6 + sizeOf form * raysOf form + 4 * i) l ≡ drop (4 * i) (drop (6 + sizeOf form * raysOf form) l) = sym
-    (drop-drop (4 * i) (6 + sizeOf form * raysOf form) l) in
+    let place : drop (countsPlace form + 4 * i) l ≡ drop (4 * i) (drop (countsPlace form) l) = sym
+    (drop-drop (4 * i) (countsPlace form) l) in
     e ∙
-    (rw (s, place) (word-of-run (manyCounts (kindOf l)) i (drop (6 + sizeOf form * raysOf form) l) (subst (λ (z : ℕ). i < z) (m ∙ ap manyCounts k)
+    (rw (s, place) (word-of-run (manyCounts (kindOf l)) i (drop (countsPlace form) l) (subst (λ (z : ℕ). i < z) (m ∙ ap manyCounts k)
     h)))
 
 pub count-none : (form : Form) (l : List ℕ) (kind many i : ℕ) → kind ≡ kindOf l → many ≡ manyCounts kind → many ≤ i
     → 0 ≡ getD (countsOf form l) i 0
 unfolding countsOf
 count-none form l kind many i k m h =
-    none-of-run (manyCounts (kindOf l)) i (drop (6 + sizeOf form * raysOf form) l) (subst (λ (z : ℕ). z ≤ i) (m ∙ ap manyCounts k) h)
+    none-of-run (manyCounts (kindOf l)) i (drop (countsPlace form) l) (subst (λ (z : ℕ). z ≤ i) (m ∙ ap manyCounts k) h)
 
 -- ---- the frame
 
-beyond : (l : List ℕ) (i : ℕ) → length l ≤ i → getD l i 0 ≡ 0
-beyond [] i h = refl
-beyond (x ∷ l) zero h = absurd (omega (arith, h))
-beyond (x ∷ l) (suc i) h = beyond l i (omega (arith, h))
-
 pub no-version : (l : List ℕ) → length l < 5 → Long ≡ formAt l
 unfolding formAt formOf
-no-version l h = rw (beyond l 4 (omega (arith, h)))
+no-version l h = rw (List·getD-eq-default l 0 {n = 4} (omega (arith, h)))
 
 never : (a : Bool) → false ≡ (a && false)
 never true = refl
@@ -140,7 +134,7 @@ unframed-kind form l h =
     rw (lt-leb 1 (getD l 5 0) h, sym (never (eqb (getD l 4 0) (versionOf form)))) (never (eqb (4 + wordOf l) (length l)))
 
 pub unframed-short : (form : Form) (l : List ℕ) → length l < 6 → false ≡ framed form l
-unframed-short form l h = unframed-kind form l (omega (arith, beyond l 5 (omega (arith, h))))
+unframed-short form l h = unframed-kind form l (omega (arith, List·getD-eq-default l 0 {n = 5} (omega (arith, h))))
 
 pub unframed-length : (form : Form) (l : List ℕ) (w : ℕ) → w ≡ wordOf (drop 0 l) → (w + 4 ≡ length l → ⊥) → false ≡ framed form l
 unfolding framed
@@ -210,7 +204,7 @@ pub unfilled-short : (form : Form) (l : List ℕ) (kind counts ray : ℕ) → ki
 unfolding bodyLength
 unfilled-short form l kind counts ray k m s h =
     let e : counts ≡ manyCounts (kindOf l) = m ∙ ap manyCounts k in
-    let g : length l < 6 + sizeOf form * raysOf form + 4 * manyCounts (kindOf l) = subst
+    let g : length l < countsPlace form + 4 * manyCounts (kindOf l) = subst
     (λ (z : ℕ). length l < 6 + z + 4 * manyCounts (kindOf l)) s (rw e at h) in
     unfilled form l (λ f _. omega (arith, f, g))
 
@@ -222,7 +216,8 @@ module _ (form : Form) (l : List ℕ) (kind counts numbers indices : ℕ) (f : C
   unfilled-many h = unfilled form l (λ _ g. omega (arith, g, long-body form (kindOf l) (countsOf form l), cap .more h))
 
   -- the length that was added up
-  lengths : (other : Form) (sum : ℕ) → numbers ≤ 1024 → sum ≡ 2 + sizeOf other * raysOf other + 4 * counts + sizeOf other * numbers + 4 * indices
+  lengths : (other : Form) (sum : ℕ) → numbers ≤ 1024
+      → sum ≡ 2 + sizeOf other * raysOf other + 4 * counts + sizeOf other * numbers + 4 * indices
       → sum ≡ bodyLength other (kindOf l) (countsOf form l)
   unfolding bodyLength
   lengths other sum h e = e ∙ (rw (f .countsAre, f .indicesAre, sym (cap .few h)))
@@ -242,14 +237,16 @@ module _ (form : Form) (l : List ℕ) (kind counts numbers indices : ℕ) (f : C
       → 8192 < sum → Malformed ≡ filling form l
   unfilled-long other sum o h e g = unfilled form l (λ _ k. omega (arith, g, k, long-lengths other sum o h e))
 
-  pub fills : (other : Form) (sum long : ℕ) → other ≡ longForm form → numbers ≤ 1024 → sum ≡ 2 + sizeOf form * raysOf form + 4 * counts + sizeOf form * numbers + 4 * indices
+  pub fills : (other : Form) (sum long : ℕ) → other ≡ longForm form → numbers ≤ 1024
+      → sum ≡ 2 + sizeOf form * raysOf form + 4 * counts + sizeOf form * numbers + 4 * indices
       → 4 + sum ≡ length l
       → long ≡ 2 + sizeOf other * raysOf other + 4 * counts + sizeOf other * numbers + 4 * indices → long ≤ 8192
       → Is record { kind = kind; counts = counts; numbers = numbers; indices = indices } ≡ filling form l
   unfolding filling filled planOf
   fills other sum long o h e g d k =
       let whole : 4 + bodyLength form (kindOf l) (countsOf form l) ≡ length l = ap (λ (z : ℕ). 4 + z) (sym (lengths form sum h e)) ∙ g in
-      let small : bodyLength (longForm form) (kindOf l) (countsOf form l) ≤ 8192 = subst (λ (z : ℕ). z ≤ 8192) (long-lengths other long o h d) k in
+      let small : bodyLength (longForm form) (kindOf l) (countsOf form l) ≤ longest = subst (λ (z : ℕ). z ≤ longest)
+      (long-lengths other long o h d) k in
       rw (
         eq-eqb (4 + bodyLength form (kindOf l) (countsOf form l)) (length l) whole,
         le-leb (bodyLength (longForm form) (kindOf l) (countsOf form l)) 8192 small,

@@ -57,8 +57,8 @@ module _ (form : Form) (test : Float → Bool) (one : (l : List ℕ) → T (test
   read-of l =
       let many = manyNumbers (kindOf l) (countsOf form l) in
       let place = numbersPlace form (kindOf l) in
-      and-i (every test (numbersOf form (raysOf form) (drop 6 l))) (every test (numbersOf form many (drop place l))) (run-of (raysOf form) (drop 6 l))
-      (run-of many (drop place l))
+      and-i (every test (numbersOf form (raysOf form) (drop 6 l))) (every test (numbersOf form many (drop place l)))
+      (run-of (raysOf form) (drop 6 l)) (run-of many (drop place l))
 
 -- ---- formats
 

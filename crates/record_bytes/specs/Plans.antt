@@ -1,7 +1,7 @@
 -- Inner contracts only: what a reader finds out of a record before it looks at a float. Definitions only. Assumes nothing.
 use Prim.Native.Nat.{ℕ, _+_, _*_}
 use mathlib.Core.Path.{_≡_}
-use mathlib.Core.Bool.{Bool, true, cond}
+use mathlib.Core.Bool.{true, cond}
 use mathlib.Core.List.{List}
 use lib.Dec.{ltb}
 use Rattle.float_forms.specs.declared.forms.Form.{Form}

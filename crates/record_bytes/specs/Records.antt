@@ -1,7 +1,7 @@
 -- What a record says; its layout, of every version, is stated once, over the form. Definitions only. Assumes nothing.
 use Prim.Native.Nat.{ℕ, _+_, _*_}
-use mathlib.Core.Bool.{Bool, cond, false, _&&_}
-use mathlib.Core.List.{List, [], _∷_, _++_}
+use mathlib.Core.Bool.{Bool, cond, _&&_}
+use mathlib.Core.List.{List, _∷_, _++_}
 use lib.Dec.{leb, eqb}
 use lib.Ieee.{Float}
 use lib.ListN.{length, getD, drop}
@@ -10,11 +10,12 @@ use Rattle.float_forms.specs.Forms.{sizeOf, raysOf, versionOf, formOf, longForm
 use Rattle.float_forms.specs.Bytes.{wordOf, wordBytes, numbersOf, numbersBytes, wordsOf, wordsBytes}
 use Rattle.float_forms.specs.Representable.{every, isNumber, fitsIn}
 
--- A record is four bytes of length, then its body: "version byte 1, kind byte 1 to 5 in mission order, origin, direction, maximum, then the
--- shape", and "Version byte 2 carries near after the maximum". The shape is, by kind,
--- 1 plane: normal and distance; 2 triangle: three corners; 3 mesh: vertex and triangle counts, vertices, indices;
--- 4 heights: rows, columns, two spacings, heights; 5 distances: three sides, origin, spacing, values.
--- So every body is the ray's floats, some u32, some floats, some u32.
+-- A record is "4-byte big-endian length of the rest" and its body:
+-- "version byte 1, kind byte 1 to 5 in mission order, origin, direction, maximum, then the shape";
+-- "Version byte 2 carries near after the maximum". The shape is, by kind,
+-- "normal and distance; three corners; u32 vertex and triangle counts, vertices, u32 indices;"
+-- "u32 rows, columns, spacing, heights; three u32 sides, origin, spacing, values".
+-- So every body is the ray's floats, some u32 (the counts), some floats, some u32.
 pub record Said : Type 0 where
   pub kind : ℕ
   pub ray : List Float
@@ -22,11 +23,12 @@ pub record Said : Type 0 where
   pub numbers : List Float
   pub indices : List ℕ
 
--- how many u32 come first
+-- how many u32 come first: "u32 vertex and triangle counts", "u32 rows, columns", "three u32 sides"
 unfoldable pub manyCounts : ℕ → ℕ
 manyCounts kind = cond (eqb kind 3) 2 (cond (eqb kind 4) 2 (cond (eqb kind 5) 3 0))
 
--- how many floats follow them, and how many u32 these; counts are multiplied as whole numbers
+-- how many floats follow them: "normal and distance", "three corners", "vertices", "spacing, heights", "origin, spacing, values"; counts
+-- are multiplied as whole numbers
 unfoldable pub manyNumbers : ℕ → List ℕ → ℕ
 manyNumbers kind counts =
     cond (eqb kind 1) 4
@@ -34,6 +36,7 @@ manyNumbers kind counts =
     (cond (eqb kind 3) (3 * getD counts 0 0)
     (cond (eqb kind 4) (2 + getD counts 0 0 * getD counts 1 0) (6 + getD counts 0 0 * getD counts 1 0 * getD counts 2 0))))
 
+-- and how many u32 these: "u32 indices"
 unfoldable pub manyIndices : ℕ → List ℕ → ℕ
 manyIndices kind counts = cond (eqb kind 3) (3 * getD counts 1 0) 0
 
@@ -48,11 +51,15 @@ bodyLength form kind counts =
 abbrev pub kindOf : List ℕ → ℕ
 kindOf bytes = getD bytes 5 0
 
+-- where the counts, the floats and the indices begin
+abbrev pub countsPlace : Form → ℕ
+countsPlace form = 6 + sizeOf form * raysOf form
+
 unfoldable pub countsOf : Form → List ℕ → List ℕ
-countsOf form bytes = wordsOf (manyCounts (kindOf bytes)) (drop (6 + sizeOf form * raysOf form) bytes)
+countsOf form bytes = wordsOf (manyCounts (kindOf bytes)) (drop (countsPlace form) bytes)
 
 abbrev pub numbersPlace : Form → ℕ → ℕ
-numbersPlace form kind = 6 + sizeOf form * raysOf form + 4 * manyCounts kind
+numbersPlace form kind = countsPlace form + 4 * manyCounts kind
 
 abbrev pub indicesPlace : Form → ℕ → List ℕ → ℕ
 indicesPlace form kind counts = numbersPlace form kind + sizeOf form * manyNumbers kind counts
@@ -70,7 +77,7 @@ saidOf form bytes = record {
 abbrev pub isKind : ℕ → Bool
 isKind kind = leb 1 kind && leb kind 5
 
--- exactly one record of the form's version, length bytes included: not "cut short, .. of another version or kind"
+-- exactly one record, length bytes included, of the form's version: not "cut short, over length, of another version or kind"
 unfoldable pub framed : Form → List ℕ → Bool
 framed form bytes = eqb (4 + wordOf bytes) (length bytes) && (eqb (getD bytes 4 0) (versionOf form) && isKind (kindOf bytes))
 
@@ -84,6 +91,7 @@ filled form bytes =
     eqb (4 + bodyLength form (kindOf bytes) (countsOf form bytes)) (length bytes)
     && leb (bodyLength (longForm form) (kindOf bytes) (countsOf form bytes)) longest
 
+-- not "cut short, over length, of another version or kind, or not exactly filled by its fields"
 unfoldable pub wellFormed : Form → List ℕ → Bool
 wellFormed form bytes = framed form bytes && filled form bytes
 

@@ -1,6 +1,7 @@
 -- `conversion::writing::write` meets its contract. Assumes nothing.
 use Prim.Native.Nat.{_+_, _*_}
-use Rattle.float_forms.specs.Forms.{sizeOf, raysOf}
+use Rattle.float_forms.specs.Forms.{sizeOf}
+use Rattle.record_bytes.specs.Records.{countsPlace}
 use Rattle.float_forms.specs.Representable.{fitsIn}
 use native.Mathlib.Omega.{arith}
 use denote.Ref.{now}
@@ -38,7 +39,7 @@ write-ray-requires c κs =
       ),
       (
         kept-by (now (start .args .out)) (at-write-head .write-head .last .1 .1 .1 .0)
-            (6 + sizeOf (start .args .q) * raysOf (start .args .q) + 4 * start .args .plan .counts) (at-write-head .write-head .kept .1 .1 .1 .0)
+            (countsPlace (start .args .q) + 4 * start .args .plan .counts) (at-write-head .write-head .kept .1 .1 .1 .0)
             (ray-room (start .args .p) (start .args .q) (now (start .args .source)) (start .args .plan) (start .pre .1 .1 .1)
             (sizes (start .args .p) (now (start .args .source)) (start .args .plan) (start .pre .0)) (start .args .body)
             (length (now (start .args .out))) (start .pre .1 .0 .0) (start .pre .1 .0 .1)),

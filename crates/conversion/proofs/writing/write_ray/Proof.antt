@@ -1,5 +1,5 @@
 -- `conversion::writing::write_ray` meets its contract. Assumes nothing.
-use Prim.Native.Nat.{ℕ, _+_, _*_}
+use Prim.Native.Nat.{ℕ, _*_}
 use mathlib.Core.List.{List}
 use mathlib.Core.Path.{_≡_, ap, _∙_}
 use native.Mathlib.Omega.{arith}
@@ -7,6 +7,7 @@ use lib.ListN.{drop}
 use lib.Seq.{sets}
 use Rattle.float_forms.specs.Forms.{sizeOf, raysOf}
 use Rattle.float_forms.specs.Bytes.{numbersOf, numbersBytes, wordsOf, wordsBytes}
+use Rattle.record_bytes.specs.Records.{countsPlace}
 use Rattle.conversion.proofs.WritingLaws.{two-parts, run-behind}
 use borrow.Author.Needs.{needs}
 use Rattle.conversion.proofs.writing.write_ray.Statement.{statement}
@@ -32,9 +33,10 @@ returns c =
     let a = s .args in
     let l = a .source .now in
     let to = m .numbers-place2 .result in
-    let from : n .numbers-place .result ≡ 6 + sizeOf (a .p) * raysOf (a .p) = omega (arith, n .numbers-place .ensures .0) in
-    two-parts (a .out .now) (after-ray w) (v .put-words .last .1 .1 .1 .0) (numbersBytes (a .q) (numbersOf (a .p) (raysOf (a .p)) (drop 6 l)))
-    (wordsBytes (wordsOf (a .counts) (drop (6 + sizeOf (a .p) * raysOf (a .p)) l))) 6 to
+    let from : n .numbers-place .result ≡ countsPlace (a .p) = omega (arith, n .numbers-place .ensures .0) in
+    two-parts (a .out .now) (after-ray w) (v .put-words .last .1 .1 .1 .0)
+    (numbersBytes (a .q) (numbersOf (a .p) (raysOf (a .p)) (drop 6 l)))
+    (wordsBytes (wordsOf (a .counts) (drop (countsPlace (a .p)) l))) 6 to
     (w .put-floats .ensures ∙ ap (λ (i : ℕ). sets (a .out .now) 6 (numbersBytes (a .q) (numbersOf (a .p) i (drop 6 l))))
     (k .ray-count .ensures))
     (v .put-words .ensures ∙ ap (λ (i : ℕ). sets (after-ray w) to (wordsBytes (wordsOf (a .counts) (drop i l)))) from)

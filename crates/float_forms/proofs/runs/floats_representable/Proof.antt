@@ -1,15 +1,13 @@
 -- `float_forms::runs::floats_representable` meets its contract. Assumes nothing.
 use borrow.Author.Tests.{not-true, not-false}
 use Rattle.float_forms.specs.Representable.{representable}
-use Prim.Native.Nat.{_+_, _-_, _*_, _<_, _≤_}
-use mathlib.Core.Path.{_≡_, refl, sym, ap, subst, _∙_}
+use mathlib.Core.Path.{refl, sym, ap, _∙_}
 use native.Mathlib.Omega.{arith}
 use lib.ListN.{length, drop}
-use lib.Seq.{sets}
 use denote.Ref.{now}
 use borrow.Author.Needs.{needs}
 use Rattle.float_forms.specs.Forms.{sizeOf}
-use Rattle.float_forms.specs.Bytes.{numbersOf, numbersBytes, wordsOf, wordsBytes}
+use Rattle.float_forms.specs.Bytes.{numbersOf}
 use Rattle.float_forms.specs.Representable.{every}
 use Rattle.float_forms.proofs.RunSteps.{Scanning, next-inside, scan-next, scan-unrepresentable, scan-done}
 use Rattle.float_forms.proofs.runs.floats_representable.Statement.{statement}

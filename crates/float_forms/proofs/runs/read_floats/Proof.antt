@@ -1,8 +1,6 @@
 -- `float_forms::runs::read_floats` meets its contract. Assumes nothing.
 use Prim.Native.Nat.{_-_}
-use mathlib.Core.List.{List}
 use native.Mathlib.Omega.{arith}
-use lib.Ieee.{Float}
 use lib.ListN.{length, drop}
 use lib.Seq.{sets}
 use borrow.Author.Needs.{needs}
@@ -39,7 +37,8 @@ number-at-requires : tie.Need-number-at-requires Inv-loop μ-loop
 number-at-requires c κs =
     let (s, l, t) : Start × At-loop × In-loop = search in
     let f = s .args .form in
-    read-inside (numberOf f) (sizeOf f) (numbersOf f) (numbers-run f) (s .args .source .now) _ _ _ _ _ _ (l .loop .inv) (t .loop-test .taken)
+    read-inside (numberOf f) (sizeOf f) (numbersOf f) (numbers-run f) (s .args .source .now) _ _ _ _ _ _ (l .loop .inv)
+    (t .loop-test .taken)
 
 mul-out : tie.Need-mul-out Inv-loop μ-loop
 mul-out c =

@@ -1,76 +1,63 @@
 -- `record_bytes::shape::filled_by` meets its contract. Assumes nothing.
-use native.Mathlib.Omega.{arith}
-use denote.Ref.{now}
-use Rattle.record_bytes.proofs.ShapeLaws.{counted, unfilled-short, unfilled-many, unfilled-length, unfilled-long, fills}
 use borrow.Author.Needs.{needs}
+use Rattle.record_bytes.proofs.ShapeLaws.{Counted, counted, unfilled-short, unfilled-many, unfilled-length, unfilled-long, fills}
 use Rattle.record_bytes.proofs.shape.filled_by.Statement.{statement}
 use Rattle.record_bytes.proofs.shape.filled_by.Tie as tie
 
+start : tie.After-many-indices → tie.Start
+start k = search
+
+counts : tie.After-many-indices → tie.After-many-counts
+counts k = search
+
+numbers : tie.After-many-indices → tie.After-many-numbers
+numbers k = search
+
+-- what the record's counts say
+is-counted : (k : tie.After-many-indices) → let a = start k .args in
+    Counted (a .form) (a .source .now) (a .kind) (counts k .many-counts .result) (numbers k .many-numbers .result)
+    (k .many-indices .result)
+unfolding start counts numbers
+is-counted k =
+    let (s, m, n) : tie.Start × tie.After-many-counts × tie.After-many-numbers = search in
+    let (c, d, e) : tie.After-count-at × tie.After-count-at2 × tie.After-count-at3 = search in
+    counted _ _ _ _ _ _ _ _ _ (s .pre) (m .many-counts .ensures .0) (c .count-at .ensures .0) (d .count-at2 .ensures .0)
+    (e .count-at3 .ensures .0) (n .many-numbers .ensures) (k .many-indices .ensures .0)
+
+-- no room for the counts
 returns : tie.Need-returns
 returns c =
-    let (start, at-many-counts) : tie.Start × tie.After-many-counts = search in
-    unfilled-short (start .args .form) (now (start .args .source)) (start .args .kind) (at-many-counts .many-counts .result)
-    (c .before .ray-length .result) (start .pre) (at-many-counts .many-counts .ensures .0) (c .before .ray-length .ensures .0) (c .if1 .taken)
+    let (s, m, r) : tie.Start × tie.After-many-counts × tie.After-ray-length = search in
+    unfilled-short _ _ _ _ _ (s .pre) (m .many-counts .ensures .0) (r .ray-length .ensures .0) (c .if1 .taken)
 
+-- more floats than any record has
 returns-2 : tie.Need-returns-2
+unfolding start counts numbers
 returns-2 c =
-    let (start, at-many-counts, at-count-at, at-count-at2, at-count-at3, at-many-numbers) :
-    tie.Start × tie.After-many-counts × tie.After-count-at × tie.After-count-at2 × tie.After-count-at3 × tie.After-many-numbers = search in
-    unfilled-many (start .args .form) (now (start .args .source)) (start .args .kind) (at-many-counts .many-counts .result)
-    (at-many-numbers .many-numbers .result) (c .before .many-indices .result)
-    (counted (start .args .form) (now (start .args .source)) (start .args .kind) (at-many-counts .many-counts .result)
-    (at-many-numbers .many-numbers .result) (c .before .many-indices .result) (at-count-at .count-at .result)
-    (at-count-at2 .count-at2 .result) (at-count-at3 .count-at3 .result) (start .pre) (at-many-counts .many-counts .ensures .0)
-    (at-count-at .count-at .ensures .0) (at-count-at2 .count-at2 .ensures .0) (at-count-at3 .count-at3 .ensures .0)
-    (at-many-numbers .many-numbers .ensures) (c .before .many-indices .ensures .0))
-    (c .if2 .taken)
+    let k : tie.After-many-indices = search in
+    unfilled-many _ _ _ _ _ _ (is-counted k) (c .if2 .taken)
 
+-- not exactly filled
 returns-3 : tie.Need-returns-3
+unfolding start counts numbers
 returns-3 c =
-    let (start, at-many-counts, at-count-at, at-count-at2, at-count-at3, at-many-numbers, at-many-indices, else2) :
-    tie.Start × tie.After-many-counts × tie.After-count-at × tie.After-count-at2 × tie.After-count-at3 × tie.After-many-numbers ×
-    tie.After-many-indices × tie.Else2 = search in
-    unfilled-length (start .args .form) (now (start .args .source)) (start .args .kind) (at-many-counts .many-counts .result)
-    (at-many-numbers .many-numbers .result) (at-many-indices .many-indices .result)
-    (counted (start .args .form) (now (start .args .source)) (start .args .kind) (at-many-counts .many-counts .result)
-    (at-many-numbers .many-numbers .result) (at-many-indices .many-indices .result) (at-count-at .count-at .result)
-    (at-count-at2 .count-at2 .result) (at-count-at3 .count-at3 .result) (start .pre) (at-many-counts .many-counts .ensures .0)
-    (at-count-at .count-at .ensures .0) (at-count-at2 .count-at2 .ensures .0) (at-count-at3 .count-at3 .ensures .0)
-    (at-many-numbers .many-numbers .ensures) (at-many-indices .many-indices .ensures .0))
-    (c .before .body-length .result) (else2 .if2 .left) (c .before .body-length .ensures .0) (c .if3 .taken)
+    let (k, e, b) : tie.After-many-indices × tie.Else2 × tie.After-body-length = search in
+    unfilled-length _ _ _ _ _ _ (is-counted k) _ (e .if2 .left) (b .body-length .ensures .0) (c .if3 .taken)
 
+-- too long with floats of 8 bytes
 returns-4 : tie.Need-returns-4
+unfolding start counts numbers
 returns-4 c =
-    let (start, at-many-counts, at-count-at, at-count-at2, at-count-at3, at-many-numbers, at-many-indices, else2) :
-    tie.Start × tie.After-many-counts × tie.After-count-at × tie.After-count-at2 × tie.After-count-at3 × tie.After-many-numbers ×
-    tie.After-many-indices × tie.Else2 = search in
-    let k : tie.After-long-form = search in
-    unfilled-long (start .args .form) (now (start .args .source)) (start .args .kind) (at-many-counts .many-counts .result)
-    (at-many-numbers .many-numbers .result) (at-many-indices .many-indices .result)
-    (counted (start .args .form) (now (start .args .source)) (start .args .kind) (at-many-counts .many-counts .result)
-    (at-many-numbers .many-numbers .result) (at-many-indices .many-indices .result) (at-count-at .count-at .result)
-    (at-count-at2 .count-at2 .result) (at-count-at3 .count-at3 .result) (start .pre) (at-many-counts .many-counts .ensures .0)
-    (at-count-at .count-at .ensures .0) (at-count-at2 .count-at2 .ensures .0) (at-count-at3 .count-at3 .ensures .0)
-    (at-many-numbers .many-numbers .ensures) (at-many-indices .many-indices .ensures .0))
-    (k .long-form .result) (c .before .body-length2 .result) (k .long-form .ensures) (else2 .if2 .left) (c .before .body-length2 .ensures .0)
-    (c .if4 .taken)
+    let (k, e, f, b) : tie.After-many-indices × tie.Else2 × tie.After-long-form × tie.After-body-length2 = search in
+    unfilled-long _ _ _ _ _ _ (is-counted k) _ _ (f .long-form .ensures) (e .if2 .left) (b .body-length2 .ensures .0) (c .if4 .taken)
 
 returns-5 : tie.Need-returns-5
+unfolding start counts numbers
 returns-5 c =
-    let (start, at-many-counts, at-count-at, at-count-at2, at-count-at3, at-many-numbers, at-many-indices, else2, at-body-length, else3) :
-    tie.Start × tie.After-many-counts × tie.After-count-at × tie.After-count-at2 × tie.After-count-at3 × tie.After-many-numbers ×
-    tie.After-many-indices × tie.Else2 × tie.After-body-length × tie.Else3 = search in
-    let k : tie.After-long-form = search in
-    fills (start .args .form) (now (start .args .source)) (start .args .kind) (at-many-counts .many-counts .result)
-    (at-many-numbers .many-numbers .result) (at-many-indices .many-indices .result)
-    (counted (start .args .form) (now (start .args .source)) (start .args .kind) (at-many-counts .many-counts .result)
-    (at-many-numbers .many-numbers .result) (at-many-indices .many-indices .result) (at-count-at .count-at .result)
-    (at-count-at2 .count-at2 .result) (at-count-at3 .count-at3 .result) (start .pre) (at-many-counts .many-counts .ensures .0)
-    (at-count-at .count-at .ensures .0) (at-count-at2 .count-at2 .ensures .0) (at-count-at3 .count-at3 .ensures .0)
-    (at-many-numbers .many-numbers .ensures) (at-many-indices .many-indices .ensures .0))
-    (k .long-form .result) (at-body-length .body-length .result) (c .before .body-length2 .result) (k .long-form .ensures) (else2 .if2 .left)
-    (at-body-length .body-length .ensures .0)
-    (else3 .if3 .left) (c .before .body-length2 .ensures .0) (c .if4 .left)
+    let (k, e, b, g) : tie.After-many-indices × tie.Else2 × tie.After-body-length × tie.Else3 = search in
+    let (f, d) : tie.After-long-form × tie.After-body-length2 = search in
+    fills _ _ _ _ _ _ (is-counted k) _ _ _ (f .long-form .ensures) (e .if2 .left) (b .body-length .ensures .0) (g .if3 .left)
+    (d .body-length2 .ensures .0) (c .if4 .left)
 
 pub filled-by-spec : {M : Type 1} → statement M
 filled-by-spec =
