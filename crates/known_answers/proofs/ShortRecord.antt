@@ -16,8 +16,8 @@ use Rattle.float_forms.specs.Forms.{formOf}
 use Rattle.float_forms.specs.Bytes.{wordOf, wordBytes, patternOf, patternBytes, numberOf, numberBytes, numbersOf, numbersBytes, wordsOf}
 use Rattle.float_forms.specs.Bytes.{wordsBytes}
 use Rattle.float_forms.specs.Representable.{every, representable}
-use Rattle.record_bytes.specs.Records.{manyCounts, manyNumbers, manyIndices, bodyLength, countsOf, saidOf, framed, filled, wellFormed, formAt}
-use Rattle.record_bytes.specs.Records.{isRecord, everySaid, fieldsBytes, recordBytes}
+use Rattle.record_bytes.specs.Records.{manyCounts, manyNumbers, manyIndices, bodyLength, countsOf, saidOf, framed, filled, wellFormed}
+use Rattle.record_bytes.specs.Records.{formAt, isRecord, everySaid, fieldsBytes, recordBytes}
 use Rattle.conversion.specs.Convert.{written, refused, converted, toShort, toLong}
 use Rattle.record_text.specs.Text.{glyph, digits, placesOf, decimal, hexadecimal, printedBits}
 use Rattle.record_text.specs.AnswerText.{floatText, hitText, answerText}
@@ -29,35 +29,35 @@ use Rattle.records.specs.WorkedExample.{exampleOutput, longRecord, shortRecord,
 
 -- the worked example's first line; and its third one's answer, since a NaN is no maximum
 pub short-example : outputOf (shortRecord ++ nanRecord) ≡ take 74 exampleOutput ++ (50 ∷ drop 82 exampleOutput)
-unfolding shortRecord nanRecord exampleOutput outputOf linesFrom nextOf isRecord formAt formOf wellFormed framed filled bodyLength manyCounts manyNumbers
-    manyIndices countsOf saidOf numbersOf numberOf patternOf wordsOf wordOf parse rayBy shapeFrom planeBy vectorAt
-    lineWith parsedText
-    shapeText answerText hitText floatText printedBits hexadecimal decimal placesOf digits glyph rayPlane planeCast planeAt planeAdmitted facing offSegment rayAdmitted unitLength lengthOf checkedDot dotOf negOf finiteVec rootOf
-    rootRound wholeRoot rootDigits negative absolute isFinite span climb size odd units round neg sum add sub mul div lt eq le ne ofInt
-    toUnsigned isNan ofFields ofBits toBits
+unfolding shortRecord nanRecord exampleOutput outputOf linesFrom nextOf isRecord formAt formOf wellFormed framed filled bodyLength
+    manyCounts manyNumbers manyIndices countsOf saidOf numbersOf numberOf patternOf wordsOf wordOf parse rayBy shapeFrom planeBy vectorAt
+    lineWith parsedText shapeText answerText hitText floatText printedBits hexadecimal decimal placesOf digits glyph rayPlane planeCast
+    planeAt planeAdmitted facing offSegment rayAdmitted unitLength lengthOf checkedDot dotOf negOf finiteVec rootOf rootRound wholeRoot
+    rootDigits negative absolute isFinite span climb size odd units round neg sum add sub mul div lt eq le ne ofInt toUnsigned isNan
+    ofFields ofBits toBits
 short-example = refl
 
 -- to version 3 and back, with six places more, just room, and one place less; and a NaN
 pub to-short-example : toShort longRecord (areaOf 60) ≡ record { answer = written 54; area = shortRecord ++ areaOf 6 }
-unfolding shortRecord longRecord saidFor kindByte shapeCounts shapeNumbers shapeIndices converted every everySaid representable wellFormed framed filled bodyLength manyCounts manyNumbers manyIndices
-    countsOf saidOf numbersOf numberOf patternOf wordsOf wordOf recordBytes fieldsBytes numbersBytes numberBytes patternBytes wordsBytes
-    wordBytes size odd isNan fits ofFields ofBits toBits
+unfolding shortRecord longRecord saidFor kindByte shapeCounts shapeNumbers shapeIndices converted every everySaid representable wellFormed
+    framed filled bodyLength manyCounts manyNumbers manyIndices countsOf saidOf numbersOf numberOf patternOf wordsOf wordOf recordBytes
+    fieldsBytes numbersBytes numberBytes patternBytes wordsBytes wordBytes size odd isNan fits ofFields ofBits toBits
 to-short-example = refl
 
 pub to-long-example : toLong shortRecord (areaOf 102) ≡ record { answer = written 102; area = longRecord }
-unfolding shortRecord longRecord saidFor kindByte shapeCounts shapeNumbers shapeIndices converted every everySaid representable wellFormed framed filled bodyLength manyCounts manyNumbers manyIndices
-    countsOf saidOf numbersOf numberOf patternOf wordsOf wordOf recordBytes fieldsBytes numbersBytes numberBytes patternBytes wordsBytes
-    wordBytes size odd isNan fits ofFields ofBits toBits
+unfolding shortRecord longRecord saidFor kindByte shapeCounts shapeNumbers shapeIndices converted every everySaid representable wellFormed
+    framed filled bodyLength manyCounts manyNumbers manyIndices countsOf saidOf numbersOf numberOf patternOf wordsOf wordOf recordBytes
+    fieldsBytes numbersBytes numberBytes patternBytes wordsBytes wordBytes size odd isNan fits ofFields ofBits toBits
 to-long-example = refl
 
 pub no-room-example : toLong nanRecord (areaOf 101) ≡ record { answer = refused 3; area = areaOf 101 }
-unfolding nanRecord converted every everySaid representable wellFormed framed filled bodyLength manyCounts manyNumbers manyIndices
-    countsOf saidOf numbersOf numberOf patternOf wordsOf wordOf recordBytes fieldsBytes numbersBytes numberBytes patternBytes wordsBytes
-    wordBytes size odd isNan fits ofFields ofBits toBits
+unfolding nanRecord converted every everySaid representable wellFormed framed filled bodyLength manyCounts manyNumbers manyIndices countsOf
+    saidOf numbersOf numberOf patternOf wordsOf wordOf recordBytes fieldsBytes numbersBytes numberBytes patternBytes wordsBytes wordBytes
+    size odd isNan fits ofFields ofBits toBits
 no-room-example = refl
 
 pub nan-example : toLong nanRecord (areaOf 102) ≡ record { answer = refused 11; area = areaOf 102 }
-unfolding nanRecord converted every everySaid representable wellFormed framed filled bodyLength manyCounts manyNumbers manyIndices
-    countsOf saidOf numbersOf numberOf patternOf wordsOf wordOf recordBytes fieldsBytes numbersBytes numberBytes patternBytes wordsBytes
-    wordBytes size odd isNan fits ofFields ofBits toBits
+unfolding nanRecord converted every everySaid representable wellFormed framed filled bodyLength manyCounts manyNumbers manyIndices countsOf
+    saidOf numbersOf numberOf patternOf wordsOf wordOf recordBytes fieldsBytes numbersBytes numberBytes patternBytes wordsBytes wordBytes
+    size odd isNan fits ofFields ofBits toBits
 nan-example = refl

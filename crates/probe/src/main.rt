@@ -62,7 +62,7 @@ fn answer(
         return runs::failed_run(run);
     }
     let held = run.held;
-    let done = answers::answer_at_hand(
+    let done = answers::answer_records(
         run.next,
         run.ended,
         &input[..held],

@@ -53,7 +53,8 @@ well-formed-is-record form l w = ap (λ (p : Form). wellFormed p l) (form-is for
 -- ---- the same line
 
 -- a record and what it is converted to are parsed alike, NaN included
-module _ (p q : Form) (l : List ℕ) (r : raysOf p ≡ raysOf q) (b : IsBytes l) (w : T (wellFormed p l)) (f : T (saidFits q (saidOf p l))) where
+module _ (p q : Form) (l : List ℕ) (r : raysOf p ≡ raysOf q) (b : IsBytes l) (w : T (wellFormed p l))
+    (f : T (saidFits q (saidOf p l))) where
   same-parsed : parse (turned p q l) ≡ parse l
   same-parsed =
       parsed-is q (turned p q l) (turned-well-formed p q l r b w f)

@@ -6,11 +6,11 @@ ghost use mathlib.Core.Bool.{false};
 ghost use Prim.Native.Nat.{_+_, _<_, _≤_};
 ghost use lib.ListN.{length, take, drop};
 ghost use Rattle.record_bytes.specs.Stream.{nextOf};
-ghost use Rattle.record_stream.specs.AtHand.{stepOf, Turned, Answered, goesOn};
+ghost use Rattle.record_stream.specs.Progress.{stepOf, Stepped, Answered, goesOn};
 
-// What is left to do, after some records were answered.
-pub struct AtHand {
-    // How many of the bytes at hand are used.
+// How far the input is answered.
+pub struct Progress {
+    // How many bytes of the input are used.
     pub used: usize,
     // How many bytes of the output area are lines.
     pub filled: usize,
@@ -22,7 +22,7 @@ pub struct AtHand {
 
 // After the record of that many bytes at the front of what is left.
 fn record_step(
-    s: AtHand,
+    s: Progress,
     rest: &[u8],
     end: usize,
     work: &mut [f64; 1024],
@@ -34,10 +34,10 @@ fn record_step(
     list: &mut [u32; 677],
     stack: &mut [u32; 1355],
     output: &mut [u8],
-) -> AtHand
+) -> Progress
     requires { ⌜ (end ≤ length (now rest)) × (s .filled + 114 ≤ length (now output)) ⌝ }
     requires { ⌜ (s .next < 18446744073709551615) × (s .used + end < 18446744073709551616) ⌝ }
-    ensures { λ r. ⌜ Turned (stepOf (s .next) (now (rest .entry)) (Found.Record end)) s r (now (output .entry)) (now (output .exit)) ⌝ }
+    ensures { λ r. ⌜ Stepped (stepOf (s .next) (now (rest .entry)) (Found.Record end)) s r (now (output .entry)) (now (output .exit)) ⌝ }
 {
     let printed = lines::line(
         s.next,
@@ -53,7 +53,7 @@ fn record_step(
         output,
         s.filled,
     );
-    AtHand {
+    Progress {
         used: s.used + end,
         filled: printed.end,
         next: s.next + 1,
@@ -63,7 +63,7 @@ fn record_step(
 
 // After the record at the front of what is left, whatever stands there.
 fn step(
-    s: AtHand,
+    s: Progress,
     input: &[u8],
     work: &mut [f64; 1024],
     triangles: &mut [u32; 2031],
@@ -74,10 +74,10 @@ fn step(
     list: &mut [u32; 677],
     stack: &mut [u32; 1355],
     output: &mut [u8],
-) -> AtHand
+) -> Progress
     requires { ⌜ (s .used ≤ length (now input)) × (s .filled + 114 ≤ length (now output)) ⌝ }
     requires { ⌜ s .next < 18446744073709551615 ⌝ }
-    ensures { λ r. ⌜ Turned (stepOf (s .next) (drop (s .used) (now (input .entry))) (nextOf (drop (s .used) (now (input .entry))))) s r
+    ensures { λ r. ⌜ Stepped (stepOf (s .next) (drop (s .used) (now (input .entry))) (nextOf (drop (s .used) (now (input .entry))))) s r
         (now (output .entry)) (now (output .exit)) ⌝ }
 {
     let used = s.used;
@@ -101,7 +101,7 @@ fn step(
             );
         }
         Found::Cut => {
-            return AtHand {
+            return Progress {
                 used: used,
                 filled: lines::bad_line(s.next, output, s.filled),
                 next: s.next,
@@ -109,7 +109,7 @@ fn step(
             };
         }
         Found::End => {
-            return AtHand {
+            return Progress {
                 used: used,
                 filled: s.filled,
                 next: s.next,
@@ -119,8 +119,8 @@ fn step(
     }
 }
 
-// Whether another record is answered: no malformed one or end was met, a line has room, and a whole record is at hand.
-fn goes_on(s: AtHand, ended: bool, length: usize, room: usize) -> bool
+// Whether another record is answered: no malformed one or end was met, a line has room, and the input has a whole record left.
+fn goes_on(s: Progress, ended: bool, length: usize, room: usize) -> bool
     requires { ⌜ (s .filled ≤ room) × (s .used ≤ length) ⌝ }
     ensures { λ r. ⌜ r ≡ goesOn s ended length room ⌝ }
 {
@@ -136,9 +136,9 @@ fn goes_on(s: AtHand, ended: bool, length: usize, room: usize) -> bool
     length - s.used >= 8196
 }
 
-// The lines for the bytes at hand, of which more may come unless `ended`, at the front of the output area: as many as have room. All
-// areas between are work areas, which may hold anything afterwards. No public call: the caller shows that record numbers do not run out.
-pub fn answer_at_hand(
+// The lines for the input, which goes on unless `ended`, at the front of the output area: as many as have room. All areas between are work
+// areas, which may hold anything afterwards. No public call: the caller shows that record numbers do not run out.
+pub fn answer_records(
     number: u64,
     ended: bool,
     input: &[u8],
@@ -151,14 +151,14 @@ pub fn answer_at_hand(
     list: &mut [u32; 677],
     stack: &mut [u32; 1355],
     output: &mut [u8],
-) -> AtHand
+) -> Progress
     requires { ⌜ number + length (now input) < 18446744073709551615 ⌝ }
     ensures { λ r. ⌜ Answered (now (input .entry)) ended number (length (now (output .entry))) (take (r .filled) (now (output .exit)))
         (r .used) (r .next) (r .over) ⌝ }
     ensures { λ r. ⌜ goesOn r ended (length (now (input .entry))) (length (now (output .entry))) ≡ false ⌝ }
     ensures { λ r. ⌜ r .filled ≤ length (now (output .entry)) ⌝ }
 {
-    let mut s = AtHand {
+    let mut s = Progress {
         used: 0,
         filled: 0,
         next: number,

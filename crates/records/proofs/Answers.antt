@@ -37,7 +37,8 @@ module _ (ray : Ray) (kind : ℕ) (counts : List ℕ) (numbers : List Float) (in
   mesh-answer a k e = rw (k, e)
 
   -- no other kind has indices
-  pub without-indices : (kind ≡ 3 → ⊥) → shapeText ray (shapeFrom kind counts numbers []) ≡ shapeText ray (shapeFrom kind counts numbers indices)
+  pub without-indices : (kind ≡ 3 → ⊥)
+      → shapeText ray (shapeFrom kind counts numbers []) ≡ shapeText ray (shapeFrom kind counts numbers indices)
   unfolding shapeFrom
   without-indices k = simp (ne-eqb kind 3 k)
 

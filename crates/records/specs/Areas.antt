@@ -1,4 +1,5 @@
--- Inner contracts only: how many counts and floats a shape has, and the lengths of the areas in which a record is answered. Definitions only. Assumes nothing.
+-- Inner contracts only: how many counts and floats a shape has, and how long the areas are in which a record is answered. Definitions only.
+-- Assumes nothing.
 use Prim.Native.Nat.{ℕ, _+_, _*_, _≤_}
 use mathlib.Core.Path.{_≡_}
 use mathlib.Core.List.{List}

@@ -1,5 +1,5 @@
--- Document 01's worked example: three records, and the whole output for them; three of versions 1 and 2; and one of version 2 beside the same
--- of version 3. Definitions only. Assumes nothing.
+-- Document 01's worked example: three records, and the whole output for them; three of versions 1 and 2; and one in
+-- versions 2 and 3. Definitions only. Assumes nothing.
 use Prim.Native.Nat.{ℕ}
 use mathlib.Core.List.{List, [], _∷_, _++_}
 use lib.Ieee.{Float, binary64, ofBits}

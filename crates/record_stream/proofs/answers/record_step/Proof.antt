@@ -3,7 +3,7 @@ use Prim.Native.Nat.{ℕ}
 use mathlib.Core.Path.{sym}
 use mathlib.Core.List.{List}
 use lib.Seq.{length-take-le}
-use Rattle.record_stream.proofs.HandLaws.{record-turned}
+use Rattle.record_stream.proofs.StepLaws.{record-stepped}
 use borrow.Author.Needs.{needs}
 use Rattle.record_stream.proofs.answers.record_step.Statement.{statement}
 use Rattle.record_stream.proofs.answers.record_step.Tie as tie
@@ -21,7 +21,7 @@ returns : tie.Need-returns
 returns c =
     let (s, k) : tie.Start × tie.After-line = search in
     let a = s .args in
-    record-turned (a .s) (a .rest .now) (a .output .now) (output k) (a .end) _ _ (k .line .ensures .0) (k .line .ensures .1)
+    record-stepped (a .s) (a .rest .now) (a .output .now) (output k) (a .end) _ _ (k .line .ensures .0) (k .line .ensures .1)
 
 pub record-step-spec : {M : Type 1} → statement M
 record-step-spec =

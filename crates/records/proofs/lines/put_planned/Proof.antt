@@ -9,7 +9,8 @@ use lib.Seq.{length-take-le}
 use Rattle.record_bytes.specs.Records.{Said, saidOf}
 use Rattle.record_bytes.proofs.PlanLaws.{Sizes}
 use Rattle.record_text.proofs.AnswerParts.{put-as}
-use Rattle.records.proofs.Reading.{plan-sizes, numbers-few, indices-few, counts-read, numbers-read, indices-read, read-sized, read-text}
+use Rattle.records.proofs.Reading.{plan-sizes, numbers-few, indices-few, counts-read, numbers-read, indices-read}
+use Rattle.records.proofs.Reading.{read-sized, read-text}
 use borrow.Author.Needs.{needs}
 use Rattle.records.proofs.lines.put_planned.Statement.{statement}
 use Rattle.records.proofs.lines.put_planned.Tie as tie
