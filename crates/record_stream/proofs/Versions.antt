@@ -1,6 +1,6 @@
 -- One meaning of a record for `probe` and the converter, and one line from either version. Assumes nothing.
 use Prim.Native.Nat.{ℕ, _+_, _<_, _≤_}
-use mathlib.Core.Path.{_≡_, refl, sym, ap, _∙_}
+use mathlib.Core.Path.{_≡_, refl, sym, ap, subst, _∙_}
 use mathlib.Core.Bool.{true}
 use mathlib.Core.List.{List}
 use native.Mathlib.Omega.{arith}
@@ -13,7 +13,8 @@ use Rattle.float_forms.specs.declared.forms.Form.{Form}
 use Rattle.float_forms.specs.declared.forms.Form.the-variants.{Long, Short}
 use Rattle.float_forms.specs.Forms.{raysOf}
 use Rattle.float_forms.specs.Bytes.{IsBytes, wordOf}
-use Rattle.record_bytes.specs.Records.{Said, bodyLength, kindOf, countsOf, saidOf, longest, wellFormed, isRecord, saidFits, withoutNan}
+use Rattle.record_bytes.specs.Records.{Said, bodyLength, kindOf, countsOf, saidOf, longest, wellFormed, formAt, isRecord, saidFits}
+use Rattle.record_bytes.specs.Records.{withoutNan}
 use Rattle.record_bytes.specs.Stream.{nextOf}
 use Rattle.record_bytes.specs.declared.stream.Found.the-variants.{Record}
 use Rattle.record_bytes.proofs.Parts.{formed}
@@ -45,10 +46,15 @@ record-found form l w =
       le-ltb (length l) (4 + wordOf l) (omega (arith, f .framed)),
     ) (ap Record (f .framed))
 
--- and `probe` does not call it malformed
+-- `probe` does not call it malformed
 pub well-formed-is-record : (form : Form) (l : List ℕ) → T (wellFormed form l) → isRecord l ≡ true
 unfolding isRecord
 well-formed-is-record form l w = ap (λ (p : Form). wellFormed p l) (form-is form l w) ∙ is-true (wellFormed form l) w
+
+-- and the converter takes every record that `probe` does not call malformed, if it is of the version that it converts from
+pub record-is-well-formed : (l : List ℕ) → isRecord l ≡ true → T (wellFormed (formAt l) l)
+unfolding isRecord
+record-is-well-formed l good = subst T (sym good) tt
 
 -- ---- the same line
 

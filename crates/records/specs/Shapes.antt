@@ -79,7 +79,7 @@ shapeFrom kind counts numbers indices =
 abbrev pub shapeBy : Said → Shape
 shapeBy s = shapeFrom (s .kind) (s .counts) (s .numbers) (s .indices)
 
--- what a whole record says, its length bytes included
+-- what a whole record says, its length bytes included: "A user's record must cast to the same bits from either version."
 unfoldable pub parse : List ℕ → Parsed
 parse bytes =
     cond (isRecord bytes) (says (rayBy (saidOf (formAt bytes) bytes .ray)) (shapeBy (saidOf (formAt bytes) bytes))) malformed
