@@ -23,7 +23,8 @@ put-word-requires : tie.Need-put-word-requires
 put-word-requires c κs =
     let (s, t) : tie.Start × tie.Then1 = search in
     let a = s .args in
-    subst (λ (f : Form). (a .place + sizeOf f ≤ length (a .out .now)) × (a .bits < 2 * top (formatOf f))) (four s _ (t .before .size-of .ensures) (t .if1 .taken)) (s .pre)
+    let short : a .form ≡ Short = four s _ (t .before .size-of .ensures) (t .if1 .taken) in
+    subst (λ (f : Form). (a .place + sizeOf f ≤ length (a .out .now)) × (a .bits < 2 * top (formatOf f))) short (s .pre)
 
 returns : tie.Need-returns
 returns c =
