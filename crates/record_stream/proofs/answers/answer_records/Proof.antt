@@ -4,7 +4,7 @@ use native.Mathlib.Omega.{arith}
 use Prim.Native.Nat.{ℕ}
 use mathlib.Core.List.{List}
 use mathlib.Core.Path.{_≡_, sym, subst, _∙_}
-use mathlib.Core.Bool.{true, false}
+use mathlib.Core.Bool.{false}
 use lib.ListN.{length}
 use Rattle.record_stream.specs.Progress.{goesOn}
 use Rattle.record_stream.proofs.LoopLaws.{Going, measure, goes, going-start, going-next, going-less, going-done}

@@ -1,5 +1,5 @@
 -- `records::lines::put_record` meets its contract: `bad`, or what the record says. Assumes nothing.
-use mathlib.Core.Path.{_≡_, sym, _∙_}
+use mathlib.Core.Path.{sym, _∙_}
 use Rattle.record_bytes.proofs.PlanLaws.{known, not-formed}
 use Rattle.record_text.proofs.AnswerParts.{put-as}
 use Rattle.records.proofs.Answers.{bad-text, good-text}
