@@ -9,7 +9,9 @@ use lib.ListN.{getD, drop}
 use lib.Seq.{getD-drop, drop-drop, sets}
 use Rattle.lists.proofs.Runs.{sets-append}
 use Rattle.arithmetic.proofs.RootCases.{zero-over-zero}
+use Rattle.float_forms.specs.declared.forms.Form.{Form}
 use Rattle.float_forms.specs.declared.forms.Form.the-variants.{First, Long, Short}
+use Rattle.float_forms.specs.Forms.{sizeOf}
 use Rattle.float_forms.specs.Words.{byteAt, valueAt}
 use Rattle.float_forms.specs.Bytes.{wordOf, wordBytes, patternOf, patternBytes, numberOf}
 use Rattle.float_forms.proofs.Numbers.{word-length}
@@ -41,15 +43,18 @@ pub nan-read : (l : List ℕ) (p bits : ℕ) → bits ≡ valueAt l p → 0x7ff0
     → div binary64 (ofBits binary64 0) (ofBits binary64 0) ≡ numberOf Long (drop p l)
 nan-read l p bits e h = zero-over-zero ∙ (sym (nan-pattern binary64 bits h) ∙ long-read l p bits e)
 
--- ---- the floats of version 1 are those of version 2
-
-pub first-number : (l : List ℕ) → numberOf Long l ≡ numberOf First l
+-- a float that has not 4 bytes is read, and written, as one of 8
+pub long-number : (form : Form) (l : List ℕ) → (sizeOf form ≡ 4 → ⊥) → numberOf Long l ≡ numberOf form l
 unfolding numberOf patternOf
-first-number l = refl
+long-number First l n = refl
+long-number Long l n = refl
+long-number Short l n = absurd (n refl)
 
-pub first-pattern : (n : ℕ) → patternBytes Long n ≡ patternBytes First n
+pub long-bytes : (form : Form) (bits : ℕ) → (sizeOf form ≡ 4 → ⊥) → patternBytes Long bits ≡ patternBytes form bits
 unfolding patternBytes
-first-pattern n = refl
+long-bytes First bits n = refl
+long-bytes Long bits n = refl
+long-bytes Short bits n = absurd (n refl)
 
 -- ---- writing
 

@@ -14,7 +14,7 @@ use Rattle.float_forms.specs.declared.forms.Form.{Form}
 use Rattle.float_forms.specs.declared.forms.Form.the-variants.{First, Long, Short}
 use Rattle.float_forms.specs.declared.representable.Pattern.{Pattern}
 use Rattle.float_forms.specs.declared.representable.Pattern.the-variants.{Bits, Unrepresentable}
-use Rattle.float_forms.specs.Forms.{formatOf}
+use Rattle.float_forms.specs.Forms.{sizeOf, formatOf}
 use Rattle.float_forms.specs.Representable.{fitsIn, representable}
 use Rattle.float_forms.specs.Representable.{patternFor}
 use Rattle.float_forms.proofs.RunLaws.{fits-representable}
@@ -29,9 +29,11 @@ pub long-bits : (x : Float) → T (fits binary64 x) → ne x x ≡ false → Bit
 unfolding patternFor representable
 long-bits x f h = rw (is-true (not (isNan x)) (ne-self-passes x h), is-true (fits binary64 x) f)
 
-pub first-for : (x : Float) → patternFor Long x ≡ patternFor First x
+pub long-pattern : (form : Form) (x : Float) → (sizeOf form ≡ 4 → ⊥) → patternFor Long x ≡ patternFor form x
 unfolding patternFor representable
-first-for x = refl
+long-pattern First x n = refl
+long-pattern Long x n = refl
+long-pattern Short x n = absurd (n refl)
 
 -- ---- in four: `float_forms::short::short_of` says the same
 

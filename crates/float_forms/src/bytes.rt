@@ -1,3 +1,4 @@
+use crate::forms;
 use crate::forms::Form;
 use crate::reader;
 use crate::reader::Word;
@@ -49,11 +50,10 @@ pub fn number_at(form: Form, bytes: &[u8], place: usize) -> f64
     requires { ⌜ place + sizeOf form ≤ length (now bytes) ⌝ }
     ensures { λ r. ⌜ r ≡ numberOf form (drop place (now (bytes .entry))) ⌝ }
 {
-    match form {
-        Form::First => long_at(bytes, place),
-        Form::Long => long_at(bytes, place),
-        Form::Short => short_at(bytes, place),
+    if forms::size_of(form) == 4 {
+        return short_at(bytes, place);
     }
+    long_at(bytes, place)
 }
 
 // A u32's four bytes from a place on; the rest stays as it was.
@@ -81,9 +81,9 @@ pub fn put_pattern(form: Form, out: &mut [u8], place: usize, bits: u64)
     requires { ⌜ (place + sizeOf form ≤ length (now out)) × (bits < 2 * top (formatOf form)) ⌝ }
     ensures { λ r. ⌜ now (out .exit) ≡ sets (now (out .entry)) place (patternBytes form bits) ⌝ }
 {
-    match form {
-        Form::First => put_long(out, place, bits),
-        Form::Long => put_long(out, place, bits),
-        Form::Short => put_word(out, place, bits),
+    if forms::size_of(form) == 4 {
+        put_word(out, place, bits);
+        return;
     }
+    put_long(out, place, bits);
 }

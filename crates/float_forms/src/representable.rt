@@ -1,3 +1,4 @@
+use crate::forms;
 use crate::forms::Form;
 use crate::short;
 ghost use mathlib.Core.Path.{_≡_};
@@ -37,11 +38,10 @@ fn short_for(x: f64) -> Pattern
 pub fn pattern_for(form: Form, x: f64) -> Pattern
     ensures { λ r. ⌜ r ≡ patternFor form x ⌝ }
 {
-    match form {
-        Form::First => long_for(x),
-        Form::Long => long_for(x),
-        Form::Short => short_for(x),
+    if forms::size_of(form) == 4 {
+        return short_for(x);
     }
+    long_for(x)
 }
 
 pub fn is_representable(form: Form, x: f64) -> bool
@@ -58,11 +58,10 @@ pub fn is_representable(form: Form, x: f64) -> bool
 fn nan_bits(form: Form) -> u64
     ensures { λ r. ⌜ r ≡ toBits (formatOf form) nan ⌝ }
 {
-    match form {
-        Form::First => 0x7ff8_0000_0000_0000,
-        Form::Long => 0x7ff8_0000_0000_0000,
-        Form::Short => 0x7fc0_0000,
+    if forms::size_of(form) == 4 {
+        return 0x7fc0_0000;
     }
+    0x7ff8_0000_0000_0000
 }
 
 // The pattern of a float of the form's format.

@@ -1,11 +1,9 @@
 -- What is true of each float of a record. Assumes nothing.
 use Prim.Native.Nat.{ℕ, zero, suc}
-use mathlib.Core.Bool.{Bool, true}
+use mathlib.Core.Bool.{Bool}
 use mathlib.Core.List.{List, [], _∷_}
-use mathlib.Core.Path.{_≡_}
 use lib.Dec.{T}
 use lib.Ieee.{Float}
-use lib.Ieee.Bits.{is-true}
 use lib.Ieee.Fits.{and-i, and-l, and-r, fits-widens}
 use lib.ListN.{drop}
 use Rattle.float_forms.specs.declared.forms.Form.{Form}
@@ -70,9 +68,6 @@ long-fits Short l = fits-widens (numberOf Short l) (number-fits Short l)
 
 pub long-fits-said : (form : Form) (l : List ℕ) → T (saidFits Long (saidOf form l))
 long-fits-said form = read-of form (fitsIn Long) (long-fits form)
-
-pub long-fits-read : (form : Form) (l : List ℕ) → saidFits Long (saidOf form l) ≡ true
-long-fits-read form l = is-true (saidFits Long (saidOf form l)) (long-fits-said form l)
 
 pub own-fits-said : (form : Form) (l : List ℕ) → T (saidFits form (saidOf form l))
 own-fits-said form = read-of form (fitsIn form) (number-fits form)

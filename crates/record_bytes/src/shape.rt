@@ -185,7 +185,8 @@ fn filled_by(form: Form, source: &[u8], kind: u8) -> Planned
     if 4 + body_length(form, counts, numbers, indices) != length {
         return Planned::Malformed;
     }
-    if body_length(forms::long_form(form), counts, numbers, indices) > LONGEST {
+    let long = forms::long_form(form);
+    if body_length(long, counts, numbers, indices) > LONGEST {
         return Planned::Malformed;
     }
     Planned::Is(Plan {

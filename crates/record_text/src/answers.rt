@@ -85,11 +85,11 @@ pub fn put_indexed(out: &mut [u8], at: usize, cast: IndexedCast) -> usize
     }
 }
 
-// The record number and a space, at the front.
-pub fn put_number(out: &mut [u8], number: u64) -> usize
-    requires { ⌜ 21 ≤ length (now out) ⌝ }
-    ensures { λ r. ⌜ Put (now (out .entry)) 0 (decimal number ++ (32 ∷ [])) (now (out .exit)) r ⌝ }
+// The record number and a space.
+pub fn put_number(out: &mut [u8], at: usize, number: u64) -> usize
+    requires { ⌜ at + 21 ≤ length (now out) ⌝ }
+    ensures { λ r. ⌜ Put (now (out .entry)) at (decimal number ++ (32 ∷ [])) (now (out .exit)) r ⌝ }
 {
-    let end = text::put_decimal(out, 0, number);
+    let end = text::put_decimal(out, at, number);
     text::put_byte(out, end, b' ')
 }

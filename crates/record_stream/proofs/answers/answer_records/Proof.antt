@@ -1,26 +1,26 @@
--- `record_stream::answers::answer_at_hand` meets its contract: each turn keeps what is written, and what is left gives the whole.
+-- `record_stream::answers::answer_records` meets its contract: each step keeps what is written, and what is left gives the whole.
 -- Assumes nothing.
 use native.Mathlib.Omega.{arith}
 use Prim.Native.Nat.{ℕ}
 use mathlib.Core.List.{List}
 use mathlib.Core.Path.{_≡_, sym, subst, _∙_}
-use mathlib.Core.Bool.{true, false}
+use mathlib.Core.Bool.{false}
 use lib.ListN.{length}
-use Rattle.record_stream.specs.AtHand.{goesOn}
+use Rattle.record_stream.specs.Progress.{goesOn}
 use Rattle.record_stream.proofs.LoopLaws.{Going, measure, goes, going-start, going-next, going-less, going-done}
-use Rattle.record_stream.proofs.answers.answer_at_hand.Statement.{statement}
-use Rattle.record_stream.proofs.answers.answer_at_hand.Tie as tie
+use Rattle.record_stream.proofs.answers.answer_records.Statement.{statement}
+use Rattle.record_stream.proofs.answers.answer_records.Tie as tie
 
 abbrev Inv-loop : tie.InvT-loop
 Inv-loop number ended input
-    wide₀ work₀ triangles₀ node-boxes₀ triangle-boxes₀ node-words₀ order₀ list₀ stack₀ output₀ s₀
-    wide work triangles node-boxes triangle-boxes node-words order list stack output s =
+    work₀ triangles₀ node-boxes₀ triangle-boxes₀ node-words₀ order₀ list₀ stack₀ output₀ s₀
+    work triangles node-boxes triangle-boxes node-words order list stack output s =
     Going input ended number (length output₀) output s
 
 abbrev μ-loop : tie.MeasureT-loop
 μ-loop number ended input
-    wide₀ work₀ triangles₀ node-boxes₀ triangle-boxes₀ node-words₀ order₀ list₀ stack₀ output₀ s₀
-    wide work triangles node-boxes triangle-boxes node-words order list stack output s =
+    work₀ triangles₀ node-boxes₀ triangle-boxes₀ node-words₀ order₀ list₀ stack₀ output₀ s₀
+    work triangles node-boxes triangle-boxes node-words order list stack output s =
     measure input s
 
 abbrev Start : Type 0
@@ -35,12 +35,12 @@ Asked = tie.After-goes-on Inv-loop μ-loop
 abbrev Then : Type 0
 Then = tie.Then1 Inv-loop μ-loop
 
-abbrev Turned : Type 0
-Turned = tie.After-step Inv-loop μ-loop
+abbrev Stepped : Type 0
+Stepped = tie.After-step Inv-loop μ-loop
 
--- the output area as a turn leaves it
-abbrev output : Turned → List ℕ
-output t = t .step .last .1 .1 .1 .1 .1 .1 .1 .1 .1 .1 .1 .0
+-- the output area as a step leaves it
+abbrev output : Stepped → List ℕ
+output t = t .step .last .1 .1 .1 .1 .1 .1 .1 .1 .1 .1 .0
 
 loop-holds : tie.Need-loop-holds Inv-loop μ-loop
 loop-holds c =
@@ -59,18 +59,18 @@ step-requires c κs =
 
 loop-less : tie.Need-loop-less Inv-loop μ-loop
 loop-less c =
-    let (s, l, g, t, r) : Start × Loop × Asked × Then × Turned = search in
+    let (s, l, g, t, r) : Start × Loop × Asked × Then × Stepped = search in
     let a = s .args in
     going-less (a .input .now) (a .ended) (a .number) (length (a .output .now)) (l .loop .output) (output r) (l .loop .s) (r .step .result)
     (l .loop .inv) (sym (g .goes-on .ensures) ∙ t .if1 .taken) (r .step .ensures)
 
 loop-again : tie.Need-loop-again Inv-loop μ-loop
 loop-again c =
-    let (s, l, g, t, r) : Start × Loop × Asked × Then × Turned = search in
+    let (s, l, g, t, r) : Start × Loop × Asked × Then × Stepped = search in
     let a = s .args in
     going-next (a .input .now) (a .ended) (a .number) (length (a .output .now)) (l .loop .output) (output r) (l .loop .s) (r .step .result)
     (l .loop .inv) (sym (g .goes-on .ensures) ∙ t .if1 .taken) (r .step .ensures)
-    (r .step .kept .1 .1 .1 .1 .1 .1 .1 .1 .1 .1 .1 .0)
+    (r .step .kept .1 .1 .1 .1 .1 .1 .1 .1 .1 .1 .0)
 
 same-length : tie.Need-same-length Inv-loop μ-loop
 same-length c = let l : Loop = search in l .loop .inv .kept
@@ -87,8 +87,8 @@ returns c =
       ),
     )
 
-pub answer-at-hand-spec : {M : Type 1} → statement M
-answer-at-hand-spec =
+pub answer-records-spec : {M : Type 1} → statement M
+answer-records-spec =
     tie.close
     (tie.spec
     Inv-loop
