@@ -22,7 +22,7 @@ use Rattle.cabinet.specs.declared.part.Progress.{Progress}
 use Rattle.cabinet.specs.declared.part.State.{State}
 use Rattle.cabinet.specs.declared.part.CastCost.{CastCost}
 use Rattle.cabinet.specs.Parts.{Areas, meshOf, treeOfPart, rangesInside}
-use Rattle.cabinet.specs.Looks.{lookParts, lookFrom, turnedBy}
+use Rattle.cabinet.specs.Looks.{lookParts, lookFrom, secondPass}
 use Rattle.cabinet.specs.PartCast.{Costed, costing, castMoved}
 use Rattle.cabinet.specs.Cabinet.{Answer, hitIn, noneAfter, refused, refusedAfter, answerOf, plainly, isRefused, afterPart}
 
@@ -110,13 +110,13 @@ unfoldable pub begun : Ray → ℕ → Bool → State
 begun r limit fits = looking r limit (cond (rayAdmitted r) (cond fits Nothing (Refused noRoom)) (Refused invalidInput))
 
 -- the second pass casts
-abbrev pub turned : State → State
-turned s = record { ray = s .ray; limit = s .limit; casting = true; at = s .at }
+abbrev pub castingFrom : State → State
+castingFrom s = record { ray = s .ray; limit = s .limit; casting = true; at = s .at }
 
 -- what the first pass finds, with which the second begins
 unfoldable pub between : Areas → ℕ → ℕ → State → List Part → State
 between a list stack start parts =
-    turnedBy start
+    secondPass start
     (lookParts (lookFrom start (length (a .vertices)) (length (a .triangles)) (length (a .nodeBoxes)) (length (a .triangleBoxes))
     (length (a .nodeWords)) (length (a .order)) list stack) parts)
 

@@ -1,4 +1,4 @@
--- `rounding::floor` meets its contract: the whole part above zero, the size rounded up below it, and the number itself where every float is
+-- `arithmetic::rounding::floor` meets its contract: the whole part above zero, the size rounded up below it, and the number itself where every float is
 -- whole. Assumes nothing.
 use mathlib.Core.Path.{sym, ap, _∙_, subst}
 use lib.Dec.{T}

@@ -1,4 +1,4 @@
--- `rounding::nearest` meets its contract: the doubled number is exact, and half of its whole part and one is the nearest whole number.
+-- `arithmetic::rounding::nearest` meets its contract: the doubled number is exact, and half of its whole part and one is the nearest whole number.
 -- Assumes nothing.
 use mathlib.Core.Path.{sym, ap, _∙_, subst}
 use Prim.Native.Nat.{ℕ, _+_, _/_}

@@ -1,5 +1,5 @@
 -- `exports::cabinets::probe_ray_cabinet` meets its contract: a walk of its MIR, by hand, that calls `begin`, `look_from`,
--- `look_all`, `turn`, `cast_all` and `put_cabinet`. Between two calls the context is `Stands`, in which entry j is the cell of local j.
+-- `look_all`, `second_pass`, `cast_all` and `put_cabinet`. Between two calls the context is `Stands`, in which entry j is the cell of local j.
 -- Assumes nothing.
 use mathlib.Core.Path.{_≡_, refl, _∙_, ap, subst}
 use Prim.Native.Nat.{ℕ}
@@ -50,7 +50,7 @@ use Rattle.cabinet.specs.declared.part.Part.{Part}
 use Rattle.cabinet.specs.declared.part.State.{State}
 use Rattle.cabinet.specs.declared.part.Look.{Look}
 use Rattle.cabinet.specs.Parts.{Areas}
-use Rattle.cabinet.specs.Looks.{lookFrom, lookParts, turnedBy}
+use Rattle.cabinet.specs.Looks.{lookFrom, lookParts, secondPass}
 use Rattle.cabinet.specs.Cabinet.{withResults}
 use Rattle.cabinet.specs.Steps.{areas, begun, isIdle, Kept, stepParts, between, passes, lastAnswer}
 use Rattle.cabinet.proofs.Promises.{limits-hold}
@@ -71,10 +71,10 @@ use Rattle.cabinet_passes.proofs.pass.look_all as looking
 use Rattle.cabinet_passes.proofs.pass.look_all.Symbol as looking-def
 use Rattle.cabinet_passes.proofs.pass.look_all.Symbol.{name as #looking}
 use Rattle.cabinet_passes.proofs.pass.look_all.Met as looking-thm
-use Rattle.cabinet.proofs.look.turn as turn
-use Rattle.cabinet.proofs.look.turn.Symbol as turn-def
-use Rattle.cabinet.proofs.look.turn.Symbol.{name as #turn}
-use Rattle.cabinet.proofs.look.turn.Met as turn-thm
+use Rattle.cabinet.proofs.look.second_pass as second
+use Rattle.cabinet.proofs.look.second_pass.Symbol as second-def
+use Rattle.cabinet.proofs.look.second_pass.Symbol.{name as #second}
+use Rattle.cabinet.proofs.look.second_pass.Met as second-thm
 use Rattle.cabinet_passes.proofs.pass.cast_all as step
 use Rattle.cabinet_passes.proofs.pass.cast_all.Symbol as step-def
 use Rattle.cabinet_passes.proofs.pass.cast_all.Symbol.{name as #step}
@@ -151,8 +151,8 @@ module _ {M : Type 1} (𝓤 : URA M) (H : Heap 𝓤) (A : Atoms 𝓤) (mem : Mem
   abbrev LookC : Contract 𝓤
   LookC = tripleOf 𝓤 H A looking.signature (looking.spec 𝓤 H A mem run)
 
-  abbrev TurnC : Contract 𝓤
-  TurnC = tripleOf 𝓤 H A turn.signature (turn.spec 𝓤 H A mem run)
+  abbrev SecondC : Contract 𝓤
+  SecondC = tripleOf 𝓤 H A second.signature (second.spec 𝓤 H A mem run)
 
   abbrev StepC : Contract 𝓤
   StepC = tripleOf 𝓤 H A step.signature (step.spec 𝓤 H A mem run)
@@ -165,7 +165,7 @@ module _ {M : Type 1} (𝓤 : URA M) (H : Heap 𝓤) (A : Atoms 𝓤) (mem : Mem
     to-begin : Triple 𝓤 (𝓣 .C #first) FirstC
     to-look-from : Triple 𝓤 (𝓣 .C #opening) OpenC
     to-look-all : Triple 𝓤 (𝓣 .C #looking) LookC
-    to-turn : Triple 𝓤 (𝓣 .C #turn) TurnC
+    to-turn : Triple 𝓤 (𝓣 .C #second) SecondC
     to-cast-all : Triple 𝓤 (𝓣 .C #step) StepC
     to-put-cabinet : Triple 𝓤 (𝓣 .C #last) LastC
 
@@ -519,11 +519,11 @@ module _ {M : Type 1} (𝓤 : URA M) (H : Heap 𝓤) (A : Atoms 𝓤) (W : Given
           lookFrom s (length (now x0)) (length (now x1)) (length (now x2)) (length (now x3)) (length (now x4)) (length (now x5)) (length w0)
           (length w1)
 
-      -- between the passes: the call of `turn`
-      abbrev args-turn : State → Look → Args turn.signature tt
+      -- between the passes: the call of `second_pass`
+      abbrev args-turn : State → Look → Args second.signature tt
       args-turn f l = f ▸ l ▸ tt
 
-      abbrev at-turn : State → Look → Vals turn.signature tt
+      abbrev at-turn : State → Look → Vals second.signature tt
       at-turn f l = machS f ∷ [] ▸ machL l ∷ [] ▸ tt
 
       middle : (f : State) (i l : Look) → Is R f (machS f ∷ []) → Is Q l (machL l ∷ []) → f ≡ begun ray limit fits → i ≡ opens-with f
@@ -533,10 +533,10 @@ module _ {M : Type 1} (𝓤 : URA M) (H : Heap 𝓤) (A : Atoms 𝓤) (W : Given
           made W (R ∷ Q ∷ []) (LL.makes S.the-type S′.the-plain 𝓤 H A ▸ LL.makes B.the-type B′.the-plain 𝓤 H A ▸ tt) (args-turn f l)
           (at-turn f l) (isf ▸ isl ▸ tt) $ nothing ! $
           asks W (‵ ftrue) (‵ (owns (R ∷ Q ∷ []) (args-turn f l) (at-turn f l)))
-          (TurnC 𝓤 H A mem run .pre ((tt, tt, tt, args-turn f l, at-turn f l), tt)) (id⊢ 𝓤 _) $
-          calls-at ! (fmOf 𝓤 H (W .laws) 𝓣) (TurnC 𝓤 H A mem run) (known .to-turn) ((tt, tt, tt, args-turn f l, at-turn f l), tt)
+          (SecondC 𝓤 H A mem run .pre ((tt, tt, tt, args-turn f l, at-turn f l), tt)) (id⊢ 𝓤 _) $
+          calls-at ! (fmOf 𝓤 H (W .laws) 𝓣) (SecondC 𝓤 H A mem run) (known .to-turn) ((tt, tt, tt, args-turn f l, at-turn f l), tt)
           (arg ! 24 refl (arg ! 26 refl (no-more !))) (λ u.
-          answers W turn.ended (turn.clauses 𝓤 H A mem run) tt (args-turn f l) tt ftrue u (λ r ls. r ≡ turnedBy f l) (λ r ls. id⊢ 𝓤 _) $
+          answers W second.ended (second.clauses 𝓤 H A mem run) tt (args-turn f l) tt ftrue u (λ r ls. r ≡ secondPass f l) (λ r ls. id⊢ 𝓤 _) $
           pick ! (λ r. pick ! (λ ls. learn ! (λ e. learn ! (λ ir. split ! $ drop ! $ drop ! $
           land ! (from ! (stop !)) (init ! 26 refl (LL.lawful S.the-type S′.the-laws 𝓤 H A W .typed r (u ∷ []) ir .0)) $
           rewrite ! 26 (λ (w : Val). ‵ (fat fullShare S′.mir l26 0 w)) (ap only (LL.tells S.the-type S′.the-laws r (u ∷ []) ir)) refl $
@@ -768,8 +768,8 @@ probe-ray-cabinet-spec 𝓤 H 𝓜 𝓖 𝓡 =
           cited 𝓤 H (LookC 𝓤 H (𝓖 .A) (𝓜 .mem) (𝓡 .run)) 𝓜 𝓡 code.env #looking looking-def.routine
           code.calls-cabinet-passes·pass·look-all (looking-thm.met 𝓤 H 𝓜 𝓖 𝓡);
       to-turn =
-          cited 𝓤 H (TurnC 𝓤 H (𝓖 .A) (𝓜 .mem) (𝓡 .run)) 𝓜 𝓡 code.env #turn turn-def.routine code.calls-cabinet·look·turn
-          (turn-thm.met 𝓤 H 𝓜 𝓖 𝓡);
+          cited 𝓤 H (SecondC 𝓤 H (𝓖 .A) (𝓜 .mem) (𝓡 .run)) 𝓜 𝓡 code.env #second second-def.routine code.calls-cabinet·look·second-pass
+          (second-thm.met 𝓤 H 𝓜 𝓖 𝓡);
       to-cast-all =
           cited 𝓤 H (StepC 𝓤 H (𝓖 .A) (𝓜 .mem) (𝓡 .run)) 𝓜 𝓡 code.env #step step-def.routine code.calls-cabinet-passes·pass·cast-all
           (step-thm.met 𝓤 H 𝓜 𝓖 𝓡);
