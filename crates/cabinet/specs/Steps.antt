@@ -124,10 +124,6 @@ between a list stack start parts =
 unfoldable pub passes : Areas → ℕ → ℕ → State → List Part → State
 passes a list stack start parts = stepParts a list stack (between a list stack start parts) parts
 
--- after both, the work areas are as they were where the first pass refused
-abbrev pub KeptByBoth : Areas → ℕ → ℕ → State → List Part → List ℕ → List ℕ → List ℕ → List ℕ → Type 0
-KeptByBoth a m k start parts list list' stack stack' = Kept (between a m k start parts) list list' stack stack'
-
 -- the answer as the last state has it: a refusal met before a part was begun carries no count
 unfoldable pub lastAnswer : Progress → Answer
 lastAnswer s = cond (isRefused (s .found) && eqb (s .part) 0) (plainly (answerOf s)) (answerOf s)

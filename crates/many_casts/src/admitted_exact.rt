@@ -13,16 +13,19 @@ use tree::mesh as triangle_mesh;
 use tree_exact::walk;
 use tree_exact::walk::Walked;
 ghost use mathlib.Core.Path.{_≡_};
-ghost use Prim.Native.Nat.{_<_};
+ghost use Prim.Native.Nat.{_+_, _<_};
+ghost use mathlib.Core.Bool.{_&&_};
+ghost use lib.Dec.{leb};
 ghost use lib.ListN.{length};
 ghost use Rattle.nearest_hit.specs.Nearest.{saysIndexed};
 ghost use Rattle.tree.specs.Mesh.{thirds, mesh};
 ghost use Rattle.tree.specs.Layout.{treeOf};
+ghost use Rattle.tree_query.specs.Query.{treeFits};
 ghost use Rattle.mesh_exact.specs.Noted.{Casts};
 ghost use Rattle.tree_exact.specs.ExactMesh.{exactThrough};
 ghost use Rattle.tree_exact.specs.Walking.{WalkRoom};
 ghost use Rattle.many_casts.specs.Many.{exactAnswer};
-ghost use Rattle.many_casts.specs.Ready.{ReadyExact};
+ghost use Rattle.many_casts.specs.Ready.{Ready};
 
 // A copy of the exact cast's own function, so that each of both is compiled into its one caller.
 // The cast once refusals 1, 12 of the ray and 2 to 4 have let it pass, as its caller, the public call, shows; the stack may hold anything
@@ -87,8 +90,11 @@ pub fn cast_ray(
     order: &[u32],
     stack: &mut [u32],
 ) -> IndexedCast
-    requires { ⌜ ReadyExact (mesh (now vertices) (now triangles)) (now pose)
-        (treeOf nodes (now «node_boxes») (now «triangle_boxes») (now «node_words») (now order)) (length (now stack)) ⌝ }
+    requires { ⌜ Ready (mesh (now vertices) (now triangles)) (now pose)
+        (treeOf nodes (now «node_boxes») (now «triangle_boxes») (now «node_words») (now order))
+        (treeFits (thirds (length (now triangles)))
+        (treeOf nodes (now «node_boxes») (now «triangle_boxes») (now «node_words») (now order))
+        && leb (nodes + 1) (length (now stack))) ⌝ }
     ensures { λ r. ⌜ saysIndexed r ≡ exactAnswer (mesh (now (vertices .entry)) (now (triangles .entry))) (now (pose .entry))
         (treeOf nodes (now («node_boxes» .entry)) (now («triangle_boxes» .entry)) (now («node_words» .entry)) (now (order .entry)))
         (length (now (stack .entry))) ray ⌝ }

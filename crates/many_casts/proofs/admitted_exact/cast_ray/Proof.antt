@@ -30,7 +30,7 @@ exact-through-requires c κs =
         valid = test-passed (e .before .validate .ensures) (e .if1 .left);
         shown = on-line _ _ (l .view-of .ensures) _ (k .viewed .given .1);
       },
-      room-of _ (tree s) (s .args .stack .now) (nodes-few _ _ _ _ (s .pre .shaped)) (s .pre .room),
+      room-of _ (tree s) (s .args .stack .now) (nodes-few _ _ _ _ (s .pre .shaped)) (s .pre .lent),
     )
 
 -- past them
