@@ -38,7 +38,7 @@ returns-3 : tie.Need-returns-3
 returns-3 c =
     let (s, e, l, k, x) : tie.Start × tie.Else1 × tie.After-view-of × tie.After-viewed × tie.After-exact-through = search in
     exact-passed _ _ _ _ _ (test-passed (e .before .validate .ensures) (e .if1 .left))
-    (on-line _ _ (l .view-of .ensures) _ (k .viewed .given .1) .admitted) (s .pre .shaped) (s .pre .room) (s .pre .posed) _
+    (on-line _ _ (l .view-of .ensures) _ (k .viewed .given .1) .admitted) (s .pre .shaped) (s .pre .lent) (s .pre .posed) _
     (x .exact-through .ensures)
 
 pub cast-ray-spec : {M : Type 1} → statement M
