@@ -81,7 +81,8 @@ pub fn cast_ray(
     requires { ⌜ Ready (mesh (now vertices) (now triangles)) (now pose)
         (treeOf nodes (now «node_boxes») (now «triangle_boxes») (now «node_words») (now order))
         (walkFits (thirds (length (now triangles)))
-        (treeOf nodes (now «node_boxes») (now «triangle_boxes») (now «node_words») (now order)) (length (now list)) (length (now stack))) ⌝ }
+        (treeOf nodes (now «node_boxes») (now «triangle_boxes») (now «node_words») (now order)) (length (now list)) (length
+        (now stack))) ⌝ }
     ensures { λ r. ⌜ saysIndexed r ≡ meshAnswer (mesh (now (vertices .entry)) (now (triangles .entry))) (now (pose .entry))
         (treeOf nodes (now («node_boxes» .entry)) (now («triangle_boxes» .entry)) (now («node_words» .entry)) (now (order .entry)))
         (length (now (list .entry))) (length (now (stack .entry))) ray ⌝ }

@@ -35,7 +35,8 @@ fn cast_at(
         ∗ ⌜ Ready (mesh (now vertices) (now triangles)) (now pose)
         (treeOf nodes (now «node_boxes») (now «triangle_boxes») (now «node_words») (now order))
         (walkFits (thirds (length (now triangles)))
-        (treeOf nodes (now «node_boxes») (now «triangle_boxes») (now «node_words») (now order)) (length (now list)) (length (now stack))) ⌝ }
+        (treeOf nodes (now «node_boxes») (now «triangle_boxes») (now «node_words») (now order)) (length (now list)) (length
+        (now stack))) ⌝ }
     ensures { λ _. ⌜ places (now (codes .exit)) (now (hits .exit)) (now (indices .exit))
         ≡ answerAt (meshAnswer (mesh (now (vertices .entry)) (now (triangles .entry))) (now (pose .entry))
         (treeOf nodes (now («node_boxes» .entry)) (now («triangle_boxes» .entry)) (now («node_words» .entry)) (now (order .entry)))
@@ -82,7 +83,8 @@ fn cast_each(
         ∗ ⌜ Ready (mesh (now vertices) (now triangles)) (now pose)
         (treeOf nodes (now «node_boxes») (now «triangle_boxes») (now «node_words») (now order))
         (walkFits (thirds (length (now triangles)))
-        (treeOf nodes (now «node_boxes») (now «triangle_boxes») (now «node_words») (now order)) (length (now list)) (length (now stack))) ⌝ }
+        (treeOf nodes (now «node_boxes») (now «triangle_boxes») (now «node_words») (now order)) (length (now list)) (length
+        (now stack))) ⌝ }
     ensures { λ _. ⌜ places (now (codes .exit)) (now (hits .exit)) (now (indices .exit))
         ≡ answersOf (meshAnswer (mesh (now (vertices .entry)) (now (triangles .entry))) (now (pose .entry))
         (treeOf nodes (now («node_boxes» .entry)) (now («triangle_boxes» .entry)) (now («node_words» .entry)) (now (order .entry)))

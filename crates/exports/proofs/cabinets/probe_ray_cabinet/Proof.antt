@@ -1,5 +1,6 @@
 -- `exports::cabinets::probe_ray_cabinet` meets its contract: a walk of its MIR, by hand, that calls `begin`, `look_from`,
--- `look_all`, `second_pass`, `cast_all` and `put_cabinet`. Between two calls the context is `Stands`, in which entry j is the cell of local j.
+-- `look_all`, `second_pass`, `cast_all` and `put_cabinet`. Between two calls the context is `Stands`, in which entry j is the cell of local
+-- j.
 -- Assumes nothing.
 use mathlib.Core.Path.{_≡_, refl, _∙_, ap, subst}
 use Prim.Native.Nat.{ℕ}
@@ -165,7 +166,7 @@ module _ {M : Type 1} (𝓤 : URA M) (H : Heap 𝓤) (A : Atoms 𝓤) (mem : Mem
     to-begin : Triple 𝓤 (𝓣 .C #first) FirstC
     to-look-from : Triple 𝓤 (𝓣 .C #opening) OpenC
     to-look-all : Triple 𝓤 (𝓣 .C #looking) LookC
-    to-turn : Triple 𝓤 (𝓣 .C #second) SecondC
+    to-second : Triple 𝓤 (𝓣 .C #second) SecondC
     to-cast-all : Triple 𝓤 (𝓣 .C #step) StepC
     to-put-cabinet : Triple 𝓤 (𝓣 .C #last) LastC
 
@@ -520,23 +521,24 @@ module _ {M : Type 1} (𝓤 : URA M) (H : Heap 𝓤) (A : Atoms 𝓤) (W : Given
           (length w1)
 
       -- between the passes: the call of `second_pass`
-      abbrev args-turn : State → Look → Args second.signature tt
-      args-turn f l = f ▸ l ▸ tt
+      abbrev args-second : State → Look → Args second.signature tt
+      args-second f l = f ▸ l ▸ tt
 
-      abbrev at-turn : State → Look → Vals second.signature tt
-      at-turn f l = machS f ∷ [] ▸ machL l ∷ [] ▸ tt
+      abbrev at-second : State → Look → Vals second.signature tt
+      at-second f l = machS f ∷ [] ▸ machL l ∷ [] ▸ tt
 
       middle : (f : State) (i l : Look) → Is R f (machS f ∷ []) → Is Q l (machL l ∷ []) → f ≡ begun ray limit fits → i ≡ opens-with f
           → l ≡ lookParts i ys
           → Sq W (Stands (full (machS f)) empty (full (machL l)) empty empty w0 w1) (runs C Λ En pieces.t-16 (atRet En Post))
       middle f i l isf isl from-begin from-start looked-at =
-          made W (R ∷ Q ∷ []) (LL.makes S.the-type S′.the-plain 𝓤 H A ▸ LL.makes B.the-type B′.the-plain 𝓤 H A ▸ tt) (args-turn f l)
-          (at-turn f l) (isf ▸ isl ▸ tt) $ nothing ! $
-          asks W (‵ ftrue) (‵ (owns (R ∷ Q ∷ []) (args-turn f l) (at-turn f l)))
-          (SecondC 𝓤 H A mem run .pre ((tt, tt, tt, args-turn f l, at-turn f l), tt)) (id⊢ 𝓤 _) $
-          calls-at ! (fmOf 𝓤 H (W .laws) 𝓣) (SecondC 𝓤 H A mem run) (known .to-turn) ((tt, tt, tt, args-turn f l, at-turn f l), tt)
+          made W (R ∷ Q ∷ []) (LL.makes S.the-type S′.the-plain 𝓤 H A ▸ LL.makes B.the-type B′.the-plain 𝓤 H A ▸ tt) (args-second f l)
+          (at-second f l) (isf ▸ isl ▸ tt) $ nothing ! $
+          asks W (‵ ftrue) (‵ (owns (R ∷ Q ∷ []) (args-second f l) (at-second f l)))
+          (SecondC 𝓤 H A mem run .pre ((tt, tt, tt, args-second f l, at-second f l), tt)) (id⊢ 𝓤 _) $
+          calls-at ! (fmOf 𝓤 H (W .laws) 𝓣) (SecondC 𝓤 H A mem run) (known .to-second) ((tt, tt, tt, args-second f l, at-second f l), tt)
           (arg ! 24 refl (arg ! 26 refl (no-more !))) (λ u.
-          answers W second.ended (second.clauses 𝓤 H A mem run) tt (args-turn f l) tt ftrue u (λ r ls. r ≡ secondPass f l) (λ r ls. id⊢ 𝓤 _) $
+          answers W second.ended (second.clauses 𝓤 H A mem run) tt (args-second f l) tt ftrue u (λ r ls. r ≡ secondPass f l)
+          (λ r ls. id⊢ 𝓤 _) $
           pick ! (λ r. pick ! (λ ls. learn ! (λ e. learn ! (λ ir. split ! $ drop ! $ drop ! $
           land ! (from ! (stop !)) (init ! 26 refl (LL.lawful S.the-type S′.the-laws 𝓤 H A W .typed r (u ∷ []) ir .0)) $
           rewrite ! 26 (λ (w : Val). ‵ (fat fullShare S′.mir l26 0 w)) (ap only (LL.tells S.the-type S′.the-laws r (u ∷ []) ir)) refl $
@@ -767,7 +769,7 @@ probe-ray-cabinet-spec 𝓤 H 𝓜 𝓖 𝓡 =
       to-look-all =
           cited 𝓤 H (LookC 𝓤 H (𝓖 .A) (𝓜 .mem) (𝓡 .run)) 𝓜 𝓡 code.env #looking looking-def.routine
           code.calls-cabinet-passes·pass·look-all (looking-thm.met 𝓤 H 𝓜 𝓖 𝓡);
-      to-turn =
+      to-second =
           cited 𝓤 H (SecondC 𝓤 H (𝓖 .A) (𝓜 .mem) (𝓡 .run)) 𝓜 𝓡 code.env #second second-def.routine code.calls-cabinet·look·second-pass
           (second-thm.met 𝓤 H 𝓜 𝓖 𝓡);
       to-cast-all =
