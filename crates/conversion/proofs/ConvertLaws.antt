@@ -14,11 +14,11 @@ use Rattle.float_forms.specs.Forms.{sizeOf, raysOf}
 use Rattle.float_forms.specs.Bytes.{numbersOf}
 use Rattle.record_bytes.specs.Records.{bodyLength, countsPlace, saidOf, wellFormed, everySaid}
 use Rattle.float_forms.specs.Representable.{every, representable}
-use Rattle.conversion.specs.Writing.{turned}
+use Rattle.conversion.specs.Writing.{rewritten}
 use Rattle.conversion.specs.Convert.{saidRepresentable, written, refused, converted}
 use Rattle.record_bytes.specs.Plans.{planned, Known, sizeFor}
 use Rattle.record_bytes.proofs.PlanLaws.{Sizes, sizes, not-formed}
-use Rattle.conversion.proofs.WritingLaws.{turned-length}
+use Rattle.conversion.proofs.WritingLaws.{rewritten-length}
 
 -- ---- the floats
 
@@ -37,9 +37,9 @@ numbers-decide p q l plan place r s e h f = rw h (f ∙ (rw (e, s .countsAre, s 
 
 -- ---- lengths
 
-pub size-is : (p q : Form) (l : List ℕ) (plan : Plan) → raysOf p ≡ raysOf q → Sizes p l plan → 4 + sizeFor q plan ≡ length (turned p q l)
+pub size-is : (p q : Form) (l : List ℕ) (plan : Plan) → raysOf p ≡ raysOf q → Sizes p l plan → 4 + sizeFor q plan ≡ length (rewritten p q l)
 unfolding sizeFor bodyLength
-size-is p q l plan r s = rw (s .countsAre, s .numbersAre, s .indicesAre) (sym (turned-length p q l r))
+size-is p q l plan r s = rw (s .countsAre, s .numbersAre, s .indicesAre) (sym (rewritten-length p q l r))
 
 -- ---- the answers
 
@@ -48,34 +48,34 @@ unfolding converted
 malformed p q l area e = rw (not-formed p l e)
 
 module _ (p q : Form) (l area : List ℕ) (plan : Plan) (r : raysOf p ≡ raysOf q) (k : Known p l plan) where
-  size-known : 4 + sizeFor q plan ≡ length (turned p q l)
+  size-known : 4 + sizeFor q plan ≡ length (rewritten p q l)
   size-known = size-is p q l plan r (sizes p l plan k)
 
   pub no-room : (body : ℕ) → body ≡ sizeFor q plan → length area < 4 + body
       → record { answer = refused 3; area = area } ≡ converted p q l area
   unfolding converted
   no-room body e h =
-      let short : length area < length (turned p q l) = omega (arith, e, h, size-known) in
-      rw (k .wellFormed, lt-ltb (length area) (length (turned p q l)) short)
+      let short : length area < length (rewritten p q l) = omega (arith, e, h, size-known) in
+      rw (k .wellFormed, lt-ltb (length area) (length (rewritten p q l)) short)
 
   pub unrepresentable : (body : ℕ) → body ≡ sizeFor q plan → 4 + body ≤ length area → saidRepresentable q (saidOf p l) ≡ false
       → record { answer = refused 11; area = area } ≡ converted p q l area
   unfolding converted
   unrepresentable body e h f =
-      let room : length (turned p q l) ≤ length area = omega (arith, e, h, size-known) in
-      rw (k .wellFormed, le-ltb (length area) (length (turned p q l)) room, f)
+      let room : length (rewritten p q l) ≤ length area = omega (arith, e, h, size-known) in
+      rw (k .wellFormed, le-ltb (length area) (length (rewritten p q l)) room, f)
 
   pub done : (body : ℕ) (after : List ℕ) → body ≡ sizeFor q plan → 4 + body ≤ length area → saidRepresentable q (saidOf p l) ≡ true
-      → after ≡ sets area 0 (turned p q l)
+      → after ≡ sets area 0 (rewritten p q l)
       → record { answer = written (4 + body); area = after } ≡ converted p q l area
   unfolding converted
   done body after e h f g =
-      let room : length (turned p q l) ≤ length area = omega (arith, e, h, size-known) in
-      let n : 4 + body ≡ length (turned p q l) = ap (λ (z : ℕ). 4 + z) e ∙ size-known in
-      let here : 0 + length (turned p q l) ≡ length (turned p q l) = omega arith in
-      let whole : after ≡ turned p q l ++ drop (length (turned p q l)) area = g ∙
-      (sets-eq (turned p q l) area 0 (omega (arith, room)) ∙ (rw here)) in
-      rw (k .wellFormed, le-ltb (length area) (length (turned p q l)) room, f, n, whole)
+      let room : length (rewritten p q l) ≤ length area = omega (arith, e, h, size-known) in
+      let n : 4 + body ≡ length (rewritten p q l) = ap (λ (z : ℕ). 4 + z) e ∙ size-known in
+      let here : 0 + length (rewritten p q l) ≡ length (rewritten p q l) = omega arith in
+      let whole : after ≡ rewritten p q l ++ drop (length (rewritten p q l)) area = g ∙
+      (sets-eq (rewritten p q l) area 0 (omega (arith, room)) ∙ (rw here)) in
+      rw (k .wellFormed, le-ltb (length area) (length (rewritten p q l)) room, f, n, whole)
 
 pub size-for : (q : Form) (plan : Plan) (r : ℕ)
     → r ≡ 2 + sizeOf q * raysOf q + 4 * plan .counts + sizeOf q * plan .numbers + 4 * plan .indices

@@ -15,7 +15,7 @@ use Rattle.float_forms.specs.Bytes.{wordBytes, numbersOf, numbersBytes, wordsOf
 use Rattle.record_bytes.specs.Records.{bodyLength, kindOf, countsPlace, countsOf}
 use Rattle.record_bytes.specs.Records.{saidOf, fieldsBytes, recordBytes, everySaid}
 use Rattle.float_forms.specs.Representable.{every}
-use Rattle.conversion.specs.Writing.{turned}
+use Rattle.conversion.specs.Writing.{rewritten}
 use Rattle.record_bytes.specs.Plans.{sizeFor}
 use Rattle.float_forms.proofs.Numbers.{word-length}
 use Rattle.float_forms.proofs.RunLaws.{numbers-count, words-count, numbers-length, words-length}
@@ -47,9 +47,10 @@ size-below Long p l plan r s = omega (arith, r, s .small)
 size-below Short p l plan r s = omega (arith, r, s .small)
 
 -- the converted record's length, known before a float is looked at
-pub turned-length : (p q : Form) (l : List ℕ) → raysOf p ≡ raysOf q → length (turned p q l) ≡ 4 + bodyLength q (kindOf l) (countsOf p l)
+pub rewritten-length : (p q : Form) (l : List ℕ) → raysOf p ≡ raysOf q → length (rewritten p q l) ≡ 4 + bodyLength q (kindOf l)
+    (countsOf p l)
 unfolding saidOf
-turned-length p q l r = written-length q (saidOf p l) (read-measured p q l r)
+rewritten-length p q l r = written-length q (saidOf p l) (read-measured p q l r)
 
 -- ---- writing, a part after another
 
@@ -79,7 +80,7 @@ module _ (p q : Form) (l out : List ℕ) (plan : Plan) (r : raysOf p ≡ raysOf 
       numbersBytes q (numbersOf p (plan .numbers) (drop from l)) ++ wordsBytes
       (wordsOf (plan .indices) (drop (from + sizeOf p * plan .numbers) l))
 
-  parts-are : front (sizeFor q plan) ++ (middle ++ rear (countsPlace p + 4 * plan .counts)) ≡ turned p q l
+  parts-are : front (sizeFor q plan) ++ (middle ++ rear (countsPlace p + 4 * plan .counts)) ≡ rewritten p q l
   unfolding front middle rear recordBytes fieldsBytes saidOf countsOf sizeFor bodyLength
   parts-are =
       rw (s .kindIs, s .countsAre, s .numbersAre, s .indicesAre) (simp append-assoc)
@@ -111,7 +112,7 @@ module _ (p q : Form) (l out : List ℕ) (plan : Plan) (r : raysOf p ≡ raysOf 
       → o3 ≡ sets o2 to
       (numbersBytes q (numbersOf p (plan .numbers) (drop from l)) ++ wordsBytes
       (wordsOf (plan .indices) (drop (from + sizeOf p * plan .numbers) l)))
-      → o3 ≡ sets out 0 (turned p q l)
+      → o3 ≡ sets out 0 (rewritten p q l)
   unfolding front middle rear
   all-written o1 o2 o3 body from to eb ef et e1 e2 e3 =
       let f = front body in

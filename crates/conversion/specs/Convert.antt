@@ -11,7 +11,7 @@ use Rattle.float_forms.specs.declared.forms.Converted.{Converted}
 use Rattle.float_forms.specs.declared.forms.Converted.the-variants.{Written, Refused}
 use Rattle.float_forms.specs.Representable.{representable}
 use Rattle.record_bytes.specs.Records.{Said, saidOf, wellFormed, everySaid}
-use Rattle.conversion.specs.Writing.{turned}
+use Rattle.conversion.specs.Writing.{rewritten}
 
 -- each float is representable
 abbrev pub saidRepresentable : Form → Said → Bool
@@ -37,9 +37,9 @@ pub record Outcome : Type 0 where
 unfoldable pub converted : Form → Form → List ℕ → List ℕ → Outcome
 converted p q bytes area =
     cond (wellFormed p bytes)
-    (cond (ltb (length area) (length (turned p q bytes))) record { answer = refused noRoom; area = area }
+    (cond (ltb (length area) (length (rewritten p q bytes))) record { answer = refused noRoom; area = area }
     (cond (saidRepresentable q (saidOf p bytes))
-    record { answer = written (length (turned p q bytes)); area = turned p q bytes ++ drop (length (turned p q bytes)) area }
+    record { answer = written (length (rewritten p q bytes)); area = rewritten p q bytes ++ drop (length (rewritten p q bytes)) area }
     record { answer = refused notRepresentable; area = area }))
     record { answer = refused badShape; area = area }
 

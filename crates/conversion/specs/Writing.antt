@@ -5,5 +5,5 @@ use Rattle.float_forms.specs.declared.forms.Form.{Form}
 use Rattle.record_bytes.specs.Records.{saidOf, recordBytes}
 
 -- the whole record in the form q
-abbrev pub turned : Form → Form → List ℕ → List ℕ
-turned p q bytes = recordBytes q (saidOf p bytes)
+abbrev pub rewritten : Form → Form → List ℕ → List ℕ
+rewritten p q bytes = recordBytes q (saidOf p bytes)

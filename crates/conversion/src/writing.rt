@@ -15,7 +15,7 @@ ghost use Rattle.float_forms.specs.Bytes.{wordBytes, numbersOf, numbersBytes, w
 ghost use Rattle.float_forms.specs.Representable.{every, fitsIn};
 ghost use Rattle.record_bytes.specs.Records.{saidOf, saidFits};
 ghost use Rattle.record_bytes.specs.Plans.{Known, sizeFor};
-ghost use Rattle.conversion.specs.Writing.{turned};
+ghost use Rattle.conversion.specs.Writing.{rewritten};
 
 // The length bytes, the version and the kind.
 fn write_head(q: Form, kind: u8, body: usize, out: &mut [u8])
@@ -73,7 +73,7 @@ pub fn write(p: Form, q: Form, source: &[u8], plan: Plan, body: usize, out: &mut
     requires { ⌜ (body ≡ sizeFor q plan) × (4 + body ≤ length (now out)) ⌝ }
     requires { ⌜ saidFits q (saidOf p (now source)) ≡ true ⌝ }
     requires { ⌜ raysOf p ≡ raysOf q ⌝ }
-    ensures { λ r. ⌜ now (out .exit) ≡ sets (now (out .entry)) 0 (turned p q (now (source .entry))) ⌝ }
+    ensures { λ r. ⌜ now (out .exit) ≡ sets (now (out .entry)) 0 (rewritten p q (now (source .entry))) ⌝ }
 {
     let from = shape::numbers_place(p, plan.counts);
     let to = shape::numbers_place(q, plan.counts);

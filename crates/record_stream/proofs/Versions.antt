@@ -21,10 +21,10 @@ use Rattle.record_bytes.proofs.Parts.{formed}
 use Rattle.record_bytes.proofs.RoundTrip.{longest-form}
 use Rattle.record_bytes.proofs.Tests.{long-fits-said}
 use Rattle.conversion.specs.Convert.{written, Outcome, converted, toShort, toLong}
-use Rattle.conversion.specs.Writing.{turned}
+use Rattle.conversion.specs.Writing.{rewritten}
 use Rattle.conversion.proofs.Representable.{representable-fits}
 use Rattle.conversion.proofs.Outcomes.{success, succeeded, succeeds}
-use Rattle.conversion.proofs.Theorems.{says-the-same, turned-well-formed, from-short-succeeds}
+use Rattle.conversion.proofs.Theorems.{says-the-same, rewritten-well-formed, from-short-succeeds}
 use Rattle.records.specs.Shapes.{Parsed, says, rayBy, shapeBy, parse}
 use Rattle.records.specs.Lines.{parsedText, lineWith, lineOf}
 use Rattle.records.proofs.RoundTrip.{form-is, parsed-is}
@@ -61,25 +61,25 @@ record-is-well-formed l good = subst T (sym good) tt
 -- a record and what it is converted to are parsed alike, NaN included
 module _ (p q : Form) (l : List ℕ) (r : raysOf p ≡ raysOf q) (b : IsBytes l) (w : T (wellFormed p l))
     (f : T (saidFits q (saidOf p l))) where
-  same-parsed : parse (turned p q l) ≡ parse l
+  same-parsed : parse (rewritten p q l) ≡ parse l
   same-parsed =
-      parsed-is q (turned p q l) (turned-well-formed p q l r b w f)
+      parsed-is q (rewritten p q l) (rewritten-well-formed p q l r b w f)
       ∙ (ap (λ (s : Said). says (rayBy (s .ray)) (shapeBy s)) (says-the-same p q l r b w f) ∙ sym (parsed-is p l w))
 
-  pub same-line : (number : ℕ) → lineOf number (turned p q l) ≡ lineOf number l
+  pub same-line : (number : ℕ) → lineOf number (rewritten p q l) ≡ lineOf number l
   same-line number = ap (λ (s : Parsed). lineWith number (parsedText s)) same-parsed
 
 -- a version 3 record's line is that of the version 2 record of the same numbers, NaN included
 pub same-line-widened : (number : ℕ) (l : List ℕ) → IsBytes l → T (wellFormed Short l)
-    → lineOf number (turned Short Long l) ≡ lineOf number l
+    → lineOf number (rewritten Short Long l) ≡ lineOf number l
 same-line-widened number l b w = same-line Short Long l refl b w (long-fits-said Short l) number
 
 -- what the converter wrote stands at the front of the area
 written-front : (p q : Form) (l area : List ℕ) (n : ℕ) → converted p q l area .answer ≡ written n
-    → take n (converted p q l area .area) ≡ turned p q l
+    → take n (converted p q l area .area) ≡ rewritten p q l
 written-front p q l area n e =
     let s = succeeded p q l area n e in
-    let new = turned p q l in
+    let new = rewritten p q l in
     let done : converted p q l area ≡ success new area = succeeds p q l area (s .wellFormed) (s .room) (s .representable) in
     ap (λ (o : Outcome). take n (o .area)) done ∙ take-at new (drop (length new) area) n (sym (s .counted))
 
@@ -103,7 +103,7 @@ same-line-long number l area n b e = converted-line Short Long number l area n r
 
 -- which it does for every well-formed record of version 3 without NaN, with room for it
 pub long-line : (number : ℕ) (l area : List ℕ) → IsBytes l → T (wellFormed Short l) → T (withoutNan (saidOf Short l))
-    → length (turned Short Long l) ≤ length area
-    → lineOf number (take (length (turned Short Long l)) (toLong l area .area)) ≡ lineOf number l
+    → length (rewritten Short Long l) ≤ length area
+    → lineOf number (take (length (rewritten Short Long l)) (toLong l area .area)) ≡ lineOf number l
 long-line number l area b w h room =
-    same-line-long number l area (length (turned Short Long l)) b (ap (λ (o : Outcome). o .answer) (from-short-succeeds l area w h room))
+    same-line-long number l area (length (rewritten Short Long l)) b (ap (λ (o : Outcome). o .answer) (from-short-succeeds l area w h room))
