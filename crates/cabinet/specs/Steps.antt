@@ -24,7 +24,7 @@ use Rattle.cabinet.specs.declared.part.CastCost.{CastCost}
 use Rattle.cabinet.specs.Parts.{Areas, meshOf, treeOfPart, rangesInside}
 use Rattle.cabinet.specs.Looks.{lookParts, lookFrom, secondPass}
 use Rattle.cabinet.specs.PartCast.{Costed, costing, castMoved}
-use Rattle.cabinet.specs.Cabinet.{Answer, hitIn, noneAfter, refused, refusedAfter, answerOf, plainly, isRefused, afterPart}
+use Rattle.cabinet.specs.Cabinet.{Answer, answerOf, plainly, isRefused, afterPart}
 
 -- what the code's answer at a part says
 abbrev pub saysCost : CastCost → Costed
