@@ -31,7 +31,7 @@ pub signed-size : (s : Bool) (q : ℕ) → natAbs (signed s q) ≡ q
 signed-size false q = refl
 signed-size true q = neg-size (pos q)
 
-bounded : (a d q k n : ℕ) → 0 < d → 2 * (q * d) ≤ 2 * (a * k) + d → a * 1 ≤ n * d → q ≤ n * k
+pub bounded : (a d q k n : ℕ) → 0 < d → 2 * (q * d) ≤ 2 * (a * k) + d → a * 1 ≤ n * d → q ≤ n * k
 bounded a d q k n D h g =
     let g' : a * 1 * k ≤ n * d * k = mul-le-mul-right k g in
     let l : (2 * q) * d ≤ (2 * (n * k) + 1) * d = omega (arith, h, g') in
