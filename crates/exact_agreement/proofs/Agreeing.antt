@@ -29,8 +29,8 @@ use Rattle.mesh_exact.specs.GridCast.{rayMeshExactPlain}
 use Rattle.mesh_exact.specs.Certain.{Met}
 use Rattle.mesh_exact.proofs.Ranges.{vector-finite}
 use Rattle.mesh_exact.proofs.Certainty.{certain}
-use Rattle.whole_numbers.specs.GridCorners.{Crossing, Within}
-use Rattle.whole_numbers.specs.GridCorners as WholeTriangle112
+use Rattle.whole_numbers.specs.WholeTriangle.{Crossing, Within}
+use Rattle.whole_numbers.specs.WholeTriangle as WholeTriangle112
 use Rattle.whole_numbers.specs.WholeMesh.{Plan, drawingOf, WholeMesh, Missed, outside, behind, beyond, AtMost, MeshExact}
 use Rattle.whole_numbers.specs.WholeMesh as WholeMesh112
 use Rattle.whole_numbers.proofs.WholeMeshes.{meshes-exact}

@@ -20,7 +20,7 @@ use Rattle.exact_triangle.specs.Grid.{within, allWithin, furthest, longest}
 use Rattle.exact_triangle.proofs.Touching.{furthest-is, longest-is}
 use Rattle.mesh_exact.specs.Certain.{OutOfRange, origin, near, maximum, corner, Reason, ray, lengths, triangles, range}
 use Rattle.whole_numbers.specs.Points.{Point}
-use Rattle.whole_numbers.specs.GridCorners.{Drawn, DrawnAt}
+use Rattle.whole_numbers.specs.WholeTriangle.{Drawn, DrawnAt}
 use Rattle.whole_numbers.specs.WholeMesh.{Plan, WholeMesh}
 use Rattle.whole_numbers.proofs.Drawings.{drawn}
 use Rattle.whole_numbers.proofs.Decisions.{parted}

@@ -13,7 +13,7 @@ use Rattle.exact_triangle.specs.Surface.{Surface, Apart}
 use Rattle.exact_triangle.proofs.Readings.{reads}
 use Rattle.mesh_exact.specs.Certain.{cornerOn}
 use Rattle.whole_numbers.specs.Points as Points
-use Rattle.whole_numbers.specs.GridCorners.{Drawing, DrawnAt, along}
+use Rattle.whole_numbers.specs.WholeTriangle.{Drawing, DrawnAt, along}
 use Rattle.whole_numbers.specs.WholeMesh.{Plan, drawingOf, WholeMesh}
 use Rattle.whole_numbers.proofs.Drawings.{drawn}
 use Rattle.exact_agreement.specs.Agreement.{WholeCorners}

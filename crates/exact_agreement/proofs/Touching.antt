@@ -26,7 +26,7 @@ use Rattle.exact_triangle.specs.Surface.{Surface}
 use Rattle.mesh_exact.specs.Certain.{cornerOn}
 use Rattle.mesh_exact.proofs.OneTriangle.{depth-whole}
 use Rattle.whole_numbers.specs.Points.{Point}
-use Rattle.whole_numbers.specs.GridCorners.{Axis, east, west, north, south, upward, downward, along}
+use Rattle.whole_numbers.specs.WholeTriangle.{Axis, east, west, north, south, upward, downward, along}
 use Rattle.whole_numbers.specs.WholeMesh.{Plan, drawingOf, WholeMesh}
 use Rattle.whole_numbers.proofs.Whole.{WholeVec}
 use Rattle.whole_numbers.proofs.Drawings.{drawn, drawn-at}

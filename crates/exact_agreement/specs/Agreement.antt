@@ -19,7 +19,7 @@ use Rattle.exact_triangle.specs.Grid.{units, allWithin, furthest, gridLine}
 use Rattle.exact_triangle.specs.Box.{certainBox}
 use Rattle.mesh_exact.specs.GridCast.{rayMeshExactPlain}
 use Rattle.mesh_exact.specs.Certain.{LeastDepth}
-use Rattle.whole_numbers.specs.GridCorners.{DrawnAt, Parallel, Crossing, Within}
+use Rattle.whole_numbers.specs.WholeTriangle.{DrawnAt, Parallel, Crossing, Within}
 use Rattle.whole_numbers.specs.WholeMesh.{Plan, drawingOf, WholeMesh}
 
 -- ---- the open cases
