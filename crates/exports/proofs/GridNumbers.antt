@@ -57,7 +57,7 @@ use Rattle.level_set.specs.declared.hits.Samples.{Samples}
 use Rattle.level_set.specs.declared.hits.Samples.the-variants.{All, Refused as NoSamples}
 use Rattle.level_set.specs.Hits.{pointAt, along, withSample, hitWith, hitAlong, touchAt, valueAlong, third, twoThirds, samplesOf}
 use Rattle.level_set.specs.Hits.{samplesAlong}
-use Rattle.level_set.specs.Walk.{Turn, done, on, goesOn, rootTurn, cellBy, withSamples, cellCast, goesTo, withBoundary, withCells}
+use Rattle.level_set.specs.Walk.{CellResult, done, on, goesOn, rootResult, cellBy, withSamples, cellCast, goesTo, withBoundary, withCells}
 use Rattle.level_set.specs.Walk.{walkStep, follow, cellLimit, walkFrom, withInterval, levelSetCast, rayLevelSet}
 use Rattle.exports.proofs.RefusalNumbers.{Small, leaf, chosen, boxed, answerNumber, refuses, misses, hits, corners-small}
 use Rattle.exports.proofs.RefusalNumbers.{indexedNumber, nearest-small}
@@ -201,7 +201,7 @@ four-small (SampledAt v g) (SampledAt w h) (SampledAt x i) (NotSampled k) p q s 
 four-small (SampledAt v g) (SampledAt w h) (SampledAt x i) (SampledAt y j) p q s t = leaf samplesNumber (All v w x y) refl
 
 -- ---- its walk
-unfoldable turnNumber : Turn → ℕ
+unfoldable turnNumber : CellResult → ℕ
 turnNumber (done answer) = answerNumber answer
 turnNumber (on distance) = 0
 
@@ -236,7 +236,7 @@ module _ (r : Ray) (g : Grid) (values : List Float) where
       go (SampledAt value gradient) p = chosen (eq value zeroᶠ) (hit-with-small gradient distance) misses
       go (NotSampled k) p = record { below = p .below }
 
-  root-small : (t : Root) (current end exit : Float) → Small turnNumber (rootTurn t r g values current end exit)
+  root-small : (t : Root) (current end exit : Float) → Small turnNumber (rootResult t r g values current end exit)
   unfolding goesOn turnNumber
   root-small (RootAt fraction) current end exit = ends _ (along-small (along current end fraction))
   root-small NoRoot current end exit = chosen (le exit end) (ends none misses) (leaf turnNumber (on end) refl)
@@ -275,7 +275,7 @@ module _ (r : Ray) (g : Grid) (values : List Float) where
       cells (CellsAt x y z) = bounded (nextCellBoundary g current (pointAt r current) (r .direction) x y z exit)
       cells NoCells = ends (refused overflow) (refuses overflow refl)
 
-  follow-small : (t : Turn) (k : Float → Answer) → Small turnNumber t → ((next : Float) → Small answerNumber (k next))
+  follow-small : (t : CellResult) (k : Float → Answer) → Small turnNumber t → ((next : Float) → Small answerNumber (k next))
       → Small answerNumber (follow t k)
   unfolding turnNumber
   follow-small (done answer) k p q = record { below = p .below }
