@@ -43,7 +43,7 @@ use Rattle.exact_triangle.specs.Reach.{cornersRead, cornersReach, gridReach}
 use Rattle.exact_triangle.specs.Cast.{gridNormal, gridTriangle}
 use Rattle.mesh_exact.specs.GridCast.{exactAnswer, overTriangles, rayMeshExactPlain}
 use Rattle.whole_numbers.specs.Points.{Point}
-use Rattle.whole_numbers.specs.WholeTriangle.{Clamping, DrawnAt, Parallel, Crossing, downward}
+use Rattle.whole_numbers.specs.WholeTriangle.{Drawing, DrawnAt, Parallel, Crossing, downward}
 use Rattle.whole_numbers.specs.WholeMesh.{Plan, WholeMesh}
 use Rattle.exact_agreement.specs.Agreement.{NoOpenCase, OthersApart, SameDepth, Agree}
 use Rattle.exact_agreement.proofs.Agreeing.{whole-numbers-agree}
@@ -225,7 +225,7 @@ abbrev is-negative : ℤ → Bool
 is-negative (pos n) = false
 is-negative (negsuc n) = true
 
-abbrev drawing : ℤ → Clamping
+abbrev drawing : ℤ → Drawing
 drawing height = record {
   o = plan .o;
   direction = downward;
