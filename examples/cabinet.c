@@ -2,7 +2,7 @@
  *
  * All in millimetres: two sides of 18 by 560 by 720, one at x = 0 and one at x = 582, and between them a bottom, a
  * shelf and a top of 564 by 560 by 18, at z = 0, 350 and 702. The sides are one mesh and the other three another: a part
- * names the ranges of its mesh and tree in areas that all parts share, and has an origin of its own.
+ * names the ranges of its mesh and tree in the buffers that all parts share, and has its own origin.
  *
  * cc -std=c99 -I include examples/cabinet.c target/staticlib/libexports.a
  */

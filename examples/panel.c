@@ -3,8 +3,8 @@
  *   cc -std=c99 -I include examples/panel.c target/staticlib/libexports.a -o target/panel && target/panel
  *
  * The panel is 300 x 200 x 18 mm, with a pocket 60 x 60 mm wide and 10 mm deep: x 100 to 160, y 60 to 120, its
- * floor at z = 8. What it prints is examples/panel.expected. That file was written by hand, from the reasons that
- * stand at each probe below, and not from a run.
+ * floor at z = 8. What it prints is examples/panel.expected. That file was written by hand, from the reasons
+ * at each probe below, not from a run.
  */
 #include <stdio.h>
 
@@ -32,14 +32,14 @@ static const uint32_t triangles[PROBE_TRIANGLES_LENGTH(TRIANGLES)] = {
     12, 13, 14, 12, 14, 15,                                                             /* 26, 27: pocket floor */
 };
 
-/* The tree: lent areas. Nothing is allocated. */
+/* The buffers of the tree. Nothing is allocated. */
 static double node_boxes[PROBE_NODE_BOXES_LENGTH(TRIANGLES)];
 static double triangle_boxes[PROBE_TRIANGLE_BOXES_LENGTH(TRIANGLES)];
 static uint32_t node_words[PROBE_NODE_WORDS_LENGTH(TRIANGLES)];
 static uint32_t order[PROBE_ORDER_LENGTH(TRIANGLES)];
 static size_t nodes;
 
-/* Work areas: what they hold before a call changes nothing. */
+/* Work buffers: their contents before a call do not matter. */
 static uint32_t work[PROBE_WORK_LENGTH(TRIANGLES)];
 static uint32_t marks[PROBE_MARKS_LENGTH(TRIANGLES)];
 static uint32_t list[PROBE_LIST_LENGTH(TRIANGLES)];

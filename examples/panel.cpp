@@ -1,4 +1,4 @@
-/* The panel of panel.c through probe_rays.hpp: what owns the areas, and an answer that is a hit, none or a refusal.
+/* The panel of panel.c through probe_rays.hpp, which owns the buffers and returns a hit, a miss or a refusal.
  *
  *   c++ -std=c++17 $(pkg-config --cflags probe_rays-static) examples/panel.cpp $(pkg-config --libs probe_rays-static)
  *

@@ -1,87 +1,98 @@
-/* Ray casts at a plane, a triangle, a triangle mesh with its box tree, a height grid and a distance grid.
+/* Ray casts at a plane, a triangle, a triangle mesh with its bounding box tree, a height grid and a distance grid.
  *
- * The library is libprobe_rays.a or libprobe_rays.so, as `tools/install` calls what `rt staticlib exports` proves and writes
- * (target/staticlib/libexports.a), for Linux on x86-64. probe_rays.hpp is for C++17.
- * C99 or later, and C++. tests/declarations.sh compares this header with the proved source and with the Rust crate.
+ * For C99 or later, and C++. probe_rays.hpp is a wrapper for C++17.
+ * The library is libprobe_rays.a or libprobe_rays.so, for Linux on x86-64: `rt staticlib exports` proves it and writes
+ * target/staticlib/libexports.a, and `tools/install` installs it under these names.
+ * tests/declarations.sh compares this header with the proved source and with the Rust crate.
  *
  * HOW TO CALL
  *
  * A slice is two parameters: a pointer and, under the same name with _length, the number of elements.
- *   - The pointer is valid for that many elements, aligned for them, and not null. This holds for a length of
- *     zero too: any aligned pointer that is not null will do then, such as the address of a variable of the
- *     element's type; nothing is read or written through it.
+ *   - The pointer is valid for that many elements, aligned for them, and not null. This also holds for a length of
+ *     zero: pass any aligned pointer that is not null, such as the address of a variable of the element's type.
+ *     Nothing is read or written through it then.
  *   - A slice that a call writes (no const) shares no element with another slice of the same call.
- *     Slices that are only read may be the same one.
- *   - The elements are initialised, also in an area that is only written: calloc will do, or a static array.
- * A C compiler checks none of this, and the library cannot: everything else may be passed with any value.
+ *     Slices that are only read may be the same slice.
+ *   - All elements are initialised, also in a buffer that is only written: use calloc or a static array.
+ * The caller must ensure this: a C compiler does not check it, and the library cannot. Every other argument may have any
+ * value.
  *
- * No call allocates, locks, keeps anything between calls, or reads anything but what it is given; each one ends.
- * Calls may run at the same time in any number of threads, as long as no slice that one of them writes is
- * used by another.
- * The processor's floating point mode is the one that a program starts with: rounding to nearest, subnormal
- * numbers kept. (Linking with -ffast-math or -Ofast turns subnormal numbers off: do not.)
+ * No call allocates memory, takes a lock, keeps anything between calls, or reads anything but what it is given.
+ * Every call terminates.
+ * The calls are thread-safe: any number of threads may call at the same time, as long as no slice that one call writes
+ * is used by another.
+ * The processor's floating-point mode must be the one that a program starts with: rounding to nearest, subnormal
+ * numbers kept. Do not link with -ffast-math or -Ofast: they turn subnormal numbers off.
  *
- * Lengths, coordinates and distances have whatever unit the caller uses; all geometry is in the shape's own frame.
+ * Lengths, coordinates and distances have whatever unit the caller uses. All geometry is in the shape's own frame.
  *
- * WHAT A CALL ANSWERS
+ * WHAT A CALL RETURNS
  *
- * A refusal, a number below 256:
+ * A refusal is a number below 256:
  *
- *   no.  name            when
- *   1    invalid input   a ray's origin or maximum is not finite, its maximum is below 0, its direction is not finite or has a
- *                        length more than 1e-12 from 1, its near distance is not finite, below 0 or above the maximum; a
- *                        query's box has a corner that is not finite, or a minimum above its maximum
- *   2    bad shape       a count, length, spacing, normal, plane distance or grid origin outside the limits below; bytes that
- *                        are not one well-formed record
- *   3    no room         a lent slice is shorter than stated; a listing has more hits than places (the late 3)
- *   4    wrong pose      the vertices to cast at are not as many as the mesh's
- *   5    out of bounds   an index or a box that does not fit, a tree that is broken where the walk meets it, a tree to merge
- *                        that does not pass the check
- *   6    overflow        a number on the way is not finite
- *   7    no normal       the cross of the hit triangle's edges is zero or not finite
- *   8    not convergent  the walk through a distance grid ends without an answer, or the gradient at its hit is zero
- *   9    bad range       a range of a visited cell is out of order or not finite
- *   10   limit reached   the next node of a cabinet's walks would exceed the limit
- *   11   not held        a float of a record is NaN, or no f32 is exactly that number
- *   12   out of range    an exact cast's origin or a corner of a triangle of the mesh is not a number from -8,192 to 8,192,
- *                        or near or the maximum is above 32,768
+ *   no.  name               when
+ *   1    invalid input      a ray's origin or maximum is not finite; its maximum is below 0; its direction is not finite,
+ *                           or has a length more than 1e-12 from 1; its near distance is not finite, below 0 or above
+ *                           the maximum; a query's box has a corner that is not finite, or a minimum above its maximum
+ *   2    bad shape          a count, length, spacing, normal, plane distance or grid origin is outside the limits below;
+ *                           the bytes are not one well-formed record
+ *   3    no room            a buffer is shorter than stated; a listing has more hits than places (the late 3)
+ *   4    wrong pose         the pose does not have as many vertices as the mesh
+ *   5    out of bounds      an index or a box does not fit; a tree is broken where the traversal meets it; a tree to merge
+ *                           does not pass the check
+ *   6    overflow           a computed number is not finite
+ *   7    no normal          the cross product of the hit triangle's edges is zero or not finite
+ *   8    not convergent     the traversal of a distance grid ends without an answer, or the gradient at its hit is zero
+ *   9    bad range          a range of a visited cell is out of order or not finite
+ *   10   limit reached      the next node of a cabinet's traversals would exceed the limit
+ *   11   not representable  a float of a record is NaN, or no f32 is exactly that number
+ *   12   out of range       of an exact cast: the origin or a corner of a triangle of the mesh is not a number from -8,192 to
+ *                           8,192, or near or the maximum is above 32,768
  *
- * Or one of the codes PROBE_HIT, PROBE_NONE, PROBE_YES, PROBE_NO, PROBE_DONE, PROBE_CLEAR and PROBE_POSSIBLE, which no
- * refusal has.
- * Numbers from 13 on may be added to the refusals; all stay below 256.
+ * Later versions may add refusals from 13 on; all stay below 256.
  *
- * Tested are 1, 2, 3 and 4 in this order, then the others as the cast meets them. 12 of the ray comes directly after 1, 12 of a
- * corner after 5, the late 3 last. The result slices hit, index, nodes (of probe_build and probe_merge), found, cell, part,
- * spent, written, codes, hits and indices are lent slices like the others: one that is too short is 3, after 1 and 2. A call of
- * many rays tests 2, 3 and 4 once, before 1 of its first ray.
+ * Any other return value is one of the codes PROBE_HIT, PROBE_NONE, PROBE_YES, PROBE_NO, PROBE_DONE, PROBE_CLEAR and
+ * PROBE_POSSIBLE, which no refusal has. PROBE_NONE is a miss.
  *
- * After a refusal every result area and result slice is unchanged, but for these:
+ * A call tests 1, 2, 3 and 4 in this order, then the others as the cast meets them. It tests 12 for the ray directly
+ * after 1, 12 for a corner after 5, and the late 3 last. The result slices hit, index, nodes (of probe_build and
+ * probe_merge), found, cell, part, spent, written, codes, hits and indices are buffers like the others: one that is too
+ * short is refused with 3, after 1 and 2. A call of many rays tests 2, 3 and 4 once, before 1 of its first ray.
+ *
+ * WHAT IS WRITTEN
+ *
+ * After a refusal every result buffer is unchanged, with these exceptions:
  *
  *   call                after                      what is written
  *   probe_build         5, 6                       zeros: every place of node_boxes, triangle_boxes, node_words and order
  *   probe_query         5                          zeros: every place of list
  *   probe_ray_mesh_all  5, 6, 7 and the late 3     zeros: every place of indices and numbers
- *   probe_ray_cabinet   5, 6, 7 and 10             the nodes spent, in spent[0]
+ *   probe_ray_cabinet   5, 6, 7 and 10             the number of nodes spent, in spent[0]
  *
- * Else the result slices are written only with PROBE_HIT, PROBE_DONE and PROBE_POSSIBLE, and spent with PROBE_NONE too; their
- * places past those stated are unchanged.
- * A ray that one of the calls of many rays refuses is no refusal of the call: its number stands in codes, and its places of hits
- * and indices are unchanged.
- * Work areas are the list and the stack of a mesh cast, of a call of many rays, a listing and a cabinet, the query's stack, the
- * build's work, and the marks of the check and of the merge. They need not be cleared before a call. They are unchanged after 1, 2, 4, 12 of the ray
- * and every 3 but the late one, and hold anything after any other answer.
+ * Otherwise the result slices are written only with PROBE_HIT, PROBE_DONE and PROBE_POSSIBLE, and spent with PROBE_NONE
+ * too. Their places past those stated are unchanged.
+ * If a call of many rays refuses one ray, the call itself does not refuse: the ray's number is in codes, and its
+ * places of hits and indices are unchanged.
+ * The work buffers are: the list and the stack of a mesh cast, of a call of many rays, of a listing and of a cabinet;
+ * the query's stack; the build's work; and the marks of the check and of the merge. They need not be cleared before a
+ * call. They are unchanged after 1, 2, 4, 12 for the ray, and every 3 except the late one. After any other return value
+ * their contents are unspecified.
  *
  * LIMITS
  *
- * Up to 65,536 vertices and 65,536 triangles; 2 to 1,024 rows and columns of heights; 2 to 256 nodes along each
- * side of a distance grid, and exactly as many heights or values as the sides multiply to. Spacings are finite and
- * above 0. The length of a plane's normal is within 1e-12 of 1 and its distance finite; a grid's origin is finite.
+ *   mesh           up to 65,536 vertices and 65,536 triangles
+ *   height grid    2 to 1,024 rows and columns; spacings finite and above 0; exactly rows * columns heights
+ *   distance grid  2 to 256 nodes along each side; spacings finite and above 0; a finite origin; exactly as many values
+ *                  as the product of the sides
+ *   plane          a normal whose length is within 1e-12 of 1; a finite distance
+ *
  * Other values are not scanned: a coordinate, height or value may be infinite or NaN.
  *
  * ZERO
  *
- * A zero has its sign, to the bit: a normal that is turned turns its zeros, so one component may be -0, and a surface
- * at the origin may be hit at -0, which is no miss. In a comparison, a tie and a box the two zeros are equal.
+ * Zeros keep their sign, to the bit. A normal that is negated negates its zeros too, so a component may be -0. A surface
+ * at the origin may be hit at distance -0, which is a hit and no miss. Comparisons, ties and boxes treat 0 and -0 as
+ * equal.
  */
 #ifndef PROBE_RAYS_H
 #define PROBE_RAYS_H
@@ -93,17 +104,17 @@
 extern "C" {
 #endif
 
-/* The version of these calls: it changes when one of them does. */
+/* The version of these calls. It changes when one of them changes. */
 #define PROBE_VERSION 3u
 
-/* What a call answers where it does not refuse. */
-#define PROBE_HIT 256u  /* a hit: hit, and index of a mesh, are written */
-#define PROBE_NONE 257u /* no hit from near to the maximum, by the cast's definition */
+/* What a call returns if it does not refuse. */
+#define PROBE_HIT 256u  /* a hit: hit is written, and for a mesh index too */
+#define PROBE_NONE 257u /* a miss: no hit from near to the maximum, by the cast's definition */
 #define PROBE_YES 258u  /* the tree fits the mesh; the mesh's corners are numbers */
-#define PROBE_NO 259u   /* it does not; they are not */
+#define PROBE_NO 259u   /* the tree does not fit; they are not numbers */
 #define PROBE_DONE 260u /* the results are written: a tree, a list, a record */
-#define PROBE_CLEAR 261u /* no grid within the ranges is touched */
-#define PROBE_POSSIBLE 262u /* a grid within the ranges may be touched: cell is written */
+#define PROBE_CLEAR 261u /* the ray touches no grid within the ranges */
+#define PROBE_POSSIBLE 262u /* the ray may touch a grid within the ranges: cell is written */
 
 /* The refusals. */
 #define PROBE_REFUSED_INVALID_INPUT 1u
@@ -116,19 +127,19 @@ extern "C" {
 #define PROBE_REFUSED_NOT_CONVERGENT 8u
 #define PROBE_REFUSED_BAD_RANGE 9u
 #define PROBE_REFUSED_LIMIT_REACHED 10u
-#define PROBE_REFUSED_NOT_HELD 11u
+#define PROBE_REFUSED_NOT_REPRESENTABLE 11u
 #define PROBE_REFUSED_OUT_OF_RANGE 12u
 
-/* Whether an answer is a refusal. */
+/* Whether a return value is a refusal. */
 #define PROBE_IS_REFUSAL(answer) ((answer) < 256u)
 
 /* The limits of a mesh. */
 #define PROBE_MAX_VERTICES 65536u
 #define PROBE_MAX_TRIANGLES 65536u
 
-/* A mesh of n triangles and its tree lie in areas that the caller lends. A longer area is admitted.
+/* The caller provides the buffers for a mesh of n triangles and its tree. A longer buffer is admitted.
  *
- *   area            element   length          holds
+ *   buffer          element   length          contents
  *   vertices        double    3 a vertex      x, y, z
  *   triangles       uint32_t  3n              three vertex indices a triangle, from 0
  *   node_boxes      double    12n             six numbers a node: minimum x, y, z, then maximum x, y, z
@@ -136,20 +147,20 @@ extern "C" {
  *   node_words      uint32_t  6n              three words a node: 0, start, count (a leaf: places of order),
  *                                             or 1, left, right (a branch: two nodes)
  *   order           uint32_t  n               triangle indices; a leaf names a range of its places
- *   work            uint32_t  n               the build's work area
- *   list            uint32_t  n               the query's result; a work area of the mesh cast
- *   stack           uint32_t  node count + 1  a work area of the query and the mesh cast
- *   marks           uint32_t  3n              the check's work area
+ *   work            uint32_t  n               the build's work buffer
+ *   list            uint32_t  n               the query's result; a work buffer of the mesh cast
+ *   stack           uint32_t  node count + 1  a work buffer of the query and the mesh cast
+ *   marks           uint32_t  3n              the check's work buffer
  *   hit             double    4               normal x, y, z, then the distance
  *   index           uint32_t  1               the index of the triangle hit
  *   nodes, found    size_t    1               the build's node count; how many triangles the query listed
  *   rays            double    8 a ray         origin x, y, z, direction x, y, z, the maximum, the near distance
- *   codes, indices  uint32_t  1 a ray         what the single call answers; the index of the triangle hit
+ *   codes, indices  uint32_t  1 a ray         what the single call returns; the index of the triangle hit
  *   hits            double    4 a ray         normal x, y, z, then the distance
- *   part, spent     size_t    1               the part hit, from 0; the nodes spent on a cabinet
- *   written         size_t    1               how many bytes a converted record has
+ *   part, spent     size_t    1               the part hit, from 0; the number of nodes spent on a cabinet
+ *   written         size_t    1               the number of bytes of a converted record
  *
- * Node 0 is the root. A node count is at most 2n (more is 2), so a stack of 2n + 1 does for every tree.
+ * Node 0 is the root. A node count is at most 2n (more is refused with 2), so a stack of 2n + 1 suffices for every tree.
  */
 #define PROBE_VERTICES_LENGTH(vertices) ((size_t)3 * (vertices))
 #define PROBE_TRIANGLES_LENGTH(n) ((size_t)3 * (n))
@@ -167,16 +178,16 @@ extern "C" {
 #define PROBE_RAYS_LENGTH(rays) ((size_t)8 * (rays))
 #define PROBE_HITS_LENGTH(rays) ((size_t)4 * (rays))
 
-/* No record of version 2 or 3 is longer, its four length bytes included. */
+/* No record of version 2 or 3 has more bytes, its four length bytes included. */
 #define PROBE_MAX_RECORD 8196u
 
-/* The version of the library that is linked: PROBE_VERSION, if this header is its own. */
+/* The version of the linked library. It is PROBE_VERSION if this header belongs to that library. */
 uint32_t probe_version(void);
 
-/* Casts a ray at the plane of all points whose dot with the normal is the distance.
+/* Casts a ray at the plane of all points whose dot product with the normal is the distance.
  *
- * Answers PROBE_HIT, PROBE_NONE, or refuses with 1, 2, 3 or 6. The normal written faces the ray. A plane that is
- * parallel to the ray is none. A distance equal to the maximum is a hit.
+ * Returns PROBE_HIT or PROBE_NONE, or refuses with 1, 2, 3 or 6. The normal written faces the ray. A plane parallel to
+ * the ray is a miss. A distance equal to the maximum is a hit.
  */
 uint32_t probe_ray_plane(
     double origin_x,
@@ -194,11 +205,11 @@ uint32_t probe_ray_plane(
     size_t hit_length
 );
 
-/* Casts a ray at the triangle of corners a, b and c, from either side.
+/* Casts a ray at the triangle with corners a, b and c, from either side.
  *
- * Answers PROBE_HIT, PROBE_NONE, or refuses with 1, 3, 6 or 7. The normal written faces the ray. A triangle that is
- * flat for the ray (parallel to it, or too small) is none. A distance equal to the maximum is a hit. A
- * distance that is not a number, as corners far apart may give, is 6.
+ * Returns PROBE_HIT or PROBE_NONE, or refuses with 1, 3, 6 or 7. The normal written faces the ray. A triangle that is
+ * degenerate for the ray (parallel to it, or too small) is a miss. A distance equal to the maximum is a hit. Corners far
+ * apart may give a distance that is not a number: the call then refuses with 6.
  */
 uint32_t probe_ray_triangle(
     double origin_x,
@@ -221,11 +232,10 @@ uint32_t probe_ray_triangle(
     size_t hit_length
 );
 
-/* Casts a ray at a height grid: the height of row r and column c, at x = c * spacing_x, y = r * spacing_y, stands at
- * heights[r * columns + c]. Each cell is two triangles. Only the cells under the box of the ray's segment are looked
- * at.
+/* Casts a ray at a height grid. The height of row r and column c is heights[r * columns + c], at x = c * spacing_x and
+ * y = r * spacing_y. Each cell is two triangles. Only the cells under the bounding box of the ray's segment are tested.
  *
- * Answers PROBE_HIT, PROBE_NONE, or refuses with 1, 2, 3, 5, 6 or 7. The hit is the nearest; its normal faces the
+ * Returns PROBE_HIT or PROBE_NONE, or refuses with 1, 2, 3, 5, 6 or 7. The hit is the nearest, and its normal faces the
  * ray.
  */
 uint32_t probe_ray_height_field(
@@ -246,13 +256,16 @@ uint32_t probe_ray_height_field(
     size_t hit_length
 );
 
-/* Casts a ray at a height grid of which only a low and a high are known for each node: those of row r and column c
- * stand at lows[r * columns + c] and highs[r * columns + c].
+/* Casts a ray at a height grid for which only a low and a high are known at each node: lows[r * columns + c] and
+ * highs[r * columns + c] are those of row r and column c.
  *
- * Answers PROBE_CLEAR: on every grid within the ranges the height cast is none. Or PROBE_POSSIBLE: on some grid within
- * the ranges a triangle's box touches that of the ray's segment; cell[0] is then the first such cell, row after row,
- * row * (columns - 1) + column. Or refuses with 1, 2, 3 (cell has no place), 6 or 9. Only the cells that the height
- * cast would look at count: a range elsewhere is not looked at. near_distance is tested (1) and has no other effect.
+ * Returns PROBE_CLEAR if the height cast is a miss on every grid within the ranges.
+ * Returns PROBE_POSSIBLE if on some grid within the ranges a triangle's box touches the box of the ray's segment. The
+ * first such cell, in row order, is then in cell[0], as row * (columns - 1) + column.
+ * Refuses with 1, 2, 3 (cell has no place), 6 or 9.
+ *
+ * Only the cells that the height cast would test count: ranges elsewhere are not read. near_distance is tested (1) and
+ * has no other effect.
  */
 uint32_t probe_ray_height_ranges(
     double origin_x,
@@ -275,12 +288,12 @@ uint32_t probe_ray_height_ranges(
     size_t cell_length
 );
 
-/* Casts a ray at the zero surface of a distance grid: the value of node (i, j, k), at grid + (i, j, k) * spacing,
- * stands at values[(k * side_y + j) * side_x + i].
+/* Casts a ray at the zero surface of a distance grid. The value of node (i, j, k), at grid + (i, j, k) * spacing, is
+ * values[(k * side_y + j) * side_x + i].
  *
- * Answers PROBE_HIT, PROBE_NONE, or refuses with 1, 2, 3, 5, 6 or 8. The normal is the gradient's direction: it
- * points to where the values grow, and is not turned towards the ray. A hit may lie one float past the maximum, because the
- * steps of the walk are rounded; none lies below near.
+ * Returns PROBE_HIT or PROBE_NONE, or refuses with 1, 2, 3, 5, 6 or 8. The normal is the direction of the gradient: it
+ * points to where the values grow, and is not turned towards the ray. The steps of the traversal are rounded, so a hit
+ * may lie one float past the maximum. No hit lies below near.
  */
 uint32_t probe_ray_level_set(
     double origin_x,
@@ -305,14 +318,16 @@ uint32_t probe_ray_level_set(
     size_t hit_length
 );
 
-/* Casts a ray at a mesh through its tree. `vertices` and `triangles` are the mesh; `pose` holds the vertices to cast
- * at: pass `vertices` again, or as many moved ones. The tree's boxes are those of the mesh's own vertices, and only
- * triangles whose box there touches the box of the ray's segment are cast at. `nodes` is the tree's node count.
+/* Casts a ray at a mesh through its tree. `vertices` and `triangles` are the mesh. `pose` holds the vertices to cast at:
+ * pass `vertices` again, or the same number of moved vertices. The tree's boxes are those of the mesh's own vertices, and
+ * only triangles whose box there touches the box of the ray's segment are tested. `nodes` is the tree's node count.
  *
- * Answers PROBE_HIT, PROBE_NONE, or refuses with 1 to 7. A hit is the nearest; of equally near ones, that of the
- * lowest index. At the mesh's own vertices, through a tree for which probe_tree_check says PROBE_YES, no triangle
- * whose box touches is missed. Any other tree may be passed too: the call ends, and touches nothing past an area's
- * end, but a surface that such a tree does not enclose may be missed, and nothing tells that none from a right one.
+ * Returns PROBE_HIT or PROBE_NONE, or refuses with 1 to 7. The hit is the nearest; of equally near hits, the one with the
+ * lowest triangle index.
+ *
+ * At the mesh's own vertices, through a tree for which probe_tree_check returns PROBE_YES, no triangle whose box touches
+ * is missed. Any other tree may be passed too: the call terminates and stays within the buffers that it is given. But it
+ * may miss a surface that such a tree does not enclose, and nothing distinguishes this miss from a correct one.
  */
 uint32_t probe_ray_mesh(
     double origin_x,
@@ -347,11 +362,13 @@ uint32_t probe_ray_mesh(
     size_t index_length
 );
 
-/* The casts of a ray with a near distance, after the maximum: finite, from 0 to the maximum, else 1. A surface nearer
- * than that is as one behind the origin: not hit, and a triangle's normal is not asked. One at just this distance is
- * hit. Distances count from the origin all the same, and a mesh's candidates are those of the whole segment, from the
- * origin on. The hit in a distance grid is the first past the near distance. The calls without `_near` are these with
- * a near distance of 0.
+/* The casts above for a ray with a near distance. near_distance follows the maximum. It must be finite and from 0 to the
+ * maximum; otherwise the call refuses with 1.
+ *
+ * A surface nearer than near_distance is treated like one behind the origin: it is not hit, and a triangle there needs no
+ * normal. A surface at exactly this distance is hit. Distances are still measured from the origin, and a mesh's
+ * candidates are those of the whole segment, from the origin on. The hit in a distance grid is the first past the near
+ * distance. The calls without `_near` are these with a near distance of 0.
  */
 uint32_t probe_ray_plane_near(
     double origin_x,
@@ -469,14 +486,14 @@ uint32_t probe_ray_mesh_near(
     size_t index_length
 );
 
-/* The casts at a plane and at a triangle of a ray with a near distance, the numbers of both as slices: a ray's eight in
- * the order of the calls above (origin, direction, maximum, near), a plane's four (normal, distance), a triangle's nine
- * (corners a, b and c). For numbers that stand in memory, as in an array of rays: the call is handed addresses. Numbers
- * that were computed just before are handed over faster one by one.
+/* The casts at a plane and at a triangle of a ray with a near distance, with the numbers in slices. A ray has eight, in
+ * the order of the calls above (origin, direction, maximum, near); a plane has four (normal, distance); a triangle has
+ * nine (corners a, b and c). Use these calls for numbers that are in memory, such as an array of rays: only addresses
+ * are passed. Numbers that were computed just before are passed faster one by one.
  *
- * A ray of another length than 8 is 1, and so is one that is not admitted; then a plane of another length than 4, or a
- * triangle of another than 9, is 2. Else the answer, the refusals and what is written are those of probe_ray_plane_near
- * and probe_ray_triangle_near, for the same numbers.
+ * A ray of another length than 8, or one that is not admitted, is refused with 1. Then a plane of another length than 4,
+ * or a triangle of another length than 9, is refused with 2. Otherwise the return value, the refusals and what is
+ * written are those of probe_ray_plane_near and probe_ray_triangle_near for the same numbers.
  */
 uint32_t probe_ray_plane_slices(
     const double *ray,
@@ -496,15 +513,18 @@ uint32_t probe_ray_triangle_slices(
     size_t hit_length
 );
 
-/* Casts a ray at a mesh without a tree: for parts of few triangles, such as a drawer front of a dozen. Nothing is lent
- * but the mesh and the result slices. Every triangle is looked at by its index, and those whose box does not touch the
- * box of the ray's segment are skipped. Surfaces nearer than near_distance are passed over; it is finite, from 0 to
- * max_distance, else 1.
+/* Casts a ray at a mesh without a tree: for parts of few triangles, such as a drawer front of a dozen. It takes no
+ * buffers but the mesh and the result slices. It visits every triangle by its index, and skips those whose box does not
+ * touch the box of the ray's segment. Surfaces nearer than near_distance are passed over. near_distance must be finite
+ * and from 0 to max_distance; otherwise the call refuses with 1.
  *
- * Answers PROBE_HIT, PROBE_NONE, or refuses with 1, 2, 3, 5, 6 or 7, as probe_ray_mesh does at the mesh's own vertices
- * through any tree for which probe_tree_check says PROBE_YES: that the two agree is proved. No triangles is none.
- * Tested are 1, then 2, then 3 (hit, index), then that the segment's end is finite (6), and then, before any triangle
- * is cast at, that every triangle of the mesh has a valid box (5): one whose index is past the vertices has none.
+ * Returns PROBE_HIT or PROBE_NONE, or refuses with 1, 2, 3, 5, 6 or 7, as probe_ray_mesh does at the mesh's own vertices
+ * through any tree for which probe_tree_check returns PROBE_YES: the two are proved to agree. A mesh without triangles is
+ * a miss.
+ *
+ * The call tests 1, then 2, then 3 (hit, index), then whether the segment's end is finite (6). Then, before any triangle
+ * is cast at, it tests whether every triangle of the mesh has a valid box (5); a triangle with an index past the vertices
+ * has none.
  */
 uint32_t probe_ray_mesh_plain(
     double origin_x,
@@ -525,19 +545,21 @@ uint32_t probe_ray_mesh_plain(
     size_t index_length
 );
 
-/* The exact cast at a mesh, without a tree: decided in whole numbers, so that a none is certain, for any mesh within 8,192 mm
- * and any direction. A millimetre is the unit here: coordinates are read on a grid of 2^-15 mm (the nearest whole number of
- * units, ties to even), a direction's component as the nearest multiple of 2^-30. The segment is origin + s direction / 2^30
- * for s from near_distance to max_distance, both included. A triangle is the closed hull of its three grid corners, and counts
- * if these do not lie on one line.
+/* The exact cast at a mesh, without a tree. It decides in integers, so a miss is certain, for any mesh within 8,192 mm
+ * and any direction. The unit here is the millimetre. Coordinates are rounded to a grid of 2^-15 mm (to the nearest whole
+ * number of units, ties to even), and each component of the direction to the nearest multiple of 2^-30. The segment is
+ * origin + s direction / 2^30 for s from near_distance to max_distance, both included. A triangle is the closed convex
+ * hull of its three grid corners; it counts if these are not collinear.
  *
- * None exactly where no point of the segment lies in such a triangle of the mesh; else a hit at the least depth over all
- * triangles: its distance is the double nearest to it, its index the lowest where several round to it, its normal the cross
- * of the grid edges, normalised, facing the ray. A side, a corner and a triangle along the ray are hit.
+ * The call returns PROBE_NONE exactly if no point of the segment lies in such a triangle of the mesh. Otherwise it returns
+ * the hit at the least depth over all triangles. The distance is the double nearest to this depth. The index is the
+ * lowest of the triangles whose depths round to this distance. The normal is the cross product of the grid edges,
+ * normalised, and faces the ray. Edges and corners of a triangle are hit, and triangles coplanar with the ray count.
  *
- * Answers PROBE_HIT, PROBE_NONE, or refuses with 1, 12, 2, 3 (hit, index), 5 or 12, tested in this order: 12 for the ray where
- * its origin is not within 8,192, or near or the maximum is above 32,768; 5 as probe_ray_mesh_plain has it; and 12 where a
- * corner of any triangle of the mesh is not a number from -8,192 to 8,192. There is no 6 and no 7.
+ * Returns PROBE_HIT or PROBE_NONE, or refuses with 1, 12, 2, 3 (hit, index), 5 or 12, tested in this order. The first 12
+ * is for the ray: its origin is not within 8,192, or near or the maximum is above 32,768. 5 is as in probe_ray_mesh_plain.
+ * The second 12 is for the mesh: a corner of any of its triangles is not a number from -8,192 to 8,192. There is no 6
+ * and no 7.
  */
 uint32_t probe_ray_mesh_exact_plain(
     double origin_x,
@@ -558,15 +580,18 @@ uint32_t probe_ray_mesh_exact_plain(
     size_t index_length
 );
 
-/* The exact cast through a tree: the arguments are probe_ray_mesh_near's without the list. The walk looks into a node only
- * where the line can meet its box before the nearest hit so far. At the mesh's own vertices, through a tree for which
- * probe_tree_check says PROBE_YES and for a mesh for which probe_mesh_has_numbers does, it answers what
- * probe_ray_mesh_exact_plain answers: that the two agree is proved, and a none is certain there. At other vertices, or through
- * any other tree, the call ends too, and a hit is one of its triangle at `pose`, but a surface may be missed.
+/* The exact cast through a tree. The arguments are those of probe_ray_mesh_near without the list. The traversal enters a
+ * node only where the line can meet its box before the nearest hit so far.
  *
- * Answers PROBE_HIT, PROBE_NONE, or refuses with 1, 12 (the ray), 2, 3 or 4, tested in this order, and then with 5 (the tree
- * is broken where the walk meets it, or an index is past the vertices) or 12 (a corner is not a number from -8,192 to 8,192).
- * The stack is unchanged after 1, 12 for the ray, 2, 3 and 4, and holds anything after any other answer.
+ * At the mesh's own vertices, through a tree for which probe_tree_check returns PROBE_YES, and for a mesh for which
+ * probe_mesh_has_numbers returns PROBE_YES, the call returns what probe_ray_mesh_exact_plain returns: the two are proved
+ * to agree, and a miss is certain there. At other vertices, or through any other tree, the call terminates too, and a hit
+ * is a true hit of its triangle at `pose`, but a surface may be missed.
+ *
+ * Returns PROBE_HIT or PROBE_NONE, or refuses with 1, 12 (for the ray), 2, 3 or 4, tested in this order, and then with 5
+ * (the tree is broken where the traversal meets it, or an index is past the vertices) or 12 (a corner is not a number from
+ * -8,192 to 8,192). The stack is unchanged after 1, 12 for the ray, 2, 3 and 4; its contents are unspecified after any
+ * other return value.
  */
 uint32_t probe_ray_mesh_exact(
     double origin_x,
@@ -600,17 +625,20 @@ uint32_t probe_ray_mesh_exact(
     size_t index_length
 );
 
-/* Casts many rays at a mesh through its tree: the answer of each is probe_ray_mesh_near's, at the ray's own places of the
- * result slices. `rays` has eight numbers a ray: origin x, y, z, direction x, y, z, the maximum and the near distance. `codes`
- * has a place a ray, `hits` four and `indices` one; longer ones are admitted. The other arguments are probe_ray_mesh_near's.
+/* Casts many rays at a mesh through its tree. Each ray is answered as by probe_ray_mesh_near, at its own places of the
+ * result slices. `rays` has eight numbers a ray: origin x, y, z, direction x, y, z, the maximum and the near distance.
+ * `codes` has one place a ray, `hits` four and `indices` one; longer buffers are admitted. The other arguments are those
+ * of probe_ray_mesh_near.
  *
- * Answers PROBE_DONE, or refuses the call with 2 (a limit of the mesh, or a length of `rays` that eight does not divide), then
- * 3, then 4; these are tested once, before the first ray, and nothing is written then. No ray at all is PROBE_DONE.
+ * Returns PROBE_DONE, or refuses the whole call with 2 (a limit of the mesh, or a length of `rays` that is no multiple of
+ * eight), then 3, then 4. These are tested once, before the first ray, and nothing is written then. With no rays the call
+ * returns PROBE_DONE.
  *
- * With PROBE_DONE codes[i] is what the single call answers for ray i: PROBE_HIT, PROBE_NONE or the ray's own refusal, 1, 5, 6 or
- * 7, after which the other rays are cast all the same. Where it is PROBE_HIT, hits[4 * i] to hits[4 * i + 3] have the normal and
- * the distance, and indices[i] the triangle; else these places are unchanged. So are all places past the last ray's. That each
- * ray's places hold what the single call leaves there is proved, and with it all that is said of probe_ray_mesh.
+ * With PROBE_DONE, codes[i] is what the single call returns for ray i: PROBE_HIT, PROBE_NONE, or the ray's own refusal,
+ * 1, 5, 6 or 7. A refused ray does not stop the others. If codes[i] is PROBE_HIT, hits[4 * i] to hits[4 * i + 3] are the
+ * normal and the distance, and indices[i] is the triangle. Otherwise these places are unchanged, and so are all places
+ * past the last ray's. Each ray's places are proved to hold what the single call leaves there, so all that is said of
+ * probe_ray_mesh holds here too.
  */
 uint32_t probe_ray_mesh_many(
     const double *rays,
@@ -642,9 +670,9 @@ uint32_t probe_ray_mesh_many(
     size_t indices_length
 );
 
-/* The exact cast of many rays through a tree, in the same way: the answer of each is probe_ray_mesh_exact's. There is no list. A
- * ray's own refusals are 1, 12 and 5. At the mesh's own vertices, through a tree for which probe_tree_check says PROBE_YES and for
- * a mesh for which probe_mesh_has_numbers does, a none in codes is certain.
+/* The exact cast of many rays through a tree, in the same way: each ray is answered as by probe_ray_mesh_exact. There is
+ * no list. A ray's own refusals are 1, 12 and 5. At the mesh's own vertices, through a tree for which probe_tree_check
+ * returns PROBE_YES, and for a mesh for which probe_mesh_has_numbers returns PROBE_YES, a PROBE_NONE in codes is certain.
  */
 uint32_t probe_ray_mesh_exact_many(
     const double *rays,
@@ -675,23 +703,23 @@ uint32_t probe_ray_mesh_exact_many(
 );
 
 /* Lists every triangle of a mesh that a ray hits, of those that the tree lists for the box of the ray's segment, and
- * writes how many to found[0]. The arguments are the mesh cast's, with a near distance after the maximum: a hit nearer
- * than that is no hit. It is finite, from 0 to the maximum, else 1.
+ * writes their number to found[0]. The arguments are those of the mesh cast, with a near distance after the maximum: a
+ * hit nearer than that does not count. It must be finite and from 0 to the maximum; otherwise the call refuses with 1.
  *
- * The hit area is `indices`, one a place, and `numbers`, four a place: distance, normal x, y, z. It has as many places
- * as both hold: the lesser of indices_length and numbers_length / 4, rounded down. The hits stand in its first places in
- * order of depth: ascending distance, then ascending index; 0 and -0 are equal depths. The places past them are
+ * The hits are written to the first places of `indices`, one each, and of `numbers`, four each: distance, normal x, y, z.
+ * There are places for as many hits as the lesser of indices_length and numbers_length / 4, rounded down. The hits are
+ * sorted by depth: ascending distance, then ascending index, with 0 and -0 as equal depths. The places past them are
  * unchanged.
  *
- * Answers PROBE_DONE, or refuses with 1 to 7. After 1, 2, 4, and after 3 for found, an area of the tree, the list or
- * the stack, the hit area is unchanged. Then come 6 (the segment's end), 5 (the tree), the triangles' refusals, that of
- * the lowest index first, and last 3 exactly where there are more hits than places: after these every place of
- * `indices` and `numbers` is zero, those past the last whole place too.
+ * Returns PROBE_DONE, or refuses with 1 to 7. After 1, 2, 4, and after 3 for found, a buffer of the tree, the list or the
+ * stack, `indices` and `numbers` are unchanged. Then come 6 (the segment's end), 5 (the tree), the triangles' refusals,
+ * that of the lowest index first, and last 3, exactly if there are more hits than places. After these every place of
+ * `indices` and `numbers` is zero, also those past the last whole place.
  *
- * Where probe_ray_mesh refuses past 4, so does this call, with its number. Else probe_ray_mesh's hit is the first of
- * those listed, and there are none exactly where it answers PROBE_NONE. At the mesh's own vertices, through a tree for which
- * probe_tree_check says PROBE_YES, each triangle that is hit and whose box touches is listed once, and no other is. A
- * tree that does not pass may name a triangle more than once: it is then listed as often.
+ * Where probe_ray_mesh refuses past 4, this call refuses with the same number. Otherwise the hit of probe_ray_mesh is the
+ * first in the list, and the list is empty exactly if probe_ray_mesh returns PROBE_NONE. At the mesh's own vertices,
+ * through a tree for which probe_tree_check returns PROBE_YES, each triangle that is hit and whose box touches is listed
+ * once, and no other is. A tree that does not pass may name a triangle more than once: it is then listed as often.
  */
 uint32_t probe_ray_mesh_all(
     double origin_x,
@@ -732,8 +760,8 @@ uint32_t probe_ray_mesh_all(
 /* Builds the tree of a mesh into node_boxes, triangle_boxes, node_words and order, and writes its node count to
  * nodes[0]. Places past the tree are unchanged. Every tree that is written passes probe_tree_check.
  *
- * Answers PROBE_DONE, or refuses with 2, 3, 5 (no triangle, an index past the vertices, a triangle whose box is not
- * finite) or 6. After 5 and 6 the four areas are zeros.
+ * Returns PROBE_DONE, or refuses with 2, 3, 5 (no triangle, an index past the vertices, or a triangle whose box is not
+ * finite) or 6. After 5 and 6 the four buffers are zeros.
  */
 uint32_t probe_build(
     const double *vertices,
@@ -754,10 +782,10 @@ uint32_t probe_build(
     size_t nodes_length
 );
 
-/* Lists the triangles whose boxes touch a box, ascending, and writes how many to found[0]; places of list past them
- * are unchanged. `triangles` is the number n of triangles, `nodes` the tree's node count.
+/* Lists the triangles whose boxes touch a given box, in ascending order, and writes their number to found[0]. Places of
+ * list past them are unchanged. `triangles` is the number n of triangles, `nodes` the tree's node count.
  *
- * Answers PROBE_DONE, or refuses with 1, 2, 3 or 5 (the tree is broken where the walk meets it). After 5 the list is
+ * Returns PROBE_DONE, or refuses with 1, 2, 3 or 5 (the tree is broken where the traversal meets it). After 5 the list is
  * zeros.
  */
 uint32_t probe_query(
@@ -785,19 +813,21 @@ uint32_t probe_query(
     size_t found_length
 );
 
-/* Glues two boards, each a mesh with its tree, into one: the vertices of the first, then the second's; the triangles
- * likewise, the second's vertex indices moved up; a new root over both trees, then the first's nodes and the second's,
- * triangle boxes and order likewise. Where one board has no triangles there is no new root, and the other's tree is the
- * result. Writes its node count to nodes[0]; places past the result never change. Both boards may be the same slices.
+/* Merges two boards, each a mesh with its tree, into one. The vertices are the first board's, then the second's. So are
+ * the triangles, with the second's vertex indices moved up. The tree has a new root over both trees, then the first's
+ * nodes and the second's; triangle boxes and order likewise. If one board has no triangles there is no new root, and the
+ * other's tree is the result. The node count is written to nodes[0]. Places past the result never change. Both boards
+ * may be the same slices.
  *
- * For n triangles in both together the result areas are as long as for a mesh of n triangles and as many vertices as
- * both have; marks has 3n places, and is a work area.
+ * For n triangles in both boards together, the result buffers are as long as for a mesh of n triangles and as many
+ * vertices as both have. marks has 3n places and is a work buffer.
  *
- * Answers PROBE_DONE, or refuses with 2 (a length that three does not divide, more than 65,536 vertices or triangles in
- * both together), 3, or 5 (a tree that does not pass probe_tree_check, by its node count too), in this order; nothing
- * but marks is written then, and that only with 5. The result passes probe_tree_check, and a cast on it answers the
- * nearer of the two boards' hits, the first board's where they are as near, and the first board's refusal, else the
- * second's, where one refuses: both are proved.
+ * Returns PROBE_DONE, or refuses with 2 (a length that is no multiple of three, or more than 65,536 vertices or triangles
+ * in both together), 3, or 5 (a tree that does not pass probe_tree_check, its node count included), in this order.
+ * Nothing but marks is written then, and marks only with 5.
+ *
+ * Two things are proved. The result passes probe_tree_check. A cast at the result returns the nearer of the two boards'
+ * hits, the first board's if they are equally near; and if one refuses, the first board's refusal, else the second's.
  */
 uint32_t probe_merge(
     const double *first_vertices,
@@ -844,11 +874,11 @@ uint32_t probe_merge(
     size_t nodes_length
 );
 
-/* Whether a tree, from whatever builder, fits a mesh: every node and triangle stands in it once, and every box
+/* Tests whether a tree, from whatever builder, fits a mesh: every node and every triangle occurs in it once, and every box
  * encloses what is below it. Check a tree that somebody else built once; then cast through it as often as you like.
  *
- * Answers PROBE_YES or PROBE_NO, or refuses with 2 or 3. A triangle index past the vertices, or a node count above
- * 2n, is a no.
+ * Returns PROBE_YES or PROBE_NO, or refuses with 2 or 3. A triangle index past the vertices, or a node count above 2n,
+ * gives PROBE_NO.
  */
 uint32_t probe_tree_check(
     const double *vertices,
@@ -868,9 +898,10 @@ uint32_t probe_tree_check(
     size_t marks_length
 );
 
-/* Whether every corner of every triangle of a mesh is three numbers: PROBE_YES, or PROBE_NO where one is NaN or an index is past
- * the vertices. A NaN can hide in a valid box, so that a walk does not meet it. Asked once for a mesh, as the tree check is:
- * where it is so, probe_ray_mesh_exact answers what probe_ray_mesh_exact_plain answers.
+/* Tests whether every corner of every triangle of a mesh is three numbers. Returns PROBE_YES, or PROBE_NO if one is NaN or
+ * an index is past the vertices. A NaN can hide in a valid box, where a traversal does not meet it. Ask once for a mesh,
+ * like the tree check. With PROBE_YES, and a tree that passes the check, probe_ray_mesh_exact returns at the mesh's own
+ * vertices what probe_ray_mesh_exact_plain returns.
  */
 uint32_t probe_mesh_has_numbers(
     const double *vertices,
@@ -879,7 +910,7 @@ uint32_t probe_mesh_has_numbers(
     size_t triangles_length
 );
 
-/* A range of an area: its first element and how many. */
+/* A range of a buffer: its first element and its length. */
 typedef struct probe_span {
     size_t start;
     size_t length;
@@ -891,8 +922,8 @@ typedef struct probe_vec3 {
     double z;
 } probe_vec3;
 
-/* A part of a cabinet, 128 bytes: where it stands, its tree's node count, and the ranges of its mesh and its tree in
- * the six areas that all parts share. Parts may share ranges. */
+/* A part of a cabinet, 128 bytes: its origin, its tree's node count, and the ranges of its mesh and its tree in the six
+ * buffers that all parts share. Parts may share ranges. */
 typedef struct probe_part {
     probe_vec3 origin;
     size_t nodes;
@@ -904,22 +935,26 @@ typedef struct probe_part {
     probe_span order;
 } probe_part;
 
-/* Casts a ray at a cabinet: at each part in list order, through its tree, the ray moved by the part's origin (the
- * difference is rounded once a component). Every node that is taken from a stack costs one of the limit, which all
- * parts share; a node whose box does not touch costs one too. A surface nearer than near_distance is passed.
+/* Casts a ray at a cabinet: at each part in list order, through its tree, with the ray moved by the part's origin (the
+ * difference is rounded once a component). Every node that is taken from a stack costs one of the limit, which all parts
+ * share; a node whose box does not touch costs one too. Surfaces nearer than near_distance are passed over.
  *
- * Answers PROBE_HIT, PROBE_NONE, or refuses with 1, 2 (a range leaves its area, or the mesh cast would refuse the
- * part's mesh with 2), 3 (a range shorter than the table above says for its mesh; list and stack are as long as the
- * largest part asks; a result slice), 5, 6 (the moved origin is not finite, or as the mesh cast), 7, or 10: the limit
- * is used up and a node is left to take. 1 goes before 2 of any part, 2 before 3 of any part, and then the parts'
- * refusals and 10 as they are met. A hit is the nearest of all parts; of equally near ones, that of the lowest part,
- * and of its lowest triangle. It does not stand against a later part's refusal or 10.
+ * Returns PROBE_HIT or PROBE_NONE, or refuses with 1, 2, 3, 5, 6, 7 or 10:
+ *   2   a range leaves its buffer, or the mesh cast would refuse the part's mesh with 2
+ *   3   a range is shorter than the table above says for its mesh; the list or the stack is shorter than the largest part
+ *       needs; a result slice is too short
+ *   6   the moved origin is not finite, or the mesh cast refuses with 6
+ *   10  the limit is used up and a node is left to take
+ * 1 comes before 2 of any part, 2 before 3 of any part, and then the parts' refusals and 10 as they are met.
  *
- * With PROBE_HIT hit, index and part[0] are written; spent[0], the nodes spent, with PROBE_HIT, PROBE_NONE and the
- * refusals met from the first part on, 5, 6, 7 and 10. It is never above the limit, and equals it with 10. An empty
- * list is PROBE_NONE with 0 spent. A larger limit never changes a hit or a none. Through trees for which
- * probe_tree_check says PROBE_YES the sum of the node counts suffices, and the answer is then that of casting at each
- * part alone; SIZE_MAX is no limit. */
+ * The hit is the nearest of all parts; of equally near hits, the one of the lowest part, and of its lowest triangle. A
+ * refusal of a later part, or 10, takes precedence over a hit.
+ *
+ * hit, index and part[0] are written with PROBE_HIT. spent[0], the number of nodes spent, is written with PROBE_HIT,
+ * PROBE_NONE and the refusals met from the first part on: 5, 6, 7 and 10. It is never above the limit, and equals it with
+ * 10. An empty list is a miss with 0 spent. A larger limit never changes a hit or a miss. Through trees for which
+ * probe_tree_check returns PROBE_YES the sum of the node counts suffices as a limit, and the answer is then that of
+ * casting at each part alone. SIZE_MAX is no limit. */
 uint32_t probe_ray_cabinet(
     double origin_x,
     double origin_y,
@@ -958,21 +993,23 @@ uint32_t probe_ray_cabinet(
     size_t spent_length
 );
 
-/* Writes a record of version 2, with floats of eight bytes, as one of version 3, with floats of four, and back.
+/* Converts a record of version 2, with floats of eight bytes, to version 3, with floats of four, and back.
  *
- * The bytes are exactly one record as the program `probe` reads it, its four length bytes included. The whole record
- * is written at the front of out, and how many bytes it has at the front of written; the places past them are unchanged.
- * An out of PROBE_MAX_RECORD bytes is long enough for every record. The calls do not ask whether `probe` would answer the
- * record: numbers may be any, and the u32 are copied.
+ * The bytes are exactly one record as the program `probe` reads it, its four length bytes included. The whole record is
+ * written to the start of out, and its number of bytes to the start of written. The places past them are unchanged. An
+ * out of PROBE_MAX_RECORD bytes is long enough for every record. The calls do not test whether `probe` would answer the
+ * record: its numbers may be any, and the u32 are copied.
  *
- * Answers PROBE_DONE, or refuses with 2 (not one record of the version, well formed; one of version 3 whose version 2
- * would be longer than PROBE_MAX_RECORD), then 3 (out is shorter than the record to be written, or written has no place),
- * then 11: a float is NaN, or (to version 3) no f32 is exactly that number. Infinities, both zeros and subnormal numbers
- * are held. Nothing is written then.
+ * Returns PROBE_DONE, or refuses with 2 (not one well-formed record of the version, or a record of version 3 whose version
+ * 2 would be longer than PROBE_MAX_RECORD), then 3 (out is shorter than the record to be written, or written has no
+ * place), then 11 (a float is NaN, or, to version 3, no f32 is exactly that number). Infinities, both zeros and subnormal
+ * numbers are representable. Nothing is written after a refusal.
  *
  * A direction must have a length within 1e-12 of 1, which three f32 seldom have: version 3 is for directions along an
- * axis, and 11 says so early. It is proved that coming back gives the same bytes, that to version 2 succeeds for every
- * well-formed record without NaN, and that `probe` prints the same line for both records.
+ * axis, and 11 says so early.
+ *
+ * Three things are proved. Converting back gives the same bytes. Converting to version 2 succeeds for every well-formed
+ * record without NaN. `probe` prints the same line for both records.
  */
 uint32_t probe_record_to_short(
     const uint8_t *bytes,

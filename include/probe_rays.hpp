@@ -1,23 +1,23 @@
-/* Ray casts for C++17, over the calls of probe_rays.h: header only.
+/* Ray casts for C++17, over the calls of probe_rays.h. Header only.
  *
- * The calls are proved; what stands here around them is not: areas that are owned, lengths that fit, and answers as types.
- * It is tested (tests/install.sh). probe_rays.h says of each call what it asks and answers, and which refusal has which number.
+ * The calls are proved. The code here is not proved: it owns the buffers, gives them their lengths, and turns return values into
+ * types. It is tested (tests/install.sh). probe_rays.h says what each call requires and returns, and numbers the refusals.
  *
- * A CAST ANSWERS A HIT, NONE OR A REFUSAL, and a refusal is not a none: nothing is known of the surface then. So a Cast has
- * no conversion to bool and nothing that tells 'a hit' from 'anything else'. Either all three cases are named:
+ * A CAST RETURNS A HIT, A MISS ('NONE') OR A REFUSAL. A refusal is not a miss: nothing is known of the surface then. So a Cast has
+ * no conversion to bool, and nothing that merely separates 'a hit' from 'anything else'. Either name all three cases:
  *
  *   mesh.cast(ray).match(
  *       [](const probe_rays::MeshHit &hit) { ... },
  *       []() { ... },                                       // none
  *       [](probe_rays::Refusal refusal) { ... });
  *
- * or a refusal is thrown as probe_rays::Refused:
+ * or let a refusal be thrown as probe_rays::Refused:
  *
  *   if (std::optional<probe_rays::MeshHit> hit = mesh.cast(ray).hit_or_none()) ...
  *
- * Without exceptions (-fno-exceptions) what would be thrown ends the program by std::abort.
+ * Without exceptions (-fno-exceptions) the program calls std::abort where an exception would be thrown.
  *
- * A const member function keeps nothing between calls: threads may share the object, each with a Scratch of its own.
+ * A const member function keeps nothing between calls: threads may share the object if each has its own Scratch.
  */
 #ifndef PROBE_RAYS_HPP
 #define PROBE_RAYS_HPP
@@ -53,15 +53,15 @@
 
 namespace probe_rays {
 
-/* The version of the library that is linked: PROBE_VERSION, if this header is its own. */
+/* The version of the linked library. It is PROBE_VERSION if this header belongs to that library. */
 inline std::uint32_t version() noexcept { return probe_version(); }
 
-/* No limit of nodes for a cabinet. */
+/* No limit on a cabinet's nodes. */
 inline constexpr std::size_t no_limit = SIZE_MAX;
 
 /* ---- refusals ---- */
 
-/* Why a call refused. A later library may have numbers that have no name here. */
+/* Why a call refused. A newer library may return numbers that have no name here. */
 enum class Refusal : std::uint32_t {
     invalid_input = PROBE_REFUSED_INVALID_INPUT,
     bad_shape = PROBE_REFUSED_BAD_SHAPE,
@@ -73,9 +73,9 @@ enum class Refusal : std::uint32_t {
     not_convergent = PROBE_REFUSED_NOT_CONVERGENT,
     bad_range = PROBE_REFUSED_BAD_RANGE,
     limit_reached = PROBE_REFUSED_LIMIT_REACHED,
-/* of calls that not every release has */
-#ifdef PROBE_REFUSED_NOT_HELD
-    not_held = PROBE_REFUSED_NOT_HELD,
+/* for calls that not every release has */
+#ifdef PROBE_REFUSED_NOT_REPRESENTABLE
+    not_representable = PROBE_REFUSED_NOT_REPRESENTABLE,
 #endif
 #ifdef PROBE_REFUSED_OUT_OF_RANGE
     out_of_range = PROBE_REFUSED_OUT_OF_RANGE,
@@ -89,27 +89,28 @@ inline std::string told(Refusal refusal)
 {
     const char *words = "a refusal that this header does not know";
     switch (refusal) {
-    case Refusal::invalid_input: words = "invalid input: a ray or a query's box that is not admitted"; break;
-    case Refusal::bad_shape: words = "bad shape: a count, length or parameter outside the limits"; break;
-    case Refusal::no_room: words = "no room: a lent slice is too short"; break;
-    case Refusal::wrong_pose: words = "wrong pose: not as many vertices as the mesh has"; break;
-    case Refusal::out_of_bounds: words = "out of bounds: an index or a box that does not fit"; break;
-    case Refusal::overflow: words = "overflow: a number on the way is not finite"; break;
-    case Refusal::no_normal: words = "no normal: the surface hit has no unit normal"; break;
-    case Refusal::not_convergent: words = "not convergent: the walk through the grid has no answer"; break;
+    case Refusal::invalid_input: words = "invalid input: the ray or the query box is not valid"; break;
+    case Refusal::bad_shape: words = "bad shape: a count, a length or a parameter is outside the limits, or a record is malformed"; break;
+    case Refusal::no_room: words = "no room: a buffer is too short"; break;
+    case Refusal::wrong_pose: words = "wrong pose: the pose does not have as many vertices as the mesh"; break;
+    case Refusal::out_of_bounds: words = "out of bounds: an index, a box or a tree does not fit"; break;
+    case Refusal::overflow: words = "overflow: a computed number is not finite"; break;
+    case Refusal::no_normal: words = "no normal: the surface that is hit has no unit normal"; break;
+    case Refusal::not_convergent: words = "not convergent: the traversal of the distance grid has no answer"; break;
     case Refusal::bad_range: words = "bad range: a range of heights is out of order or not finite"; break;
-    case Refusal::limit_reached: words = "limit reached: the cast would look at more nodes than admitted"; break;
-#ifdef PROBE_REFUSED_NOT_HELD
-    case Refusal::not_held: words = "not held: a record's float is NaN, or is no f32 exactly"; break;
+    case Refusal::limit_reached: words = "limit reached: the cast would visit more nodes than the limit allows"; break;
+#ifdef PROBE_REFUSED_NOT_REPRESENTABLE
+    case Refusal::not_representable: words = "not representable: a float of the record is NaN, or no f32 is exactly that number"; break;
 #endif
 #ifdef PROBE_REFUSED_OUT_OF_RANGE
-    case Refusal::out_of_range: words = "out of range: the origin or a corner is not within 8,192, near or the maximum above 32,768"; break;
+    case Refusal::out_of_range: words = "out of range: the origin or a corner is not within 8,192, or near or the maximum is above 32,768";
+        break;
 #endif
     }
     return "refused " + std::to_string(number(refusal)) + ", " + words;
 }
 
-/* The same with the test of refusal 1 that a ray fails (Ray::fault), where one is named. */
+/* The same, and for refusal 1 the test that the ray fails (Ray::fault), if one is given. */
 inline std::string told(Refusal refusal, const char *fault)
 {
     if (refusal != Refusal::invalid_input || fault == nullptr)
@@ -117,7 +118,7 @@ inline std::string told(Refusal refusal, const char *fault)
     return "refused " + std::to_string(number(refusal)) + ", invalid input: " + fault;
 }
 
-/* Thrown where an answer is asked for that a call refused. */
+/* Thrown when the value of a refused call is read. */
 class Refused : public std::runtime_error {
 public:
     explicit Refused(Refusal refusal, const char *fault = nullptr)
@@ -130,24 +131,24 @@ private:
     Refusal refusal_;
 };
 
-/* Why Mesh::with_tree did not take a tree: the check refused, or, without a refusal, it says that the tree does not fit. */
+/* Why Mesh::with_tree did not accept a tree: the check refused, or (no refusal) the tree does not fit the mesh. */
 struct TreeFault {
     std::optional<Refusal> refusal;
 };
 
-/* Thrown where a tree does not pass the check. */
+/* Thrown when a tree does not pass the check. */
 class TreeDoesNotFit : public std::runtime_error {
 public:
     TreeDoesNotFit() : std::runtime_error("the tree does not fit the mesh") {}
 };
 
-/* Thrown where the mesh of a file is asked for that is no STL file. */
+/* Thrown when the mesh of a file is read that is not an STL file. */
 class StlError : public std::runtime_error {
 public:
     using std::runtime_error::runtime_error;
 };
 
-/* Thrown where a hit is asked for and there is none, or a refusal and there is none. */
+/* Thrown when a hit is read and there is none, or a refusal is read and there is none. */
 class NotThere : public std::logic_error {
 public:
     using std::logic_error::logic_error;
@@ -168,7 +169,7 @@ template <class Error>
 
 [[noreturn]] inline void fail(Refusal refusal) { raise(Refused(refusal)); }
 
-/* Why a cast refused, and the test of refusal 1 that its ray fails. */
+/* Why a cast refused, and for refusal 1 the test that its ray fails. */
 struct CastFault {
     Refusal refusal;
     const char *fault;
@@ -185,7 +186,7 @@ struct CastFault {
 
 [[noreturn]] inline void fail(const StlError &error) { raise(StlError(error)); }
 
-/* An area's pointer, which is not null for an empty one either: nothing is read or written through it then. */
+/* A vector's pointer. It is not null for an empty vector either; nothing is read or written through it then. */
 template <class T>
 const T *from(const std::vector<T> &area) noexcept
 {
@@ -207,14 +208,14 @@ void grow(std::vector<T> &area, std::size_t length)
         area.resize(length);
 }
 
-/* Of more triangles than admitted the library refuses whatever the areas, so none are made then. */
+/* The library refuses more triangles than the limit whatever the buffers are, so none are made then. */
 inline std::size_t room_for(std::size_t count) noexcept { return count > PROBE_MAX_TRIANGLES ? 0 : count; }
 
 } // namespace detail
 
 /* ---- answers ---- */
 
-/* A value, or why there is none. The value of a refusal is thrown as Refused. */
+/* A value, or the reason why there is none. value() throws Refused for a refusal. */
 template <class T, class Why = Refusal>
 class [[nodiscard]] Result {
 public:
@@ -238,7 +239,7 @@ public:
     Why refusal() const
     {
         if (!is_refused())
-            detail::raise(NotThere("a refusal is asked for, and the call did not refuse"));
+            detail::raise(NotThere("refusal() of a call that did not refuse"));
         return *std::get_if<1>(&held_);
     }
 
@@ -257,13 +258,13 @@ private:
     const char *fault_ = nullptr; /* the test of refusal 1 that a ray fails */
 };
 
-/* No hit from near to the maximum, by the cast's definition. */
+/* A miss: no hit from near to the maximum, by the cast's definition. */
 struct None {};
 
-/* What a switch tells apart. */
+/* The three cases of a Cast, for a switch. */
 enum class Kind { hit, none, refused };
 
-/* The answer of a cast. */
+/* The result of a cast. */
 template <class H>
 class [[nodiscard]] Cast {
 public:
@@ -289,7 +290,7 @@ public:
         return on_none();
     }
 
-    /* The hit, if any. A refusal is thrown. */
+    /* The hit, or nothing for a miss. Throws a refusal. */
     std::optional<H> hit_or_none() const
     {
         demand();
@@ -297,16 +298,16 @@ public:
         return hit ? std::optional<H>(*hit) : std::nullopt;
     }
 
-    /* The hit. A refusal is thrown, and a none as NotThere. */
+    /* The hit. Throws a refusal, and NotThere for a miss. */
     H hit() const
     {
         demand();
         if (is_none())
-            detail::raise(NotThere("a hit is asked for, and the cast met nothing"));
+            detail::raise(NotThere("hit() of a cast that is a miss"));
         return *std::get_if<H>(&held_);
     }
 
-    /* Whether nothing is there. A refusal is thrown: it tells neither. */
+    /* Whether the cast is a miss. Throws a refusal, which is neither a hit nor a miss. */
     bool is_none() const
     {
         demand();
@@ -318,7 +319,7 @@ public:
     Refusal refusal() const
     {
         if (!is_refused())
-            detail::raise(NotThere("a refusal is asked for, and the cast did not refuse"));
+            detail::raise(NotThere("refusal() of a cast that did not refuse"));
         return std::get_if<detail::CastFault>(&held_)->refusal;
     }
 
@@ -337,20 +338,20 @@ using Vec3 = probe_vec3;
 /* Three vertex indices, from 0. */
 using Triangle = std::array<std::uint32_t, 3>;
 
-/* What a ray met. A zero of the normal may be -0: a normal that is turned turns its zeros. */
+/* A hit. A zero of the normal may be -0: a normal that is negated negates its zeros too. */
 struct Hit {
     Vec3 normal;
     double distance;
 };
 
-/* What a ray met of a mesh: the triangle's index, from 0. */
+/* A hit on a mesh, with the triangle's index, from 0. */
 struct MeshHit {
     Vec3 normal;
     double distance;
     std::uint32_t triangle;
 };
 
-/* What a ray met of a cabinet: the part, from 0, and the triangle's index in its mesh. */
+/* A hit on a cabinet, with the part, from 0, and the triangle's index in its mesh. */
 struct PartHit {
     Vec3 normal;
     double distance;
@@ -374,7 +375,8 @@ struct Places {
 
 /* ---- a ray ---- */
 
-/* A ray: where it starts, its direction, of length 1 within 1e-12, how far it reaches, and from where on a surface is hit. */
+/* A ray: its origin, its direction (of length 1, within 1e-12), its maximum distance, and the near distance from which on
+ * surfaces are hit. */
 struct Ray {
     Vec3 origin;
     Vec3 direction;
@@ -387,11 +389,11 @@ struct Ray {
         return Ray{{numbers[0], numbers[1], numbers[2]}, {numbers[3], numbers[4], numbers[5]}, numbers[6], numbers[7]};
     }
 
-    /* A ray whose direction, of any length, is made one of length 1. One that has none (zero, or not finite) is left as it
-     * is, and a cast refuses it. */
+    /* A ray with the given direction, of any length, normalised. A direction that cannot be normalised (zero, or not finite) is
+     * left as it is, and a cast refuses it. */
     static Ray toward(Vec3 origin, Vec3 direction, double max_distance)
     {
-        /* by the largest component first, so that no square overflows or vanishes */
+        /* divided by the largest component first, so that no square overflows or vanishes */
         const double largest = std::fmax(std::fmax(std::fabs(direction.x), std::fabs(direction.y)), std::fabs(direction.z));
         const Vec3 scaled{direction.x / largest, direction.y / largest, direction.z / largest};
         const double length = std::sqrt(scaled.x * scaled.x + scaled.y * scaled.y + scaled.z * scaled.z);
@@ -400,7 +402,7 @@ struct Ray {
         return Ray{origin, whole ? unit : direction, max_distance};
     }
 
-    /* The same ray, with surfaces nearer than a distance passed over. Distances count from the origin all the same. */
+    /* The same ray, passing over surfaces nearer than a distance. Distances are still measured from the origin. */
     Ray with_near(double distance) const
     {
         Ray ray = *this;
@@ -408,7 +410,7 @@ struct Ray {
         return ray;
     }
 
-    /* Which test of refusal 1 the ray fails, in words; null where it is admitted. */
+    /* The test of refusal 1 that the ray fails, in words; null if it fails none. */
     const char *fault() const noexcept
     {
         const auto any = [](const Vec3 &v, auto test) { return test(v.x) || test(v.y) || test(v.z); };
@@ -444,12 +446,12 @@ struct Ray {
     }
 };
 
-/* The refusal of a cast of this ray in words: for refusal 1 with the test that the ray fails. */
+/* The refusal of a cast of this ray, in words; for refusal 1 with the test that the ray fails. */
 inline std::string explained(Refusal refusal, const Ray &ray) { return told(refusal, ray.fault()); }
 
 namespace detail {
 
-/* The answer of a call that may write a hit. What is neither of the two codes is a refusal, also a number that is new. */
+/* The result of a call that may write a hit. A number other than the two codes is a refusal, also one that is new. */
 template <class H>
 Cast<H> cast_of(std::uint32_t answer, const H &hit, const Ray &ray)
 {
@@ -464,13 +466,13 @@ Cast<H> cast_of(std::uint32_t answer, const H &hit, const Ray &ray)
 
 /* ---- plane, triangle, grids ---- */
 
-/* The plane of all points whose dot with the normal, of length 1, is the distance. */
+/* The plane of all points whose dot product with the normal, of length 1, is the distance. */
 struct Plane {
     Vec3 normal;
     double distance;
 };
 
-/* Heights over a grid: that of row r and column c stands over (c * spacing[0], r * spacing[1]), at place r * columns + c. */
+/* Heights over a grid: heights[r * columns + c] is the height of row r and column c, over (c * spacing[0], r * spacing[1]). */
 struct HeightField {
     std::size_t rows;
     std::size_t columns;
@@ -478,7 +480,7 @@ struct HeightField {
     std::vector<double> heights;
 };
 
-/* The same grid where only a low and a high are known for each height. */
+/* The same grid, with only a low and a high known for each height. */
 struct HeightRanges {
     std::size_t rows;
     std::size_t columns;
@@ -487,8 +489,8 @@ struct HeightRanges {
     std::vector<double> highs;
 };
 
-/* Distances from a surface over a grid: that of node (i, j, k) stands at origin + (i, j, k) * spacing, at place
- * (k * sides[1] + j) * sides[0] + i. */
+/* Distances from a surface over a grid: values[(k * sides[1] + j) * sides[0] + i] is the distance of node (i, j, k), at
+ * origin + (i, j, k) * spacing. */
 struct LevelSet {
     std::array<std::uint32_t, 3> sides;
     Vec3 origin;
@@ -515,8 +517,8 @@ inline Cast<Hit> ray_triangle(const Ray &ray, const Vec3 &a, const Vec3 &b, cons
     return detail::cast_of(answer, places.plain(), ray);
 }
 
-/* The same by numbers that stand in arrays: a ray's eight are its origin, direction, maximum and near distance, a plane's four
- * its normal and distance, a triangle's nine its corners. Faster, unless the numbers were written just before. */
+/* The same casts with the numbers in arrays. A ray has eight: origin, direction, maximum and near distance. A plane has four:
+ * normal and distance. A triangle has nine: its corners. Faster, unless the numbers were written just before. */
 inline Cast<Hit> ray_plane_slices(const std::array<double, 8> &ray, const std::array<double, 4> &plane)
 {
     detail::Places places;
@@ -555,7 +557,7 @@ inline Cast<Hit> ray_level_set(const Ray &ray, const LevelSet &grid)
     return detail::cast_of(answer, places.plain(), ray);
 }
 
-/* The first cell, row * (columns - 1) + column, in which a grid within the ranges may be met. */
+/* The first cell, row * (columns - 1) + column, in which the ray may meet a grid within the ranges. */
 struct Cell {
     std::uint32_t number;
 };
@@ -575,18 +577,18 @@ public:
     Refusal refusal() const
     {
         if (!is_refused())
-            detail::raise(NotThere("a refusal is asked for, and the cast did not refuse"));
+            detail::raise(NotThere("refusal() of a cast that did not refuse"));
         return static_cast<Refusal>(answer_);
     }
 
-    /* Whether the height cast is none on every grid within the ranges. A refusal is thrown. */
+    /* Whether the height cast is a miss on every grid within the ranges. Throws a refusal. */
     bool is_clear() const
     {
         demand();
         return answer_ == PROBE_CLEAR;
     }
 
-    /* The cell, if a grid may be met. A refusal is thrown. */
+    /* The cell, if the ray may meet a grid. Throws a refusal. */
     std::optional<Cell> possible() const
     {
         demand();
@@ -626,7 +628,7 @@ inline Clearance ray_height_ranges(const Ray &ray, const HeightRanges &ranges)
 
 /* ---- meshes ---- */
 
-/* A tree in vectors of its own; the table in probe_rays.h says how long each is and what it holds. */
+/* A tree in its own vectors. The table in probe_rays.h gives their lengths and contents. */
 struct Tree {
     std::size_t nodes = 0;
     std::vector<double> node_boxes;
@@ -634,7 +636,7 @@ struct Tree {
     std::vector<std::uint32_t> node_words;
     std::vector<std::uint32_t> order;
 
-    /* The areas of a tree of n triangles, all zeros. */
+    /* The buffers of a tree of n triangles, all zeros. */
     static Tree with_room(std::size_t n)
     {
         Tree tree;
@@ -646,8 +648,8 @@ struct Tree {
     }
 };
 
-/* The work areas of a cast or query. They grow to what a mesh asks, may serve any number of meshes, and hold nothing that a
- * call depends on. A thread has its own. */
+/* The work buffers of a cast or query. They grow as a mesh needs, may serve any number of meshes, and hold nothing that a call
+ * depends on. Each thread has its own. */
 struct Scratch {
     std::vector<std::uint32_t> list;
     std::vector<std::uint32_t> stack;
@@ -662,14 +664,14 @@ struct Scratch {
         detail::grow(stack, PROBE_STACK_LENGTH(nodes));
     }
 
-    /* n places always do for a listing: the walk lists no more triangles than there are. */
+    /* n places always suffice for a listing: the traversal lists no more triangles than there are. */
     void fit_hits(std::size_t n)
     {
         detail::grow(indices, n);
         detail::grow(numbers, 4 * n);
     }
 
-    /* The numbers of many rays, and places for their answers: the codes, and those of a listing of as many hits. */
+    /* The numbers of many rays, and places for their results: the codes, and those of a listing of as many hits. */
     void fit_many(const std::vector<Ray> &many)
     {
         static_assert(sizeof(Ray) == 8 * sizeof(double) && std::is_trivially_copyable_v<Ray>, "a ray is its eight numbers");
@@ -680,8 +682,8 @@ struct Scratch {
             std::memcpy(rays.data(), many.data(), many.size() * sizeof(Ray));
     }
 
-    /* The answers of many rays after a call. The areas are as long as it asks and a mesh is admitted, so that it refuses
-     * nothing but a ray. */
+    /* The results of many rays after a call. The buffers are long enough and the mesh is within the limits, so the call refuses
+     * nothing but single rays. */
     std::vector<Cast<MeshHit>> read_many(std::uint32_t answer, const std::vector<Ray> &many) const
     {
         std::vector<Cast<MeshHit>> casts;
@@ -729,7 +731,7 @@ struct Shape {
     std::size_t triangle_count() const noexcept { return triangles.size() / 3; }
 };
 
-/* Whether every corner of every triangle is three numbers; one whose index is past the vertices is not. */
+/* Whether every corner of every triangle is three numbers; a corner whose index is past the vertices is not. */
 inline bool mesh_has_numbers(const Shape &shape)
 {
     return probe_mesh_has_numbers(detail::from(shape.vertices), shape.vertices.size(), detail::from(shape.triangles),
@@ -766,10 +768,10 @@ inline Result<bool> tree_check(const Shape &shape, const Tree &tree)
 }
 
 /* A mesh and a tree that fits it: built here, or somebody else's that passed the check. So a cast at the mesh's own vertices
- * misses no triangle whose box touches that of the ray's segment. Neither mesh nor tree can be changed. */
+ * misses no triangle whose box touches the box of the ray's segment. Neither mesh nor tree can be changed. */
 class Mesh {
 public:
-    /* Builds the tree. Refuses with 2 (more than 65,536 vertices or triangles), 5 (no triangle, an index past the vertices, a
+    /* Builds the tree. Refuses with 2 (more than 65,536 vertices or triangles), 5 (no triangle, an index past the vertices, or a
      * triangle whose box is not finite) or 6. */
     static Result<Mesh> build(const std::vector<Vec3> &vertices, const std::vector<Triangle> &triangles)
     {
@@ -791,8 +793,8 @@ public:
         return Result<Mesh>(Mesh(std::move(shape), std::move(tree)));
     }
 
-    /* Takes a tree that somebody else built, if it passes the check: with one that does not, a cast could miss a surface, and
-     * nothing would tell that none from a right one. */
+    /* Takes a tree that somebody else built, if it passes the check. With a tree that does not, a cast could miss a surface, and
+     * nothing would distinguish this miss from a correct one. */
     static Result<Mesh, TreeFault> with_tree(Shape shape, Tree tree)
     {
         const Result<bool> fits = tree_check(shape, tree);
@@ -803,14 +805,14 @@ public:
         return Result<Mesh, TreeFault>(Mesh(std::move(shape), std::move(tree)));
     }
 
-    /* Glues another mesh to this one: its vertices and triangles follow this one's. A cast at the result answers the nearer
-     * of the two hits. Refuses with 2 where both together have more than 65,536 vertices or triangles. */
+    /* Merges another mesh with this one: its vertices and triangles follow this one's. A cast at the result returns the nearer
+     * of the two hits. Refuses with 2 if both together have more than 65,536 vertices or triangles. */
     Result<Mesh> glue(const Mesh &other) const
     {
         std::size_t vertices = shape_.vertex_count() + other.shape_.vertex_count();
         std::size_t n = shape_.triangle_count() + other.shape_.triangle_count();
         if (vertices > PROBE_MAX_VERTICES || n > PROBE_MAX_TRIANGLES)
-            vertices = n = 0; /* it refuses whatever the areas */
+            vertices = n = 0; /* the call refuses whatever the buffers are */
         Shape shape;
         shape.vertices.resize(PROBE_VERTICES_LENGTH(vertices));
         shape.triangles.resize(PROBE_TRIANGLES_LENGTH(n));
@@ -835,13 +837,13 @@ public:
         return Result<Mesh>(Mesh(std::move(shape), std::move(tree)));
     }
 
-    /* The nearest triangle that a ray hits; of equally near ones, that of the lowest index. Refuses with 1, 6 or 7. */
+    /* The nearest triangle that a ray hits; of equally near ones, the one with the lowest index. Refuses with 1, 6 or 7. */
     Cast<MeshHit> cast(const Ray &ray) { return cast(ray, scratch_); }
 
     Cast<MeshHit> cast(const Ray &ray, Scratch &scratch) const { return cast_at(ray, shape_.vertices, scratch); }
 
-    /* The same at other vertices, as many as the mesh's, else it refuses with 4 or 2. The tree's boxes stay those of the
-     * mesh's own: only triangles whose box there touches that of the ray's segment are cast at. */
+    /* The same at other vertices. They must be as many as the mesh's; otherwise the cast refuses with 4 or 2. The tree's boxes
+     * stay those of the mesh's own vertices: only triangles whose box there touches the box of the ray's segment are tested. */
     Cast<MeshHit> cast_at(const Ray &ray, const std::vector<Vec3> &pose, Scratch &scratch) const
     {
         return cast_at(ray, Shape::flat(pose), scratch);
@@ -862,9 +864,9 @@ public:
         return detail::cast_of(answer, places.of_mesh(), ray);
     }
 
-    /* On a grid of 2^-15 mm, in any direction, decided in whole numbers: what PlainMesh::cast_exact answers, through the tree;
-     * that the two agree is proved for a mesh without a NaN, so a none at the mesh's own vertices is certain. A mesh is asked
-     * for a NaN when it is made, and one that has it is cast at without its tree. Refuses with 1 or 12. */
+    /* The exact cast: on a grid of 2^-15 mm, in any direction, decided in integers. It returns what PlainMesh::cast_exact
+     * returns, through the tree. The two are proved to agree for a mesh without a NaN, so a miss at the mesh's own vertices is
+     * certain. The constructor looks for a NaN, and a mesh that has one is cast at without its tree. Refuses with 1 or 12. */
     Cast<MeshHit> cast_exact(const Ray &ray) { return cast_exact(ray, scratch_); }
 
     Cast<MeshHit> cast_exact(const Ray &ray, Scratch &scratch) const
@@ -872,8 +874,8 @@ public:
         return has_numbers_ ? cast_exact_at(ray, shape_.vertices, scratch) : detail::cast_exact(shape_, ray);
     }
 
-    /* The same at other vertices, as `cast_at` has them: a surface that has left the tree's boxes may be missed, so a none is
-     * not certain there. */
+    /* The same at other vertices, as in `cast_at`. A surface that has left the tree's boxes may be missed, so a miss is not
+     * certain there. */
     Cast<MeshHit> cast_exact_at(const Ray &ray, const std::vector<Vec3> &pose, Scratch &scratch) const
     {
         return cast_exact_at(ray, Shape::flat(pose), scratch);
@@ -894,8 +896,8 @@ public:
         return detail::cast_of(answer, places.of_mesh(), ray);
     }
 
-    /* The `cast` of each ray, in the order of the rays, by one call. A ray that is refused is so by itself: the others are cast
-     * all the same. */
+    /* The `cast` of each ray, in the order of the rays, by one call. Each ray is refused on its own: the others are still
+     * cast. */
     [[nodiscard]] std::vector<Cast<MeshHit>> cast_many(const std::vector<Ray> &rays) { return cast_many(rays, scratch_); }
 
     [[nodiscard]] std::vector<Cast<MeshHit>> cast_many(const std::vector<Ray> &rays, Scratch &scratch) const
@@ -940,8 +942,8 @@ public:
         return scratch.read_many(answer, rays);
     }
 
-    /* Every triangle that a ray hits, each once, in order of depth, of equally near ones the lower index first. The hit of
-     * `cast` is the first of them, and there are none exactly where it answers none. */
+    /* Every triangle that a ray hits, each once, in order of depth; of equally near ones the lower index first. The hit of `cast`
+     * is the first of them, and the list is empty exactly if `cast` is a miss. */
     Result<std::vector<MeshHit>> cast_all(const Ray &ray) { return cast_all(ray, scratch_); }
 
     Result<std::vector<MeshHit>> cast_all(const Ray &ray, Scratch &scratch) const
@@ -974,7 +976,7 @@ public:
         return Result<std::vector<MeshHit>>(std::move(hits));
     }
 
-    /* The triangles whose boxes touch the box from `min` to `max`, ascending. Refuses with 1. */
+    /* The triangles whose boxes touch the box from `min` to `max`, in ascending order. Refuses with 1. */
     Result<std::vector<std::uint32_t>> query(const Vec3 &min, const Vec3 &max) { return query(min, max, scratch_); }
 
     Result<std::vector<std::uint32_t>> query(const Vec3 &min, const Vec3 &max, Scratch &scratch) const
@@ -1006,12 +1008,12 @@ private:
 
     Shape shape_;
     Tree tree_;
-    bool has_numbers_; /* the exact cast through the tree asks it */
+    bool has_numbers_; /* the exact cast through the tree needs it */
     Scratch scratch_;
 };
 
-/* A mesh without a tree, for parts of few triangles: nothing is built, and a cast looks at every triangle. That it answers
- * what Mesh::cast answers, refusals included, is proved. Threads may share it. */
+/* A mesh without a tree, for parts of few triangles: nothing is built, and a cast visits every triangle. It is proved to return
+ * what Mesh::cast returns, refusals included. Threads may share it. */
 class PlainMesh {
 public:
     PlainMesh(const std::vector<Vec3> &vertices, const std::vector<Triangle> &triangles)
@@ -1021,7 +1023,7 @@ public:
 
     explicit PlainMesh(Shape shape) : shape_(std::move(shape)) {}
 
-    /* Refuses with 1, 2, 5, 6 or 7. No triangles is none. */
+    /* Refuses with 1, 2, 5, 6 or 7. A mesh without triangles is a miss. */
     Cast<MeshHit> cast(const Ray &ray) const
     {
         detail::Places places;
@@ -1032,10 +1034,10 @@ public:
         return detail::cast_of(answer, places.of_mesh(), ray);
     }
 
-    /* On a grid of 2^-15 mm, in any direction, decided in whole numbers: the first point of the segment that lies in a closed
-     * triangle, sides, corners and triangles along the ray included, so that a none is certain. probe_rays.h says how
-     * coordinates are read. Refuses with 1, 12 (the origin or a corner is not within 8,192, near or the maximum above 32,768),
-     * 2 or 5. */
+    /* The exact cast: on a grid of 2^-15 mm, in any direction, decided in integers. It finds the first point of the segment that
+     * lies in a closed triangle. Edges and corners are hit, and triangles coplanar with the ray count, so a miss is certain.
+     * probe_rays.h says how coordinates are read. Refuses with 1, 12 (the origin or a corner is not within 8,192, or near or the
+     * maximum is above 32,768), 2 or 5. */
     Cast<MeshHit> cast_exact(const Ray &ray) const { return detail::cast_exact(shape_, ray); }
 
     /* The same mesh with a tree. */
@@ -1049,16 +1051,16 @@ private:
 
 /* ---- a cabinet ---- */
 
-/* The answer of a cast at a cabinet, and the nodes spent on it: 0 where it was refused before the first part. */
+/* The result of a cast at a cabinet, and the number of nodes spent on it: 0 if it was refused before the first part. */
 struct [[nodiscard]] CabinetCast {
     Cast<PartHit> answer;
     std::size_t spent;
 };
 
-/* Meshes with their trees, each at an origin of its own. It owns copies of them. */
+/* Meshes with their trees, each at its own origin. The cabinet owns copies of them. */
 class Cabinet {
 public:
-    /* Adds a mesh at an origin, and gives the part's number. */
+    /* Adds a mesh at an origin, and returns the part's number. */
     std::size_t push(const Mesh &mesh, const Vec3 &origin)
     {
         const Shape &shape = mesh.shape();
@@ -1078,7 +1080,7 @@ public:
         return parts_.size() - 1;
     }
 
-    /* The mesh of a part once more, at another origin: nothing but the part is added. */
+    /* Adds the mesh of a part once more, at another origin. Nothing but the part is added. */
     std::size_t place_again(std::size_t part, const Vec3 &origin)
     {
         if (part >= parts_.size())
@@ -1100,8 +1102,8 @@ public:
         return sum;
     }
 
-    /* The nearest triangle of all parts, where at most `limit` nodes are looked at; of equally near ones, that of the lowest
-     * part and then of the lowest index. Refuses with 1, 6, 7 or 10. */
+    /* The nearest triangle of all parts, visiting at most `limit` nodes; of equally near ones, the one of the lowest part and
+     * then of the lowest index. Refuses with 1, 6, 7 or 10. */
     CabinetCast cast(const Ray &ray, std::size_t limit = no_limit) { return cast(ray, limit, scratch_); }
 
     CabinetCast cast(const Ray &ray, std::size_t limit, Scratch &scratch) const
@@ -1144,12 +1146,12 @@ private:
 
 /* ---- a mesh of any number of triangles ---- */
 
-/* One mesh, or, where that would be too large, a cabinet of meshes, halved along the longest side until each piece may be one.
- * Triangles are counted from 0, in the order that they were given in. */
+/* One mesh, or, if that would be too large, a cabinet of meshes: halved along the longest side until each piece is small enough.
+ * Triangles are counted from 0, in the order in which they were given. */
 class LargeMesh {
 public:
-    /* Builds the trees, of pieces of at most `most` triangles, and as many vertices: at least 1 and 3, at most 65,536. Refuses with
-     * 2 (more than 2^32 - 1 triangles), 5 (no triangle, an index past the vertices, a triangle whose box is not finite) or 6. */
+    /* Builds the trees, of pieces of at most `most` triangles and as many vertices: at least 1 and 3, at most 65,536. Refuses with
+     * 2 (more than 2^32 - 1 triangles), 5 (no triangle, an index past the vertices, or a triangle whose box is not finite) or 6. */
     static Result<LargeMesh> build(Shape shape, std::size_t most = PROBE_MAX_TRIANGLES)
     {
         const std::size_t count = shape.triangle_count();
@@ -1169,7 +1171,7 @@ public:
         return Result<LargeMesh>(std::move(large));
     }
 
-    /* The nearest triangle by the exact cast: a none is certain. Of equally near ones, also of different pieces, that of the
+    /* The nearest triangle by the exact cast: a miss is certain. Of equally near ones, also of different pieces, the one with the
      * lowest number. Refuses with 1 or 12. */
     Cast<MeshHit> cast(const Ray &ray) { return cast(ray, scratch_); }
 
@@ -1190,7 +1192,7 @@ public:
         return nearest ? Cast<MeshHit>(*nearest) : Cast<MeshHit>(None{});
     }
 
-    /* The nearest triangle by the rounded cast, that of Mesh::cast. Of equally near ones of different pieces, that of the first
+    /* The nearest triangle by the rounded cast, that of Mesh::cast. Of equally near ones of different pieces, the one of the first
      * piece. Refuses with 1, 6 or 7. */
     Cast<MeshHit> cast_rounded(const Ray &ray) { return cast_rounded(ray, scratch_); }
 
@@ -1236,7 +1238,7 @@ private:
         return refusal ? refusal : add(std::move(upper), most);
     }
 
-    /* Some of the triangles, with their vertices, each where it comes first. */
+    /* Some of the triangles, with their vertices, in the order of their first use. */
     Shape part_of(const std::vector<std::uint32_t> &numbers) const
     {
         Shape part;
@@ -1262,7 +1264,7 @@ private:
         return sum;
     }
 
-    /* How far apart the middles of triangles are along an axis. */
+    /* The extent of the triangles' centres along an axis. */
     double width(const std::vector<std::uint32_t> &numbers, std::size_t axis) const
     {
         double low = std::numeric_limits<double>::max(), high = std::numeric_limits<double>::lowest();
@@ -1273,8 +1275,8 @@ private:
         return high - low;
     }
 
-    /* Takes the upper half off two or more triangles, along the longest side of the box of their middles. Both halves are
-     * ascending, so that of equally near triangles of a piece the first is the answer. */
+    /* Splits off the upper half of two or more triangles, along the longest side of the box of their centres. Both halves are
+     * ascending, so that of equally near triangles of a piece the first is returned. */
     std::vector<std::uint32_t> upper_half(std::vector<std::uint32_t> &numbers) const
     {
         const std::array<double, 3> widths{width(numbers, 0), width(numbers, 1), width(numbers, 2)};
@@ -1304,10 +1306,10 @@ private:
 
 namespace detail {
 
-/* A binary file: 80 bytes of a header, four of the count, and 50 a facet, of which the first 12 are its normal. */
+/* A binary file has 80 bytes of header, four of the count, and 50 for each facet, of which the first 12 are its normal. */
 inline constexpr std::size_t stl_start = 84, stl_facet = 50, stl_normal = 12;
 
-/* Four bytes, lowest first. */
+/* Four bytes, little-endian. */
 inline std::uint32_t four_bytes(std::string_view bytes, std::size_t at) noexcept
 {
     std::uint32_t sum = 0;
@@ -1316,7 +1318,7 @@ inline std::uint32_t four_bytes(std::string_view bytes, std::size_t at) noexcept
     return sum;
 }
 
-/* Reads the facets of a binary file, nine numbers each. It returns what is wrong with the file, or nothing. */
+/* Reads the facets of a binary file, nine numbers each. Returns what is wrong with the file, or nothing. */
 inline std::string read_binary(std::string_view bytes, std::vector<double> &corners)
 {
     for (std::size_t facet = 0; stl_start + stl_facet * facet < bytes.size(); facet++)
@@ -1331,7 +1333,7 @@ inline std::string read_binary(std::string_view bytes, std::vector<double> &corn
     return {};
 }
 
-/* The next word of a line, which is taken off it. */
+/* Takes the next word off a line. */
 inline std::string_view next_word(std::string_view &line) noexcept
 {
     constexpr std::string_view blanks = " \t\r\v\f";
@@ -1351,12 +1353,12 @@ inline std::string lower_case(std::string_view word)
     return lower;
 }
 
-/* Reads words as numbers, with a point in every locale. */
+/* Reads words as numbers, with a decimal point in every locale. */
 class Numbers {
 public:
     Numbers() { stream_.imbue(std::locale::classic()); }
 
-    /* The number, infinite where it is too large for a double; nothing where the word is none. */
+    /* The number: infinite if it is too large for a double, nothing if the word is not a number. */
     std::optional<double> of(std::string_view word)
     {
         double value = 0;
@@ -1375,12 +1377,12 @@ private:
     std::istringstream stream_;
 };
 
-/* The facets of an ASCII file, line by line. It may hold several solids; their names and the normals are passed over. */
+/* The facets of an ASCII file, line by line. It may hold several solids; their names and the normals are ignored. */
 class AsciiStl {
 public:
     explicit AsciiStl(std::vector<double> &corners) : corners_(corners) {}
 
-    /* Takes a line. It returns what is wrong with it, or nothing. */
+    /* Reads a line. Returns what is wrong with it, or nothing. */
     std::string line(std::string_view rest)
     {
         const std::string word = lower_case(next_word(rest));
@@ -1393,7 +1395,7 @@ public:
         else if (word == "solid" || word == "endsolid")
             open_ = word == "solid";
         else if (!word.empty() && word != "outer" && word != "endloop")
-            return '"' + word.substr(0, 20) + "\" is no word of an STL file";
+            return '"' + word.substr(0, 20) + "\" is not a word of an STL file";
         return {};
     }
 
@@ -1447,14 +1449,14 @@ inline std::string_view without_bom(std::string_view bytes) noexcept
     return bytes.substr(bytes.substr(0, bom.size()) == bom ? bom.size() : 0);
 }
 
-/* Whether the first word begins with 'solid' and there is no zero byte, which an ASCII file does not have. */
+/* Whether the first word begins with 'solid' and there is no zero byte: an ASCII file has none. */
 inline bool is_ascii_stl(std::string_view text)
 {
     const std::size_t start = std::min(text.find_first_not_of(" \t\r\n\v\f"), text.size());
     return lower_case(text.substr(start, 5)) == "solid" && text.find('\0') == text.npos;
 }
 
-/* Reads the facets of a file. A binary one may begin with 'solid', so the length decides first. */
+/* Reads the facets of a file. A binary file may begin with 'solid' too, so the length decides first. */
 inline std::string read_facets(std::string_view bytes, std::vector<double> &corners)
 {
     const bool has_count = bytes.size() >= stl_start;
@@ -1467,8 +1469,8 @@ inline std::string read_facets(std::string_view bytes, std::vector<double> &corn
         return read_ascii(text, corners);
     const std::string size = std::to_string(bytes.size()) + " bytes";
     if (!has_count)
-        return "no STL file: " + size + " that are no ASCII file, and too few for a binary one";
-    return (bytes.size() < length ? "no STL file, or a binary one cut short: " : "no STL file: ") + size + ", and a binary file of "
+        return "not an STL file: " + size + ", not ASCII, and too few for a binary file";
+    return (bytes.size() < length ? "not an STL file, or a binary one cut short: " : "not an STL file: ") + size + ", and a binary file of "
         + std::to_string(count) + " facets has " + std::to_string(length);
 }
 
@@ -1482,7 +1484,7 @@ struct VertexHash {
     }
 };
 
-/* The mesh of facets, nine numbers each. Equal vertices are merged, -0 and 0 too, each where it comes first. */
+/* The mesh of facets, nine numbers each. Equal vertices are merged, -0 and 0 too, in the order of their first use. */
 inline Shape merged(const std::vector<double> &corners)
 {
     Shape shape;
@@ -1500,8 +1502,8 @@ inline Shape merged(const std::vector<double> &corners)
 
 } // namespace detail
 
-/* The mesh of an STL file's bytes, binary or ASCII. Equal vertices are merged, -0 and 0 too, and never near ones, so that no
- * point moves. Triangles stand in the file's order. A file has no unit. The limits of a mesh are not looked at here: Mesh::build
+/* The mesh of an STL file's bytes, binary or ASCII. Equal vertices are merged, -0 and 0 too, but never merely near ones, so no
+ * point moves. The triangles are in the file's order. A file has no unit. The limits of a mesh are not tested here: Mesh::build
  * refuses with 2 above them. */
 inline Result<Shape, StlError> stl_shape(std::string_view bytes)
 {
@@ -1514,7 +1516,7 @@ inline Result<Shape, StlError> stl_shape(std::string_view bytes)
     return Result<Shape, StlError>(detail::merged(corners));
 }
 
-/* The same of a file. What is wrong is said with the file's name. */
+/* The same for a file. An error message begins with the file's name. */
 inline Result<Shape, StlError> read_stl(const std::string &path)
 {
     std::ifstream file(path, std::ios::binary);
@@ -1546,14 +1548,14 @@ Result<std::vector<std::uint8_t>> converted(Call *call, const std::vector<std::u
 
 } // namespace detail
 
-/* One record of version 2, with its four length bytes, as one of version 3, whose floats have four bytes. Refuses with 2, or
- * with 11 where a float is NaN or no f32 is exactly that number. */
+/* Converts one record of version 2, with its four length bytes, to version 3, whose floats have four bytes. Refuses with 2, or
+ * with 11 if a float is NaN or no f32 is exactly that number. */
 inline Result<std::vector<std::uint8_t>> record_to_short(const std::vector<std::uint8_t> &record)
 {
     return detail::converted(probe_record_to_short, record);
 }
 
-/* One record of version 3 as one of version 2. Refuses with 2, or with 11 where a float is NaN. */
+/* Converts one record of version 3 to version 2. Refuses with 2, or with 11 if a float is NaN. */
 inline Result<std::vector<std::uint8_t>> record_to_long(const std::vector<std::uint8_t> &record)
 {
     return detail::converted(probe_record_to_long, record);

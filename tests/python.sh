@@ -30,9 +30,9 @@ PROBE_RAYS_LIBRARY=$work/nowhere.so says 'run `tools/install PREFIX` in the repo
 # a library of other calls, and one that lacks some
 echo 'unsigned probe_version(void) { return 1; }' > "$work/old.c"
 gcc -shared -fPIC "$work/old.c" -o "$work/old.so"
-PROBE_RAYS_LIBRARY=$work/old.so says "the library's calls have version 1, and those of the header"
+PROBE_RAYS_LIBRARY=$work/old.so says "the library's calls have version 1, but those of the header"
 version=$(sed -n 's/^#define PROBE_VERSION \([0-9]*\)u$/\1/p' include/probe_rays.h)
 echo "unsigned probe_version(void) { return $version; }" > "$work/less.c"
 gcc -shared -fPIC "$work/less.c" -o "$work/less.so"
-PROBE_RAYS_LIBRARY=$work/less.so says "which the header has: they are not of one release"
+PROBE_RAYS_LIBRARY=$work/less.so says "but the header has: they are from different releases"
 echo "python: $ran tests passed"

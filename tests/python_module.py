@@ -116,7 +116,7 @@ class Refusals(Case):
         self.refuses(7, lambda: ray_triangle(Ray((x / 4, y, p / 4), (1, 0, 0), 1), (0, 0, 0), (x, 0, p), (0, x, 0)))
 
     def test_words(self):
-        self.assertEqual(str(Refused(7)), "refused 7, no normal: the surface hit has no unit normal")
+        self.assertEqual(str(Refused(7)), "refused 7, no normal: the surface that is hit has no unit normal")
         self.assertEqual(str(Refused(200)), "refused 200, a refusal that this module does not know")
         self.assertEqual(str(Refused(1, ray=4))[-8:], " (ray 4)")
 
@@ -509,7 +509,7 @@ class Stl(Case):
 
     def expected(self, file):
         # the files have the words of every refusal 1; the module says which test the ray fails
-        return (EXAMPLES / file).read_text().replace("a ray or a query's box that is not admitted", "the maximum is below 0")
+        return (EXAMPLES / file).read_text().replace("the ray or the query box is not valid", "the maximum is below 0")
 
     def told(self, mesh, rays, cast):
         lines = [f"{len(mesh.triangles)} triangles, {len(mesh.vertices)} vertices, {mesh.tree.nodes} nodes"]

@@ -43,29 +43,29 @@ middle = text.index("facet normal", len(text) // 2)
 two = text[:middle] + "endsolid panel\nsolid vertex 1 2 facet\n" + text[middle:]
 (folder / "same-two-solids.stl").write_text(two)
 
-wrong("empty", b"", "no STL file: 0 bytes that do not begin with 'solid'")
-wrong("short", binary(panel)[16:84], "no STL file: 68 bytes that do not begin with 'solid'")
+wrong("empty", b"", "not an STL file: 0 bytes that do not begin with 'solid'")
+wrong("short", binary(panel)[16:84], "not an STL file: 68 bytes that do not begin with 'solid'")
 wrong(
     "cut-binary",
     b"panel".ljust(80) + binary(panel)[80:-1],
     "cut short: a binary file of 120 facets has 6084 bytes, not 6083",
 )
 wrong("cut-solid-binary", binary(panel)[:-50], "cut short: a binary file of 120 facets has 6084 bytes, not 6034")
-wrong("cut-header", binary(panel)[:82], "cut short: a binary file has 84 bytes before its facets, and this 82")
+wrong("cut-header", binary(panel)[:82], "cut short: a binary file has 84 bytes before its facets, and this file has 82")
 wrong(
     "long-binary",
     b"panel".ljust(80) + binary(panel)[80:] + b"more",
-    "no STL file: it does not begin with 'solid', and a binary file of 120 facets has 6084 bytes, not 6088",
+    "not an STL file: it does not begin with 'solid', and a binary file of 120 facets has 6084 bytes, not 6088",
 )
 wrong(
     "long-solid-binary",
     binary(panel) + b"more",
-    "no STL file: it begins with 'solid' and is no text, and a binary file of 120 facets has 6084 bytes, not 6088",
+    "not an STL file: it begins with 'solid' but is not text, and a binary file of 120 facets has 6084 bytes, not 6088",
 )
 wrong(
     "text",
     b"a text of no kind, ".ljust(200, b"-"),
-    "no STL file: it does not begin with 'solid', and a binary file of 757935405 facets has 37896770334 bytes, not 200",
+    "not an STL file: it does not begin with 'solid', and a binary file of 757935405 facets has 37896770334 bytes, not 200",
 )
 wrong("cut-ascii", text[: text.index("endsolid")].encode(), "cut short: the last solid has no 'endsolid'")
 wrong("no-facet", b"solid nothing\nendsolid nothing\n", "no triangles")
@@ -75,6 +75,6 @@ wrong("no-number", text.replace(first, "vertex 100 5O 18", 1).encode(), "line 4:
 wrong("not-finite", text.replace(first, "vertex 100 inf 18", 1).encode(), "line 8: a coordinate is not finite")
 wrong("not-finite-binary", binary([(0, 0, 0, 1, 0, 0, 0, float("nan"), 0)]), "facet 0: a coordinate is not finite")
 inner = text.replace(" outer loop", " inner loop", 1)
-wrong("another-word", inner.encode(), 'line 3: "inner" is no word of an STL file')
-wrong("triangles", binary(strip(1) * 65537), "65537 triangles: at most 65536 are admitted")
-wrong("vertices", binary(strip(32768)), "65537 different vertices: at most 65536 are admitted")
+wrong("another-word", inner.encode(), 'line 3: "inner" is not a word of an STL file')
+wrong("triangles", binary(strip(1) * 65537), "65537 triangles: at most 65536 are allowed")
+wrong("vertices", binary(strip(32768)), "65537 different vertices: at most 65536 are allowed")

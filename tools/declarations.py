@@ -379,7 +379,7 @@ FAULTS = [
     (STRUCTS[1], "#[repr(C)]\n", ""),
     (REFUSALS, "pub const LIMIT_REACHED: u32 = 10;", "pub const LIMIT_REACHED: u32 = 11;"),
     (REFUSALS, "pub const OUT_OF_RANGE: u32 = 12;", "pub const OUT_OF_RANGE: u32 = 13;"),
-    (REFUSALS, "pub const NOT_HELD: u32 = 11;", "pub const NOT_HELD: u32 = 10;"),
+    (REFUSALS, "pub const NOT_REPRESENTABLE: u32 = 11;", "pub const NOT_REPRESENTABLE: u32 = 10;"),
     (HEADER, "    const uint8_t *bytes,", "    const uint32_t *bytes,"),
     (RUST, "        out: *mut u8,", "        out: *const u8,"),
     (HEADER, "    uint32_t *codes,", "    double *codes,"),
@@ -387,9 +387,9 @@ FAULTS = [
     (RUST, "        rays: *const f64,", "        rays: *mut f64,"),
     (RATTLE + "/many.rt", "    codes: &mut [u32],\n    hits: &mut [f64],", "    hits: &mut [f64],\n    codes: &mut [u32],"),
     (HEADER, " *   12   out of range  ", " *   12   out of reach  "),
-    ("include/probe_rays.hpp", "no room: a lent slice", "no room: a slice"),
+    ("include/probe_rays.hpp", "no room: a buffer", "no room: a slice"),
     ("bindings/rust/src/answer.rs", "out of range: the origin or", "out of range: an origin or"),
-    ("bindings/python/probe_rays/answers.py", '    "NOT_HELD"', '    "HELD"'),
+    ("bindings/python/probe_rays/answers.py", '    "NOT_REPRESENTABLE"', '    "REPRESENTABLE"'),
 ]
 
 

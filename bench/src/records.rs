@@ -76,7 +76,7 @@ pub fn row(name: &str) -> Row {
     row_of(name, stream(generate::marked(), generate::record))
 }
 
-/// Records of version 3, which our program widens.
+/// Records of version 3.
 pub fn short_row(name: &str) -> Row {
     row_of(name, stream(Vec::new(), generate::short))
 }

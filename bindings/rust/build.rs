@@ -26,7 +26,7 @@ fn main() {
     });
     let Some((folder, name)) = found else {
         // no panic: its last line would be a note on backtraces, and the last line is what is read
-        eprintln!("error: the library for the crate probe-rays is not there, neither libprobe_rays.a nor libexports.a, in");
+        eprintln!("error: the crate probe-rays finds its library, libprobe_rays.a or libexports.a, in none of these folders:");
         for folder in &folders {
             eprintln!("  {}", folder.display());
         }

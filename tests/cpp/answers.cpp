@@ -180,7 +180,7 @@ void refusals()
     // the cross of the edges is infinite, and the determinant is not
     const double x = std::ldexp(1, 610), y = std::ldexp(1, 210), p = std::ldexp(1, -10);
     CHECK(refuses(ray_triangle(Ray{{x / 4, y, p / 4}, {1, 0, 0}, 1}, {0, 0, 0}, {x, 0, p}, {0, x, 0}), 7));
-    CHECK(told(Refusal::no_normal) == "refused 7, no normal: the surface hit has no unit normal");
+    CHECK(told(Refusal::no_normal) == "refused 7, no normal: the surface that is hit has no unit normal");
     CHECK(told(static_cast<Refusal>(200)) == "refused 200, a refusal that this header does not know");
     CHECK(std::string(Refused(Refusal::overflow).what()).find("refused 6, ") == 0);
 }

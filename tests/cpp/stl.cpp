@@ -99,7 +99,7 @@ void small_files()
 
 void wrong_files()
 {
-    CHECK(says("", "no STL file: 0 bytes that are no ASCII file, and too few for a binary one"));
+    CHECK(says("", "not an STL file: 0 bytes, not ASCII, and too few for a binary file"));
     CHECK(says("solid nothing\nendsolid nothing\n", "no triangles") && says(binary({}), "no triangles"));
     CHECK(says(replaced(one, "endsolid one\n", ""), "cut short: the last solid has no 'endsolid'"));
     CHECK(says(replaced(one, "  vertex 4 0 0\n", ""), "line 7: a facet of 2 vertices"));
@@ -108,7 +108,7 @@ void wrong_files()
     CHECK(says(replaced(one, "4 0 0", "4 0"), "line 5: 'vertex' takes three numbers"));
     CHECK(says(replaced(one, "4 0 0", "4 0 0 0"), "line 5: 'vertex' takes three numbers"));
     CHECK(says(replaced(one, "4 0 0", "4 1e400 0"), "line 5: a coordinate is not finite"));
-    CHECK(says(replaced(one, "outer", "inner"), "line 3: \"inner\" is no word of an STL file"));
+    CHECK(says(replaced(one, "outer", "inner"), "line 3: \"inner\" is not a word of an STL file"));
     CHECK(says(binary({0, 0, 0, 1, 0, 0, 0, 1e300, 0}), "facet 0: a coordinate is not finite"));
 }
 
@@ -124,8 +124,8 @@ void panel(const std::string &path)
     const std::string file_of_floats = binary(corners_of(shape));
     CHECK(file_of_floats.size() == 84 + 50 * 120 && same(stl_shape(file_of_floats), shape));
     CHECK(says(file_of_floats.substr(0, 6083),
-        "no STL file, or a binary one cut short: 6083 bytes, and a binary file of 120 facets has 6084"));
-    CHECK(says(file_of_floats + "x", "no STL file: 6085 bytes, and a binary file of 120 facets has 6084"));
+        "not an STL file, or a binary one cut short: 6083 bytes, and a binary file of 120 facets has 6084"));
+    CHECK(says(file_of_floats + "x", "not an STL file: 6085 bytes, and a binary file of 120 facets has 6084"));
 
     const std::string nowhere = path + ".nowhere";
     const Result<Shape, StlError> missing = read_stl(nowhere);

@@ -46,7 +46,7 @@ pub fn triangles_of(step: &Path) -> Result<Vec<u8>, String> {
         .output()
         .map_err(|why| match why.kind() {
             ErrorKind::NotFound => {
-                "a STEP file, and gmsh, which reads it, is not installed (apt-get install gmsh)"
+                "a STEP file: it is read by gmsh, which is not installed (apt-get install gmsh)"
                     .into()
             }
             _ => format!("gmsh: {why}"),
@@ -55,7 +55,7 @@ pub fn triangles_of(step: &Path) -> Result<Vec<u8>, String> {
     let fault = said.lines().find(|line| line.starts_with("Error"));
     let fault = || fault.map_or_else(|| "it wrote nothing".into(), |line| line.trim().to_string());
     if !ran.status.success() {
-        return Err(format!("gmsh does not read it: {}", fault()));
+        return Err(format!("gmsh cannot read it: {}", fault()));
     }
-    fs::read(&stl).map_err(|_| format!("gmsh does not read it: {}", fault()))
+    fs::read(&stl).map_err(|_| format!("gmsh cannot read it: {}", fault()))
 }

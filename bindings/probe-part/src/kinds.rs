@@ -1,4 +1,4 @@
-//! What a file is that is no STL file, told from its first bytes, and what to do with it.
+//! What a file is that is not an STL file, by its first bytes, and what to do with it.
 
 /// A kind of file: its name, and what makes an STL file of it.
 #[derive(Clone, Copy, Debug, PartialEq, Eq)]
@@ -9,14 +9,14 @@ pub struct Kind {
     pub advice: &'static str,
 }
 
-const STEP_ADVICE: &str = "make an STL file of it with gmsh (docs/STEP.md):
+const STEP_ADVICE: &str = "convert it to STL with gmsh (docs/STEP.md):
   gmsh FILE -0 -setnumber Mesh.StlLinearDeflection 0.05 -setnumber Mesh.StlAngularDeflection 0.35 -format stl -bin -o part.stl";
 const CAD_ADVICE: &str = "open it in your CAD program and export it as STEP or STL";
 const MESH_ADVICE: &str =
-    "a mesh program converts it to STL, such as MeshLab, Blender, or gmsh where it reads it";
+    "convert it to STL with a mesh program such as MeshLab or Blender, or with gmsh if it reads it";
 const UNPACK: &str = "unpack it first";
-const PRINT_ADVICE: &str = "a slicer or a mesh program exports it as STL";
-const NO_SHAPE: &str = "it holds no solid: export the part itself as STEP or STL";
+const PRINT_ADVICE: &str = "export it as STL from a slicer or a mesh program";
+const NO_SHAPE: &str = "it contains no solid: export the part itself as STEP or STL";
 
 /// Kinds by their first bytes.
 const BY_START: &[(&[u8], &str, &str)] = &[
@@ -40,18 +40,22 @@ const BY_START: &[(&[u8], &str, &str)] = &[
     (b"CASCADE Topology", "an OpenCASCADE BREP file", STEP_ADVICE),
     (
         b"\x1f\x8b",
-        "packed by gzip",
+        "compressed with gzip",
         "unpack it first: gunzip FILE",
     ),
-    (b"BZh", "packed by bzip2", "unpack it first: bunzip2 FILE"),
+    (
+        b"BZh",
+        "compressed with bzip2",
+        "unpack it first: bunzip2 FILE",
+    ),
     (
         b"\xfd7zXZ\x00",
-        "packed by xz",
+        "compressed with xz",
         "unpack it first: unxz FILE",
     ),
     (
         b"\x28\xb5\x2f\xfd",
-        "packed by zstd",
+        "compressed with zstd",
         "unpack it first: unzstd FILE",
     ),
     (b"7z\xbc\xaf\x27\x1c", "a 7z archive", UNPACK),
@@ -100,7 +104,7 @@ fn found(bytes: &[u8], word: &[u8]) -> bool {
     bytes.windows(word.len()).any(|window| window == word)
 }
 
-/// What a file is by its bytes, if it is known and no STL file.
+/// What a file is by its bytes, if it is known and not an STL file.
 pub fn kind_of(bytes: &[u8]) -> Option<Kind> {
     let of = |&(_, name, advice): &(&[u8], &'static str, &'static str)| Kind { name, advice };
     if bytes.is_empty() {

@@ -1,7 +1,7 @@
 //! `probe-part`: probes a part in an STL file. `probe-part --help` says how.
 //!
-//! Exit status: 0 if all was answered, 1 if a cast was refused, 2 if the call or a file is not right, 3 if a list may be
-//! incomplete or wrong.
+//! Exit status: 0 if every cast was answered, 1 if a cast was refused, 2 if the command line or a file is wrong, 3 if a list may
+//! be incomplete or wrong.
 use probe_part::batch::{run as run_batch, Job};
 use probe_part::corner::from_corner;
 use probe_part::faces::{Face, View};
@@ -27,30 +27,33 @@ const HELP: &str = "\
 probe-part probes a part in an STL file, binary or ASCII, in millimetres.
 
   probe-part cast FILE [--all | --rounded] [--rays FILE] [X Y Z  DX DY DZ  MAX]...
-      what rays hit: origin, direction of any length, how far; --rays reads them from a file, one a line (- is standard
-      input; # begins a comment); casts are exact, on a grid of 2^-15 mm within 8,192 mm; --all tells every depth along a
-      ray and --rounded the first hit, both by the rounded casts
+      Prints what rays hit. A ray is its origin, its direction (of any length) and its maximum distance. --rays reads rays
+      from a file, one per line (- is standard input; # begins a comment). The casts are exact, on a grid of 2^-15 mm,
+      within 8,192 mm. --all prints every depth along a ray, --rounded the first hit, both by the rounded casts.
   probe-part bores FILE [--face NAME]... [--unit UNIT] [--as-drawn] [--from-corner] [--shells] [--csv | --json]
                    [--out DIR]
-      the bores, pockets, grooves and so on of the part, recognised from its triangles and probed by casts: outline, size,
-      depth of the entry below the outer face, own depth, middle; what is not understood is marked by !, and the exit
-      status is 3 then; --face asks for the rows of some faces alone; --unit mm, cm, m or in is the file's unit (mm);
-      the part's own frame has z across its largest flat face and x along its longest side, --as-drawn keeps the file's;
-      --from-corner counts x, y, z from the least corner of the part; --shells says that the file holds several parts;
-      --csv prints commas, --json prints JSON; --out DIR writes the list as txt, csv and json there, and each face as
-      a drawing (DXF R12) and a picture (SVG)
+      Lists the bores, pockets, grooves and so on of the part, recognised from its triangles and probed by casts: outline,
+      size, depth of the entry below the outer face, own depth, centre. What is not understood is marked by !, and the
+      exit status is then 3. The part's own frame has z across its largest flat face and x along its longest side.
+      --face NAME     lists only the rows of this face; may be repeated
+      --unit UNIT     the file's unit: mm (default), cm, m or in
+      --as-drawn      keeps the file's frame
+      --from-corner   measures x, y, z from the minimum corner of the part
+      --shells        the file holds several parts
+      --csv, --json   prints the list as CSV or JSON
+      --out DIR       writes the list as txt, csv and json to DIR, and each face as a drawing (DXF R12) and a picture (SVG)
   probe-part batch FOLDER --out DIR [--unit UNIT] [--as-drawn] [--from-corner] [--shells] [--threads N]
-      the same for every .stl, .step and .stp file of a folder (STEP through gmsh, in millimetres), with summary.csv and
-      index.html, a page that shows each part's faces beside its list, and in red what needs a look
+      Does the same for every .stl, .step and .stp file of a folder (STEP through gmsh, in millimetres). It also writes
+      summary.csv, and index.html, a page that shows each part's faces beside its list and marks in red what needs a look.
   probe-part depth FILE --face NAME [--step MM] [--png FILE] [--svg FILE]
-      a picture of how deep a face is; the SVG has its bores numbered as `bores --as-drawn` numbers them
+      Writes a depth picture of a face. The SVG numbers its bores as `bores --as-drawn` does.
   probe-part --help, probe-part --version
 
 Faces: top (+z), bottom (-z), front (-y), back (+y), left (-x), right (+x).
 A part of more than 65,536 triangles is cast at in pieces.
-Proved are the casts. What `bores` recognises, and the pictures, are tested and not proved.
-Exit status: 0 if all was answered, and a list is complete and confirmed; 1 if a cast was refused; 2 if the call or a file
-is not right; 3 if a list may be incomplete or wrong.
+The casts are proved. What `bores` recognises, and the pictures, are tested but not proved.
+Exit status: 0 if every cast was answered, and a list is complete and confirmed; 1 if a cast was refused; 2 if the command line
+or a file is wrong; 3 if a list may be incomplete or wrong.
 ";
 
 /// So many rays of a file are cast at a time.
@@ -80,7 +83,7 @@ fn run(words: &[String]) -> Result<u8, String> {
     let asks_help = |word: &String| word == "--help" || word == "-h" || word == "help";
     let mut out = Output::new();
     let Some((command, rest)) = words.split_first() else {
-        return Err(format!("what is to be done?\n\n{HELP}"));
+        return Err(format!("no command is given\n\n{HELP}"));
     };
     if words.iter().any(asks_help) {
         out.print(HELP)?;
@@ -117,7 +120,7 @@ fn run(words: &[String]) -> Result<u8, String> {
         )?,
         other => {
             return Err(format!(
-                "{other:?} is none of cast, bores, batch, depth; probe-part --help says more"
+                "unknown command {other:?}: use cast, bores, batch or depth (see probe-part --help)"
             ));
         }
     };
@@ -181,16 +184,14 @@ impl Call {
                     .ok_or_else(|| format!("{word} takes a value"))?;
                 call.options.push((word.clone(), value.clone()));
             } else if word.starts_with("--") {
-                return Err(format!(
-                    "{word} is not known here; probe-part --help says what is"
-                ));
+                return Err(format!("unknown option {word} (see probe-part --help)"));
             } else if files.is_empty() {
                 files.push(word.clone());
             } else {
                 call.rest.push(word.clone());
             }
         }
-        call.file = files.pop().ok_or("which file?")?;
+        call.file = files.pop().ok_or("no file is given")?;
         Ok(call)
     }
 
@@ -212,7 +213,7 @@ impl Call {
 
     fn no_rest(&self) -> Result<(), String> {
         match self.rest.first() {
-            Some(word) => Err(format!("{word:?} is one word too many")),
+            Some(word) => Err(format!("unexpected argument {word:?}")),
             None => Ok(()),
         }
     }
@@ -221,7 +222,7 @@ impl Call {
         self.values("--face")
             .map(|name| {
                 Face::named(name).ok_or_else(|| {
-                    format!("{name:?} is no face: top, bottom, front, back, left, right are")
+                    format!("{name:?} is not a face: use top, bottom, front, back, left or right")
                 })
             })
             .collect()
@@ -251,7 +252,7 @@ fn check_step(view: &View<'_>, step: f64) -> Result<(), String> {
     let places = ((high[0] - low[0]) / step).max(1.0) * ((high[1] - low[1]) / step).max(1.0);
     if places > MOST_PLACES {
         return Err(format!(
-            "a step of {step} mm asks for {places:.0} probes of the {} face: take a larger one",
+            "a step of {step} mm needs {places:.0} probes of the {} face: use a larger step",
             view.face.name()
         ));
     }
@@ -275,9 +276,7 @@ fn counts(shape: &Shape) -> String {
 /// `probe-part cast`.
 fn cast(call: &Call, out: &mut Output) -> Result<u8, String> {
     if call.has("--all") && call.has("--rounded") {
-        return Err(
-            "--rounded is about the first hit, --all about every one: take one of them".into(),
-        );
+        return Err("--all and --rounded cannot be used together".into());
     }
     let given = from_words(&call.rest)?;
     let shape = Shape::load(&call.file)?;
@@ -351,7 +350,7 @@ impl Casting<'_> {
 fn bores(call: &Call, out: &mut Output) -> Result<u8, String> {
     call.no_rest()?;
     if call.has("--csv") && call.has("--json") {
-        return Err("--csv or --json: take one of them".into());
+        return Err("--csv and --json cannot be used together".into());
     }
     let options = call.options()?;
     let listing = Listing {
@@ -427,7 +426,7 @@ fn write_files(
 /// `probe-part batch`.
 fn batch(call: &Call, out: &mut Output) -> Result<u8, String> {
     call.no_rest()?;
-    let folder = call.value("--out").ok_or("where to? --out DIR")?;
+    let folder = call.value("--out").ok_or("--out DIR is required")?;
     let threads = match call.value("--threads") {
         None => 0,
         Some(word) => match word.parse() {
@@ -456,10 +455,10 @@ fn depth(call: &Call, out: &mut Output) -> Result<u8, String> {
     call.no_rest()?;
     let faces = call.faces()?;
     let &[face] = faces.as_slice() else {
-        return Err("depth takes one --face: top, bottom, front, back, left or right".into());
+        return Err("depth needs one --face: top, bottom, front, back, left or right".into());
     };
     if call.value("--png").is_none() && call.value("--svg").is_none() {
-        return Err("where to? --png FILE, --svg FILE or both".into());
+        return Err("--png FILE or --svg FILE is required".into());
     }
     let step = call.step()?;
     let shape = Shape::load(&call.file)?;

@@ -36,8 +36,8 @@ pub fn page(entries: &[Entry]) -> String {
             }
         }
     }
-    out += "<footer>Lengths in millimetres, in each part's own frame. Proved are the casts; what is recognised, and the \
-            pictures, are tested and not proved.</footer>\n</main>\n</body>\n</html>\n";
+    out += "<footer>Lengths in millimetres, in each part's own frame. The casts are proved. What is recognised, and \
+            the pictures, are tested but not proved.</footer>\n</main>\n</body>\n</html>\n";
     out
 }
 

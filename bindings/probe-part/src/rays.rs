@@ -6,7 +6,7 @@ use std::io::BufRead;
 pub fn from_words(words: &[String]) -> Result<Vec<Ray>, String> {
     if words.len() % 7 != 0 {
         return Err(format!(
-            "a ray is seven numbers (origin, direction, maximum), and {} are given",
+            "a ray is seven numbers (origin, direction, maximum), but {} are given",
             words.len()
         ));
     }
@@ -19,11 +19,11 @@ pub fn from_words(words: &[String]) -> Result<Vec<Ray>, String> {
 /// A ray of seven words.
 fn ray<'a>(words: impl Iterator<Item = &'a str>) -> Result<Ray, String> {
     let numbers: Vec<f64> = words
-        .map(|word| word.parse().map_err(|_| format!("no number: {word}")))
+        .map(|word| word.parse().map_err(|_| format!("not a number: {word}")))
         .collect::<Result<_, _>>()?;
     let n = <[f64; 7]>::try_from(numbers).map_err(|numbers| {
         format!(
-            "a ray is seven numbers (origin, direction, maximum), and {} are given",
+            "a ray is seven numbers (origin, direction, maximum), but {} are given",
             numbers.len()
         )
     })?;

@@ -89,7 +89,7 @@ impl Shape {
         Bounds { low, high }
     }
 
-    /// The nearest triangle that a ray hits, by the exact cast: a none is certain. Of equally near ones it is that of the
+    /// The nearest triangle that a ray hits, by the exact cast: a miss is certain. Of equally near ones it is that of the
     /// lowest number, also where the part is in pieces.
     pub fn cast(&self, ray: &Ray, scratch: &mut Scratch) -> Cast<MeshHit> {
         self.mesh.cast_with(ray, scratch)

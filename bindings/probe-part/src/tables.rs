@@ -128,7 +128,7 @@ pub fn notes(part: &Part, row: &Row) -> String {
             notes.push(format!("turned by {} degrees", fixed(*angle, 2)));
         }
         Outline::Arc { sweep, .. } => notes.push(format!("over {} degrees", fixed(*sweep, 2))),
-        Outline::Other { .. } => notes.push("the box around it".into()),
+        Outline::Other { .. } => notes.push("its bounding box".into()),
         _ => {}
     }
     if let Some(angle) = row.cone {
@@ -168,17 +168,17 @@ pub fn doubt_words(doubt: &Doubt) -> String {
     match doubt {
         Doubt::OpenEdges(count) => format!("{count} open edges: the mesh has gaps"),
         Doubt::TurnedEdges(count) => format!("{count} edges whose triangles face different ways"),
-        Doubt::CrowdedEdges(count) => format!("{count} edges of more than two triangles"),
-        Doubt::Hollow => "a hollow within another part".into(),
+        Doubt::CrowdedEdges(count) => format!("{count} edges shared by more than two triangles"),
+        Doubt::Hollow => "a cavity inside another part".into(),
         Doubt::LeftOver(count) => format!("{count} triangles are not understood"),
         Doubt::NotConfirmed(count) => format!("{count} rows are not confirmed by the casts"),
-        Doubt::UnknownEnds(count) => format!("{count} rows end at what is not understood"),
+        Doubt::UnknownEnds(count) => format!("{count} rows end at surface that is not understood"),
         Doubt::Volume(volume) => format!(
-            "the rows take away another volume than the part lacks: {} mm3 differ",
+            "the volume of the rows does not match the mesh: {} mm3 differ",
             fixed(*volume, 1)
         ),
         Doubt::SeveralShells(count) => {
-            format!("{count} separate parts, and one was expected (--shells: several)")
+            format!("{count} separate parts, but one was expected (--shells allows several)")
         }
         Doubt::OddSize => {
             "no board has this size: is the unit right (--unit mm, cm, m, in)?".into()

@@ -212,7 +212,7 @@ fn calls_that_are_not_right() {
             "--threads takes a number above 0, not \"0\"",
         ),
         (&["--unit", "ft"], "--unit takes mm, cm, m or in"),
-        (&["more"], "\"more\" is one word too many"),
+        (&["more"], "unexpected argument \"more\""),
     ] {
         let (status, _, err) = folder.batch(words);
         assert_eq!(status, 2);
@@ -223,5 +223,5 @@ fn calls_that_are_not_right() {
         .output()
         .unwrap();
     assert_eq!(output.status.code(), Some(2));
-    assert!(String::from_utf8_lossy(&output.stderr).contains("where to? --out DIR"));
+    assert!(String::from_utf8_lossy(&output.stderr).contains("--out DIR is required"));
 }

@@ -90,25 +90,28 @@ fn calls_that_are_not_right() {
     let wrong: [(&[&str], &str); 15] = [
         (
             &["drill", PANEL],
-            "\"drill\" is none of cast, bores, batch, depth",
+            "unknown command \"drill\": use cast, bores, batch or depth",
         ),
-        (&["cast"], "which file?"),
+        (&["cast"], "no file is given"),
         (
             &["cast", PANEL, "1", "2"],
-            "a ray is seven numbers (origin, direction, maximum), and 2 are given",
+            "a ray is seven numbers (origin, direction, maximum), but 2 are given",
         ),
         (
             &["cast", PANEL, "1", "2", "3", "0", "0", "x", "9"],
-            "no number: x",
+            "not a number: x",
         ),
-        (&["cast", PANEL, "--every"], "--every is not known here"),
-        (&["cast", PANEL, "--all", "--rounded"], "take one of them"),
+        (&["cast", PANEL, "--every"], "unknown option --every"),
+        (
+            &["cast", PANEL, "--all", "--rounded"],
+            "cannot be used together",
+        ),
         (&["cast", PANEL, "--rays"], "--rays takes a value"),
         (
             &["cast", "/no/such/file.stl"],
             "/no/such/file.stl: No such file",
         ),
-        (&["bores", PANEL, "7"], "\"7\" is one word too many"),
+        (&["bores", PANEL, "7"], "unexpected argument \"7\""),
         (
             &["depth", PANEL, "--face", "top", "--svg", "x", "--step", "0"],
             "--step takes millimetres above 0, not \"0\"",
@@ -117,18 +120,21 @@ fn calls_that_are_not_right() {
             &[
                 "depth", PANEL, "--face", "top", "--svg", "x", "--step", "0.0001",
             ],
-            "asks for 2000000000000 probes of the top face",
+            "needs 2000000000000 probes of the top face",
         ),
         (
             &["bores", PANEL, "--unit", "ft"],
             "--unit takes mm, cm, m or in, not \"ft\"",
         ),
-        (&["bores", PANEL, "--face", "upper"], "\"upper\" is no face"),
+        (
+            &["bores", PANEL, "--face", "upper"],
+            "\"upper\" is not a face",
+        ),
         (
             &["depth", PANEL, "--png", "x.png"],
-            "depth takes one --face",
+            "depth needs one --face",
         ),
-        (&["depth", PANEL, "--face", "top"], "where to?"),
+        (&["depth", PANEL, "--face", "top"], "is required"),
     ];
     for (words, why) in wrong {
         let (status, out, err) = said(words, b"");
@@ -178,10 +184,15 @@ fn a_file_that_is_no_stl_is_named() {
         (
             "h.gz",
             b"\x1f\x8b\x08\x00".to_vec(),
-            "packed by gzip",
+            "compressed with gzip",
             "gunzip",
         ),
-        ("i.xz", b"\xfd7zXZ\x00\x00".to_vec(), "packed by xz", "unxz"),
+        (
+            "i.xz",
+            b"\xfd7zXZ\x00\x00".to_vec(),
+            "compressed with xz",
+            "unxz",
+        ),
         ("j.off", b"OFF\n8 6 12\n".to_vec(), "an OFF file", "STL"),
         (
             "k.amf",
@@ -238,7 +249,7 @@ fn a_file_that_is_no_stl_is_named() {
     let file = folder.file("w.stl", b"nothing that anybody knows");
     let (_, _, err) = said(&["cast", &file], b"");
     assert!(
-        err.contains("no STL file: 26 bytes that do not begin with 'solid'"),
+        err.contains("not an STL file: 26 bytes that do not begin with 'solid'"),
         "{err}"
     );
     let (status, _, err) = said(&["cast", folder.0.to_str().unwrap()], b"");
@@ -254,7 +265,7 @@ fn rays_from_words_a_file_and_standard_input() {
     // the files have the crate's words on refusal 1; the tool says which test the ray fails
     let told = |name: &str| {
         read(name).replace(
-            "a ray or a query's box that is not admitted",
+            "the ray or the query box is not valid",
             "the maximum is below 0",
         )
     };

@@ -1,9 +1,9 @@
-"""Ray casts at a plane, a triangle, a triangle mesh with its box tree, a height grid and a distance grid.
+"""Ray casts at a plane, a triangle, a triangle mesh with its bounding box tree, a height grid and a distance grid.
 
 The casts, and the tree's build, query and check, are proved calls of a shared library (the repository's README.md). This
-module calls them through ctypes, and adds arrays, types and exceptions: that part is tested, and not proved.
+module calls them through ctypes, and adds arrays, types and exceptions: that part is tested, not proved.
 
-A cast answers a hit, or None where no surface is met, or raises Refused: nothing is known of the surface then.
+A cast returns a hit, or None for a miss. It raises Refused if it refuses: nothing is known of the surface then.
 
   >>> import probe_rays
   >>> square = probe_rays.Mesh([(0, 0, 0), (4, 0, 0), (4, 4, 0), (0, 4, 0)], [(0, 1, 2), (0, 2, 3)])
@@ -16,8 +16,8 @@ A cast answers a hit, or None where no surface is met, or raises Refused: nothin
   Traceback (most recent call last):
   probe_rays.answers.Refused: refused 1, invalid input: the direction's length is not 1
 
-Vertices, rays, heights and values may be any rows of numbers, or a buffer such as a numpy array or an array.array. What
-comes back in arrays is a memoryview, which numpy.asarray takes as it is.
+Vertices, rays, heights and values may be any rows of numbers, or a buffer such as a numpy array or an array.array. Arrays are
+returned as a memoryview, which numpy.asarray accepts directly.
 """
 from .answers import Casts, Hit, MeshHit, NotAdmitted, PartHit, Possible, Refused, TreeDoesNotFit
 from .cabinet import Cabinet, CabinetCast

@@ -1,4 +1,4 @@
-"""Arrays that the module owns, and the pointers to lend."""
+"""Arrays that the module owns, and the pointers that are passed to the library."""
 import ctypes
 import operator
 import sys
@@ -18,16 +18,16 @@ def zeros(code, length):
 
 
 def lent(area):
-    """The two parameters of a slice: an address and a length. The area must outlive the call, and not change its length."""
+    """The two parameters of a slice: an address and a length. The array must outlive the call, and keep its length."""
     address, length = area.buffer_info()
     return ctypes.c_void_p(address or _SPARE_ADDRESS), ctypes.c_size_t(length)
 
 
 def whole(number, bits, what):
-    """A whole number of so many bits: ctypes would cut a larger one down to an admitted one in silence."""
+    """An unsigned integer of this many bits. ctypes would silently truncate a larger one."""
     number = operator.index(number)
     if not 0 <= number < 2**bits:
-        raise OverflowError(f"{what}: {number} has no {bits} bits")
+        raise OverflowError(f"{what}: {number} is not an unsigned integer of {bits} bits")
     return number
 
 
@@ -39,7 +39,7 @@ def _view(values):
 
 
 def _fill(own, values, width, what, inner=False):
-    """Adds the numbers of rows, and of rows of rows; the innermost have `width` numbers, a flat row any number."""
+    """Appends the numbers of rows, and of rows of rows. The innermost rows have `width` numbers; a flat row has any number."""
     start, flat = len(own), True
     for value in values:
         if hasattr(value, "__iter__"):
@@ -48,16 +48,16 @@ def _fill(own, values, width, what, inner=False):
         else:
             own.append(value)
     if inner and flat and len(own) - start != width:
-        raise ValueError(f"{what}: a row of {len(own) - start} numbers, and {width} are asked for")
+        raise ValueError(f"{what}: a row has {len(own) - start} numbers, not {width}")
 
 
 def owned(values, code, width, what):
-    """An array of its own: of a buffer, of rows of `width` numbers, or of a flat row of numbers."""
+    """A copy as an array: of a buffer, of rows of `width` numbers, or of a flat row of numbers."""
     view = _view(values)
     own = array(code)
     if view is not None:
         if view.ndim > 1 and view.shape[-1] != width:
-            raise ValueError(f"{what}: rows of {view.shape[-1]} numbers, and {width} are asked for")
+            raise ValueError(f"{what}: a row has {view.shape[-1]} numbers, not {width}")
         if view.format.lstrip("@=" + _NATIVE) == code and view.c_contiguous:
             if view.nbytes:
                 own.frombytes(view.cast("B"))
@@ -67,7 +67,7 @@ def owned(values, code, width, what):
 
 
 def shaped(area, width):
-    """A view to read, of rows of `width` numbers."""
+    """A read-only view, in rows of `width` numbers."""
     if not area:
         return memoryview(area).toreadonly()
     return memoryview(area).cast("B").cast(area.typecode, (len(area) // width, width)).toreadonly()

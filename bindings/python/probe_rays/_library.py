@@ -1,4 +1,4 @@
-"""The shared library and its calls. The calls, codes and refusals are read from the header, so that nothing is said twice."""
+"""The shared library and its calls. The calls, codes and refusals are read from the header, so they are stated only there."""
 import ctypes
 import os
 import pathlib
@@ -16,7 +16,7 @@ def _header():
 
 
 def declared(text):
-    """Each call of the header with the types of its parameters; every pointer is one to anything."""
+    """Each call of the header with the types of its parameters; every pointer is a void pointer."""
     calls = {}
     for name, parameters in re.findall(r"^uint32_t (probe_\w+)\(([^)]*)\);", text, re.M):
         words = [] if parameters.strip() == "void" else parameters.split(",")
@@ -27,7 +27,7 @@ def declared(text):
 def _loaded(calls_version):
     name = f"libprobe_rays.so.{calls_version}"
     named = os.environ.get("PROBE_RAYS_LIBRARY")
-    # a file that is named is the one; else that of this folder, or one that the system finds
+    # the file that is named; otherwise that of this folder, or one that the system finds
     candidates = [named] if named else [str(ROOT / "lib" / name), str(ROOT / "target" / "install" / "lib" / name), name]
     said = []
     for candidate in candidates:
@@ -36,8 +36,8 @@ def _loaded(calls_version):
         except OSError as why:
             said.append(str(why))
     raise ImportError(
-        "\n".join(said) + "\nthe shared library is not there: run `tools/install PREFIX` in the repository, or unpack a release"
-        " archive, and put PREFIX/lib/python on PYTHONPATH, or name the library's file by PROBE_RAYS_LIBRARY"
+        "\n".join(said) + "\nthe shared library is not found: run `tools/install PREFIX` in the repository, or unpack a release"
+        " archive, and put PREFIX/lib/python on PYTHONPATH; or set PROBE_RAYS_LIBRARY to the library's file"
     )
 
 
@@ -54,14 +54,14 @@ library.probe_version.restype = ctypes.c_uint32
 
 
 def version():
-    """The version of the library's calls: VERSION, if the header is its own."""
+    """The version of the library's calls. It is VERSION if the header belongs to the library."""
     return library.probe_version()
 
 
 if version() != VERSION:
-    raise ImportError(f"the library's calls have version {version()}, and those of the header {VERSION}")
+    raise ImportError(f"the library's calls have version {version()}, but those of the header have version {VERSION}")
 for _name, _kinds in declared(_text).items():
     _call = getattr(library, _name, None)
     if _call is None:
-        raise ImportError(f"the library has no {_name}, which the header has: they are not of one release")
+        raise ImportError(f"the library has no {_name}, but the header has: they are from different releases")
     _call.argtypes, _call.restype = _kinds, ctypes.c_uint32

@@ -1,4 +1,4 @@
-"""What the casts answer."""
+"""What the casts return."""
 import math
 from array import array
 from typing import NamedTuple, Tuple
@@ -8,29 +8,29 @@ from ._library import HIT, NONE, REFUSALS
 from .faults import fault_of
 
 _WORDS = {
-    "INVALID_INPUT": "invalid input: a ray or a query's box that is not admitted",
-    "BAD_SHAPE": "bad shape: a count, length or parameter outside the limits",
-    "NO_ROOM": "no room: a lent slice is too short",
-    "WRONG_POSE": "wrong pose: not as many vertices as the mesh has",
-    "OUT_OF_BOUNDS": "out of bounds: an index or a box that does not fit",
-    "OVERFLOW": "overflow: a number on the way is not finite",
-    "NO_NORMAL": "no normal: the surface hit has no unit normal",
-    "NOT_CONVERGENT": "not convergent: the walk through the grid has no answer",
+    "INVALID_INPUT": "invalid input: the ray or the query box is not valid",
+    "BAD_SHAPE": "bad shape: a count, a length or a parameter is outside the limits, or a record is malformed",
+    "NO_ROOM": "no room: a buffer is too short",
+    "WRONG_POSE": "wrong pose: the pose does not have as many vertices as the mesh",
+    "OUT_OF_BOUNDS": "out of bounds: an index, a box or a tree does not fit",
+    "OVERFLOW": "overflow: a computed number is not finite",
+    "NO_NORMAL": "no normal: the surface that is hit has no unit normal",
+    "NOT_CONVERGENT": "not convergent: the traversal of the distance grid has no answer",
     "BAD_RANGE": "bad range: a range of heights is out of order or not finite",
-    "LIMIT_REACHED": "limit reached: the cast would look at more nodes than admitted",
-    "NOT_HELD": "not held: a record's float is NaN, or is no f32 exactly",
-    "OUT_OF_RANGE": "out of range: the origin or a corner is not within 8,192, near or the maximum above 32,768",
+    "LIMIT_REACHED": "limit reached: the cast would visit more nodes than the limit allows",
+    "NOT_REPRESENTABLE": "not representable: a float of the record is NaN, or no f32 is exactly that number",
+    "OUT_OF_RANGE": "out of range: the origin or a corner is not within 8,192, or near or the maximum is above 32,768",
 }
 
 
 class NotAdmitted(Exception):
-    """What every exception of this module is one of."""
+    """The base class of all exceptions of this module."""
 
 
 class Refused(NotAdmitted):
-    """A call refused: nothing is known of the surface. `number` is that of the header's table, `ray` the ray's index in a
-    batch, `spent` the nodes that a cabinet's cast has spent, and `fault` the test of refusal 1 that the ray fails; else they
-    are None."""
+    """A call refused: nothing is known of the surface. `number` is the refusal's number in the header's table. `ray` is the
+    ray's index in a batch, `spent` the number of nodes that a cabinet's cast has spent, and `fault` the test of refusal 1 that
+    the ray fails; otherwise these are None."""
 
     def __init__(self, number, ray=None, spent=None, fault=None):
         name = REFUSALS.get(number)
@@ -42,21 +42,21 @@ class Refused(NotAdmitted):
 
 
 class TreeDoesNotFit(NotAdmitted):
-    """The tree check says no."""
+    """The tree does not pass the check."""
 
     def __init__(self):
         super().__init__("the tree does not fit the mesh")
 
 
 class Hit(NamedTuple):
-    """What a ray met. A zero of the normal may be -0.0: a normal that is turned turns its zeros."""
+    """A hit. A zero of the normal may be -0.0: a normal that is negated negates its zeros too."""
 
     distance: float
     normal: Tuple[float, float, float]
 
 
 class MeshHit(NamedTuple):
-    """What a ray met of a mesh: the triangle's index, from 0."""
+    """A hit on a mesh, with the triangle's index, from 0."""
 
     distance: float
     normal: Tuple[float, float, float]
@@ -64,7 +64,7 @@ class MeshHit(NamedTuple):
 
 
 class PartHit(NamedTuple):
-    """What a ray met of a cabinet: the part, from 0, and the triangle's index in its mesh."""
+    """A hit on a cabinet, with the part, from 0, and the triangle's index in its mesh."""
 
     distance: float
     normal: Tuple[float, float, float]
@@ -73,19 +73,19 @@ class PartHit(NamedTuple):
 
 
 class Possible(NamedTuple):
-    """A grid within the ranges may be met, first in this cell: row * (columns - 1) + column."""
+    """The ray may meet a grid within the ranges, first in this cell: row * (columns - 1) + column."""
 
     cell: int
 
 
 def refusal_of(answer, numbers, ray=None, spent=None):
-    """The refusal of a cast of a ray of these numbers, with the test that it fails where that is why."""
+    """The refusal of a cast of a ray of these numbers; for refusal 1 with the test that the ray fails."""
     fault = fault_of(numbers) if REFUSALS.get(answer) == "INVALID_INPUT" else None
     return Refused(answer, ray, spent, fault)
 
 
 def settled(answer, numbers, hit, spent=None):
-    """The hit of a call that answers one for a ray of these numbers, None where there is none; raises Refused."""
+    """The hit of a call for a ray of these numbers, or None for a miss; raises Refused."""
     if answer == HIT:
         return hit()
     if answer == NONE:
@@ -94,12 +94,12 @@ def settled(answer, numbers, hit, spent=None):
 
 
 class Casts:
-    """The answers of many casts, in the rays' order.
+    """The results of many casts, in the rays' order.
 
-    As a sequence it has a MeshHit or None for each ray, and raises Refused at a ray that was refused. The arrays are views:
-    `answers` has the numbers that the calls answered; `distances` is infinite where there is none and NaN where the ray was
-    refused; `normals` has three numbers a ray, NaN where there is no hit; `triangles` is NO_TRIANGLE there. `refused` lists the
-    indices of the rays that were refused.
+    As a sequence it has a MeshHit or None for each ray, and raises Refused at a ray that was refused. The arrays are views.
+    `answers` has the library's numbers. `distances` is infinite for a miss, and NaN for a ray that was refused. `normals` has
+    three numbers a ray, NaN if there is no hit; `triangles` is NO_TRIANGLE then. `refused` lists the indices of the rays that
+    were refused.
     """
 
     NO_TRIANGLE = 2**32 - 1
@@ -127,22 +127,22 @@ class Casts:
 
 
 class Results:
-    """Where a call of many rays writes its answers: a code and an index a ray, and four numbers."""
+    """Where a call of many rays writes its results: for each ray a code, an index and four numbers."""
 
     def __init__(self, count):
-        # what a ray has that meets nothing: the library writes a hit's places alone
+        # the values of a miss: the library writes only the places of a hit
         self.codes, self.hits = zeros("I", count), array("d", [math.nan, math.nan, math.nan, math.inf]) * count
         self.indices = array("I", [Casts.NO_TRIANGLE]) * count
         self.lent = (*lent(self.codes), *lent(self.hits), *lent(self.indices))
 
     def put(self, ray, answer, hit, index):
-        """The answer of a single call, as a call of many rays has it."""
+        """Stores the result of a single call, as a call of many rays does."""
         self.codes[ray] = answer
         if answer == HIT:
             self.hits[4 * ray : 4 * ray + 4], self.indices[ray] = hit, index
 
     def casts(self, rays):
-        """The answers of these rays, eight numbers each."""
+        """The results of these rays, eight numbers each."""
         normals, distances = zeros("d", 3 * len(self.codes)), self.hits[3::4]
         for axis in range(3):
             normals[axis::3] = self.hits[axis::4]

@@ -1,4 +1,4 @@
-"""A cabinet of many parts, cast at under one limit of nodes."""
+"""A cabinet of many parts, cast at under one limit on the nodes."""
 import ctypes
 from array import array
 from typing import NamedTuple, Optional
@@ -35,14 +35,14 @@ NO_LIMIT = 2**64 - 1
 
 
 class CabinetCast(NamedTuple):
-    """What a cast at a cabinet met, a PartHit or None, and the nodes spent on it."""
+    """The result of a cast at a cabinet, a PartHit or None, and the number of nodes spent on it."""
 
     hit: Optional[PartHit]
     spent: int
 
 
 class _Lent:
-    """The parts and the areas that they share, as they stand: casts keep it while the cabinet grows."""
+    """The parts and the buffers that they share. Casts that run keep it while the cabinet grows."""
 
     def __init__(self, placed):
         self.areas = [array(code) for code in "dIddII"]
@@ -72,7 +72,7 @@ class _Lent:
 
 
 class Cabinet:
-    """Meshes with their trees, each at an origin of its own. A mesh that is placed more than once is kept once."""
+    """Meshes with their trees, each at its own origin. A mesh that is placed more than once is stored once."""
 
     def __init__(self):
         self._placed, self._lent = [], None
@@ -81,7 +81,7 @@ class Cabinet:
         return len(self._placed)
 
     def add(self, mesh, origin):
-        """Places a mesh, and gives the part's number."""
+        """Places a mesh, and returns the part's number."""
         x, y, z = origin
         self._placed.append((mesh, (x, y, z)))
         self._lent = None
@@ -93,8 +93,8 @@ class Cabinet:
         return sum(mesh._tree.nodes for mesh, _ in self._placed)
 
     def cast(self, ray, limit=None):
-        """The nearest triangle of all parts, of equally near ones that of the lowest part and then of the lowest index, where at
-        most `limit` nodes are looked at. Raises Refused with 1, 6, 7 or 10; its `spent` are the nodes spent."""
+        """The nearest triangle of all parts, visiting at most `limit` nodes; of equally near ones, the one of the lowest part and
+        then of the lowest index. Raises Refused with 1, 6, 7 or 10; its `spent` is the number of nodes spent."""
         shared = self._lent
         if shared is None:
             shared = self._lent = _Lent(list(self._placed))

@@ -1,6 +1,6 @@
-"""What is known of a mesh before a ray is cast: its box, whether it is closed, and how many shells it has.
+"""Facts about a mesh before a ray is cast: its bounding box, whether it is closed, and how many shells it has.
 
-The calls look at vertex indices, so equal corners have to be one vertex, as read_stl makes them. They take any number of
+The functions compare vertex indices, so equal corners must be one vertex, as read_stl makes them. They take any number of
 triangles.
 
   >>> from probe_rays import bounds, open_edges, shells
@@ -15,8 +15,8 @@ from ._arrays import owned
 
 
 def bounds(vertices):
-    """The least and the largest coordinates of the vertices, as two tuples, or None where there are none. A NaN is passed
-    over, unless all numbers of an axis are."""
+    """The minimum and the maximum coordinates of the vertices, as two tuples, or None if there are no vertices. A NaN is
+    ignored, unless all numbers of an axis are NaN."""
     numbers = owned(vertices, "d", 3, "vertices")
     if not numbers:
         return None
@@ -26,16 +26,16 @@ def bounds(vertices):
 
 
 def _edges(triangles):
-    """The edges of each triangle, in the direction in which it passes them."""
+    """The edges of each triangle, in the triangle's direction."""
     indices = owned(triangles, "I", 3, "triangles")
     for a, b, c in zip(indices[::3], indices[1::3], indices[2::3]):
         yield (a, b), (b, c), (c, a)
 
 
 def open_edges(triangles):
-    """How many edges are not shared by exactly two triangles that pass it in opposite directions. A closed surface whose
-    triangles all face outward has none."""
-    # how often an edge is passed from the lower vertex to the higher, and how often back
+    """The number of edges that are not shared by exactly two triangles in opposite directions. A closed surface whose triangles
+    all face outward has none."""
+    # how often an edge is used from the lower vertex to the higher, and how often back
     passed = {}
     for edges in _edges(triangles):
         for start, end in edges:
@@ -45,7 +45,7 @@ def open_edges(triangles):
 
 
 def shells(triangles):
-    """How many shells there are: sets of triangles that are connected through common edges."""
+    """The number of shells: sets of triangles that are connected through common edges."""
     parents, first, count = [], {}, 0
 
     def root_of(triangle):

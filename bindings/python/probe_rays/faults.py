@@ -1,4 +1,4 @@
-"""Which test of refusal 1 a ray fails, in the words of the Rust crate and the C++ header."""
+"""The test of refusal 1 that a ray fails, in the words of the Rust crate and the C++ header."""
 import math
 
 # the squares whose roots are not more than 1e-12 from 1
@@ -6,7 +6,7 @@ _UNIT_SQUARES = (0.999999999998, 1.000000000002)
 
 
 def fault_of(numbers):
-    """Of a ray's eight numbers; None where it is admitted."""
+    """The test that a ray of these eight numbers fails; None if it fails none."""
     origin, direction, (most, near) = numbers[:3], numbers[3:6], numbers[6:]
     square = sum(part * part for part in direction)
     tests = (

@@ -6,16 +6,16 @@ from .ray import cast_at_shape
 
 
 def _numbers(values, count, what):
-    """So many numbers."""
+    """This many numbers."""
     numbers = tuple(values)
     if len(numbers) != count:
-        raise ValueError(f"{what}: {len(numbers)} numbers, and {count} are asked for")
+        raise ValueError(f"{what}: {len(numbers)} numbers, not {count}")
     return numbers
 
 
 class HeightField:
-    """Heights over a grid: that of row r and column c stands over x = c * spacing[0], y = r * spacing[1]. The heights are
-    rows of numbers, or flat, row after row."""
+    """A height grid: the height of row r and column c is at x = c * spacing[0], y = r * spacing[1]. The heights are rows of
+    numbers, or flat, row after row."""
 
     def __init__(self, heights, rows, columns, spacing):
         self._heights = owned(heights, "d", columns, "heights")
@@ -27,15 +27,15 @@ class HeightField:
 
 
 class HeightRanges:
-    """The same grid where only a low and a high are known for each height."""
+    """The same grid, with only a low and a high known for each height."""
 
     def __init__(self, lows, highs, rows, columns, spacing):
         self._lows, self._highs = owned(lows, "d", columns, "lows"), owned(highs, "d", columns, "highs")
         self._shape = (whole(rows, 64, "rows"), whole(columns, 64, "columns"), *_numbers(spacing, 2, "spacing"))
 
     def cast(self, ray):
-        """None where the height cast is none on every grid within the ranges, else Possible, the first cell in which one may
-        be met. Raises Refused with 1, 2, 6 or 9."""
+        """None if the height cast is a miss on every grid within the ranges. Otherwise Possible: the first cell in which the ray
+        may meet one. Raises Refused with 1, 2, 6 or 9."""
         cell, numbers = zeros("I", 1), ray.numbers()
         answer = library.probe_ray_height_ranges(
             *numbers, *self._shape, *lent(self._lows), *lent(self._highs), *lent(cell)
@@ -48,8 +48,8 @@ class HeightRanges:
 
 
 class LevelSet:
-    """Distances from a surface over a grid: that of node (i, j, k) stands at origin + (i, j, k) * spacing, and at place
-    (k * sides[1] + j) * sides[0] + i of the values, which are flat, or rows along x."""
+    """A grid of distances from a surface: the distance at node (i, j, k), at origin + (i, j, k) * spacing, is at place
+    (k * sides[1] + j) * sides[0] + i of the values. These are flat, or rows along x."""
 
     def __init__(self, values, sides, origin, spacing):
         self._values = owned(values, "d", sides[0], "values")

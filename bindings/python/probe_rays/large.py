@@ -12,13 +12,14 @@ OUT_OF_BOUNDS = 5
 
 
 class LargeMesh:
-    """A mesh of any number of triangles: one Mesh, or, where that would be too large, a cabinet of them, halved along the longest
-    side until each piece may be one. Triangles are counted from 0, in the order that they were given in. Threads may share it.
+    """A mesh of any number of triangles: one Mesh, or, if that would be too large, a cabinet of them, halved along the longest
+    side until each piece is small enough. Triangles are counted from 0, in the order in which they were given. Threads may share
+    it.
 
-    Raises Refused with 5 (no triangle, an index past the vertices, a triangle whose box is not finite) or 6."""
+    Raises Refused with 5 (no triangle, an index past the vertices, or a triangle whose box is not finite) or 6."""
 
     def __init__(self, vertices, triangles, most=MAX_COUNT):
-        """With pieces of at most so many triangles, and as many vertices: at least 1 and 3, at most 65,536."""
+        """Builds pieces of at most `most` triangles and as many vertices: at least 1 and 3, at most 65,536."""
         self._vertices, self._triangles = owned(vertices, "d", 3, "vertices"), owned(triangles, "I", 3, "triangles")
         if not self._triangles or max(self._triangles) >= len(self._vertices) // 3:
             raise Refused(OUT_OF_BOUNDS)
@@ -30,11 +31,11 @@ class LargeMesh:
 
     @classmethod
     def from_stl(cls, path):
-        """The mesh of an STL file, binary or ASCII; equal vertices are merged. Raises StlError where the file is not right."""
+        """The mesh of an STL file, binary or ASCII; equal vertices are merged. Raises StlError if the file is wrong."""
         return cls(*read_stl(path, most=None))
 
     def _split(self, numbers):
-        """The triangles of these numbers, ascending, as one piece, or in halves: each piece as a Mesh and its numbers."""
+        """The triangles of these numbers, in ascending order, as one piece, or in halves: each piece as a Mesh and its numbers."""
         if len(numbers) <= self._most:
             vertices, triangles = self._part_of(numbers)
             if len(vertices) <= 3 * max(self._most, 3):
@@ -44,7 +45,7 @@ class LargeMesh:
             yield from self._split(half)
 
     def _part_of(self, numbers):
-        """The vertices and triangles of some of the triangles, each vertex where it comes first."""
+        """The vertices and triangles of some of the triangles; the vertices are in the order of their first use."""
         places, vertices, triangles = {}, array("d"), array("I")
         for number in numbers:
             for index in self._triangles[3 * number : 3 * number + 3]:
@@ -55,8 +56,8 @@ class LargeMesh:
         return vertices, triangles
 
     def _halves(self, numbers):
-        """Two or more triangles in two halves, along the longest side of the box of their middles. Each is ascending, so that of
-        equally near triangles of a piece the first is the answer."""
+        """Splits two or more triangles into halves, along the longest side of the box of their centres. Each half is in ascending
+        order, so that of equally near triangles of a piece the first is returned."""
         def middle(number, axis):
             return sum(self._vertices[3 * index + axis] for index in self._triangles[3 * number : 3 * number + 3])
 
@@ -67,8 +68,8 @@ class LargeMesh:
         return sorted(ordered[:half]), sorted(ordered[half:])
 
     def cast(self, ray):
-        """The nearest MeshHit by the exact cast (Mesh.cast_exact), or None, which is certain. Of equally near triangles, also of
-        different pieces, it is that of the lowest number. Raises Refused with 1 or 12."""
+        """The nearest MeshHit by the exact cast (Mesh.cast_exact), or None: this miss is certain. Of equally near triangles, also
+        of different pieces, it is the one with the lowest number. Raises Refused with 1 or 12."""
         hits = []
         for mesh, numbers in self._pieces:
             hit = mesh.cast_exact(ray)
@@ -77,8 +78,8 @@ class LargeMesh:
         return min(hits, key=lambda hit: (hit.distance, hit.triangle), default=None)
 
     def cast_rounded(self, ray):
-        """The nearest MeshHit by the rounded cast (Mesh.cast), or None. Of equally near triangles of different pieces it is that
-        of the first piece. Raises Refused with 1, 6 or 7."""
+        """The nearest MeshHit by the rounded cast (Mesh.cast), or None. Of equally near triangles of different pieces it is the
+        one of the first piece. Raises Refused with 1, 6 or 7."""
         hit = self._cabinet.cast(ray).hit
         if hit is None:
             return None
@@ -86,15 +87,15 @@ class LargeMesh:
 
     @property
     def pieces(self):
-        """How many meshes it consists of."""
+        """The number of meshes that it consists of."""
         return len(self._pieces)
 
     @property
     def vertices(self):
-        """A view to read, of three numbers a vertex."""
+        """A read-only view, of three numbers a vertex."""
         return shaped(self._vertices, 3)
 
     @property
     def triangles(self):
-        """A view to read, of three vertex indices a triangle."""
+        """A read-only view, of three vertex indices a triangle."""
         return shaped(self._triangles, 3)

@@ -9,7 +9,7 @@ from .stl import read_stl
 
 
 class Tree(NamedTuple):
-    """A tree, from whatever builder. The table in probe_rays.h says how long each area is and what it holds."""
+    """A tree, from whatever builder. The table in probe_rays.h gives the lengths and contents of its buffers."""
 
     nodes: int
     node_boxes: object
@@ -29,7 +29,7 @@ def _tree_owned(tree):
 
 
 def _with_room(n):
-    """The areas of a tree of n triangles, all zeros. Of too many the library refuses whatever the areas, so none are made."""
+    """The buffers of a tree of n triangles, all zeros. The library refuses too many anyway, so none are made then."""
     n = n if n <= MAX_COUNT else 0
     return Tree(0, zeros("d", 12 * n), zeros("d", 6 * n), zeros("I", 6 * n), zeros("I", n))
 
@@ -61,7 +61,7 @@ def tree_check(vertices, triangles, tree):
 
 
 class _Scratch:
-    """The work areas of one thread's casts at one mesh: what they hold before a call changes nothing."""
+    """The work buffers of one thread's casts at one mesh. Their contents before a call do not matter."""
 
     def __init__(self, n, nodes):
         self.list, self.stack = zeros("I", n), zeros("I", nodes + 1)
@@ -82,54 +82,55 @@ class _Place:
 
 
 def _rays(origins, directions, max_distance, near_distance):
-    """Eight numbers a ray, one ray after the other, of arrays of which any may be one for all rays."""
+    """Eight numbers a ray, one ray after the other. Each of the arrays has one entry for each ray, or one for all."""
     columns = []
     for values, width, what in (
         (origins, 3, "origins"), (directions, 3, "directions"), (max_distance, 1, "maxima"), (near_distance, 1, "near distances")
     ):
         column = owned(values if hasattr(values, "__iter__") else [values], "d", width, what)
         if len(column) % width:
-            raise ValueError(f"{what}: {len(column)} numbers, which {width} does not divide")
+            raise ValueError(f"{what}: {len(column)} numbers, which is no multiple of {width}")
         columns.append((column, width, len(column) // width, what))
     counts = [many for _, _, many, _ in columns]
     count = max(counts) if all(counts) else 0
     rays, place = zeros("d", 8 * count), 0
     for column, width, many, what in columns:
         if many not in (1, count):
-            raise ValueError(f"{count} rays, and {many} {what}: as many are asked for, or one")
+            raise ValueError(f"{count} rays, but {many} {what}: give one for each ray, or one for all")
         for part in range(width if count else 0):
-            # one number for each ray, or the same for all; a slice of an array is copied without a turn of the interpreter
+            # one number for each ray, or the same for all; a slice of an array is copied without a loop in Python
             rays[place + part :: 8] = column[part::width] * (count if many == 1 else 1)
         place += width
     return rays
 
 
 class PlainMesh:
-    """A mesh without a tree, for parts of few triangles: nothing is built, and a cast looks at every triangle. That it answers
-    what Mesh.cast answers, refusals included, is proved."""
+    """A mesh without a tree, for parts of few triangles: nothing is built, and a cast visits every triangle. It is proved to
+    return what Mesh.cast returns, refusals included."""
 
     def __init__(self, vertices, triangles):
         self._vertices, self._triangles = _vertices(vertices), _triangles(triangles)
         self._fixed = (*lent(self._vertices), *lent(self._triangles))
 
     def cast(self, ray):
-        """The nearest MeshHit, of equally near ones that of the lowest index, or None. Raises Refused with 1, 2, 5, 6 or 7."""
+        """The nearest MeshHit, or None; of equally near ones, the one with the lowest index. Raises Refused with 1, 2, 5, 6 or 7."""
         place, numbers = _Place(), ray.numbers()
         answer = library.probe_ray_mesh_plain(*numbers, *self._fixed, *place.lent)
         return settled(answer, numbers, place.met)
 
     def cast_exact(self, ray):
-        """The first MeshHit, decided in whole numbers, or None, which is certain: a ray down a side, through a corner or along a
-        face is a hit.
+        """The exact cast: the first MeshHit, decided in integers, or None. A miss is certain. A ray along an edge or through a corner
+        is a hit, and triangles coplanar with the ray count.
 
-        Coordinates are read on a grid of 2^-15 mm (the nearest whole number of units, ties to even), a direction's component as
-        the nearest multiple of 2^-30; the segment is origin + s * direction / 2^30 for s from near to the maximum, both included;
-        a triangle is the closed hull of its three grid corners and counts if these do not lie on one line. None exactly where no
-        point of the segment lies in such a triangle; else a hit at the least depth over all triangles, its distance the float
-        nearest to it, the lowest index where several round to it.
+        Coordinates are rounded to a grid of 2^-15 mm (to the nearest whole number of units, ties to even), and each component of
+        the direction to the nearest multiple of 2^-30. The segment is origin + s * direction / 2^30 for s from near to the maximum,
+        both included. A triangle is the closed convex hull of its three grid corners; it counts if these are not collinear. The cast
+        is a miss exactly if no point of the segment lies in such a triangle. Otherwise it returns the hit at the least depth over
+        all triangles. The distance is the float nearest to this depth, and the index is the lowest of the triangles whose depths
+        round to it.
 
-        Raises Refused with 12 where the origin or a corner of a triangle of the mesh is not a number from -8,192 to 8,192, or near
-        or the maximum is above 32,768; with 1, 2 or 5 as `cast` does."""
+        Raises Refused with 12 if the origin or a corner of a triangle of the mesh is not a number from -8,192 to 8,192, or near or
+        the maximum is above 32,768; with 1, 2 or 5 as `cast` does."""
         place, numbers = _Place(), ray.numbers()
         answer = library.probe_ray_mesh_exact_plain(*numbers, *self._fixed, *place.lent)
         return settled(answer, numbers, place.met)
@@ -141,10 +142,10 @@ class PlainMesh:
 
 class Mesh:
     """A mesh and a tree that fits it: built here, or somebody else's that passed the check. So a cast at the mesh's own
-    vertices misses no triangle whose box touches that of the ray's segment. Neither can be changed; threads may share it.
+    vertices misses no triangle whose box touches the box of the ray's segment. Neither can be changed; threads may share it.
 
-    Raises Refused with 2 (more than 65,536 vertices or triangles), 5 (no triangle, an index past the vertices, a triangle whose
-    box is not finite) or 6."""
+    Raises Refused with 2 (more than 65,536 vertices or triangles), 5 (no triangle, an index past the vertices, or a triangle
+    whose box is not finite) or 6."""
 
     def __init__(self, vertices, triangles):
         vertices, triangles = _vertices(vertices), _triangles(triangles)
@@ -170,12 +171,12 @@ class Mesh:
 
     @classmethod
     def from_stl(cls, path):
-        """The mesh of an STL file, binary or ASCII; equal vertices are merged. Raises StlError where the file is not right."""
+        """The mesh of an STL file, binary or ASCII; equal vertices are merged. Raises StlError if the file is wrong."""
         return cls(*read_stl(path))
 
     @classmethod
     def with_tree(cls, vertices, triangles, tree):
-        """Takes a tree that somebody else built, if it passes the check: with one that does not, a cast could miss a surface.
+        """Takes a tree that somebody else built, if it passes the check. With a tree that does not, a cast could miss a surface.
         Raises TreeDoesNotFit, or Refused with 2 or 3."""
         vertices, triangles, tree = _vertices(vertices), _triangles(triangles), _tree_owned(tree)
         if not _passes(vertices, triangles, tree):
@@ -183,11 +184,11 @@ class Mesh:
         return cls._of(vertices, triangles, tree)
 
     def glue(self, other):
-        """Both as one mesh: the other's vertices and triangles follow this one's. A cast at it answers the nearer of the two
-        hits. Raises Refused with 2 where both together have more than 65,536 vertices or triangles."""
+        """Merges both into one mesh: the other's vertices and triangles follow this one's. A cast at it returns the nearer of the
+        two hits. Raises Refused with 2 if both together have more than 65,536 vertices or triangles."""
         count, n = len(self._vertices) + len(other._vertices), len(self._triangles) + len(other._triangles)
         if count > 3 * MAX_COUNT or n > 3 * MAX_COUNT:
-            count = n = 0  # it refuses whatever the areas
+            count = n = 0  # the call refuses whatever the buffers are
         vertices, triangles, tree = zeros("d", count), zeros("I", n), _with_room(n // 3)
         marks, nodes = zeros("I", n), zeros("Q", 1)
         answer = library.probe_merge(
@@ -205,10 +206,11 @@ class Mesh:
         return own.scratch
 
     def cast(self, ray, pose=None):
-        """The nearest MeshHit, of equally near ones that of the lowest index, or None. Raises Refused with 1, 6 or 7.
+        """The nearest MeshHit, or None; of equally near ones, the one with the lowest index. Raises Refused with 1, 6 or 7.
 
-        With a pose it casts at those vertices, as many as the mesh's (else 4, or 2): the tree's boxes stay those of the mesh's
-        own, and only triangles whose box there touches that of the ray's segment are cast at."""
+        With a pose it casts at those vertices. They must be as many as the mesh's; otherwise it raises Refused with 4 or 2. The
+        tree's boxes stay those of the mesh's own vertices: only triangles whose box there touches the box of the ray's segment are
+        tested."""
         pose = self._vertices if pose is None else owned(pose, "d", 3, "pose")
         place, numbers = _Place(), ray.numbers()
         answer = library.probe_ray_mesh_near(
@@ -217,17 +219,17 @@ class Mesh:
         return settled(answer, numbers, place.met)
 
     def cast_exact(self, ray, pose=None):
-        """What PlainMesh.cast_exact answers, through the tree: that the two agree is proved for a mesh without a NaN. A mesh is
-        asked for one when it is made; one that has it is cast at without its tree. With a pose it casts at those vertices, as
-        `cast` does, and None is not certain there.
+        """The exact cast. It returns what PlainMesh.cast_exact returns, through the tree: the two are proved to agree for a mesh
+        without a NaN. The constructor looks for a NaN, and a mesh that has one is cast at without its tree. With a pose it casts
+        at those vertices, as `cast` does; a miss is not certain there.
 
         >>> from probe_rays import Mesh, Ray
         >>> part = Mesh([(0, 0, 0), (31, 0, 0), (0, 31, 0), (31, 31, 0)], [(0, 1, 2), (3, 2, 1)])
         >>> part.cast_exact(Ray((1, 30, 1), (0, 0, -1), 2)).distance
         1.0
 
-        Raises Refused with 1, or with 12 where the origin or a corner of a triangle of the mesh is not a number from -8,192 to
-        8,192, or near or the maximum is above 32,768."""
+        Raises Refused with 1, or with 12 if the origin or a corner of a triangle of the mesh is not a number from -8,192 to 8,192,
+        or near or the maximum is above 32,768."""
         place, numbers = _Place(), ray.numbers()
         if pose is None and not self._has_numbers:
             return settled(library.probe_ray_mesh_exact_plain(*numbers, *self._mesh, *place.lent), numbers, place.met)
@@ -238,10 +240,10 @@ class Mesh:
         return settled(answer, numbers, place.met)
 
     def cast_many(self, origins, directions, max_distance, near_distance=0.0, refused="raise"):
-        """The `cast` of many rays by one call of the library: Casts. Origins, directions, maxima and near distances are one for
+        """The `cast` of many rays, as Casts, by one call of the library. Give one origin, direction, maximum and near distance for
         each ray, or one for all.
 
-        A ray that is refused raises Refused with its index; with refused="keep" it stands among the answers.
+        A ray that is refused raises Refused with its index; with refused="keep" it is kept among the results.
 
         >>> from probe_rays import Mesh
         >>> part = Mesh([(0, 0, 0), (4, 0, 0), (0, 4, 0)], [(0, 1, 2)])
@@ -259,7 +261,7 @@ class Mesh:
         return self._cast_each(_rays(origins, directions, max_distance, near_distance), refused, call, work)
 
     def _cast_each(self, rays, refused, call, work):
-        """The answers of rays of eight numbers each, by one call, or without a tree where there is none."""
+        """The results of rays of eight numbers each, by one call; without a tree if there is no call."""
         if refused not in ("raise", "keep"):
             raise ValueError("refused: 'raise' or 'keep'")
         results = Results(len(rays) // 8)
@@ -282,7 +284,7 @@ class Mesh:
             results.put(ray, answer, place.hit, place.index[0])
 
     def cast_all(self, ray, pose=None):
-        """Every triangle that a ray hits, each once, in order of depth, as a list of MeshHit; that of `cast` is the first.
+        """Every triangle that a ray hits, each once, in order of depth, as a list of MeshHit. The hit of `cast` is the first.
         Raises Refused with 1, 6 or 7."""
         pose = self._vertices if pose is None else owned(pose, "d", 3, "pose")
         n = len(self._triangles) // 3
@@ -298,7 +300,7 @@ class Mesh:
         return [MeshHit(place[0], tuple(place[1:]), index) for place, index in zip(places, indices)]
 
     def query(self, minimum, maximum):
-        """The triangles whose boxes touch a box, ascending, as a list of indices. Raises Refused with 1."""
+        """The triangles whose boxes touch a box, as a list of indices in ascending order. Raises Refused with 1."""
         n = len(self._triangles) // 3
         listed, stack, found = zeros("I", n), zeros("I", self._tree.nodes + 1), zeros("Q", 1)
         answer = library.probe_query(*minimum, *maximum, n, *self._areas, *lent(listed), *lent(stack), *lent(found))
@@ -308,15 +310,15 @@ class Mesh:
 
     @property
     def vertices(self):
-        """A view to read, of three numbers a vertex."""
+        """A read-only view, of three numbers a vertex."""
         return shaped(self._vertices, 3)
 
     @property
     def triangles(self):
-        """A view to read, of three vertex indices a triangle."""
+        """A read-only view, of three vertex indices a triangle."""
         return shaped(self._triangles, 3)
 
     @property
     def tree(self):
-        """The tree, in views to read."""
+        """The tree, in read-only views."""
         return Tree(self._tree.nodes, *(read_only(area) for area in self._tree[1:]))

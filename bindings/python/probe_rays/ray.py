@@ -9,7 +9,8 @@ from .faults import fault_of
 
 
 class Ray(NamedTuple):
-    """Where a ray starts, its direction, of length 1 within 1e-12, how far it reaches, and from where on a surface is hit."""
+    """A ray: its origin, its direction (of length 1, within 1e-12), its maximum distance, and the near distance from which on
+    surfaces are hit."""
 
     origin: Sequence[float]
     direction: Sequence[float]
@@ -18,8 +19,9 @@ class Ray(NamedTuple):
 
     @classmethod
     def toward(cls, origin, direction, max_distance, near_distance=0.0):
-        """A ray whose direction, of any length, is made one of length 1. One that has none is left, and a cast refuses it."""
-        # by the largest component first, so that no square overflows or vanishes
+        """A ray with the given direction, of any length, normalised. A direction that cannot be normalised is left as it is, and a
+        cast refuses it."""
+        # divided by the largest component first, so that no square overflows or vanishes
         largest = max(map(abs, direction))
         if largest > 0 and all(map(math.isfinite, direction)):
             scaled = [part / largest for part in direction]
@@ -32,13 +34,13 @@ class Ray(NamedTuple):
         return tuple(start + part * distance for start, part in zip(self.origin, self.direction))
 
     def numbers(self):
-        """The eight numbers of a call."""
+        """The ray's eight numbers, as a call takes them."""
         x, y, z = self.origin
         dx, dy, dz = self.direction
         return (x, y, z, dx, dy, dz, self.max_distance, self.near_distance)
 
     def fault(self):
-        """Which test of refusal 1 the ray fails, in words, or None where it is admitted.
+        """The test of refusal 1 that the ray fails, in words, or None if it fails none.
 
         >>> from probe_rays import Ray
         >>> Ray((0, 0, 0), (0, 0, 2), 5).fault()
@@ -61,11 +63,11 @@ def cast_at_shape(call, ray, *shape):
 
 
 def ray_plane(ray, normal, distance):
-    """Casts at the plane of all points whose dot with the normal, of length 1, is the distance: a Hit, whose normal faces the
-    ray, or None. Raises Refused with 1, 2 or 6."""
+    """Casts at the plane of all points whose dot product with the normal, of length 1, is the distance. Returns a Hit, whose
+    normal faces the ray, or None. Raises Refused with 1, 2 or 6."""
     return cast_at_shape(library.probe_ray_plane_near, ray, *normal, distance)
 
 
 def ray_triangle(ray, a, b, c):
-    """Casts at a triangle, from either side: a Hit, whose normal faces the ray, or None. Raises Refused with 1, 6 or 7."""
+    """Casts at a triangle, from either side. Returns a Hit, whose normal faces the ray, or None. Raises Refused with 1, 6 or 7."""
     return cast_at_shape(library.probe_ray_triangle_near, ray, *a, *b, *c)

@@ -15,11 +15,11 @@ def _converted(call, record):
 
 
 def record_to_short(record):
-    """One record of version 2, with its four length bytes, as one of version 3, whose floats have four bytes. Raises Refused with
-    2, or with 11 where a float is NaN or no f32 is exactly that number."""
+    """Converts one record of version 2, with its four length bytes, to version 3, whose floats have four bytes. Raises Refused
+    with 2, or with 11 if a float is NaN or no f32 is exactly that number."""
     return _converted(library.probe_record_to_short, record)
 
 
 def record_to_long(record):
-    """One record of version 3 as one of version 2. Raises Refused with 2, or with 11 where a float is NaN."""
+    """Converts one record of version 3 to version 2. Raises Refused with 2, or with 11 if a float is NaN."""
     return _converted(library.probe_record_to_long, record)

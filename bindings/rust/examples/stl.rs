@@ -2,12 +2,11 @@
 //!
 //! usage: stl [--all] FILE [X Y Z  DX DY DZ  MAX]...
 //!
-//! With --all every depth along a ray is printed, and not the first hit alone. A ray is seven numbers: its origin, its
-//! direction, which may have any length, and how far it reaches. An STL file has no unit; millimetres are taken, as most
-//! programs write them. Triangles are counted from 0, in the file's order. Equal vertices are merged. The program
-//! `probe-part` does more (docs/TOOL.md).
+//! --all prints every depth along a ray, not only the first hit. A ray is seven numbers: its origin, its direction (of any
+//! length) and its maximum distance. An STL file has no unit; millimetres are assumed, as most programs write them. Triangles
+//! are counted from 0, in the file's order. Equal vertices are merged. The program `probe-part` does more (docs/TOOL.md).
 //!
-//! Exit status: 0 if every ray hit or was none, 1 if one was refused, 2 if the call or the file is not right.
+//! Exit status: 0 if every ray was a hit or a miss, 1 if one was refused, 2 if the command line or the file is wrong.
 use probe_rays::stl::{self, Corners};
 use probe_rays::{Cast, Mesh, MeshHit, Ray, Refusal, MAX_COUNT};
 use std::process::ExitCode;
@@ -15,7 +14,7 @@ use std::{env, fs};
 
 const USAGE: &str = "usage: stl [--all] FILE [X Y Z  DX DY DZ  MAX]...
 casts rays (origin, direction of any length, maximum, in millimetres) at the mesh of an STL file;
-with --all every depth along a ray is printed";
+--all prints every depth along a ray";
 
 fn main() -> ExitCode {
     let words: Vec<String> = env::args().skip(1).collect();
@@ -68,13 +67,13 @@ fn run(words: &[String]) -> Result<bool, String> {
 fn rays(words: &[String]) -> Result<Vec<Ray>, String> {
     if words.len() % 7 != 0 {
         return Err(format!(
-            "a ray is seven numbers, and {} are given\n{USAGE}",
+            "a ray is seven numbers, but {} are given\n{USAGE}",
             words.len()
         ));
     }
     let numbers: Vec<f64> = words
         .iter()
-        .map(|word| word.parse().map_err(|_| format!("no number: {word}")))
+        .map(|word| word.parse().map_err(|_| format!("not a number: {word}")))
         .collect::<Result<_, _>>()?;
     let ray = |n: &[f64]| Ray::toward([n[0], n[1], n[2]], [n[3], n[4], n[5]], n[6]);
     Ok(numbers.chunks_exact(7).map(ray).collect())
@@ -140,7 +139,7 @@ fn merged(facets: &[Corners]) -> Result<Mesh, String> {
         (vertices.len(), "different vertices"),
     ] {
         if count > MAX_COUNT {
-            return Err(format!("{count} {what}: at most {MAX_COUNT} are admitted"));
+            return Err(format!("{count} {what}: at most {MAX_COUNT} are allowed"));
         }
     }
     Mesh::build(vertices, triangles).map_err(|refusal| refusal.to_string())

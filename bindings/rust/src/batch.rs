@@ -1,4 +1,4 @@
-//! Many rays at one mesh, over threads.
+//! Many rays at one mesh, in several threads.
 use crate::answer::{Cast, MeshHit, Refusal};
 use crate::{Mesh, Ray, Scratch};
 use std::io::{self, IsTerminal, Write};
@@ -8,19 +8,19 @@ use std::sync::mpsc::{self, RecvTimeoutError};
 use std::thread;
 use std::time::{Duration, Instant};
 
-/// A thread takes at most so many items at a time.
+/// A thread takes at most this many items at a time.
 const MOST_AT_ONCE: usize = 256;
 
-/// Each thread takes items at least so often, so that none waits long for the last one.
+/// Each thread takes items about this many times, so that none waits long for the last one.
 const TURNS: usize = 16;
 
 /// Work shorter than this shows no progress.
 const PATIENCE: Duration = Duration::from_secs(1);
 
-/// How often the line is written anew.
+/// How often the line is updated.
 const TICK: Duration = Duration::from_millis(200);
 
-/// How a batch runs: over how many threads, and whether its progress is shown.
+/// How a batch runs: in how many threads, and whether its progress is shown.
 ///
 /// ```
 /// use probe_rays::{Batch, Cast, Mesh, Ray, Refusal};
@@ -31,12 +31,12 @@ const TICK: Duration = Duration::from_millis(200);
 ///     .map(|n| Ray::new([f64::from(n) / 100.0, 0.5, 5.0], [0.0, 0.0, -1.0], 10.0))
 ///     .collect();
 ///
-/// // the answer of each ray, in the order of the rays
+/// // the result of each ray, in the order of the rays
 /// let casts = mesh.cast_many(&rays);
 /// assert!(matches!(casts[399], Cast::Hit(hit) if hit.distance == 5.0));
 /// assert_eq!(casts[401], Cast::None);
 ///
-/// // any work with a scratch of its own, here over two threads
+/// // any work that needs a scratch, here in two threads
 /// let counts = Batch::new().threads(2).run(&rays, |ray, scratch| mesh.cast_all_with(ray, scratch).map(|hits| hits.len()));
 /// assert_eq!((counts[399], counts[401]), (Ok(1), Ok(0)));
 /// # Ok::<(), Refusal>(())
@@ -48,12 +48,12 @@ pub struct Batch {
 }
 
 impl Batch {
-    /// As many threads as the machine runs at once, and no progress line.
+    /// As many threads as the machine runs at the same time, and no progress line.
     pub fn new() -> Batch {
         Batch::default()
     }
 
-    /// Over so many threads; 0 stands for as many as the machine runs at once.
+    /// The number of threads; 0 means as many as the machine runs at the same time.
     pub fn threads(self, count: usize) -> Batch {
         Batch {
             threads: NonZeroUsize::new(count),
@@ -61,8 +61,8 @@ impl Batch {
         }
     }
 
-    /// Work that takes longer than a second shows a line on standard error, if that is a terminal: the label, how many
-    /// are done of how many, and about how long the rest takes. The line is wiped at the end.
+    /// Work that takes longer than a second shows a line on standard error, if that is a terminal: the label, how many items
+    /// of how many are done, and about how long the rest takes. The line is cleared at the end.
     pub fn progress(self, label: impl Into<String>) -> Batch {
         Batch {
             label: Some(label.into()),
@@ -70,9 +70,9 @@ impl Batch {
         }
     }
 
-    /// What `answer` gives for each item, in the order of the items. Each thread has a [`Scratch`] of its own.
+    /// What `answer` returns for each item, in the order of the items. Each thread has its own [`Scratch`].
     ///
-    /// Panics where `answer` panics.
+    /// Panics if `answer` panics.
     pub fn run<T, A>(&self, items: &[T], answer: impl Fn(&T, &mut Scratch) -> A + Sync) -> Vec<A>
     where
         T: Sync,
@@ -83,7 +83,7 @@ impl Batch {
         })
     }
 
-    /// What `answer` gives for each share of the items, one after the other: as many answers as the share has items.
+    /// What `answer` returns for each share of the items, in order: one answer for each item of the share.
     fn run_shares<T, A>(
         &self,
         items: &[T],
@@ -158,8 +158,8 @@ impl Batch {
     }
 }
 
-/// A line on standard error that says how far a work is, if that is a terminal and the work takes longer than a second.
-/// It is written anew a few times a second, and wiped when this is dropped.
+/// A progress line on standard error, if that is a terminal and the work takes longer than a second. It is updated a few times
+/// a second, and cleared when this is dropped.
 ///
 /// ```
 /// use probe_rays::Progress;
@@ -180,7 +180,7 @@ pub struct Progress {
 }
 
 impl Progress {
-    /// Of a work that begins now, of so many items, if that is known.
+    /// The line of work that begins now, with its number of items, if that is known.
     pub fn new(label: impl Into<String>, total: Option<usize>) -> Progress {
         Progress {
             label: label.into(),
@@ -191,7 +191,7 @@ impl Progress {
         }
     }
 
-    /// Says that so many items are done, if it is time.
+    /// Shows how many items are done, if the line is due.
     pub fn show(&mut self, done: usize) {
         let now = Instant::now();
         let spent = now - self.start;
@@ -229,8 +229,8 @@ fn told(label: &str, done: usize, total: Option<usize>, spent: Duration) -> Stri
 }
 
 impl Mesh {
-    /// The [`cast`](Mesh::cast) of each ray, in the order of the rays, over as many threads as the machine runs at
-    /// once. [`Batch`] chooses the threads and shows progress.
+    /// The [`cast`](Mesh::cast) of each ray, in the order of the rays, in as many threads as the machine runs at the same
+    /// time. [`Batch`] sets the number of threads and shows progress.
     pub fn cast_many(&self, rays: &[Ray]) -> Vec<Cast<MeshHit>> {
         Batch::new().run_shares(rays, |share, scratch| self.cast_many_with(share, scratch))
     }

@@ -1,14 +1,16 @@
-//! A cabinet of many parts, cast at under one limit of nodes.
+//! A cabinet of many parts, cast at under one limit on the nodes.
 use crate::answer::Cast;
-use crate::sys::{self, Part, Span, Vec3};
+use crate::calls::call;
+use crate::mesh::OwnScratch;
+use crate::sys::{Part, Span, Vec3};
 use crate::{Mesh, Ray, Scratch};
 
-/// What a ray met of a cabinet.
+/// A hit on a cabinet.
 #[derive(Clone, Copy, Debug, PartialEq)]
 pub struct PartHit {
     /// The triangle's unit normal, which faces the ray.
     pub normal: [f64; 3],
-    /// How far along the ray.
+    /// The distance along the ray.
     pub distance: f64,
     /// The triangle's index in the part's mesh, from 0.
     pub triangle: u32,
@@ -16,17 +18,17 @@ pub struct PartHit {
     pub part: usize,
 }
 
-/// The answer of a cast at a cabinet, and the nodes spent on it: 0 where it was refused before the first part.
+/// The result of a cast at a cabinet, and the number of nodes spent on it: 0 if it was refused before the first part.
 #[derive(Clone, Copy, Debug, PartialEq)]
 #[must_use]
 pub struct CabinetCast {
-    /// A hit, none or a refusal.
+    /// A hit, a miss or a refusal.
     pub answer: Cast<PartHit>,
-    /// The nodes spent, never more than the limit.
+    /// The number of nodes spent, never more than the limit.
     pub spent: usize,
 }
 
-/// The areas that the parts of a cabinet share; a [`Part`] names a range of each.
+/// The buffers that the parts of a cabinet share; a [`Part`] names a range of each.
 #[derive(Clone, Copy, Debug)]
 pub struct AreasRef<'a> {
     /// Three numbers a vertex.
@@ -43,8 +45,8 @@ pub struct AreasRef<'a> {
     pub order: &'a [u32],
 }
 
-/// The call over slices, its result slices included, with the number that it answers. `hit` has four places, `index`,
-/// `part` and `spent` one each.
+/// The call over slices, its result slices included. It returns the library's number. `hit` has four places, `index`, `part`
+/// and `spent` one each.
 #[allow(clippy::too_many_arguments)]
 #[inline]
 pub fn ray_cabinet(
@@ -59,49 +61,16 @@ pub fn ray_cabinet(
     part: &mut [usize],
     spent: &mut [usize],
 ) -> u32 {
-    // SAFETY: every pointer and length is a slice's, and Rust lets no mutable one overlap another.
-    unsafe {
-        sys::probe_ray_cabinet(
-            ray.origin[0],
-            ray.origin[1],
-            ray.origin[2],
-            ray.direction[0],
-            ray.direction[1],
-            ray.direction[2],
-            ray.max_distance,
-            ray.near_distance,
-            parts.as_ptr(),
-            parts.len(),
-            areas.vertices.as_ptr(),
-            areas.vertices.len(),
-            areas.triangles.as_ptr(),
-            areas.triangles.len(),
-            areas.node_boxes.as_ptr(),
-            areas.node_boxes.len(),
-            areas.triangle_boxes.as_ptr(),
-            areas.triangle_boxes.len(),
-            areas.node_words.as_ptr(),
-            areas.node_words.len(),
-            areas.order.as_ptr(),
-            areas.order.len(),
-            limit,
-            list.as_mut_ptr(),
-            list.len(),
-            stack.as_mut_ptr(),
-            stack.len(),
-            hit.as_mut_ptr(),
-            hit.len(),
-            index.as_mut_ptr(),
-            index.len(),
-            part.as_mut_ptr(),
-            part.len(),
-            spent.as_mut_ptr(),
-            spent.len(),
-        )
+    call! { probe_ray_cabinet:
+        ray ray;
+        read parts, areas.vertices, areas.triangles, areas.node_boxes, areas.triangle_boxes,
+            areas.node_words, areas.order;
+        value limit;
+        write list, stack, hit, index, part, spent;
     }
 }
 
-/// A cabinet: meshes with their trees, each at an origin of its own. It owns copies of them and the work areas.
+/// A cabinet: meshes with their trees, each at its own origin. It owns copies of them and the work buffers.
 ///
 /// ```
 /// use probe_rays::{Cabinet, Cast, Mesh, Ray, Refusal};
@@ -118,7 +87,7 @@ pub fn ray_cabinet(
 /// let Cast::Hit(hit) = cast.answer else { panic!() };
 /// assert_eq!((hit.distance, hit.part, hit.triangle, cast.spent), (2.0, upper, 1, 2));
 ///
-/// // one node does not do for two parts, and the hit that might stand is not told
+/// // one node does not suffice for two parts: the limit takes precedence over a hit
 /// let short = cabinet.cast(&down, 1);
 /// assert_eq!((short.answer, short.spent), (Cast::Refused(Refusal::LimitReached), 1));
 /// # Ok::<(), Refusal>(())
@@ -137,7 +106,7 @@ pub struct Cabinet {
     scratch: Scratch,
 }
 
-/// Adds elements to an area, and tells where they stand.
+/// Appends elements to a buffer, and returns their range.
 fn appended<T: Copy>(area: &mut Vec<T>, more: &[T]) -> Span {
     let start = area.len();
     area.extend_from_slice(more);
@@ -147,14 +116,20 @@ fn appended<T: Copy>(area: &mut Vec<T>, more: &[T]) -> Span {
     }
 }
 
+impl OwnScratch for Cabinet {
+    fn own_scratch(&mut self) -> &mut Scratch {
+        &mut self.scratch
+    }
+}
+
 impl Cabinet {
-    /// An empty cabinet: every ray that is admitted meets none of it.
+    /// An empty cabinet: every valid ray is a miss.
     pub fn new() -> Cabinet {
         Cabinet::default()
     }
 
-    /// Adds a mesh with its tree at an origin, and gives the part's number. A mesh's tree fits it, so no surface of
-    /// the part is missed.
+    /// Adds a mesh with its tree at an origin, and returns the part's number. A mesh's tree fits it, so no surface of the part
+    /// is missed.
     pub fn push(&mut self, mesh: &Mesh, origin: [f64; 3]) -> usize {
         let tree = mesh.tree();
         let [x, y, z] = origin;
@@ -174,8 +149,7 @@ impl Cabinet {
         self.parts.len() - 1
     }
 
-    /// The mesh of a part once more, at another origin: nothing but the part is added. Panics if there is no such
-    /// part.
+    /// Adds the mesh of a part once more, at another origin. Nothing but the part is added. Panics if there is no such part.
     pub fn place_again(&mut self, part: usize, origin: [f64; 3]) -> usize {
         let [x, y, z] = origin;
         let again = Part {
@@ -186,7 +160,7 @@ impl Cabinet {
         self.parts.len() - 1
     }
 
-    /// How many parts there are.
+    /// The number of parts.
     pub fn len(&self) -> usize {
         self.parts.len()
     }
@@ -206,7 +180,7 @@ impl Cabinet {
         &self.parts
     }
 
-    /// The areas that the parts share.
+    /// The buffers that the parts share.
     pub fn areas(&self) -> AreasRef<'_> {
         AreasRef {
             vertices: &self.vertices,
@@ -218,16 +192,13 @@ impl Cabinet {
         }
     }
 
-    /// The nearest triangle of all parts that a ray hits, where at most `limit` nodes are looked at; of equally near
-    /// ones, that of the lowest part and then of the lowest index. Refuses with 1, 6, 7 or 10.
+    /// The nearest triangle of all parts that a ray hits, visiting at most `limit` nodes; of equally near ones, the one of the
+    /// lowest part and then of the lowest index. Refuses with 1, 6, 7 or 10.
     pub fn cast(&mut self, ray: &Ray, limit: usize) -> CabinetCast {
-        let mut scratch = std::mem::take(&mut self.scratch);
-        let answer = self.cast_with(ray, limit, &mut scratch);
-        self.scratch = scratch;
-        answer
+        self.with_own(|cabinet, scratch| cabinet.cast_with(ray, limit, scratch))
     }
 
-    /// The same with work areas of the caller's, so that threads may share the cabinet.
+    /// The same with the caller's work buffers, so that threads may share the cabinet.
     pub fn cast_with(&self, ray: &Ray, limit: usize, scratch: &mut Scratch) -> CabinetCast {
         scratch.fit(self.most[0], self.most[1]);
         let mut hit = [0.0; 4];

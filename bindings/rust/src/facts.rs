@@ -1,7 +1,7 @@
-//! What is known of a mesh before a ray is cast: its box, whether it is closed, and how many shells it has.
+//! Facts about a mesh before a ray is cast: its bounding box, whether it is closed, and how many shells it has.
 //!
-//! The calls look at vertex indices, so equal corners have to be one vertex: [`stl::merged`](crate::stl::merged) makes
-//! them so. The edges and shells of a mesh take any number of triangles.
+//! The functions compare vertex indices, so equal corners must be one vertex: [`stl::merged`](crate::stl::merged) merges
+//! them. The edges and shells of a mesh take any number of triangles.
 //!
 //! ```
 //! use probe_rays::facts::{bounds, open_edges, shells};
@@ -16,7 +16,7 @@
 //! ```
 use std::collections::HashMap;
 
-/// The least and the largest coordinates of the vertices, or nothing where there are none. A NaN is passed over.
+/// The minimum and the maximum coordinates of the vertices, or nothing if there are no vertices. A NaN is ignored.
 ///
 /// ```
 /// use probe_rays::facts::bounds;
@@ -35,29 +35,29 @@ pub fn bounds(vertices: &[[f64; 3]]) -> Option<[[f64; 3]; 2]> {
     Some(vertices.iter().fold([first, first], grown))
 }
 
-/// The three edges of a triangle, in the direction in which it passes them.
+/// The three edges of a triangle, each in the triangle's direction.
 fn edges_of(&[a, b, c]: &[u32; 3]) -> [[u32; 2]; 3] {
     [[a, b], [b, c], [c, a]]
 }
 
-/// An edge whatever its direction: the lower vertex first.
+/// An edge regardless of its direction: the lower vertex first.
 fn ascending([from, to]: [u32; 2]) -> [u32; 2] {
     [from.min(to), from.max(to)]
 }
 
-/// How many edges are not shared by exactly two triangles that pass it in opposite directions. A closed surface whose
-/// triangles all face outward has none.
+/// The number of edges that are not shared by exactly two triangles in opposite directions. A closed surface whose triangles
+/// all face outward has none.
 ///
 /// ```
 /// use probe_rays::facts::open_edges;
 ///
-/// // a square of two triangles has its four sides open; with one of the two the other way round the diagonal is too
+/// // a square of two triangles has four open edges; with one of the two reversed the diagonal is open too
 /// assert_eq!(open_edges(&[[0, 1, 2], [0, 2, 3]]), 4);
 /// assert_eq!(open_edges(&[[0, 1, 2], [0, 3, 2]]), 5);
 /// assert_eq!(open_edges(&[]), 0);
 /// ```
 pub fn open_edges(triangles: &[[u32; 3]]) -> usize {
-    // how often an edge is passed from the lower vertex to the higher, and how often back
+    // how often an edge is used from the lower vertex to the higher, and how often back
     let mut passed: HashMap<[u32; 2], [usize; 2]> = HashMap::new();
     for edge in triangles.iter().flat_map(edges_of) {
         let times = passed.entry(ascending(edge)).or_default();
@@ -66,7 +66,7 @@ pub fn open_edges(triangles: &[[u32; 3]]) -> usize {
     passed.values().filter(|&&times| times != [1, 1]).count()
 }
 
-/// How many shells there are: sets of triangles that are connected through common edges.
+/// The number of shells: sets of triangles that are connected through common edges.
 ///
 /// ```
 /// use probe_rays::facts::shells;
@@ -74,7 +74,7 @@ pub fn open_edges(triangles: &[[u32; 3]]) -> usize {
 /// let tetrahedron = [[0, 2, 1], [0, 1, 3], [1, 2, 3], [2, 0, 3]];
 /// let moved = |by: u32| tetrahedron.map(|triangle| triangle.map(|index| index + by));
 /// assert_eq!(shells(&[tetrahedron, moved(4)].concat()), 2);
-/// // two that have only a vertex in common are two
+/// // two that share only a vertex are two shells
 /// assert_eq!(shells(&[tetrahedron, moved(3)].concat()), 2);
 /// assert_eq!(shells(&[]), 0);
 /// ```
@@ -98,7 +98,7 @@ pub fn shells(triangles: &[[u32; 3]]) -> usize {
     count
 }
 
-/// The triangle that stands for all that are connected with this one. The path to it is halved on the way.
+/// The representative of the triangles that are connected with this one. The path to it is halved on the way.
 fn root_of(parents: &mut [usize], mut triangle: usize) -> usize {
     while parents[triangle] != triangle {
         parents[triangle] = parents[parents[triangle]];

@@ -1,15 +1,16 @@
 //! A mesh of any number of triangles.
 use crate::answer::{Cast, MeshHit, Refusal};
+use crate::mesh::OwnScratch;
 use crate::{Cabinet, Mesh, Ray, Scratch, MAX_COUNT};
 use std::collections::HashMap;
 
-/// A mesh of any number of triangles: one mesh, or, where that would be too large, a cabinet of meshes, halved along the
-/// longest side until each piece may be one. Triangles are counted from 0, in the order that they were given in.
+/// A mesh of any number of triangles: one mesh, or, if that would be too large, a cabinet of meshes, halved along the longest
+/// side until each piece is small enough. Triangles are counted from 0, in the order in which they were given.
 ///
 /// ```
 /// use probe_rays::{Cast, LargeMesh, Ray, Refusal};
 ///
-/// // a floor of 250 by 280 triangles, each 4 wide and 5 apart: more than one mesh admits
+/// // a floor of 250 by 280 triangles, each 4 wide and 5 apart: more than one mesh may have
 /// let corners = |n: u32| {
 ///     let [x, y] = [n % 250 * 5, n / 250 * 5].map(f64::from);
 ///     [[x, y, 0.0], [x + 4.0, y, 0.0], [x, y + 4.0, 0.0]]
@@ -32,7 +33,7 @@ pub struct LargeMesh {
     vertices: Vec<[f64; 3]>,
     triangles: Vec<[u32; 3]>,
     meshes: Vec<Piece>,
-    /// The pieces, where there is more than one.
+    /// The pieces, if there is more than one.
     cabinet: Cabinet,
     scratch: Scratch,
 }
@@ -54,10 +55,16 @@ impl Piece {
     }
 }
 
+impl OwnScratch for LargeMesh {
+    fn own_scratch(&mut self) -> &mut Scratch {
+        &mut self.scratch
+    }
+}
+
 impl LargeMesh {
     /// Builds the trees of these vertices and triangles, each of three vertex indices.
     ///
-    /// Refuses with 2 (more than 2^32 - 1 triangles), 5 (no triangle, an index past the vertices, a triangle whose box is
+    /// Refuses with 2 (more than 2^32 - 1 triangles), 5 (no triangle, an index past the vertices, or a triangle whose box is
     /// not finite) or 6.
     pub fn build(
         vertices: impl Into<Vec<[f64; 3]>>,
@@ -66,7 +73,7 @@ impl LargeMesh {
         LargeMesh::in_pieces(vertices, triangles, MAX_COUNT)
     }
 
-    /// The same with pieces of at most so many triangles, and as many vertices: at least 1 and 3, at most 65,536.
+    /// The same with pieces of at most `most` triangles and as many vertices: at least 1 and 3, at most 65,536.
     ///
     /// ```
     /// use probe_rays::{LargeMesh, Refusal};
@@ -118,7 +125,7 @@ impl LargeMesh {
         self.add(upper, most)
     }
 
-    /// The vertices and triangles of some of the triangles, each vertex where it comes first.
+    /// The vertices and triangles of some of the triangles; the vertices are in the order of their first use.
     fn part_of(&self, numbers: &[u32]) -> (Vec<[f64; 3]>, Vec<[u32; 3]>) {
         let mut places = HashMap::new();
         let mut vertices = Vec::new();
@@ -135,8 +142,8 @@ impl LargeMesh {
         (vertices, triangles)
     }
 
-    /// Two or more triangles in two halves, along the longest side of the box of their middles. Each is in ascending order,
-    /// so that of equally near triangles of a piece the first is the answer.
+    /// Splits two or more triangles into halves, along the longest side of the box of their centres. Each half is in ascending
+    /// order, so that of equally near triangles of a piece the first is returned.
     fn halves(&self, mut numbers: Vec<u32>) -> (Vec<u32>, Vec<u32>) {
         let middle = |&number: &u32, axis: usize| -> f64 {
             let corners = self.triangles[number as usize];
@@ -162,17 +169,14 @@ impl LargeMesh {
         (numbers, upper)
     }
 
-    /// The nearest triangle that a ray hits, by the exact cast ([`Mesh::cast_exact`]), with the mesh's own work areas: a
-    /// none is certain. Of equally near triangles, also of different pieces, it is that of the lowest number. Refuses with
+    /// The nearest triangle that a ray hits, by the exact cast ([`Mesh::cast_exact`]), with the mesh's own work buffers: a
+    /// miss is certain. Of equally near triangles, also of different pieces, it is the one with the lowest number. Refuses with
     /// 1 or 12.
     pub fn cast(&mut self, ray: &Ray) -> Cast<MeshHit> {
-        let mut scratch = std::mem::take(&mut self.scratch);
-        let answer = self.cast_with(ray, &mut scratch);
-        self.scratch = scratch;
-        answer
+        self.with_own(|mesh, scratch| mesh.cast_with(ray, scratch))
     }
 
-    /// The same with work areas of the caller's, so that threads may share the mesh.
+    /// The same with the caller's work buffers, so that threads may share the mesh.
     pub fn cast_with(&self, ray: &Ray, scratch: &mut Scratch) -> Cast<MeshHit> {
         let mut nearest: Option<MeshHit> = None;
         for piece in &self.meshes {
@@ -192,16 +196,13 @@ impl LargeMesh {
         nearest.map_or(Cast::None, Cast::Hit)
     }
 
-    /// The nearest triangle that a ray hits, by the rounded cast ([`Mesh::cast`]), with the mesh's own work areas. Of
-    /// equally near triangles of different pieces it is that of the first piece. Refuses with 1, 6 or 7.
+    /// The nearest triangle that a ray hits, by the rounded cast ([`Mesh::cast`]), with the mesh's own work buffers. Of equally
+    /// near triangles of different pieces it is the one of the first piece. Refuses with 1, 6 or 7.
     pub fn cast_rounded(&mut self, ray: &Ray) -> Cast<MeshHit> {
-        let mut scratch = std::mem::take(&mut self.scratch);
-        let answer = self.cast_rounded_with(ray, &mut scratch);
-        self.scratch = scratch;
-        answer
+        self.with_own(|mesh, scratch| mesh.cast_rounded_with(ray, scratch))
     }
 
-    /// The same with work areas of the caller's.
+    /// The same with the caller's work buffers.
     pub fn cast_rounded_with(&self, ray: &Ray, scratch: &mut Scratch) -> Cast<MeshHit> {
         if let [piece] = self.meshes.as_slice() {
             return piece.mesh.cast_with(ray, scratch);
@@ -219,7 +220,7 @@ impl LargeMesh {
     }
 
     /// Every triangle that a ray hits, by the rounded cast ([`Mesh::cast_all`]), in order of depth, then of number, with the
-    /// mesh's own work areas. Refuses as [`Mesh::cast_all`] does.
+    /// mesh's own work buffers. Refuses as [`Mesh::cast_all`] does.
     ///
     /// ```
     /// use probe_rays::{LargeMesh, Ray, Refusal};
@@ -235,13 +236,10 @@ impl LargeMesh {
     /// # Ok::<(), Refusal>(())
     /// ```
     pub fn cast_all(&mut self, ray: &Ray) -> Result<Vec<MeshHit>, Refusal> {
-        let mut scratch = std::mem::take(&mut self.scratch);
-        let hits = self.cast_all_with(ray, &mut scratch);
-        self.scratch = scratch;
-        hits
+        self.with_own(|mesh, scratch| mesh.cast_all_with(ray, scratch))
     }
 
-    /// The same with work areas of the caller's.
+    /// The same with the caller's work buffers.
     pub fn cast_all_with(&self, ray: &Ray, scratch: &mut Scratch) -> Result<Vec<MeshHit>, Refusal> {
         if let [piece] = self.meshes.as_slice() {
             return piece.mesh.cast_all_with(ray, scratch);
@@ -271,12 +269,12 @@ impl LargeMesh {
         &self.triangles
     }
 
-    /// How many meshes it consists of.
+    /// The number of meshes that it consists of.
     pub fn pieces(&self) -> usize {
         self.meshes.len()
     }
 
-    /// How many nodes the trees have together.
+    /// The number of nodes of all trees together.
     pub fn nodes(&self) -> usize {
         let nodes = |piece: &Piece| piece.mesh.tree().nodes;
         self.meshes.iter().map(nodes).sum()

@@ -1,11 +1,12 @@
-//! Ray casts at a plane, a triangle, a triangle mesh with its box tree, a height grid and a distance grid.
+//! Ray casts at a plane, a triangle, a triangle mesh with its bounding box tree, a height grid and a distance grid.
 //!
-//! The casts, the tree's build, query and check are proved, in Rattle, to answer exactly what their definitions say,
-//! to end, and to touch nothing past a slice's end (the repository's README.md and docs/PROOFS.md). This crate links
-//! them, has no dependencies, and adds slices, enums and owned areas. What it adds is ordinary Rust: it is tested,
-//! and not proved.
+//! The casts and the tree's build, query and check are proved, in Rattle: they return exactly what their definitions say,
+//! they terminate, and they stay within the slices that they are given (the repository's README.md and docs/PROOFS.md). This
+//! crate links them, has no dependencies, and adds slices, enums and owned buffers. What it adds is ordinary Rust: it is
+//! tested, not proved.
 //!
-//! A cast answers a hit, none or a refusal ([`Cast`]). A refusal is not a none: nothing is known of the surface then.
+//! A cast returns a hit, a miss ('none') or a refusal ([`Cast`]). A refusal is not a miss: nothing is known of the surface
+//! then.
 //!
 //! ```
 //! use probe_rays::{ray_plane, Cast, Plane, Ray};
@@ -31,12 +32,12 @@
 //! # Ok::<(), Refusal>(())
 //! ```
 //!
-//! [`Mesh::cast_exact`] casts in whole numbers, so that a none is certain; [`Mesh::cast_many`] casts many rays over
-//! threads, and [`stl`] reads STL files. A [`LargeMesh`] has any number of triangles, and [`facts`] tells a mesh's box, open
-//! edges and shells.
+//! [`Mesh::cast_exact`] decides in integers, so a miss is certain. [`Mesh::cast_many`] casts many rays in several threads.
+//! [`stl`] reads STL files. A [`LargeMesh`] has any number of triangles, and [`facts`] finds a mesh's bounding box, open edges
+//! and shells.
 //!
-//! [`lent`] has the same calls over slices of the caller's, for those who allocate nothing, [`calls`] the numbers that
-//! they answer, and [`sys`] the declarations as C sees them.
+//! [`lent`] has the same calls over the caller's buffers, without any allocation. [`calls`] returns the library's numbers, and
+//! [`sys`] has the declarations as C sees them.
 #![deny(missing_docs)]
 #![deny(unsafe_op_in_unsafe_fn)]
 
@@ -69,7 +70,7 @@ pub use shapes::{
     ray_height_field, ray_level_set, ray_plane, ray_triangle, HeightField, LevelSet, Plane,
 };
 
-/// The most vertices, and the most triangles, of a mesh.
+/// The greatest number of vertices, and of triangles, of a mesh.
 pub const MAX_COUNT: usize = 65_536;
 
 // The Rust in the repository's docs/RUST.md is run as a doc example.
@@ -77,7 +78,7 @@ pub const MAX_COUNT: usize = 65_536;
 #[doc = include_str!("../../../docs/RUST.md")]
 struct RustPage;
 
-/// The version of the library that is linked: [`sys::VERSION`], if this crate is its own.
+/// The version of the linked library. It is [`sys::VERSION`] if this crate belongs to that library.
 ///
 /// ```
 /// assert_eq!(probe_rays::version(), probe_rays::sys::VERSION);

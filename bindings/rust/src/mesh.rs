@@ -5,7 +5,7 @@ use crate::{Ray, MAX_COUNT};
 use std::error::Error;
 use std::fmt;
 
-/// A tree in vectors of its own: what [`Mesh::with_tree`] takes. [`lent`] says how long each is and what it holds.
+/// A tree in its own vectors, as [`Mesh::with_tree`] takes it. [`lent`] gives their lengths and contents.
 #[derive(Clone, Debug, Default, PartialEq)]
 pub struct Tree {
     /// The node count. Node 0 is the root.
@@ -21,7 +21,7 @@ pub struct Tree {
 }
 
 impl Tree {
-    /// The areas of a tree of n triangles, all zeros.
+    /// The buffers of a tree of n triangles, all zeros.
     fn with_room(n: usize) -> Tree {
         Tree {
             nodes: 0,
@@ -32,7 +32,7 @@ impl Tree {
         }
     }
 
-    /// The tree, to read.
+    /// The tree, borrowed.
     pub fn as_lent(&self) -> TreeRef<'_> {
         TreeRef {
             nodes: self.nodes,
@@ -42,15 +42,25 @@ impl Tree {
             order: &self.order,
         }
     }
+
+    /// The tree's buffers, to write.
+    fn areas(&mut self) -> TreeAreas<'_> {
+        TreeAreas {
+            node_boxes: &mut self.node_boxes,
+            triangle_boxes: &mut self.triangle_boxes,
+            node_words: &mut self.node_words,
+            order: &mut self.order,
+        }
+    }
 }
 
-/// The work areas of a cast or query. They grow to what a mesh asks, may serve any number of meshes, and hold
-/// nothing that a call depends on. A thread has its own.
+/// The work buffers of a cast or query. They grow as a mesh needs, may serve any number of meshes, and hold nothing that a
+/// call depends on. Each thread has its own.
 #[derive(Clone, Debug, Default)]
 pub struct Scratch {
     pub(crate) list: Vec<u32>,
     pub(crate) stack: Vec<u32>,
-    /// The hit area of a listing, and the results of many rays; only these ask for it.
+    /// The hits of a listing, and the results of many rays; only these need it.
     indices: Vec<u32>,
     numbers: Vec<f64>,
     /// The numbers and the codes of many rays.
@@ -59,7 +69,7 @@ pub struct Scratch {
 }
 
 impl Scratch {
-    /// Empty areas.
+    /// Empty buffers.
     pub fn new() -> Scratch {
         Scratch::default()
     }
@@ -74,7 +84,7 @@ impl Scratch {
         }
     }
 
-    /// The numbers of many rays, and room for their answers.
+    /// The numbers of many rays, and room for their results.
     fn fit_many(&mut self, rays: &[Ray], n: usize, nodes: usize) {
         self.fit(n, nodes);
         self.fit_hits(rays.len());
@@ -85,7 +95,7 @@ impl Scratch {
         }
     }
 
-    /// Makes room for n hits: the walk lists no more triangles than there are.
+    /// Makes room for n hits: the traversal lists no more triangles than there are.
     fn fit_hits(&mut self, n: usize) {
         if self.indices.len() < n {
             self.indices.resize(n, 0);
@@ -94,8 +104,27 @@ impl Scratch {
     }
 }
 
+/// A shape with its own work buffers.
+pub(crate) trait OwnScratch {
+    fn own_scratch(&mut self) -> &mut Scratch;
+
+    /// Makes a call with the shape's own work buffers.
+    fn with_own<A>(&mut self, call: impl FnOnce(&Self, &mut Scratch) -> A) -> A {
+        let mut scratch = std::mem::take(self.own_scratch());
+        let answer = call(self, &mut scratch);
+        *self.own_scratch() = scratch;
+        answer
+    }
+}
+
+impl OwnScratch for Mesh {
+    fn own_scratch(&mut self) -> &mut Scratch {
+        &mut self.scratch
+    }
+}
+
 /// A mesh and a tree that fits it: built here, or somebody else's that passed the check. So a cast at the mesh's own
-/// vertices misses no triangle whose box touches that of the ray's segment.
+/// vertices misses no triangle whose box touches the box of the ray's segment.
 ///
 /// ```
 /// use probe_rays::{Cast, Mesh, Ray, Refusal, Scratch};
@@ -104,12 +133,12 @@ impl Scratch {
 /// let mut mesh = Mesh::build(square, [[0, 1, 2], [0, 2, 3]])?;
 /// let down = Ray::new([1.0, 3.0, 5.0], [0.0, 0.0, -1.0], 10.0);
 ///
-/// // with the mesh's own work areas
+/// // with the mesh's own work buffers
 /// let Cast::Hit(hit) = mesh.cast(&down) else { panic!() };
 /// assert_eq!((hit.distance, hit.triangle), (5.0, 1));
 /// assert_eq!(mesh.query([3.5, 0.0, 0.0], [4.0, 0.5, 0.0])?, [0, 1]);
 ///
-/// // one mesh, many threads, each with work areas of its own
+/// // one mesh, many threads, each with its own work buffers
 /// let mesh = &mesh;
 /// std::thread::scope(|threads| {
 ///     for x in 1..4 {
@@ -135,7 +164,7 @@ pub struct Mesh {
 impl Mesh {
     /// Builds the tree of these vertices and triangles, each of three vertex indices.
     ///
-    /// Refuses with 2 (more than 65,536 vertices or triangles), 5 (no triangle, an index past the vertices, a
+    /// Refuses with 2 (more than 65,536 vertices or triangles), 5 (no triangle, an index past the vertices, or a
     /// triangle whose box is not finite) or 6.
     ///
     /// ```
@@ -156,12 +185,7 @@ impl Mesh {
         tree.nodes = lent::build(
             vertices.as_flattened(),
             triangles.as_flattened(),
-            TreeAreas {
-                node_boxes: &mut tree.node_boxes,
-                triangle_boxes: &mut tree.triangle_boxes,
-                node_words: &mut tree.node_words,
-                order: &mut tree.order,
-            },
+            tree.areas(),
             &mut work,
         )?;
         Ok(Mesh::of(vertices, triangles, tree))
@@ -179,8 +203,8 @@ impl Mesh {
         }
     }
 
-    /// Takes a tree that somebody else built, if it passes the check: with a tree that does not, a cast could miss
-    /// a surface, and nothing would tell that none from a right one.
+    /// Takes a tree that somebody else built, if it passes the check. With a tree that does not, a cast could miss a
+    /// surface, and nothing would distinguish this miss from a correct one.
     ///
     /// ```
     /// use probe_rays::{Mesh, Refusal, TreeError};
@@ -215,11 +239,11 @@ impl Mesh {
         }
     }
 
-    /// Glues another mesh to this one: its vertices and triangles follow this one's, and a new root stands over both
-    /// trees. A cast at the result answers the nearer of the two hits, this mesh's where they are as near; a triangle of
-    /// the other has this one's number of triangles added to its index.
+    /// Merges another mesh with this one: its vertices and triangles follow this one's, with a new root over both trees. A
+    /// cast at the result returns the nearer of the two hits, this mesh's if they are equally near. A triangle of the other
+    /// mesh has this mesh's number of triangles added to its index.
     ///
-    /// Refuses with 2 where both together have more than 65,536 vertices or triangles.
+    /// Refuses with 2 if both together have more than 65,536 vertices or triangles.
     ///
     /// ```
     /// use probe_rays::{Cast, Mesh, Ray, Refusal};
@@ -239,7 +263,7 @@ impl Mesh {
     pub fn glue(&self, other: &Mesh) -> Result<Mesh, Refusal> {
         let vertex_count = self.vertices.len() + other.vertices.len();
         let n = self.triangles.len() + other.triangles.len();
-        // of too many the library refuses whatever the areas, so none are made then
+        // the library refuses too many whatever the buffers are, so none are made then
         let room = vertex_count <= MAX_COUNT && n <= MAX_COUNT;
         let (vertex_count, n) = if room { (vertex_count, n) } else { (0, 0) };
         let mut vertices = vec![[0.0; 3]; vertex_count];
@@ -251,18 +275,13 @@ impl Mesh {
             &other.as_board(),
             vertices.as_flattened_mut(),
             triangles.as_flattened_mut(),
-            TreeAreas {
-                node_boxes: &mut tree.node_boxes,
-                triangle_boxes: &mut tree.triangle_boxes,
-                node_words: &mut tree.node_words,
-                order: &mut tree.order,
-            },
+            tree.areas(),
             &mut marks,
         )?;
         Ok(Mesh::of(vertices, triangles, tree))
     }
 
-    /// The mesh and its tree, to read.
+    /// The mesh and its tree, borrowed.
     fn as_board(&self) -> BoardRef<'_> {
         BoardRef {
             vertices: self.vertices.as_flattened(),
@@ -271,22 +290,20 @@ impl Mesh {
         }
     }
 
-    /// The nearest triangle that a ray hits, with the mesh's own work areas; of equally near ones, that of the
+    /// The nearest triangle that a ray hits, with the mesh's own work buffers; of equally near ones, the one with the
     /// lowest index. Refuses with 1, 6 or 7.
     pub fn cast(&mut self, ray: &Ray) -> Cast<MeshHit> {
-        let mut scratch = std::mem::take(&mut self.scratch);
-        let answer = self.cast_with(ray, &mut scratch);
-        self.scratch = scratch;
-        answer
+        self.with_own(|mesh, scratch| mesh.cast_with(ray, scratch))
     }
 
-    /// The same with work areas of the caller's, so that threads may share the mesh.
+    /// The same with the caller's work buffers, so that threads may share the mesh.
     pub fn cast_with(&self, ray: &Ray, scratch: &mut Scratch) -> Cast<MeshHit> {
         self.cast_at(ray, &self.vertices, scratch)
     }
 
-    /// Casts at other vertices, as many as the mesh's (else 4, or 2 above 65,536). The tree's boxes stay those of
-    /// the mesh's own vertices: only triangles whose box there touches that of the ray's segment are cast at.
+    /// Casts at other vertices. They must be as many as the mesh's; otherwise the cast refuses with 4, or with 2 above 65,536.
+    /// The tree's boxes stay those of the mesh's own vertices: only triangles whose box there touches the box of the ray's
+    /// segment are tested.
     pub fn cast_at(&self, ray: &Ray, pose: &[[f64; 3]], scratch: &mut Scratch) -> Cast<MeshHit> {
         scratch.fit(self.triangles.len(), self.tree.nodes);
         lent::ray_mesh(
@@ -300,24 +317,26 @@ impl Mesh {
         )
     }
 
-    /// The first point of a ray in a closed triangle of the mesh, decided in whole numbers, with the mesh's own work areas:
-    /// a none is certain, and a ray down a side, through a corner or along a face is a hit. It answers what
-    /// [`PlainMesh::cast_exact`](crate::PlainMesh::cast_exact) answers: that the two agree is proved for a mesh without a
-    /// NaN. A mesh is asked for one when it is made; one that has it is cast at without its tree.
+    /// The exact cast, with the mesh's own work buffers: the first point of a ray in a closed triangle of the mesh, decided in
+    /// integers. A miss is certain. A ray along an edge or through a corner is a hit, and triangles coplanar with the ray count.
     ///
-    /// Coordinates are read on a grid of 2^-15 mm (the nearest whole number of units, ties to even), a direction's
-    /// component as the nearest multiple of 2^-30; the segment is origin + s · direction / 2^30 for s from near to the
-    /// maximum, both included; a triangle is the closed hull of its three grid corners and counts if these do not lie on
-    /// one line. None exactly where no point of the segment lies in such a triangle of the mesh; else a hit at the least
-    /// depth over all triangles, its distance the f64 nearest to it, the lowest index where several round to it.
+    /// It returns what [`PlainMesh::cast_exact`](crate::PlainMesh::cast_exact) returns: the two are proved to agree for a mesh
+    /// without a NaN. The constructor looks for a NaN, and a mesh that has one is cast at without its tree.
     ///
-    /// Refuses with 1, and with 12 where the origin or a corner of a triangle of the mesh is not a number from -8,192 to
-    /// 8,192, or near or the maximum is above 32,768.
+    /// Coordinates are rounded to a grid of 2^-15 mm (to the nearest whole number of units, ties to even), and each component
+    /// of the direction to the nearest multiple of 2^-30. The segment is origin + s · direction / 2^30 for s from near to the
+    /// maximum, both included. A triangle is the closed convex hull of its three grid corners; it counts if these are not
+    /// collinear. The cast is a miss exactly if no point of the segment lies in such a triangle of the mesh. Otherwise it
+    /// returns the hit at the least depth over all triangles. The distance is the f64 nearest to this depth, and the index is
+    /// the lowest of the triangles whose depths round to it.
+    ///
+    /// Refuses with 1, and with 12 if the origin or a corner of a triangle of the mesh is not a number from -8,192 to 8,192,
+    /// or near or the maximum is above 32,768.
     ///
     /// ```
     /// use probe_rays::{Cast, Mesh, Ray, Refusal};
     ///
-    /// // a square of 31 in two triangles, bored on the side between them, where the rounded cast passes
+    /// // a square of 31 in two triangles, bored on the edge between them, where the rounded cast is a miss
     /// let square = [[0.0, 0.0, 0.0], [31.0, 0.0, 0.0], [0.0, 31.0, 0.0], [31.0, 31.0, 0.0]];
     /// let mut part = Mesh::build(square, [[0, 1, 2], [3, 2, 1]])?;
     /// let down = Ray::new([1.0, 30.0, 1.0], [0.0, 0.0, -1.0], 2.0);
@@ -333,13 +352,10 @@ impl Mesh {
     /// # Ok::<(), Refusal>(())
     /// ```
     pub fn cast_exact(&mut self, ray: &Ray) -> Cast<MeshHit> {
-        let mut scratch = std::mem::take(&mut self.scratch);
-        let answer = self.cast_exact_with(ray, &mut scratch);
-        self.scratch = scratch;
-        answer
+        self.with_own(|mesh, scratch| mesh.cast_exact_with(ray, scratch))
     }
 
-    /// The same with work areas of the caller's, so that threads may share the mesh.
+    /// The same with the caller's work buffers, so that threads may share the mesh.
     pub fn cast_exact_with(&self, ray: &Ray, scratch: &mut Scratch) -> Cast<MeshHit> {
         if !self.has_numbers {
             return lent::ray_mesh_exact_plain(
@@ -351,7 +367,7 @@ impl Mesh {
         self.cast_exact_at(ray, &self.vertices, scratch)
     }
 
-    /// The same at other vertices, as [`cast_at`](Mesh::cast_at) has them: a none is not certain there.
+    /// The same at other vertices, as in [`cast_at`](Mesh::cast_at). A miss is not certain there.
     pub fn cast_exact_at(
         &self,
         ray: &Ray,
@@ -369,8 +385,8 @@ impl Mesh {
         )
     }
 
-    /// The [`cast`](Mesh::cast) of each ray, in the order of the rays, by one call of the library and on this thread.
-    /// [`cast_many`](Mesh::cast_many) does it over threads.
+    /// The [`cast`](Mesh::cast) of each ray, in the order of the rays, by one call of the library, on this thread.
+    /// [`cast_many`](Mesh::cast_many) uses several threads.
     ///
     /// ```
     /// use probe_rays::{Cast, Mesh, Ray, Refusal, Scratch};
@@ -378,31 +394,19 @@ impl Mesh {
     /// let square = [[0.0, 0.0, 0.0], [4.0, 0.0, 0.0], [4.0, 4.0, 0.0], [0.0, 4.0, 0.0]];
     /// let mesh = Mesh::build(square, [[0, 1, 2], [0, 2, 3]])?;
     /// let down = |x, maximum| Ray::new([x, 3.0, 5.0], [0.0, 0.0, -1.0], maximum);
-    /// // a hit, a none, and a ray that is refused: the others are cast all the same
+    /// // a hit, a miss, and a ray that is refused: the others are still cast
     /// let casts = mesh.cast_many_with(&[down(1.0, 10.0), down(-1.0, 10.0), down(1.0, -1.0)], &mut Scratch::new());
     /// assert!(matches!(casts[0], Cast::Hit(hit) if hit.distance == 5.0 && hit.triangle == 1));
     /// assert_eq!(casts[1..], [Cast::None, Cast::Refused(Refusal::InvalidInput)]);
     /// # Ok::<(), Refusal>(())
     /// ```
     pub fn cast_many_with(&self, rays: &[Ray], scratch: &mut Scratch) -> Vec<Cast<MeshHit>> {
-        scratch.fit_many(rays, self.triangles.len(), self.tree.nodes);
-        let (vertices, triangles) = (self.vertices.as_flattened(), self.triangles.as_flattened());
-        let mut areas = CastAreas {
-            codes: &mut scratch.codes,
-            hits: &mut scratch.numbers,
-            indices: &mut scratch.indices,
-        };
-        let answer = lent::ray_mesh_many(
-            scratch.rays.as_flattened(),
-            vertices,
-            triangles,
-            vertices,
-            &self.tree.as_lent(),
-            &mut scratch.list,
-            &mut scratch.stack,
-            &mut areas,
-        );
-        read_many(answer, rays.len(), &areas)
+        self.many(rays, scratch, |rays, mesh, list, stack, areas| {
+            let (vertices, triangles) = (mesh.vertices, mesh.triangles);
+            lent::ray_mesh_many(
+                rays, vertices, triangles, vertices, &mesh.tree, list, stack, areas,
+            )
+        })
     }
 
     /// The [`cast_exact`](Mesh::cast_exact) of each ray, in the same way.
@@ -411,28 +415,51 @@ impl Mesh {
             let casts = rays.iter().map(|ray| self.cast_exact_with(ray, scratch));
             return casts.collect();
         }
+        self.many(rays, scratch, |rays, mesh, _, stack, areas| {
+            let (vertices, triangles) = (mesh.vertices, mesh.triangles);
+            lent::ray_mesh_exact_many(
+                rays, vertices, triangles, vertices, &mesh.tree, stack, areas,
+            )
+        })
+    }
+
+    /// Casts many rays by one call of the library. The call takes the numbers of the rays, the mesh, the list, the stack and
+    /// the buffers of the results, all as long as it needs.
+    fn many(
+        &self,
+        rays: &[Ray],
+        scratch: &mut Scratch,
+        call: impl FnOnce(
+            &[f64],
+            &BoardRef<'_>,
+            &mut [u32],
+            &mut [u32],
+            &mut CastAreas<'_>,
+        ) -> Result<(), Refusal>,
+    ) -> Vec<Cast<MeshHit>> {
         scratch.fit_many(rays, self.triangles.len(), self.tree.nodes);
-        let (vertices, triangles) = (self.vertices.as_flattened(), self.triangles.as_flattened());
         let mut areas = CastAreas {
             codes: &mut scratch.codes,
             hits: &mut scratch.numbers,
             indices: &mut scratch.indices,
         };
-        let answer = lent::ray_mesh_exact_many(
+        let answer = call(
             scratch.rays.as_flattened(),
-            vertices,
-            triangles,
-            vertices,
-            &self.tree.as_lent(),
+            &self.as_board(),
+            &mut scratch.list,
             &mut scratch.stack,
             &mut areas,
         );
-        read_many(answer, rays.len(), &areas)
+        // the mesh is within the limits and the buffers are long enough, so the call does not refuse
+        match answer {
+            Ok(()) => (0..rays.len()).map(|ray| areas.cast(ray)).collect(),
+            Err(refusal) => vec![Cast::Refused(refusal); rays.len()],
+        }
     }
 
-    /// Every triangle that a ray hits, with the mesh's own work areas: each once, in order of depth, of equally near
-    /// ones the lower index first. The hit of [`cast`](Mesh::cast) is the first of them, and there are none exactly
-    /// where it answers none. Refuses with 1, 6 or 7.
+    /// Every triangle that a ray hits, with the mesh's own work buffers: each once, in order of depth; of equally near ones
+    /// the lower index first. The hit of [`cast`](Mesh::cast) is the first of them, and the list is empty exactly if `cast`
+    /// is a miss. Refuses with 1, 6 or 7.
     ///
     /// ```
     /// use probe_rays::{Mesh, Ray, Refusal};
@@ -451,18 +478,15 @@ impl Mesh {
     /// # Ok::<(), Refusal>(())
     /// ```
     pub fn cast_all(&mut self, ray: &Ray) -> Result<Vec<MeshHit>, Refusal> {
-        let mut scratch = std::mem::take(&mut self.scratch);
-        let hits = self.cast_all_with(ray, &mut scratch);
-        self.scratch = scratch;
-        hits
+        self.with_own(|mesh, scratch| mesh.cast_all_with(ray, scratch))
     }
 
-    /// The same with work areas of the caller's, so that threads may share the mesh.
+    /// The same with the caller's work buffers, so that threads may share the mesh.
     pub fn cast_all_with(&self, ray: &Ray, scratch: &mut Scratch) -> Result<Vec<MeshHit>, Refusal> {
         self.cast_all_at(ray, &self.vertices, scratch)
     }
 
-    /// The same at other vertices, as [`cast_at`](Mesh::cast_at) casts at them.
+    /// The same at other vertices, as in [`cast_at`](Mesh::cast_at).
     pub fn cast_all_at(
         &self,
         ray: &Ray,
@@ -491,18 +515,15 @@ impl Mesh {
         Ok(places.take(found).map(hit).collect())
     }
 
-    /// The triangles whose boxes touch the box from `min` to `max`, ascending, in the mesh's own work areas.
-    /// Refuses with 1 where a corner is not finite, or a minimum is above its maximum.
+    /// The triangles whose boxes touch the box from `min` to `max`, in ascending order, in the mesh's own work buffers.
+    /// Refuses with 1 if a corner is not finite, or a minimum is above its maximum.
     pub fn query(&mut self, min: [f64; 3], max: [f64; 3]) -> Result<&[u32], Refusal> {
-        let mut scratch = std::mem::take(&mut self.scratch);
-        let found = self
-            .query_with(min, max, &mut scratch)
-            .map(|list| list.len());
-        self.scratch = scratch;
-        found.map(|count| &self.scratch.list[..count])
+        let count = self
+            .with_own(|mesh, scratch| mesh.query_with(min, max, scratch).map(|list| list.len()))?;
+        Ok(&self.scratch.list[..count])
     }
 
-    /// The same with work areas of the caller's, in which the list stands.
+    /// The same with the caller's work buffers, which hold the list.
     pub fn query_with<'s>(
         &self,
         min: [f64; 3],
@@ -542,19 +563,7 @@ impl Mesh {
     }
 }
 
-/// The answers of many rays. The areas are as long as the call asks and the mesh is admitted, so that it does not refuse.
-fn read_many(
-    answer: Result<(), Refusal>,
-    count: usize,
-    areas: &CastAreas<'_>,
-) -> Vec<Cast<MeshHit>> {
-    match answer {
-        Ok(()) => (0..count).map(|ray| areas.cast(ray)).collect(),
-        Err(refusal) => vec![Cast::Refused(refusal); count],
-    }
-}
-
-/// How many triangles to make room for. Of too many the library refuses whatever the areas, so none is made then.
+/// How many triangles to make room for. The library refuses too many whatever the buffers are, so no room is made then.
 fn room_for(triangles: &[[u32; 3]]) -> usize {
     if triangles.len() > MAX_COUNT {
         0
@@ -563,12 +572,12 @@ fn room_for(triangles: &[[u32; 3]]) -> usize {
     }
 }
 
-/// Why [`Mesh::with_tree`] did not take a tree.
+/// Why [`Mesh::with_tree`] did not accept a tree.
 #[derive(Clone, Copy, Debug, PartialEq, Eq, Hash)]
 pub enum TreeError {
-    /// The check says no: the tree is not one of this mesh.
+    /// The tree did not pass the check: it is not a tree of this mesh.
     DoesNotFit,
-    /// The check refused: the mesh is outside the limits (2), or an area of the tree is too short (3).
+    /// The check refused: the mesh is outside the limits (2), or a buffer of the tree is too short (3).
     Refused(Refusal),
 }
 

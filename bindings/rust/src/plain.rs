@@ -1,11 +1,11 @@
-//! A mesh that has no tree.
+//! A mesh without a tree.
 use crate::answer::{Cast, MeshHit, Refusal};
 use crate::{lent, Mesh, Ray};
 
-/// A mesh without a tree, for parts of few triangles: nothing is built, and a cast looks at every triangle.
+/// A mesh without a tree, for parts of few triangles: nothing is built, and a cast visits every triangle.
 ///
-/// A cast answers what [`Mesh::cast`] answers: that the two agree, refusals included, is proved for every tree that
-/// passes the check. docs/BENCHMARKS.md says for how many casts it is the faster way.
+/// A cast returns what [`Mesh::cast`] returns: the two are proved to agree, refusals included, for every tree that passes the
+/// check. docs/BENCHMARKS.md says for how many casts it is the faster way.
 ///
 /// ```
 /// use probe_rays::{Cast, PlainMesh, Ray, Refusal};
@@ -31,8 +31,8 @@ pub struct PlainMesh {
 }
 
 impl PlainMesh {
-    /// A mesh of these vertices and triangles, each of three vertex indices, as they are: a cast refuses what is not
-    /// admitted.
+    /// A mesh of these vertices and triangles, each of three vertex indices. They are not tested here: a cast refuses what is
+    /// not valid.
     pub fn new(
         vertices: impl Into<Vec<[f64; 3]>>,
         triangles: impl Into<Vec<[u32; 3]>>,
@@ -43,10 +43,11 @@ impl PlainMesh {
         }
     }
 
-    /// The nearest triangle that a ray hits; of equally near ones, that of the lowest index. No triangles is none.
+    /// The nearest triangle that a ray hits; of equally near ones, the one with the lowest index. A mesh without triangles is a
+    /// miss.
     ///
-    /// Refuses with 1, 2 (more than 65,536 vertices or triangles), 5 (an index past the vertices, a triangle whose box
-    /// is not finite), 6 or 7. It needs no work area, so that threads may share the mesh.
+    /// Refuses with 1, 2 (more than 65,536 vertices or triangles), 5 (an index past the vertices, or a triangle whose box is
+    /// not finite), 6 or 7. It needs no work buffer, so threads may share the mesh.
     pub fn cast(&self, ray: &Ray) -> Cast<MeshHit> {
         lent::ray_mesh_plain(
             ray,
@@ -55,22 +56,24 @@ impl PlainMesh {
         )
     }
 
-    /// The first point of a ray in a closed triangle of the mesh, decided in whole numbers: a none is certain, and a ray
-    /// down a side, through a corner or along a face is a hit. [`Mesh::cast_exact`] answers the same through a tree.
+    /// The exact cast: the first point of a ray in a closed triangle of the mesh, decided in integers. A miss is certain. A ray
+    /// along an edge or through a corner is a hit, and triangles coplanar with the ray count. [`Mesh::cast_exact`] returns the
+    /// same through a tree.
     ///
-    /// Coordinates are read on a grid of 2^-15 mm (the nearest whole number of units, ties to even), a direction's
-    /// component as the nearest multiple of 2^-30; the segment is origin + s · direction / 2^30 for s from near to the
-    /// maximum, both included; a triangle is the closed hull of its three grid corners and counts if these do not lie on
-    /// one line. None exactly where no point of the segment lies in such a triangle of the mesh; else a hit at the least
-    /// depth over all triangles, its distance the f64 nearest to it, the lowest index where several round to it.
+    /// Coordinates are rounded to a grid of 2^-15 mm (to the nearest whole number of units, ties to even), and each component
+    /// of the direction to the nearest multiple of 2^-30. The segment is origin + s · direction / 2^30 for s from near to the
+    /// maximum, both included. A triangle is the closed convex hull of its three grid corners; it counts if these are not
+    /// collinear. The cast is a miss exactly if no point of the segment lies in such a triangle of the mesh. Otherwise it
+    /// returns the hit at the least depth over all triangles. The distance is the f64 nearest to this depth, and the index is
+    /// the lowest of the triangles whose depths round to it.
     ///
-    /// Refuses with 1, 12 (the origin is not within 8,192, near or the maximum is above 32,768), 2 and 5 as
-    /// [`PlainMesh::cast`] has them, and 12 where a corner of a triangle is not a number from -8,192 to 8,192.
+    /// Refuses with 1, 12 (the origin is not within 8,192, or near or the maximum is above 32,768), 2 and 5 as in
+    /// [`PlainMesh::cast`], and 12 if a corner of a triangle is not a number from -8,192 to 8,192.
     ///
     /// ```
     /// use probe_rays::{Cast, PlainMesh, Ray, Refusal};
     ///
-    /// // a square of 31 in two triangles, bored on the side between them, where the rounded cast passes
+    /// // a square of 31 in two triangles, bored on the edge between them, where the rounded cast is a miss
     /// let square = [[0.0, 0.0, 0.0], [31.0, 0.0, 0.0], [0.0, 31.0, 0.0], [31.0, 31.0, 0.0]];
     /// let part = PlainMesh::new(square, [[0, 1, 2], [3, 2, 1]]);
     /// let down = Ray::new([1.0, 30.0, 1.0], [0.0, 0.0, -1.0], 2.0);

@@ -2,15 +2,15 @@
 use crate::answer::Refusal;
 use crate::{calls, sys, Ray};
 
-/// A grid of heights of which only a low and a high are known: those of row r and column c stand over
-/// x = c · spacing\[0\], y = r · spacing\[1\], at place r · columns + c.
+/// A height grid for which only a low and a high are known: lows\[r · columns + c\] and highs\[r · columns + c\] are those of
+/// row r and column c, at x = c · spacing\[0\] and y = r · spacing\[1\].
 #[derive(Clone, Copy, Debug, PartialEq)]
 pub struct HeightRanges<'a> {
-    /// How many rows, 2 to 1,024.
+    /// The number of rows, 2 to 1,024.
     pub rows: usize,
-    /// How many columns, 2 to 1,024.
+    /// The number of columns, 2 to 1,024.
     pub columns: usize,
-    /// How far the columns, and the rows, are apart; finite and above 0.
+    /// The spacing of the columns, and of the rows; finite and above 0.
     pub spacing: [f64; 2],
     /// The lowest that each height may be, row after row: rows · columns of them.
     pub lows: &'a [f64],
@@ -22,18 +22,18 @@ pub struct HeightRanges<'a> {
 #[derive(Clone, Copy, Debug, PartialEq, Eq)]
 #[must_use]
 pub enum Clearance {
-    /// On every grid within the ranges the height cast is none.
+    /// The height cast is a miss on every grid within the ranges.
     Clear,
-    /// On some grid within the ranges a triangle's box touches that of the ray's segment, first in this cell: its number
-    /// is row · (columns − 1) + column.
+    /// On some grid within the ranges a triangle's box touches the box of the ray's segment, first in this cell. Its number is
+    /// row · (columns − 1) + column.
     Possible(u32),
-    /// The cast could not be answered: nothing is known.
+    /// The cast was refused: nothing is known.
     Refused(Refusal),
 }
 
 /// Casts a ray at heights known only within ranges.
 ///
-/// Only cells that the ray's segment visits count; a range elsewhere may hold anything. Refuses with 1, 2, 6, or 9 where
+/// Only the cells that the ray's segment visits count; ranges elsewhere may have any values. Refuses with 1, 2, 6, or with 9 if
 /// a range that counts is out of order or not finite.
 ///
 /// ```

@@ -4,22 +4,21 @@ use std::ops::RangeInclusive;
 /// The squares whose roots are not more than 1e-12 from 1.
 const UNIT_SQUARES: RangeInclusive<f64> = 0.999_999_999_998..=1.000_000_000_002;
 
-/// A ray: where it starts, its direction, of length 1, how far it reaches, and from where on a surface is hit.
+/// A ray: its origin, its direction (of length 1), its maximum distance, and the near distance from which on surfaces are hit.
 #[derive(Clone, Copy, Debug, PartialEq)]
 pub struct Ray {
-    /// Where it starts.
+    /// The origin.
     pub origin: [f64; 3],
-    /// Its direction, of length 1 within 1e-12.
+    /// The direction, of length 1 within 1e-12.
     pub direction: [f64; 3],
-    /// How far it reaches; a surface at just this distance is hit.
+    /// The maximum distance; a surface at exactly this distance is hit.
     pub max_distance: f64,
-    /// From where on a surface is hit, at just this distance too: from 0 to `max_distance`.
+    /// The near distance, from 0 to `max_distance`: nearer surfaces are not hit, a surface at exactly this distance is.
     pub near_distance: f64,
 }
 
 impl Ray {
-    /// A ray of these numbers, as they are, with a near distance of 0: a cast refuses it with 1 where it is not
-    /// admitted.
+    /// A ray of these numbers, unchanged, with a near distance of 0. A cast refuses with 1 a ray that is not valid.
     pub fn new(origin: [f64; 3], direction: [f64; 3], max_distance: f64) -> Ray {
         Ray {
             origin,
@@ -29,7 +28,7 @@ impl Ray {
         }
     }
 
-    /// The same ray, with surfaces nearer than a distance ignored. Distances count from the origin all the same.
+    /// The same ray, ignoring surfaces nearer than a distance. Distances are still measured from the origin.
     ///
     /// ```
     /// use probe_rays::{ray_plane, Cast, Plane, Ray};
@@ -46,8 +45,8 @@ impl Ray {
         }
     }
 
-    /// A ray whose direction, of any length, is made one of length 1. A direction that has none (zero, or not
-    /// finite) is left as it is, and a cast refuses it with 1.
+    /// A ray with the given direction, of any length, normalised. A direction that cannot be normalised (zero, or not finite)
+    /// is left as it is, and a cast refuses it with 1.
     ///
     /// ```
     /// use probe_rays::Ray;
@@ -57,7 +56,7 @@ impl Ray {
     /// assert_eq!(ray.at(5.0), [0.0, 3.0, 4.0]);
     /// ```
     pub fn toward(origin: [f64; 3], direction: [f64; 3], max_distance: f64) -> Ray {
-        // by the largest component first, so that no square overflows or vanishes
+        // divided by the largest component first, so that no square overflows or vanishes
         let largest = direction
             .iter()
             .fold(0.0_f64, |most, part| most.max(part.abs()));
@@ -72,7 +71,7 @@ impl Ray {
         Ray::new(origin, direction, max_distance)
     }
 
-    /// Which test of refusal 1 the ray fails, in words; nothing where it is admitted.
+    /// The test of refusal 1 that the ray fails, in words; nothing if it fails none.
     ///
     /// ```
     /// use probe_rays::Ray;
@@ -116,7 +115,7 @@ impl Ray {
             .map(|&(_, words)| words)
     }
 
-    /// The eight numbers of a ray as the calls of many rays take it: origin, direction, maximum and near distance.
+    /// The ray's eight numbers, as the calls of many rays take them: origin, direction, maximum and near distance.
     pub fn numbers(&self) -> [f64; 8] {
         let ([x, y, z], [dx, dy, dz]) = (self.origin, self.direction);
         [x, y, z, dx, dy, dz, self.max_distance, self.near_distance]

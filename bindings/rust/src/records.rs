@@ -2,14 +2,14 @@
 use crate::answer::Refusal;
 use crate::{calls, sys};
 
-/// The most bytes of a record of version 2 or 3, the four of its length included.
+/// The maximum number of bytes of a record of version 2 or 3, its four length bytes included.
 pub const MAX_RECORD: usize = 8_196;
 
-/// A record of version 2, with floats of eight bytes, as one of version 3, with floats of four.
+/// Converts a record of version 2, with floats of eight bytes, to version 3, with floats of four.
 ///
-/// Refuses with [`Refusal::BadShape`] what is not exactly one well-formed record of version 2, its length bytes included,
-/// and with [`Refusal::NotHeld`] a record of which a float is NaN or is no f32 exactly. The program `probe` prints the
-/// same line for both records.
+/// Refuses with [`Refusal::BadShape`] if the bytes are not exactly one well-formed record of version 2, its length bytes
+/// included, and with [`Refusal::NotRepresentable`] if a float of it is NaN or no f32 is exactly that number. The program
+/// `probe` prints the same line for both records.
 ///
 /// ```
 /// use probe_rays::{record_to_long, record_to_short, Refusal};
@@ -26,18 +26,18 @@ pub const MAX_RECORD: usize = 8_196;
 /// assert_eq!((short.len(), short[4]), (4 + 50, 3));
 /// assert_eq!(record_to_long(&short)?, down);
 ///
-/// // 0.6 and 0.8 are no f32: a direction that is not along an axis seldom is three
-/// assert_eq!(record_to_short(&record([0.6, 0.0, -0.8])), Err(Refusal::NotHeld));
+/// // no f32 is exactly 0.6 or 0.8: a direction that is not along an axis is seldom representable
+/// assert_eq!(record_to_short(&record([0.6, 0.0, -0.8])), Err(Refusal::NotRepresentable));
 /// # Ok::<(), Refusal>(())
 /// ```
 pub fn record_to_short(record: &[u8]) -> Result<Vec<u8>, Refusal> {
     converted(calls::record_to_short, record)
 }
 
-/// A record of version 3 as one of version 2.
+/// Converts a record of version 3 to version 2.
 ///
-/// Refuses with [`Refusal::BadShape`] what is not exactly one well-formed record of version 3 whose version 2 is at most
-/// [`MAX_RECORD`] bytes long, and with [`Refusal::NotHeld`] a record with a NaN.
+/// Refuses with [`Refusal::BadShape`] if the bytes are not exactly one well-formed record of version 3 whose version 2 is at
+/// most [`MAX_RECORD`] bytes long, and with [`Refusal::NotRepresentable`] if the record has a NaN.
 ///
 /// ```
 /// use probe_rays::{record_to_long, Refusal};
@@ -51,7 +51,7 @@ pub fn record_to_short(record: &[u8]) -> Result<Vec<u8>, Refusal> {
 /// assert_eq!(long[22..30], 2.0f64.to_be_bytes());
 ///
 /// short[50..54].copy_from_slice(&f32::NAN.to_be_bytes());
-/// assert_eq!(record_to_long(&short), Err(Refusal::NotHeld));
+/// assert_eq!(record_to_long(&short), Err(Refusal::NotRepresentable));
 /// # Ok::<(), Refusal>(())
 /// ```
 pub fn record_to_long(record: &[u8]) -> Result<Vec<u8>, Refusal> {

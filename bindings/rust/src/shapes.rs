@@ -13,40 +13,47 @@ pub(crate) fn placed(places: &Places) -> Hit {
     }
 }
 
-/// All points whose dot with the normal is the distance.
+/// The result of a call that writes a hit.
+fn cast(call: impl FnOnce(&mut Places) -> u32) -> Cast {
+    let mut places: Places = [0.0; 4];
+    let answer = call(&mut places);
+    Cast::of(answer, || placed(&places))
+}
+
+/// The plane of all points whose dot product with the normal is the distance.
 #[derive(Clone, Copy, Debug, PartialEq)]
 pub struct Plane {
-    /// Its normal, of length 1 within 1e-12.
+    /// The normal, of length 1 within 1e-12.
     pub normal: [f64; 3],
-    /// How far from the frame's origin, along the normal; finite.
+    /// The distance from the frame's origin, along the normal; finite.
     pub distance: f64,
 }
 
-/// A grid of heights: that of row r and column c stands over x = c · spacing\[0\], y = r · spacing\[1\], at place
-/// r · columns + c. Each cell is two triangles.
+/// A height grid: heights\[r · columns + c\] is the height of row r and column c, at x = c · spacing\[0\] and
+/// y = r · spacing\[1\]. Each cell is two triangles.
 #[derive(Clone, Copy, Debug, PartialEq)]
 pub struct HeightField<'a> {
-    /// How many rows, 2 to 1,024.
+    /// The number of rows, 2 to 1,024.
     pub rows: usize,
-    /// How many columns, 2 to 1,024.
+    /// The number of columns, 2 to 1,024.
     pub columns: usize,
-    /// How far the columns, and the rows, are apart; finite and above 0.
+    /// The spacing of the columns, and of the rows; finite and above 0.
     pub spacing: [f64; 2],
     /// The heights, row after row: rows · columns of them.
     pub heights: &'a [f64],
 }
 
-/// A grid of distances from a surface: that of node (i, j, k) stands at origin + (i, j, k) · spacing, at place
-/// (k · sides\[1\] + j) · sides\[0\] + i.
+/// A grid of distances from a surface: values\[(k · sides\[1\] + j) · sides\[0\] + i\] is the distance at node (i, j, k), at
+/// origin + (i, j, k) · spacing.
 #[derive(Clone, Copy, Debug, PartialEq)]
 pub struct LevelSet<'a> {
-    /// How many nodes along each axis, 2 to 256.
+    /// The number of nodes along each axis, 2 to 256.
     pub sides: [u32; 3],
-    /// Where node (0, 0, 0) stands; finite.
+    /// The position of node (0, 0, 0); finite.
     pub origin: [f64; 3],
-    /// How far nodes are apart along each axis; finite and above 0.
+    /// The spacing of the nodes along each axis; finite and above 0.
     pub spacing: [f64; 3],
-    /// The distances, x fastest: as many as the sides multiply to.
+    /// The distances, x fastest: as many as the product of the sides.
     pub values: &'a [f64],
 }
 
@@ -61,9 +68,7 @@ pub struct LevelSet<'a> {
 /// assert_eq!((hit.distance, hit.normal[2]), (3.0, -1.0));
 /// ```
 pub fn ray_plane(ray: &Ray, plane: &Plane) -> Cast {
-    let mut places: Places = [0.0; 4];
-    let answer = calls::ray_plane(ray, plane, &mut places);
-    Cast::of(answer, || placed(&places))
+    cast(|hit| calls::ray_plane(ray, plane, hit))
 }
 
 /// Casts a ray at a triangle of three corners, from either side. The normal of a hit faces the ray.
@@ -79,13 +84,11 @@ pub fn ray_plane(ray: &Ray, plane: &Plane) -> Cast {
 /// assert_eq!(ray_triangle(&outside, &corners), Cast::None);
 /// ```
 pub fn ray_triangle(ray: &Ray, corners: &[[f64; 3]; 3]) -> Cast {
-    let mut places: Places = [0.0; 4];
-    let answer = calls::ray_triangle(ray, corners, &mut places);
-    Cast::of(answer, || placed(&places))
+    cast(|hit| calls::ray_triangle(ray, corners, hit))
 }
 
-/// Casts a ray at a height grid; the hit is the nearest, and its normal faces the ray. Only the cells under the box
-/// of the ray's segment are looked at. Refuses with 1, 2, 5, 6 or 7.
+/// Casts a ray at a height grid. The hit is the nearest, and its normal faces the ray. Only the cells under the bounding box
+/// of the ray's segment are tested. Refuses with 1, 2, 5, 6 or 7.
 ///
 /// ```
 /// use probe_rays::{ray_height_field, Cast, HeightField, Ray};
@@ -96,9 +99,7 @@ pub fn ray_triangle(ray: &Ray, corners: &[[f64; 3]; 3]) -> Cast {
 /// assert_eq!(hit.distance, 1.0);
 /// ```
 pub fn ray_height_field(ray: &Ray, field: &HeightField<'_>) -> Cast {
-    let mut places: Places = [0.0; 4];
-    let answer = calls::ray_height_field(ray, field, &mut places);
-    Cast::of(answer, || placed(&places))
+    cast(|hit| calls::ray_height_field(ray, field, hit))
 }
 
 /// Casts a ray at the zero surface of a distance grid. The normal of a hit points to where the distances grow, and
@@ -115,7 +116,5 @@ pub fn ray_height_field(ray: &Ray, field: &HeightField<'_>) -> Cast {
 /// assert!((hit.distance - 1.5).abs() < 1e-12);
 /// ```
 pub fn ray_level_set(ray: &Ray, grid: &LevelSet<'_>) -> Cast {
-    let mut places: Places = [0.0; 4];
-    let answer = calls::ray_level_set(ray, grid, &mut places);
-    Cast::of(answer, || placed(&places))
+    cast(|hit| calls::ray_level_set(ray, grid, hit))
 }

@@ -1,6 +1,6 @@
 //! STL files, binary and ASCII.
 //!
-//! A file has no unit; most programs write millimetres. Triangles keep the file's order.
+//! A file has no unit; most programs write millimetres. The triangles are in the file's order.
 //!
 //! ```
 //! use probe_rays::{stl, Mesh};
@@ -28,7 +28,7 @@ use std::fmt;
 /// The three corners of a facet.
 pub type Corners = [[f64; 3]; 3];
 
-/// Why a file is not taken, in words.
+/// Why a file is not accepted, in words.
 #[derive(Clone, Debug, PartialEq, Eq)]
 pub struct StlError(String);
 
@@ -40,17 +40,17 @@ impl fmt::Display for StlError {
 
 impl Error for StlError {}
 
-/// The facets of a file, whose coordinates are all finite.
+/// The facets of a file. All their coordinates are finite.
 pub fn facets(bytes: &[u8]) -> Result<Vec<Corners>, StlError> {
     read(bytes).map_err(StlError)
 }
 
-/// No binary file has more facets: a count above is that of another file. The letters of a text are counts above.
+/// No binary file has more facets: a larger count means another kind of file. Letters of text read as larger counts.
 const MOST_FACETS: usize = 100_000_000;
 
-/// A binary file may begin with 'solid', so the length decides: 84 bytes and 50 a facet. In an ASCII file the four
-/// bytes of the count are letters, and so a count that no length fits, and no byte is 0. A mark of UTF-8 before the text
-/// is passed over.
+/// A binary file may begin with 'solid', so the length decides: 84 bytes and 50 a facet. In an ASCII file the four bytes of
+/// the count are letters, so that no length fits this count, and no byte is 0. A UTF-8 byte order mark before the text is
+/// ignored.
 fn read(bytes: &[u8]) -> Result<Vec<Corners>, String> {
     let count = bytes.get(80..84).map(|four| number(four) as usize);
     if count.is_some_and(|count| bytes.len() == 84 + 50 * count) {
@@ -71,21 +71,21 @@ fn read(bytes: &[u8]) -> Result<Vec<Corners>, String> {
             bytes.len()
         ),
         Some(count) if is_solid => format!(
-            "no STL file: it begins with 'solid' and is no text, and a binary file of {count} facets has {} bytes, not {}",
+            "not an STL file: it begins with 'solid' but is not text, and a binary file of {count} facets has {} bytes, not {}",
             84 + 50 * count,
             bytes.len()
         ),
         Some(count) => format!(
-            "no STL file: it does not begin with 'solid', and a binary file of {count} facets has {} bytes, not {}",
+            "not an STL file: it does not begin with 'solid', and a binary file of {count} facets has {} bytes, not {}",
             84 + 50 * count,
             bytes.len()
         ),
-        None if is_solid => format!("cut short: a binary file has 84 bytes before its facets, and this {}", bytes.len()),
-        None => format!("no STL file: {} bytes that do not begin with 'solid'", bytes.len()),
+        None if is_solid => format!("cut short: a binary file has 84 bytes before its facets, and this file has {}", bytes.len()),
+        None => format!("not an STL file: {} bytes that do not begin with 'solid'", bytes.len()),
     })
 }
 
-/// Four bytes, lowest first.
+/// Four bytes, little-endian.
 fn number(four: &[u8]) -> u32 {
     u32::from_le_bytes([four[0], four[1], four[2], four[3]])
 }
@@ -102,7 +102,7 @@ fn binary(bytes: &[u8]) -> Result<Vec<Corners>, String> {
     bytes.chunks_exact(50).enumerate().map(facet).collect()
 }
 
-/// The facets of an ASCII file, which may hold several solids. Their names, and the facets' normals, are passed over.
+/// The facets of an ASCII file, which may hold several solids. Their names, and the facets' normals, are ignored.
 fn ascii(text: &str) -> Result<Vec<Corners>, String> {
     let mut facets = Vec::new();
     let mut corners: Vec<[f64; 3]> = Vec::new();
@@ -127,7 +127,10 @@ fn ascii(text: &str) -> Result<Vec<Corners>, String> {
             }
             other => {
                 let start: String = other.chars().take(20).collect();
-                return Err(format!("{}: {start:?} is no word of an STL file", place()));
+                return Err(format!(
+                    "{}: {start:?} is not a word of an STL file",
+                    place()
+                ));
             }
         }
     }
@@ -157,7 +160,7 @@ fn finite(corners: Corners, place: impl Fn() -> String) -> Result<Corners, Strin
     }
 }
 
-/// The vertices and triangles of facets, equal vertices merged, each where it is met first.
+/// The vertices and triangles of facets. Equal vertices are merged; they are in the order of their first use.
 pub fn merged(facets: &[Corners]) -> (Vec<[f64; 3]>, Vec<[u32; 3]>) {
     let mut places = HashMap::new();
     let mut vertices = Vec::new();

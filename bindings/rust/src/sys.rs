@@ -1,11 +1,11 @@
 //! The library's calls as C sees them: a slice is a pointer and a length.
 //!
-//! include/probe_rays.h says what each call asks and answers. tests/declarations.sh compares these lines
+//! include/probe_rays.h says what each call requires and returns. tests/declarations.sh compares these lines
 //! with that header and with the proved source, crates/exports.
-//! The safe functions of this crate are made of these and give all that they give.
+//! The safe functions of this crate wrap these calls and offer all that they offer.
 
 extern "C" {
-    /// The version of the library that is linked: [`VERSION`], if this crate is its own.
+    /// The version of the linked library. It is [`VERSION`] if this crate belongs to that library.
     pub fn probe_version() -> u32;
 
     /// Casts a ray at a plane.
@@ -166,7 +166,7 @@ extern "C" {
         index_length: usize,
     ) -> u32;
 
-    /// Casts a ray at a mesh on a grid of 2^-15 mm, without a tree: a none is certain.
+    /// Casts a ray at a mesh on a grid of 2^-15 mm, without a tree: a miss is certain.
     pub fn probe_ray_mesh_exact_plain(
         origin_x: f64,
         origin_y: f64,
@@ -219,7 +219,7 @@ extern "C" {
         index_length: usize,
     ) -> u32;
 
-    /// Casts many rays at a mesh through its tree, each answer at its own places.
+    /// Casts many rays at a mesh through its tree, each result at its own places.
     pub fn probe_ray_mesh_many(
         rays: *const f64,
         rays_length: usize,
@@ -362,7 +362,7 @@ extern "C" {
         found_length: usize,
     ) -> u32;
 
-    /// Glues two boards into one.
+    /// Merges two boards into one.
     pub fn probe_merge(
         first_vertices: *const f64,
         first_vertices_length: usize,
@@ -556,7 +556,7 @@ extern "C" {
         index_length: usize,
     ) -> u32;
 
-    /// Casts a ray with a near distance at a plane, both as slices of their numbers, eight and four.
+    /// Casts a ray with a near distance at a plane, with both in slices, of eight and four numbers.
     pub fn probe_ray_plane_slices(
         ray: *const f64,
         ray_length: usize,
@@ -566,7 +566,7 @@ extern "C" {
         hit_length: usize,
     ) -> u32;
 
-    /// Casts a ray with a near distance at a triangle, both as slices of their numbers, eight and nine.
+    /// Casts a ray with a near distance at a triangle, with both in slices, of eight and nine numbers.
     pub fn probe_ray_triangle_slices(
         ray: *const f64,
         ray_length: usize,
@@ -576,7 +576,7 @@ extern "C" {
         hit_length: usize,
     ) -> u32;
 
-    /// Casts a ray at a cabinet of many parts under one limit of nodes.
+    /// Casts a ray at a cabinet of many parts under one limit on the nodes.
     pub fn probe_ray_cabinet(
         origin_x: f64,
         origin_y: f64,
@@ -615,7 +615,7 @@ extern "C" {
         spent_length: usize,
     ) -> u32;
 
-    /// Writes a record of version 2 as version 3.
+    /// Converts a record of version 2 to version 3.
     pub fn probe_record_to_short(
         bytes: *const u8,
         bytes_length: usize,
@@ -625,7 +625,7 @@ extern "C" {
         written_length: usize,
     ) -> u32;
 
-    /// Writes a record of version 3 as version 2.
+    /// Converts a record of version 3 to version 2.
     pub fn probe_record_to_long(
         bytes: *const u8,
         bytes_length: usize,
@@ -636,13 +636,13 @@ extern "C" {
     ) -> u32;
 }
 
-/// A range of an area: its first element and how many.
+/// A range of a buffer: its first element and its length.
 #[repr(C)]
 #[derive(Clone, Copy, Debug, Default, PartialEq, Eq, Hash)]
 pub struct Span {
     /// The first element.
     pub start: usize,
-    /// How many.
+    /// The length.
     pub length: usize,
 }
 
@@ -658,12 +658,12 @@ pub struct Vec3 {
     pub z: f64,
 }
 
-/// A part of a cabinet, 128 bytes: where it stands, its tree's node count, and the ranges of its mesh and its tree in
-/// the areas that all parts share.
+/// A part of a cabinet, 128 bytes: its origin, its tree's node count, and the ranges of its mesh and its tree in the buffers
+/// that all parts share.
 #[repr(C)]
 #[derive(Clone, Copy, Debug, Default, PartialEq)]
 pub struct Part {
-    /// Where it stands: the ray's origin less this one is where the ray starts in the part's own frame.
+    /// The part's origin: the ray's origin less this one is the ray's origin in the part's own frame.
     pub origin: Vec3,
     /// Its tree's node count.
     pub nodes: usize,
@@ -681,22 +681,22 @@ pub struct Part {
     pub order: Span,
 }
 
-/// The version of these calls: it changes when one of them does.
+/// The version of these calls. It changes when one of them changes.
 pub const VERSION: u32 = 3;
 
 /// A hit: its values are written.
 pub const HIT: u32 = 256;
-/// No hit from near to the maximum, by the cast's definition.
+/// A miss: no hit from near to the maximum, by the cast's definition.
 pub const NONE: u32 = 257;
-/// The tree fits the mesh.
+/// The tree fits the mesh; the mesh's corners are numbers.
 pub const YES: u32 = 258;
-/// The tree does not fit the mesh.
+/// The tree does not fit the mesh; they are not numbers.
 pub const NO: u32 = 259;
 /// The results are written: a tree, a list, a record.
 pub const DONE: u32 = 260;
 /// The ray is clear of every grid within the ranges.
 pub const CLEAR: u32 = 261;
-/// A grid within the ranges may be touched: `cell` is written.
+/// The ray may touch a grid within the ranges: `cell` is written.
 pub const POSSIBLE: u32 = 262;
 
 /// Refusal 1.
@@ -720,6 +720,6 @@ pub const REFUSED_BAD_RANGE: u32 = 9;
 /// Refusal 10.
 pub const REFUSED_LIMIT_REACHED: u32 = 10;
 /// A float of a record is NaN, or no f32 is exactly that number.
-pub const REFUSED_NOT_HELD: u32 = 11;
+pub const REFUSED_NOT_REPRESENTABLE: u32 = 11;
 /// Refusal 12.
 pub const REFUSED_OUT_OF_RANGE: u32 = 12;

@@ -293,7 +293,7 @@ fn every_pattern_of_four_bytes() {
         if f32::from_bits(pattern).is_nan() {
             assert_eq!(
                 record_to_long(&plane(3, short(pattern))),
-                Err(Refusal::NotHeld),
+                Err(Refusal::NotRepresentable),
                 "{pattern:08x}"
             );
             nans += 1;

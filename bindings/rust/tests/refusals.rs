@@ -85,7 +85,7 @@ fn numbers_and_names() {
     }
     assert_eq!(Refusal::from_number(1), Refusal::InvalidInput);
     assert_eq!(Refusal::from_number(8), Refusal::NotConvergent);
-    assert_eq!(Refusal::from_number(11), Refusal::NotHeld);
+    assert_eq!(Refusal::from_number(11), Refusal::NotRepresentable);
     assert_eq!(Refusal::from_number(12), Refusal::OutOfRange);
     assert_eq!(Refusal::from_number(13), Refusal::Other(13));
     assert!(Refusal::NoRoom

@@ -2,7 +2,7 @@
 -- than it has. Assumes nothing.
 use Prim.Native.Nat.{ℕ, _+_, _≤_}
 use mathlib.Core.Path.{_≡_, refl, sym, ap, _∙_}
-use mathlib.Core.Bool.{Bool, true, false, _&&_, cond, true≢false}
+use mathlib.Core.Bool.{Bool, true, false, cond, true≢false}
 use mathlib.Core.List.{List, [], _∷_}
 use native.Mathlib.Omega.{arith}
 use borrow.Author.Tests.{eq-eqb}
@@ -14,7 +14,7 @@ use Rattle.geometry.specs.declared.ray.Ray.{Ray}
 use Rattle.nearest_hit.specs.Nearest.{Indexed}
 use Rattle.tree.specs.Layout.{Tree}
 use Rattle.tree.specs.Mesh.{Mesh, thirds, candidates}
-use Rattle.lists.proofs.JoinedTests.{and-first, and-second}
+use Rattle.lists.proofs.JoinedTests.{and-second}
 use Rattle.tree_check.proofs.Answers.{yes-passes}
 use Rattle.tree_walk.specs.Looking.{nodesLooked}
 use Rattle.tree_walk.proofs.Limits.{walk-looks-few}
@@ -26,11 +26,11 @@ use Rattle.cabinet.specs.declared.part.Found.{Found}
 use Rattle.cabinet.specs.declared.part.Found.the-variants.{Nothing, Hit, Refused}
 use Rattle.cabinet.specs.declared.part.Progress.{Progress}
 use Rattle.cabinet.specs.Parts.{Areas, meshOf, treeOfPart, rangesInside, shapeFits, roomFits}
-use Rattle.cabinet.specs.PartCast.{Costed, movedRay, needOf, ownCast}
-use Rattle.cabinet.specs.Cabinet.{isRefused, foundNext, nextPart, afterPart, ownPart, ownParts, allParts}
+use Rattle.cabinet.specs.PartCast.{movedRay, needOf, ownCast}
+use Rattle.cabinet.specs.Cabinet.{isRefused, foundNext, nextPart, ownPart, ownParts, allParts}
 use Rattle.cabinet.specs.Promises.{alone, nearestPart, nodesOf, AllChecked, none-checked, and-checked}
 use Rattle.cabinet.proofs.PartLimits.{moved-admitted}
-use Rattle.cabinet.proofs.Limits.{extended, after-refused, after-begun, own-refused}
+use Rattle.cabinet.proofs.Limits.{after-refused, after-begun, own-refused}
 
 -- ---- the count of a checked tree
 need-few : (r : Ray) (m : Mesh) (t : Tree) → PassesCheck m t → needOf r m t ≤ t .nodeCount

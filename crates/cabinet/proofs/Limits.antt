@@ -1,23 +1,23 @@
 -- The cast at all parts under a limit is that without one where the limit is at least the need, and else 10 with the limit spent.
 -- Assumes nothing.
 use Prim.Native.Nat.{ℕ, _+_, _-_, _≤_, _<_}
-use mathlib.Core.Path.{_≡_, refl, sym, ap, subst, _∙_}
-use mathlib.Core.Bool.{Bool, true, false, cond, true≢false}
+use mathlib.Core.Path.{_≡_, refl, ap, _∙_}
+use mathlib.Core.Bool.{Bool, true, false, true≢false}
 use mathlib.Core.List.{List, [], _∷_}
 use native.Mathlib.Omega.{arith}
-use borrow.Author.Tests.{le-leb, lt-leb, leb-true, leb-false}
+use borrow.Author.Tests.{leb-true, leb-false}
 use lib.Dec.{leb}
 use Rattle.geometry.specs.Segment.{rayAdmitted}
 use Rattle.geometry.specs.declared.ray.Ray.{Ray}
 use Rattle.casts.specs.Answer.{limitReached}
-use Rattle.nearest_hit.specs.Nearest.{Indexed, stopped}
+use Rattle.nearest_hit.specs.Nearest.{stopped}
 use Rattle.cabinet.specs.declared.part.Part.{Part}
 use Rattle.cabinet.specs.declared.part.Found.{Found}
 use Rattle.cabinet.specs.declared.part.Found.the-variants.{Nothing, Hit, Refused}
 use Rattle.cabinet.specs.declared.part.Progress.{Progress}
 use Rattle.cabinet.specs.Parts.{Areas, meshOf, treeOfPart}
-use Rattle.cabinet.specs.PartCast.{Costed, costing, castMoved, ownCast, limited}
-use Rattle.cabinet.specs.Cabinet.{Answer, refusedAfter, answerOf, isRefused, foundNext, nextPart, afterPart, castPart, castParts}
+use Rattle.cabinet.specs.PartCast.{Costed, costing, castMoved, ownCast}
+use Rattle.cabinet.specs.Cabinet.{refusedAfter, answerOf, isRefused, foundNext, nextPart, afterPart, castPart, castParts}
 use Rattle.cabinet.specs.Cabinet.{ownPart, ownParts}
 use Rattle.cabinet.proofs.PartLimits.{limited-within, limited-past, part-limited}
 

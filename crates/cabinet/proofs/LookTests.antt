@@ -1,13 +1,13 @@
 -- One part of the first pass: each of the code's answers is the definition's. Assumes nothing.
 use Prim.Native.Nat.{ℕ, _+_, _<_, _≤_}
 use mathlib.Core.Path.{_≡_, refl, sym, _∙_}
-use mathlib.Core.Bool.{Bool, true, false, _&&_, cond}
+use mathlib.Core.Bool.{Bool, true, false}
 use native.Mathlib.Omega.{arith}
 use borrow.Author.Tests.{ltb-true, ltb-false, le-leb, lt-leb}
 use lib.Dec.{leb, ltb}
 use Rattle.casts.specs.Answer.{badShape, noRoom}
-use Rattle.tree.specs.Mesh.{thirds, lengthsAdmitted}
-use Rattle.lists.proofs.JoinedTests.{and-first, and-second}
+use Rattle.tree.specs.Mesh.{thirds}
+use Rattle.lists.proofs.JoinedTests.{and-second}
 use Rattle.cabinet.specs.declared.part.Part.{Part}
 use Rattle.cabinet.specs.declared.part.Look.{Look}
 use Rattle.cabinet.specs.Parts.{rangesInside}

@@ -1,7 +1,7 @@
 -- A part's own cast refuses with a number above the tests' and below the limit's, so that 10 is answered exactly where the limit is less
 -- than the need. Assumes nothing.
 use Prim.Native.Nat.{ℕ}
-use mathlib.Core.Path.{_≡_, refl, sym, ap, _∙_}
+use mathlib.Core.Path.{_≡_, refl}
 use mathlib.Core.Bool.{Bool, true, false, _&&_, cond}
 use mathlib.Core.List.{List, [], _∷_}
 use lib.Dec.{ltb}

@@ -2,10 +2,9 @@
 -- nothing.
 use Prim.Native.Nat.{ℕ, _≤_, _<_}
 use mathlib.Core.Path.{_≡_, refl, sym, ap, _∙_}
-use mathlib.Core.Bool.{Bool, true, false, _&&_, not, cond}
-use mathlib.Core.List.{List}
+use mathlib.Core.Bool.{Bool, true, false, _&&_, cond}
 use native.Mathlib.Omega.{arith}
-use borrow.Author.Tests.{le-leb, lt-leb, leb-true, leb-false}
+use borrow.Author.Tests.{le-leb, lt-leb, leb-true}
 use lib.Dec.{leb}
 use lib.ListN.{length}
 use Rattle.vectors.specs.Vector.{finiteVec, subOf}
@@ -18,9 +17,9 @@ use Rattle.casts.specs.Answer.{overflow, limitReached}
 use Rattle.nearest_hit.specs.Nearest.{Indexed, stopped}
 use Rattle.tree.specs.Layout.{Tree}
 use Rattle.tree.specs.Mesh.{Mesh, thirds}
-use Rattle.lists.proofs.JoinedTests.{and-first, and-second}
+use Rattle.lists.proofs.JoinedTests.{and-second}
 use Rattle.tree_walk.specs.Walk.{walkOf}
-use Rattle.tree_walk.specs.Looking.{Looked, looked, usedUp, nodesLooked, walkWithin}
+use Rattle.tree_walk.specs.Looking.{looked, usedUp, nodesLooked, walkWithin}
 use Rattle.tree_walk.proofs.Limits.{within-is}
 use Rattle.mesh.specs.MeshCast.{overWalk, meshCast}
 use Rattle.cabinet.specs.PartCast.{Costed, costing, afterLook, castWithin, movedRay, castMoved, needOf, ownCast}

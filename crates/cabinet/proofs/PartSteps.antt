@@ -1,7 +1,7 @@
 -- One part of a pass: each of the code's answers is the definition's. Assumes nothing.
 use Prim.Native.Nat.{ℕ, _+_, _-_, _*_, _%_, _≤_, _<_}
 use mathlib.Core.Path.{_≡_, refl, sym, ap, _∙_}
-use mathlib.Core.Bool.{Bool, true, false, _&&_, cond, true≢false}
+use mathlib.Core.Bool.{Bool, true, false, _&&_, true≢false}
 use mathlib.Core.List.{List}
 use native.Mathlib.Omega.{arith}
 use borrow.Author.Tests.{leb-true, leb-false, le-leb, lt-leb}
@@ -24,7 +24,7 @@ use Rattle.cabinet.specs.declared.part.CastCost.{CastCost}
 use Rattle.cabinet.specs.Parts.{Areas, floatsAt, wordsAt, meshOf, treeOfPart, staysIn, rangesInside}
 use Rattle.cabinet.specs.PartCast.{Costed, castMoved}
 use Rattle.cabinet.specs.Cabinet.{isRefused, foundNext, nextPart, afterPart}
-use Rattle.cabinet.specs.Steps.{saysCost, keeping, lowerRefusal, refuseWith, isOver, isIdle, ownStep, stepPart, stepParts}
+use Rattle.cabinet.specs.Steps.{saysCost, keeping, lowerRefusal, refuseWith, isOver, isIdle, ownStep, stepPart}
 use Rattle.cabinet.proofs.PartLimits.{moved-spent}
 
 -- ---- ranges

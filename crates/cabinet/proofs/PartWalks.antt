@@ -1,12 +1,8 @@
 -- The cast at one part: each of the code's answers is the definition's. Assumes nothing.
-use Prim.Native.Nat.{ℕ, _+_, _-_, _*_, _/_, _≤_, _<_}
-use mathlib.Core.Path.{_≡_, refl, sym, ap, subst, _∙_}
-use mathlib.Core.Bool.{Bool, true, false, _&&_, cond}
+use Prim.Native.Nat.{ℕ, _-_, _≤_}
+use mathlib.Core.Path.{_≡_, sym, ap, subst, _∙_}
+use mathlib.Core.Bool.{true, false}
 use mathlib.Core.List.{List, []}
-use native.Mathlib.Omega.{arith}
-use borrow.Author.Tests.{leb-true, leb-false}
-use lib.Dec.{leb}
-use lib.Ieee.{Float}
 use lib.ListN.{length, take}
 use Rattle.vectors.specs.Vector.{finiteVec, subOf}
 use Rattle.geometry.specs.Segment.{segmentEnd, segmentBox}
@@ -18,9 +14,9 @@ use Rattle.nearest_hit.specs.Nearest.{Indexed, stopped, nearestOf}
 use Rattle.lists.specs.Lists.{sorted, allBelow}
 use Rattle.tree.specs.Layout.{Tree}
 use Rattle.tree.specs.Mesh.{Mesh, thirds, triangleAnswer}
-use Rattle.tree_walk.specs.Walk.{walking, broken, ended}
+use Rattle.tree_walk.specs.Walk.{ended}
 use Rattle.tree_walk.specs.Areas.{Grown}
-use Rattle.tree_walk.specs.Looking.{Looked, looked, usedUp, endedLook, walkWithin}
+use Rattle.tree_walk.specs.Looking.{endedLook, walkWithin}
 use Rattle.tree_walk.specs.LookAreas.{lookedBy, GrownBy}
 use Rattle.tree_walk.specs.declared.within.Limited.{Limited}
 use Rattle.tree_walk.specs.declared.within.Limited.the-variants.{Count, Broken, UsedUp}

@@ -28,8 +28,9 @@ use Rattle.cabinet.specs.Cabinet.{Answer, refused, answerWith, answerOf,
 use Rattle.cabinet.specs.Cabinet.{castCabinet}
 use Rattle.cabinet.specs.Cabinet.{withResults, testsPass}
 use Rattle.cabinet.specs.Looks.{lowerNumber, lowered, lookShape, lookRoom, lookPart, lookParts, numberOf, foundBy, lookFrom}
-use Rattle.cabinet.specs.Looks.{turnedBy}
-use Rattle.cabinet.specs.Steps.{isOver, isIdle, ownStep, stepPart, stepParts, looking, begun, turned, between, passes, lastAnswer}
+use Rattle.cabinet.specs.Looks.{secondPass}
+use Rattle.cabinet.specs.Steps.{isOver, isIdle, ownStep, stepPart, stepParts, looking, begun, castingFrom, between, passes}
+use Rattle.cabinet.specs.Steps.{lastAnswer}
 use Rattle.cabinet.proofs.PartSteps.{Inside, inside-is}
 use Rattle.cabinet.proofs.Limits.{after-refused}
 use Rattle.cabinet.proofs.Alone.{all-first, all-rest}
@@ -229,9 +230,9 @@ module _ (a : Areas) (list stack : ℕ) where
     over-stays s (p ∷ ps) e = simp e (over-stays s ps e)
 
     refused-stays : (number : ℕ) (ps : List Part)
-        → stepParts a list stack (turned (looking r limit (Refused number))) ps ≡ turned (looking r limit (Refused number))
+        → stepParts a list stack (castingFrom (looking r limit (Refused number))) ps ≡ castingFrom (looking r limit (Refused number))
     unfolding isOver
-    refused-stays number ps = over-stays (turned (looking r limit (Refused number))) ps refl
+    refused-stays number ps = over-stays (castingFrom (looking r limit (Refused number))) ps refl
 
     module _ (fits : Bool) (parts : List Part) where
       abbrev shapes : Bool
@@ -245,13 +246,13 @@ module _ (a : Areas) (list stack : ℕ) where
       firstFound admits shaped fitting roomy = cond admits (cond shaped (cond (fitting && roomy) Nothing (Refused noRoom))
           (Refused badShape)) (Refused invalidInput)
 
-      abbrev turnedTo : ℕ → State
-      turnedTo k = turned (looking r limit (foundBy k))
+      abbrev castingWith : ℕ → State
+      castingWith k = castingFrom (looking r limit (foundBy k))
 
-      look-turns : (f : Found) → turnedBy (looking r limit f) (lookParts (lookAt (numberOf f)) parts) ≡ turnedTo
+      look-passes : (f : Found) → secondPass (looking r limit f) (lookParts (lookAt (numberOf f)) parts) ≡ castingWith
           (looksAll (numberOf f) parts)
-      unfolding turnedBy
-      look-turns f = ap (λ (s : Look). turnedTo (s .number)) (look-steps (numberOf f) parts)
+      unfolding secondPass
+      look-passes f = ap (λ (s : Look). castingWith (s .number)) (look-steps (numberOf f) parts)
 
       short-found : (x w : Bool) → foundBy (cond x noRoom badShape) ≡ firstFound true x false w
       unfolding foundBy
@@ -265,13 +266,13 @@ module _ (a : Areas) (list stack : ℕ) where
       none-found false w = refl
 
       first-found : (x : Bool) → rayAdmitted r ≡ x → (y : Bool) → fits ≡ y
-          → between a list stack (begun r limit fits) parts ≡ turned (looking r limit (firstFound x shapes y rooms))
+          → between a list stack (begun r limit fits) parts ≡ castingFrom (looking r limit (firstFound x shapes y rooms))
       unfolding between begun lookFrom foundBy
-      first-found false e y f = simp e (look-turns (Refused invalidInput) ∙ ap turnedTo (invalid-stays parts))
-      first-found true e false f = simp (e, f) (look-turns (Refused noRoom) ∙ ap turnedTo (short-gives parts)
-          ∙ ap (λ (g : Found). turned (looking r limit g)) (short-found shapes rooms))
-      first-found true e true f = simp (e, f) (look-turns Nothing ∙ ap turnedTo (looked-through parts)
-          ∙ ap (λ (g : Found). turned (looking r limit g)) (none-found shapes rooms))
+      first-found false e y f = simp e (look-passes (Refused invalidInput) ∙ ap castingWith (invalid-stays parts))
+      first-found true e false f = simp (e, f) (look-passes (Refused noRoom) ∙ ap castingWith (short-gives parts)
+          ∙ ap (λ (g : Found). castingFrom (looking r limit g)) (short-found shapes rooms))
+      first-found true e true f = simp (e, f) (look-passes Nothing ∙ ap castingWith (looked-through parts)
+          ∙ ap (λ (g : Found). castingFrom (looking r limit g)) (none-found shapes rooms))
 
       -- where a test fails, the second pass casts at no part
       pub tests-keep : testsPass r a list stack fits parts ≡ false → isIdle
@@ -291,11 +292,12 @@ module _ (a : Areas) (list stack : ℕ) where
       abbrev ends : State → Answer
       ends s = lastAnswer (stepParts a list stack s parts .at)
 
-      refused-answers : (number : ℕ) → ends (turned (looking r limit (Refused number))) ≡ refused number
+      refused-answers : (number : ℕ) → ends (castingFrom (looking r limit (Refused number))) ≡ refused number
       unfolding lastAnswer
       refused-answers number = ap (λ (s : State). lastAnswer (s .at)) (refused-stays number parts)
 
-      cast-answers : shapes ≡ true → rooms ≡ true → ends (turned (looking r limit Nothing)) ≡ answerOf (castParts r a limit beginning parts)
+      cast-answers : shapes ≡ true → rooms ≡ true → ends (castingFrom (looking r limit Nothing)) ≡ answerOf
+          (castParts r a limit beginning parts)
       cast-answers f g = ap (λ (s : State). lastAnswer (s .at)) (cast-steps beginning parts f g) ∙ last-of-casts r a limit parts
 
       -- an answer of the casts, where the result slices do not fit
@@ -315,7 +317,7 @@ module _ (a : Areas) (list stack : ℕ) where
           after = castParts r a limit beginning parts
 
           go : (x : Bool) → rayAdmitted r ≡ x → (y : Bool) → shapes ≡ y → (z w : Bool) → rooms ≡ w
-              → ends (turned (looking r limit (firstFound x y z w)))
+              → ends (castingFrom (looking r limit (firstFound x y z w)))
               ≡ withResults z (cond x (cond y (cond w (answerOf after) (refused noRoom)) (refused badShape)) (refused invalidInput))
           go false e y f true w g = refused-answers invalidInput
           go false e y f false w g = refused-answers invalidInput

@@ -78,8 +78,8 @@ lookFrom start vertices triangles nodeBoxes triangleBoxes nodeWords order list s
     }
 
 -- the second pass casts, from what the first found
-unfoldable pub turnedBy : State → Look → State
-turnedBy start s =
+unfoldable pub secondPass : State → Look → State
+secondPass start s =
     record {
       ray = start .ray;
       limit = start .limit;

@@ -1,7 +1,6 @@
 -- The cast at one part under what is left of the limit, and without a limit. Definitions only. Assumes nothing.
 use Prim.Native.Nat.{ℕ}
-use mathlib.Core.Bool.{Bool, cond}
-use mathlib.Core.List.{List}
+use mathlib.Core.Bool.{cond}
 use lib.Dec.{leb}
 use lib.ListN.{length}
 use Rattle.vectors.specs.Vector.{finiteVec, subOf}

@@ -1,7 +1,7 @@
 -- What is promised of the limit, for an admitted ray and any list of parts. Definitions only. Assumes nothing.
 use Prim.Native.Nat.{ℕ, _+_, _≤_, _<_}
 use mathlib.Core.Path.{_≡_}
-use mathlib.Core.Bool.{Bool, true, cond}
+use mathlib.Core.Bool.{true, cond}
 use mathlib.Core.List.{List, [], _∷_}
 use lib.Ieee.{Float}
 use Rattle.vectors.specs.Vector.{finiteVec, subOf}
@@ -10,8 +10,6 @@ use Rattle.vectors.specs.declared.vec3.Vec3.{Vec3}
 use Rattle.geometry.specs.declared.ray.Ray.{Ray}
 use Rattle.casts.specs.Answer.{overflow, limitReached}
 use Rattle.nearest_hit.specs.Nearest.{Indexed, stopped}
-use Rattle.tree.specs.Layout.{Tree}
-use Rattle.tree.specs.Mesh.{Mesh}
 use Rattle.mesh.specs.MeshCast.{rayMesh}
 use Rattle.mesh.specs.Demand3.{PassesCheck}
 use Rattle.cabinet.specs.declared.part.Part.{Part}
@@ -20,7 +18,7 @@ use Rattle.cabinet.specs.declared.part.Found.the-variants.{Nothing}
 use Rattle.cabinet.specs.Parts.{Areas, meshOf, treeOfPart, shapeFits, roomFits}
 use Rattle.cabinet.specs.PartCast.{movedRay}
 use Rattle.cabinet.specs.Cabinet.{Answer, hitIn, noneAfter, refused, refusedAfter, answerWith, answerOf, foundNext, nextPart}
-use Rattle.cabinet.specs.Cabinet.{beginning, castParts, ownParts, allParts, castCabinet}
+use Rattle.cabinet.specs.Cabinet.{beginning, ownParts, allParts, castCabinet}
 
 -- the nodes that an answer carries
 abbrev pub spentOf : Answer → ℕ

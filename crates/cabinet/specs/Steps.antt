@@ -22,9 +22,9 @@ use Rattle.cabinet.specs.declared.part.Progress.{Progress}
 use Rattle.cabinet.specs.declared.part.State.{State}
 use Rattle.cabinet.specs.declared.part.CastCost.{CastCost}
 use Rattle.cabinet.specs.Parts.{Areas, meshOf, treeOfPart, rangesInside}
-use Rattle.cabinet.specs.Looks.{lookParts, lookFrom, turnedBy}
+use Rattle.cabinet.specs.Looks.{lookParts, lookFrom, secondPass}
 use Rattle.cabinet.specs.PartCast.{Costed, costing, castMoved}
-use Rattle.cabinet.specs.Cabinet.{Answer, hitIn, noneAfter, refused, refusedAfter, answerOf, plainly, isRefused, afterPart}
+use Rattle.cabinet.specs.Cabinet.{Answer, answerOf, plainly, isRefused, afterPart}
 
 -- what the code's answer at a part says
 abbrev pub saysCost : CastCost → Costed
@@ -110,23 +110,19 @@ unfoldable pub begun : Ray → ℕ → Bool → State
 begun r limit fits = looking r limit (cond (rayAdmitted r) (cond fits Nothing (Refused noRoom)) (Refused invalidInput))
 
 -- the second pass casts
-abbrev pub turned : State → State
-turned s = record { ray = s .ray; limit = s .limit; casting = true; at = s .at }
+abbrev pub castingFrom : State → State
+castingFrom s = record { ray = s .ray; limit = s .limit; casting = true; at = s .at }
 
 -- what the first pass finds, with which the second begins
 unfoldable pub between : Areas → ℕ → ℕ → State → List Part → State
 between a list stack start parts =
-    turnedBy start
+    secondPass start
     (lookParts (lookFrom start (length (a .vertices)) (length (a .triangles)) (length (a .nodeBoxes)) (length (a .triangleBoxes))
     (length (a .nodeWords)) (length (a .order)) list stack) parts)
 
 -- both passes
 unfoldable pub passes : Areas → ℕ → ℕ → State → List Part → State
 passes a list stack start parts = stepParts a list stack (between a list stack start parts) parts
-
--- after both, the work areas are as they were where the first pass refused
-abbrev pub KeptByBoth : Areas → ℕ → ℕ → State → List Part → List ℕ → List ℕ → List ℕ → List ℕ → Type 0
-KeptByBoth a m k start parts list list' stack stack' = Kept (between a m k start parts) list list' stack stack'
 
 -- the answer as the last state has it: a refusal met before a part was begun carries no count
 unfoldable pub lastAnswer : Progress → Answer

@@ -9,7 +9,7 @@ use tree::layout;
 ghost use mathlib.Core.Path.{_≡_};
 ghost use Prim.Native.Nat.{_≤_};
 ghost use Rattle.tree.specs.Mesh.{thirds};
-ghost use Rattle.cabinet.specs.Looks.{lowerNumber, lowered, lookShape, lookRoom, lookPart, numberOf, foundBy, lookFrom, turnedBy};
+ghost use Rattle.cabinet.specs.Looks.{lowerNumber, lowered, lookShape, lookRoom, lookPart, numberOf, foundBy, lookFrom, secondPass};
 
 // The lower of two refusals stands: 1 before 2, and 2 of any part before 3 of any part.
 fn lower_number(number: u32, before: u32) -> u32
@@ -153,8 +153,8 @@ pub fn look_from(
 }
 
 // Between the two passes: the second begins with what the first found.
-pub fn turn(start: State, s: Look) -> State
-    ensures { λ r. ⌜ r ≡ turnedBy start s ⌝ }
+pub fn second_pass(start: State, s: Look) -> State
+    ensures { λ r. ⌜ r ≡ secondPass start s ⌝ }
 {
     let ray = start.ray;
     let found = found_by(s.number);

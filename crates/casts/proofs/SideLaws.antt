@@ -22,9 +22,9 @@ minus-value : HasValue (neg oneᶠ) true 1 1
 unfolding ofBits neg
 minus-value = (refl, refl)
 
-fits-turned : (s t : Bool) (m : ℕ) (e : ℤ) → T (fits binary64 (fin s m e)) → T (fits binary64 (fin t m e))
+fits-flipped : (s t : Bool) (m : ℕ) (e : ℤ) → T (fits binary64 (fin s m e)) → T (fits binary64 (fin t m e))
 unfolding fits
-fits-turned s t m e f = f
+fits-flipped s t m e f = f
 
 -- the product with a float that has the value 1 or -1
 product : (s t : Bool) (m : ℕ) (e : ℤ) (c : Float) → HasValue c t 1 1 → T (fits binary64 (fin s m e))
@@ -33,7 +33,7 @@ product s t m e c v f =
     mul-values (fin s m e) c s t (m * up e) (down e) 1 1 (down-pos e) (lit< tt) (refl, refl) v
     ∙ ap (λ (k : ℕ). round binary64 (unlike s t) k (down e * 1)) (mul-one (m * up e))
     ∙ ap (λ (k : ℕ). round binary64 (unlike s t) (m * up e) k) (mul-one (down e))
-    ∙ own-rounding (unlike s t) m e (fits-turned s (unlike s t) m e f)
+    ∙ own-rounding (unlike s t) m e (fits-flipped s (unlike s t) m e f)
 
 times-one : (x : Float) → T (fits binary64 x) → x *ᶠ oneᶠ ≡ x
 unfolding mul ofBits
@@ -55,11 +55,11 @@ pub times-side : (x : Float) → T (fits binary64 x) → (b : Bool) → x *ᶠ c
 times-side x f true = times-minus-one x f
 times-side x f false = times-one x f
 
-pub turned-each : (v : Vec3) (b : Bool) → vector (cond b (neg (v .x)) (v .x)) (cond b (neg (v .y)) (v .y)) (cond b (neg (v .z)) (v .z)) ≡
+pub flipped-each : (v : Vec3) (b : Bool) → vector (cond b (neg (v .x)) (v .x)) (cond b (neg (v .y)) (v .y)) (cond b (neg (v .z)) (v .z)) ≡
     cond b (negOf v) v
 unfolding negOf
-turned-each v true = refl
-turned-each v false = refl
+flipped-each v true = refl
+flipped-each v false = refl
 
 -- ---- two tests that are the same, one of them known
 pub same-tests : (a b c : Bool) → Bool·beq a b ≡ true → b ≡ c → a ≡ c

@@ -40,8 +40,8 @@ badRange = 9
 abbrev pub limitReached : ℕ
 limitReached = 10
 
-abbrev pub notHeld : ℕ
-notHeld = 11
+abbrev pub notRepresentable : ℕ
+notRepresentable = 11
 
 abbrev pub outOfRange : ℕ
 outOfRange = 12

@@ -38,7 +38,7 @@ pub const BAD_RANGE: u32 = 9;
 pub const LIMIT_REACHED: u32 = 10;
 
 // A record's float is NaN, or no float of the form that is asked for.
-pub const NOT_HELD: u32 = 11;
+pub const NOT_REPRESENTABLE: u32 = 11;
 
 // A ray or a corner that the exact cast's grid does not reach.
 pub const OUT_OF_RANGE: u32 = 12;

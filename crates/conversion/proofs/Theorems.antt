@@ -1,5 +1,5 @@
 -- What document 02 promises of the converter. Assumes nothing.
-use Prim.Native.Nat.{ℕ, _+_, _*_, _≤_}
+use Prim.Native.Nat.{ℕ, _≤_}
 use mathlib.Core.Path.{_≡_, sym, ap, _∙_}
 use mathlib.Core.List.{List}
 use native.Mathlib.Omega.{arith}
@@ -8,94 +8,101 @@ use lib.ListN.{length, take, drop}
 use lib.Seq.{take-at}
 use Rattle.float_forms.specs.declared.forms.Form.{Form}
 use Rattle.float_forms.specs.declared.forms.Form.the-variants.{Long, Short}
-use Rattle.float_forms.specs.Forms.{sizeOf}
+use Rattle.float_forms.specs.Forms.{raysOf, longForm}
 use Rattle.float_forms.specs.Bytes.{IsBytes}
-use Rattle.conversion.specs.Records.{manyCounts, manyIndices, kindOf, countsOf, indicesPlace, saidOf, wellFormed, recordBytes}
-use Rattle.conversion.specs.Convert.{withoutNan, saidHeld, written, Outcome, converted, widened, toLong}
-use Rattle.conversion.specs.Writing.{saidFits, turned}
+use Rattle.record_bytes.specs.Records.{manyCounts, manyIndices, bodyLength, kindOf, countsOf, countsPlace, indicesPlace, saidOf}
+use Rattle.record_bytes.specs.Records.{wellFormed, recordBytes, saidFits, withoutNan}
+use Rattle.conversion.specs.Convert.{saidRepresentable, written, Outcome, converted, toLong}
+use Rattle.conversion.specs.Writing.{rewritten}
 use Rattle.float_forms.proofs.Numbers.{drop-bytes}
 use Rattle.float_forms.proofs.RunLaws.{words-below}
-use Rattle.conversion.proofs.Parts.{Formed, formed, well-formed}
-use Rattle.conversion.proofs.RoundTrip.{Fitting, written-formed, said-back, same-bytes, longest-form}
-use Rattle.conversion.proofs.Held.{long-fits-said, held-fits, long-holds-said, own-holds-said, without-nan}
+use Rattle.record_bytes.proofs.Parts.{Formed, formed, well-formed}
+use Rattle.record_bytes.proofs.RoundTrip.{Fitting, written-formed, said-back, same-bytes, longest-form}
+use Rattle.conversion.proofs.Representable.{representable-fits, long-represents-said, own-represents-said, without-nan}
 use Rattle.conversion.proofs.Outcomes.{success, succeeded, succeeds}
-use Rattle.conversion.proofs.Lengths.{read-measured, turned-length}
-use Rattle.conversion.proofs.Widening.{widened-is}
+use Rattle.record_bytes.proofs.Lengths.{read-measured}
+use Rattle.record_bytes.proofs.ShapeLaws.{long-body}
+use Rattle.conversion.proofs.WritingLaws.{rewritten-length}
 
-pub read-fits : (p q : Form) (l : List ℕ) → IsBytes l → Formed p l → T (saidFits q (saidOf p l)) → Fitting q (saidOf p l)
+pub read-fits : (p q : Form) (l : List ℕ) → raysOf p ≡ raysOf q → IsBytes l → Formed p l → T (saidFits q (saidOf p l))
+    → Fitting q (saidOf p l)
 unfolding saidOf countsOf
-read-fits p q l b g h =
+read-fits p q l r b g h =
     let kind = kindOf l in
     let counts = countsOf p l in
-    let from = 6 + sizeOf p * 8 in
+    let from = countsPlace p in
     record {
-      measured = read-measured p l;
+      measured = read-measured p q l r;
       countsFit = words-below (manyCounts kind) (drop from l) (drop-bytes from l b);
       indicesFit =
           words-below (manyIndices kind counts) (drop (indicesPlace p kind counts) l) (drop-bytes (indicesPlace p kind counts) l b);
       floatsFit = h;
       known = g .kinded;
-      small = g .small;
+      small = omega (arith, g .small, long-body p kind counts, long-body q kind counts, r);
     }
 
 -- an area of 8,196 bytes is long enough for every record, in either direction
-pub room-enough : (p q : Form) (l : List ℕ) → T (wellFormed p l) → length (turned p q l) ≤ 8196
-room-enough p q l w = omega (arith, turned-length p q l, longest-form q (kindOf l) (countsOf p l), formed p l w .small)
+pub room-enough : (p q : Form) (l : List ℕ) → raysOf p ≡ raysOf q → T (wellFormed p l) → length (rewritten p q l) ≤ 8196
+room-enough p q l r w =
+    let kind = kindOf l in
+    let counts = countsOf p l in
+    let most : bodyLength (longForm q) kind counts ≤ 8192 = omega
+    (arith, formed p l w .small, long-body p kind counts, long-body q kind counts, r) in
+    omega (arith, rewritten-length p q l r, longest-form q kind counts, most)
 
-module _ (p q : Form) (l : List ℕ) (b : IsBytes l) (w : T (wellFormed p l)) (h : T (saidFits q (saidOf p l))) where
-  -- the converted record says the same: "A user's record must cast to the same bits from either version"
-  pub says-the-same : saidOf q (turned p q l) ≡ saidOf p l
-  says-the-same = said-back q (saidOf p l) (read-fits p q l b (formed p l w) h)
+module _
+    (p q : Form)
+    (l : List ℕ)
+    (r : raysOf p ≡ raysOf q)
+    (b : IsBytes l)
+    (w : T (wellFormed p l))
+    (h : T (saidFits q (saidOf p l)))
+  where
+    -- the converted record says the same: "A user's record must cast to the same bits from either version"
+    pub says-the-same : saidOf q (rewritten p q l) ≡ saidOf p l
+    says-the-same = said-back q (saidOf p l) (read-fits p q l r b (formed p l w) h)
 
-  -- it is one whole record of its version
-  pub turned-well-formed : T (wellFormed q (turned p q l))
-  turned-well-formed = well-formed q (turned p q l) (written-formed q (saidOf p l) (read-fits p q l b (formed p l w) h))
+    -- it is one whole record of its version
+    pub rewritten-well-formed : T (wellFormed q (rewritten p q l))
+    rewritten-well-formed = well-formed q (rewritten p q l) (written-formed q (saidOf p l) (read-fits p q l r b (formed p l w) h))
 
-module _ (p q : Form) (l : List ℕ) (b : IsBytes l) (w : T (wellFormed p l)) (h : T (saidHeld q (saidOf p l))) where
-  same-said : saidOf q (turned p q l) ≡ saidOf p l
-  same-said = says-the-same p q l b w (held-fits q (saidOf p l) h)
+module _
+    (p q : Form)
+    (l : List ℕ)
+    (r : raysOf p ≡ raysOf q)
+    (b : IsBytes l)
+    (w : T (wellFormed p l))
+    (h : T (saidRepresentable q (saidOf p l)))
+  where
+    same-said : saidOf q (rewritten p q l) ≡ saidOf p l
+    same-said = says-the-same p q l r b w (representable-fits q (saidOf p l) h)
 
-  -- what comes back is held, and is the same bytes
-  pub back-held : T (saidHeld p (saidOf q (turned p q l)))
-  back-held = rw same-said (own-holds-said p l (without-nan q (saidOf p l) h))
+    -- what comes back is representable, and is the same bytes
+    pub back-representable : T (saidRepresentable p (saidOf q (rewritten p q l)))
+    back-representable = rw same-said (own-represents-said p l (without-nan q (saidOf p l) h))
 
-  pub back-is : turned q p (turned p q l) ≡ l
-  back-is = ap (recordBytes p) same-said ∙ same-bytes p l b (formed p l w) (without-nan q (saidOf p l) h)
+    pub back-is : rewritten q p (rewritten p q l) ≡ l
+    back-is = ap (recordBytes p) same-said ∙ same-bytes p l b (formed p l w) (without-nan q (saidOf p l) h)
 
 -- "coming back gives the same bytes where going to 3 succeeds" (p is Long, q Short), and the other way round
-pub comes-back : (p q : Form) (l area again : List ℕ) (n : ℕ) → IsBytes l → converted p q l area .answer ≡ written n
+pub comes-back : (p q : Form) (l area again : List ℕ) (n : ℕ) → raysOf p ≡ raysOf q → IsBytes l → converted p q l area .answer ≡ written n
     → length l ≤ length again
     → converted q p (take n (converted p q l area .area)) again ≡ success l again
-comes-back p q l area again n b e r =
+comes-back p q l area again n same b e r =
     let s = succeeded p q l area n e in
-    let new = turned p q l in
-    let done : converted p q l area ≡ success new area = succeeds p q l area (s .wellFormed) (s .room) (s .held) in
+    let new = rewritten p q l in
+    let done : converted p q l area ≡ success new area = succeeds p q l area (s .wellFormed) (s .room) (s .representable) in
     let front : take n (converted p q l area .area) ≡ new
     = ap (λ (o : Outcome). take n (o .area)) done ∙ take-at new (drop (length new) area) n (sym (s .counted)) in
-    let back : turned q p new ≡ l = back-is p q l b (s .wellFormed) (s .held) in
-    let room : length (turned q p new) ≤ length again = rw back r in
+    let back : rewritten q p new ≡ l = back-is p q l same b (s .wellFormed) (s .representable) in
+    let room : length (rewritten q p new) ≤ length again = rw back r in
     rw front
-    (succeeds q p new again (turned-well-formed p q l b (s .wellFormed) (held-fits q (saidOf p l) (s .held))) room
-    (back-held p q l b (s .wellFormed) (s .held))
+    (succeeds q p new again (rewritten-well-formed p q l same b (s .wellFormed) (representable-fits q (saidOf p l) (s .representable))) room
+    (back-representable p q l same b (s .wellFormed) (s .representable))
     ∙ ap (λ (z : List ℕ). success z again) back)
 
 -- "going from 3 succeeds for every well-formed record without NaN"
 pub from-short-succeeds : (l area : List ℕ) → T (wellFormed Short l) → T (withoutNan (saidOf Short l))
-    → length (turned Short Long l) ≤ length area
-    → toLong l area ≡ success (turned Short Long l) area
-from-short-succeeds l area w h r = succeeds Short Long l area w r (long-holds-said Short l h)
-
--- ---- widening
-
--- a record of version 3 becomes one of version 2 that says the same, NaN included
-pub widened-says : (l : List ℕ) → IsBytes l → T (wellFormed Short l) → saidOf Long (widened l) ≡ saidOf Short l
-widened-says l b w = rw (widened-is l w) (says-the-same Short Long l b w (long-fits-said Short l))
-
-pub widened-well-formed : (l : List ℕ) → IsBytes l → T (wellFormed Short l) → T (wellFormed Long (widened l))
-widened-well-formed l b w = rw (widened-is l w) (turned-well-formed Short Long l b w (long-fits-said Short l))
-
--- where going to 3 succeeds, widening gives the bytes that were there
-pub widened-back : (l : List ℕ) → IsBytes l → T (wellFormed Long l) → T (saidHeld Short (saidOf Long l)) → widened (turned Long Short l) ≡ l
-widened-back l b w h =
-    widened-is (turned Long Short l) (turned-well-formed Long Short l b w (held-fits Short (saidOf Long l) h))
-    ∙ back-is Long Short l b w h
+    → length (rewritten Short Long l) ≤ length area
+    → toLong l area ≡ success (rewritten Short Long l) area
+from-short-succeeds l area w h r = succeeds Short Long l area w r (long-represents-said Short l h)

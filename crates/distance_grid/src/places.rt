@@ -49,8 +49,8 @@ fn top(origin: f64, spacing: f64, last: f64) -> f64
     below::just_below(last)
 }
 
-// A coordinate drawn onto the box on its axis; one inside stays.
-fn draw(point: f64, origin: f64, spacing: f64, side: u32) -> f64
+// A coordinate clamped to the box on its axis; one inside stays.
+fn clamp(point: f64, origin: f64, spacing: f64, side: u32) -> f64
     requires { ⌜ 2 ≤ side ⌝ }
     ensures { λ r. ⌜ r ≡ clamped point origin spacing side ⌝ }
 {
@@ -64,15 +64,15 @@ fn draw(point: f64, origin: f64, spacing: f64, side: u32) -> f64
     point
 }
 
-// A point drawn onto the box on each axis.
-fn draw_each(grid: Grid, point: Vec3) -> Vec3
+// A point clamped to the box on each axis.
+fn clamp_each(grid: Grid, point: Vec3) -> Vec3
     requires { ⌜ SidesStand (grid .sides) ⌝ }
     ensures { λ r. ⌜ r ≡ clampedPoint grid point ⌝ }
 {
     Vec3 {
-        x: draw(point.x, grid.origin.x, grid.spacing.x, grid.sides.x),
-        y: draw(point.y, grid.origin.y, grid.spacing.y, grid.sides.y),
-        z: draw(point.z, grid.origin.z, grid.spacing.z, grid.sides.z),
+        x: clamp(point.x, grid.origin.x, grid.spacing.x, grid.sides.x),
+        y: clamp(point.y, grid.origin.y, grid.spacing.y, grid.sides.y),
+        z: clamp(point.z, grid.origin.z, grid.spacing.z, grid.sides.z),
     }
 }
 
@@ -104,15 +104,15 @@ fn in_box(grid: Grid, point: Vec3) -> bool
     stays(point.z, grid.origin.z, grid.spacing.z, grid.sides.z)
 }
 
-// A point drawn onto the box. One in the box, as most are, stays as it is.
-fn draw_point(grid: Grid, point: Vec3) -> Vec3
+// A point clamped to the box. One in the box, as most are, stays as it is.
+fn clamp_point(grid: Grid, point: Vec3) -> Vec3
     requires { ⌜ SidesStand (grid .sides) ⌝ }
     ensures { λ r. ⌜ r ≡ clampedPoint grid point ⌝ }
 {
     if in_box(grid, point) {
         return point;
     }
-    draw_each(grid, point)
+    clamp_each(grid, point)
 }
 
 // The cell with this number on an axis, or the last one.
@@ -221,7 +221,7 @@ fn locate_inside(grid: Grid, point: Vec3, near: Near) -> Located
     }
 }
 
-// The cell at any point that is finite, drawn onto the box.
+// The cell at any point that is finite, clamped to the box.
 pub fn locate(grid: Grid, point: Vec3, near: Near) -> Located
     requires { ⌜ SidesStand (grid .sides) ⌝ }
     ensures { λ r. ⌜ r ≡ locate grid point ⌝ }
@@ -229,5 +229,5 @@ pub fn locate(grid: Grid, point: Vec3, near: Near) -> Located
     if !point.is_finite() {
         return Located::Refused(answer::OVERFLOW);
     }
-    locate_inside(grid, draw_point(grid, point), near)
+    locate_inside(grid, clamp_point(grid, point), near)
 }

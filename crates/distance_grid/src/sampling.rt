@@ -85,7 +85,7 @@ fn sample_cell(grid: Grid, values: &[f64], x: u32, y: u32, z: u32, at: Vec3) -> 
     sample_faces(low, high, grid.spacing, at)
 }
 
-// The sample at any point; one outside the box is drawn onto it.
+// The sample at any point; one outside the box is clamped to it.
 pub fn sample(grid: Grid, values: &[f64], point: Vec3) -> Sampled
     requires { ⌜ Stands grid (now values) ⌝ }
     ensures { λ r. ⌜ r ≡ sample grid (now (values .entry)) point ⌝ }

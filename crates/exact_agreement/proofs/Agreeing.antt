@@ -29,12 +29,12 @@ use Rattle.mesh_exact.specs.GridCast.{rayMeshExactPlain}
 use Rattle.mesh_exact.specs.Certain.{Met}
 use Rattle.mesh_exact.proofs.Ranges.{vector-finite}
 use Rattle.mesh_exact.proofs.Certainty.{certain}
-use Rattle.whole_numbers.specs.Board.{Crossing, Within}
-use Rattle.whole_numbers.specs.Board as Board112
-use Rattle.whole_numbers.specs.Boards.{Plan, drawingOf, Boards, Missed, outside, behind, beyond, AtMost, MeshExact}
-use Rattle.whole_numbers.specs.Boards as Boards112
+use Rattle.whole_numbers.specs.WholeTriangle.{Crossing, Within}
+use Rattle.whole_numbers.specs.WholeTriangle as WholeTriangle112
+use Rattle.whole_numbers.specs.WholeMesh.{Plan, drawingOf, WholeMesh, Missed, outside, behind, beyond, AtMost, MeshExact}
+use Rattle.whole_numbers.specs.WholeMesh as WholeMesh112
 use Rattle.whole_numbers.proofs.WholeMeshes.{meshes-exact}
-use Rattle.exact_agreement.specs.Agreement.{Closed, NoOpenCase, WholeCorners, OthersApart, SameDepth, Agree, BoardsAgree}
+use Rattle.exact_agreement.specs.Agreement.{Closed, NoOpenCase, WholeCorners, OthersApart, SameDepth, Agree, WholeNumbersAgree}
 use Rattle.exact_agreement.proofs.Points.{lies-crossing, crossing-lies, has-area}
 use Rattle.exact_agreement.proofs.Readings.{surface-drawn, surface-read, area-read}
 use Rattle.exact_agreement.proofs.Ranges.{point-within, not-refused}
@@ -97,7 +97,7 @@ strict n N h f = go (ltb n N) refl
     go true e = ltb-true n N e
     go false e = absurd (f (let w = ltb-false n N e in omega (arith, h, w)))
 
-module _ (r : Ray) (m : Mesh) (p : Plan) (boards : Boards r m p) (others : OthersApart r m p) (closed : NoOpenCase r m p)
+module _ (r : Ray) (m : Mesh) (p : Plan) (whole-mesh : WholeMesh r m p) (others : OthersApart r m p) (closed : NoOpenCase r m p)
     (runs : (number : ℕ) → rayMeshExactPlain r m ≡ stopped number → ⊥) where
   abbrev line : Line
   line = gridLine r
@@ -120,19 +120,19 @@ module _ (r : Ray) (m : Mesh) (p : Plan) (boards : Boards r m p) (others : Other
 
   candidate-of : (i D : ℕ) (t : ℤ) → Met line m i D t → Candidate r m i
   candidate-of i D t q = elim (others .whole-or-apart i (q .triangle)) [
-    | inl w ↦ record { triangle = q .triangle; near = whole-touches r m p boards i w D t (q .point) }
+    | inl w ↦ record { triangle = q .triangle; near = whole-touches r m p whole-mesh i w D t (q .point) }
     | inr f ↦ f (touches-box i D t q)
   ]
 
   whole-of : (i : ℕ) → Candidate r m i → WholeCorners m p i
-  whole-of i c = record { corners = boards .corners i c }
+  whole-of i c = record { corners = whole-mesh .corners i c }
 
   -- .. and one that M-112 promises to be hit
   record Promised (i D : ℕ) (t : ℤ) : Type 0 where
     candidate : Candidate r m i
     u : ℤ
     v : ℤ
-    met : Boards112.Met (drawingOf p i) D u v t
+    met : WholeMesh112.Met (drawingOf p i) D u v t
 
   within-sum : (i j k D : ℕ) → i + j + k ≡ D → j * units + k * units ≤ D * units
   within-sum i j k D e =
@@ -145,7 +145,7 @@ module _ (r : Ray) (m : Mesh) (p : Plan) (boards : Boards r m p) (others : Other
   promised : (i D n : ℕ) → Met line m i D (pos n) → Promised i (D * units) (pos n)
   promised i D n q =
       let c = candidate-of i D (pos n) q in
-      let s = surface-drawn r m p boards i (whole-of i c) D (pos n) (q .point) in
+      let s = surface-drawn r m p whole-mesh i (whole-of i c) D (pos n) (q .point) in
       let j = s .lies .j * units in
       let k = s .lies .k * units in
       let D' = D * units in
@@ -175,21 +175,21 @@ module _ (r : Ray) (m : Mesh) (p : Plan) (boards : Boards r m p) (others : Other
       }
 
   -- ---- and a crossing that M-112 does not promise to be missed is such a point
-  record Deep (i D : ℕ) (t : ℤ) : Type 0 where
+  record HitPoint (i D : ℕ) (t : ℤ) : Type 0 where
     whole : t ≡ pos (pp t)
     positive : 0 < D
     met : Met line m i D (pos (units * pp t))
 
   crossing-met : (i : ℕ) → Candidate r m i → (D : ℕ) (u v t : ℤ) → Crossing (drawingOf p i) D u v t
-      → (Missed (drawingOf p i) → ⊥) → Deep i D t
+      → (Missed (drawingOf p i) → ⊥) → HitPoint i D t
   crossing-met i c D u v t x f =
       let g = drawingOf p i in
-      let u' = not-negative u (λ h. f (outside D u v t x (Board112.first h))) in
-      let v' = not-negative v (λ h. f (outside D u v t x (Board112.second h))) in
+      let u' = not-negative u (λ h. f (outside D u v t x (WholeTriangle112.first h))) in
+      let v' = not-negative v (λ h. f (outside D u v t x (WholeTriangle112.second h))) in
       let t' = not-negative t (λ h. f (behind D u v t x h)) in
       let sum : pp u + pp v ≤ D =
       not-above (pp u + pp v) D
-      (λ h. f (outside D u v t x (Board112.sum (subst (λ (z : ℤ). pos D <ℤ z) (sym (λ s. u' s +ℤ v' s)) h)))) in
+      (λ h. f (outside D u v t x (WholeTriangle112.sum (subst (λ (z : ℤ). pos D <ℤ z) (sym (λ s. u' s +ℤ v' s)) h)))) in
       let most : pp t ≤ F * D =
       not-above (pp t) (F * D) (λ h. f (beyond D u v t x (subst (λ (z : ℤ). pos (F * D) <ℤ z) (sym t') h))) in
       let most' : pp t * units ≤ F * D * units = mul-le-mul-right units most in
@@ -201,8 +201,8 @@ module _ (r : Ray) (m : Mesh) (p : Plan) (boards : Boards r m p) (others : Other
         positive = x .divisor;
         met = record {
           triangle = c .triangle;
-          area = area-read r m p boards i (whole-of i c) (has-area g (closed .parallel i c));
-          point = surface-read r m p boards i (whole-of i c) D (pos (units * pp t)) (record {
+          area = area-read r m p whole-mesh i (whole-of i c) (has-area g (closed .parallel i c));
+          point = surface-read r m p whole-mesh i (whole-of i c) D (pos (units * pp t)) (record {
             positive = x .divisor;
             lies = crossing-lies g D (pos (pp t)) (pp u) (pp v) sum x';
             least = le-leb (0 * D) (units * pp t) (omega arith);
@@ -213,9 +213,9 @@ module _ (r : Ray) (m : Mesh) (p : Plan) (boards : Boards r m p) (others : Other
 
   -- ---- the two answers
   module _ (rounded : Indexed) (told : MeshExact r m p rounded) where
-    struck-promised : (normal : Vec3) (distance : Float) (index : ℕ) → exact ≡ hitAt normal distance index → rounded ≡ noHit → ⊥
-    struck-promised n d i h e =
-        let s = certain r m .struck n d i h in
+    hit-promised : (normal : Vec3) (distance : Float) (index : ℕ) → exact ≡ hitAt normal distance index → rounded ≡ noHit → ⊥
+    hit-promised n d i h e =
+        let s = certain r m .hitTriangle n d i h in
         let q = promised i (s .D) (s .t) (s .met) in
         let w = told .hits i (q .candidate) (s .D * units) (q .u) (q .v) (pos (s .t)) (q .met) in
         not-both rounded (w .0) (w .1) (w .2) (w .3) e
@@ -264,19 +264,19 @@ module _ (r : Ray) (m : Mesh) (p : Plan) (boards : Boards r m p) (others : Other
     agree = record {
       answers = told .answers;
       exact-answers = runs;
-      none = λ e. is-none exact runs (λ n d i h. struck-promised n d i h e);
+      none = λ e. is-none exact runs (λ n d i h. hit-promised n d i h e);
       none-only = λ e. is-none rounded (told .answers) (λ n d i h. certain r m .none e i _ _ (hit-met n d i h .met));
       depth = same-depth;
     }
 
 -- ---- of any tree that passes the check
-pub boards-agree : BoardsAgree
-boards-agree r m t list stack p lengths passes room boards others closed =
+pub whole-numbers-agree : WholeNumbersAgree
+whole-numbers-agree r m t list stack p lengths passes room whole-mesh others closed =
     let fit = triangles-fit m t (yes-passes m t (passes .marks) (passes .says-yes)) in
-    agree r m p boards others closed
-    (λ number h. not-refused r m p boards others lengths fit number (certain r m .refused number h))
+    agree r m p whole-mesh others closed
+    (λ number h. not-refused r m p whole-mesh others lengths fit number (certain r m .refused number h))
     (rayMesh r m (m .vertices) t list stack)
-    (meshes-exact r m t list stack p lengths passes room boards)
+    (meshes-exact r m t list stack p lengths passes room whole-mesh)
 
 -- ---- a mesh with whole corners alone meets what is asked of the others
 pub whole-mesh : (r : Ray) (m : Mesh) (p : Plan) → ((i : ℕ) → i < triangleCount m → WholeCorners m p i) → OthersApart r m p

@@ -11,7 +11,7 @@ use Rattle.exact_triangle.specs.Grid.{units}
 use Rattle.exact_triangle.specs.Surface.{Lies, Apart}
 use Rattle.whole_numbers.specs.Points.{crossP}
 use Rattle.whole_numbers.specs.Points as Points
-use Rattle.whole_numbers.specs.Board.{Drawing, Parallel, Crossing, along, firstEdge, secondEdge}
+use Rattle.whole_numbers.specs.WholeTriangle.{Drawing, Parallel, Crossing, along, firstEdge, secondEdge}
 use Rattle.exact_agreement.proofs.Crossings.{to-millimetres, to-units, determinant-zero}
 
 -- k times a point

@@ -20,8 +20,8 @@ use Rattle.exact_triangle.specs.Grid.{within, allWithin, furthest, longest}
 use Rattle.exact_triangle.proofs.Touching.{furthest-is, longest-is}
 use Rattle.mesh_exact.specs.Certain.{OutOfRange, origin, near, maximum, corner, Reason, ray, lengths, triangles, range}
 use Rattle.whole_numbers.specs.Points.{Point}
-use Rattle.whole_numbers.specs.Board.{Drawn, DrawnAt}
-use Rattle.whole_numbers.specs.Boards.{Plan, Boards}
+use Rattle.whole_numbers.specs.WholeTriangle.{Drawn, DrawnAt}
+use Rattle.whole_numbers.specs.WholeMesh.{Plan, WholeMesh}
 use Rattle.whole_numbers.proofs.Drawings.{drawn}
 use Rattle.whole_numbers.proofs.Decisions.{parted}
 use Rattle.whole_numbers.proofs.WholeMeshes.{ray-admitted}
@@ -57,16 +57,16 @@ not-longer B x n l d =
         lt-values longest x false false 32768 1 n 1 (lit< tt) (lit< tt) longest-value v
         ∙ le-ltb (32768 * 1) (n * 1) (omega (arith, b))
 
-module _ (r : Ray) (m : Mesh) (p : Plan) (boards : Boards r m p) (others : OthersApart r m p) where
+module _ (r : Ray) (m : Mesh) (p : Plan) (whole-mesh : WholeMesh r m p) (others : OthersApart r m p) where
   in-range : OutOfRange r m → ⊥
-  in-range (origin h) = true≢false (sym (point-within (r .origin) (p .o) (boards .origin)) ∙ h)
-  in-range (near h) = true≢false (sym h ∙ not-longer 0 (r .near) 0 (lit≤ tt) (boards .near))
-  in-range (maximum h) = true≢false (sym h ∙ not-longer 16384 (r .«max_distance») (p .maximum) (lit≤ tt) (boards .maximum))
+  in-range (origin h) = true≢false (sym (point-within (r .origin) (p .o) (whole-mesh .origin)) ∙ h)
+  in-range (near h) = true≢false (sym h ∙ not-longer 0 (r .near) 0 (lit≤ tt) (whole-mesh .near))
+  in-range (maximum h) = true≢false (sym h ∙ not-longer 16384 (r .«max_distance») (p .maximum) (lit≤ tt) (whole-mesh .maximum))
   in-range (corner i k l l' h) = true≢false (sym (others .in-range i k l l') ∙ h)
 
   pub not-refused : lengthsAdmitted (length (m .vertices)) (length (m .triangles)) ≡ true → trianglesFit m ≡ true
       → (number : ℕ) → Reason r m number → ⊥
-  not-refused shape fit number (ray e h) = true≢false (sym (ray-admitted r m p boards) ∙ h)
+  not-refused shape fit number (ray e h) = true≢false (sym (ray-admitted r m p whole-mesh) ∙ h)
   not-refused shape fit number (lengths e h) = true≢false (sym shape ∙ h)
   not-refused shape fit number (triangles e h) = true≢false (sym fit ∙ h)
   not-refused shape fit number (range e h) = in-range h

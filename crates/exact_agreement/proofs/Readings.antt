@@ -13,8 +13,8 @@ use Rattle.exact_triangle.specs.Surface.{Surface, Apart}
 use Rattle.exact_triangle.proofs.Readings.{reads}
 use Rattle.mesh_exact.specs.Certain.{cornerOn}
 use Rattle.whole_numbers.specs.Points as Points
-use Rattle.whole_numbers.specs.Board.{Drawing, DrawnAt, along}
-use Rattle.whole_numbers.specs.Boards.{Plan, drawingOf, Boards}
+use Rattle.whole_numbers.specs.WholeTriangle.{Drawing, DrawnAt, along}
+use Rattle.whole_numbers.specs.WholeMesh.{Plan, drawingOf, WholeMesh}
 use Rattle.whole_numbers.proofs.Drawings.{drawn}
 use Rattle.exact_agreement.specs.Agreement.{WholeCorners}
 use Rattle.exact_agreement.proofs.Points.{times, lineOn}
@@ -33,15 +33,15 @@ record Placed : Type 0 where
   b : Point
   c : Point
 
-module _ (r : Ray) (m : Mesh) (p : Plan) (boards : Boards r m p) where
+module _ (r : Ray) (m : Mesh) (p : Plan) (whole-mesh : WholeMesh r m p) where
   line-read : (i : ℕ) → gridLine r ≡ lineOn (drawingOf p i)
   unfolding gridLine
   line-read i =
-      let o = drawn-read units 4096 (r .origin) (p .o) (lit≤ tt) (boards .origin) in
-      let d = drawn-read parts 1 (r .direction) (along (p .direction)) (lit≤ tt) (boards .direction) in
-      let n = ap natAbs (reads units (r .near) (pos 0) (drawn 0 (r .near) (pos 0) (lit≤ tt) (boards .near) .value)) in
+      let o = drawn-read units 4096 (r .origin) (p .o) (lit≤ tt) (whole-mesh .origin) in
+      let d = drawn-read parts 1 (r .direction) (along (p .direction)) (lit≤ tt) (whole-mesh .direction) in
+      let n = ap natAbs (reads units (r .near) (pos 0) (drawn 0 (r .near) (pos 0) (lit≤ tt) (whole-mesh .near) .value)) in
       let far = r .«max_distance» in
-      let f = ap natAbs (reads units far (pos (p .maximum)) (drawn 16384 far (pos (p .maximum)) (lit≤ tt) (boards .maximum) .value)) in
+      let f = ap natAbs (reads units far (pos (p .maximum)) (drawn 16384 far (pos (p .maximum)) (lit≤ tt) (whole-mesh .maximum) .value)) in
       λ s. record { origin = o s; direction = d s; near = n s; far = f s }
 
   module _ (i : ℕ) (drawing : WholeCorners m p i) where

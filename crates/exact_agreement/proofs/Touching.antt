@@ -26,8 +26,8 @@ use Rattle.exact_triangle.specs.Surface.{Surface}
 use Rattle.mesh_exact.specs.Certain.{cornerOn}
 use Rattle.mesh_exact.proofs.OneTriangle.{depth-whole}
 use Rattle.whole_numbers.specs.Points.{Point}
-use Rattle.whole_numbers.specs.Board.{Axis, east, west, north, south, upward, downward, along}
-use Rattle.whole_numbers.specs.Boards.{Plan, drawingOf, Boards}
+use Rattle.whole_numbers.specs.WholeTriangle.{Axis, east, west, north, south, upward, downward, along}
+use Rattle.whole_numbers.specs.WholeMesh.{Plan, drawingOf, WholeMesh}
 use Rattle.whole_numbers.proofs.Whole.{WholeVec}
 use Rattle.whole_numbers.proofs.Drawings.{drawn, drawn-at}
 use Rattle.exact_agreement.specs.Agreement.{WholeCorners}
@@ -86,7 +86,7 @@ module _ (o d far : Float) (O : ℤ) (vo : Stands o O) (small : Sized 4096 O) (F
     side-touches δ still vd h = across a b c o end A B C O va vb vc vo F i j k t some least most (across-at vd) h
 
 -- ---- every axis
-module _ (r : Ray) (m : Mesh) (p : Plan) (boards : Boards r m p) (i : ℕ) (drawing : WholeCorners m p i) where
+module _ (r : Ray) (m : Mesh) (p : Plan) (whole-mesh : WholeMesh r m p) (i : ℕ) (drawing : WholeCorners m p i) where
   corner-whole : (k : ℕ) → k < 3 → WholeVec 4096 (cornerAt (m .vertices) (m .triangles) i k) (p .corner i k)
   corner-whole k h = drawn-at 4096 _ (p .corner i k) (lit≤ tt) (drawing .corners k h)
 
@@ -94,7 +94,7 @@ module _ (r : Ray) (m : Mesh) (p : Plan) (boards : Boards r m p) (i : ℕ) (draw
   reach-most : (D : ℕ) (t : ℤ) (s : Surface (gridLine r) (cornerOn m i 0) (cornerOn m i 1) (cornerOn m i 2) D t) (n : ℕ) → n ≡ D * units
       → pp t ≤ p .maximum * n + np t
   reach-most D t s n e =
-      let q = surface-drawn r m p boards i drawing D t s in
+      let q = surface-drawn r m p whole-mesh i drawing D t s in
       let h = rep-le (own t) (rep-mul (own-pos (units * p .maximum)) (own-pos D)) (q .most) in
       subst (λ (n : ℕ). pp t ≤ p .maximum * n + np t) (sym e) (omega (arith, h))
 
@@ -103,13 +103,13 @@ module _ (r : Ray) (m : Mesh) (p : Plan) (boards : Boards r m p) (i : ℕ) (draw
   unfolding touches triangleBox segmentBox segmentEnd addOf scaleOf minOf maxOf
   whole-touches D t s =
       let g = drawingOf p i in
-      let o = drawn-at 4096 (r .origin) (p .o) (lit≤ tt) (boards .origin) in
-      let d = drawn-at 1 (r .direction) (along (p .direction)) (lit≤ tt) (boards .direction) in
-      let f = drawn 16384 (r .«max_distance») (pos (p .maximum)) (lit≤ tt) (boards .maximum) in
+      let o = drawn-at 4096 (r .origin) (p .o) (lit≤ tt) (whole-mesh .origin) in
+      let d = drawn-at 1 (r .direction) (along (p .direction)) (lit≤ tt) (whole-mesh .direction) in
+      let f = drawn 16384 (r .«max_distance») (pos (p .maximum)) (lit≤ tt) (whole-mesh .maximum) in
       let a = corner-whole 0 (lit≤ tt) in
       let b = corner-whole 1 (lit≤ tt) in
       let c = corner-whole 2 (lit≤ tt) in
-      let q = surface-drawn r m p boards i drawing D t s .lies in
+      let q = surface-drawn r m p whole-mesh i drawing D t s .lies in
       let I = q .i * units in
       let J = q .j * units in
       let K = q .k * units in

@@ -19,8 +19,8 @@ use Rattle.exact_triangle.specs.Grid.{units, allWithin, furthest, gridLine}
 use Rattle.exact_triangle.specs.Box.{certainBox}
 use Rattle.mesh_exact.specs.GridCast.{rayMeshExactPlain}
 use Rattle.mesh_exact.specs.Certain.{LeastDepth}
-use Rattle.whole_numbers.specs.Board.{DrawnAt, Parallel, Crossing, Within}
-use Rattle.whole_numbers.specs.Boards.{Plan, drawingOf, Boards}
+use Rattle.whole_numbers.specs.WholeTriangle.{DrawnAt, Parallel, Crossing, Within}
+use Rattle.whole_numbers.specs.WholeMesh.{Plan, drawingOf, WholeMesh}
 
 -- ---- the open cases
 -- the crossing lies in the closed triangle
@@ -69,8 +69,8 @@ pub record Agree (r : Ray) (m : Mesh) (rounded exact : Indexed) : Type 0 where
 
 -- 'where `ray_mesh` answers a hit or none on such a board and no candidate's crossing lies on the side opposite its first corner or at the
 -- maximum, and no candidate is parallel': through any tree that passes the check, on M-112's boards
-abbrev pub BoardsAgree : Type 0
-BoardsAgree =
+abbrev pub WholeNumbersAgree : Type 0
+WholeNumbersAgree =
     (r : Ray) (m : Mesh) (t : Tree) (list stack : ℕ) (p : Plan) → lengthsAdmitted (length (m .vertices)) (length (m .triangles)) ≡ true
-    → PassesCheck m t → roomFor m t list stack ≡ true → Boards r m p → OthersApart r m p → NoOpenCase r m p
+    → PassesCheck m t → roomFor m t list stack ≡ true → WholeMesh r m p → OthersApart r m p → NoOpenCase r m p
     → Agree r m (rayMesh r m (m .vertices) t list stack) (rayMeshExactPlain r m)

@@ -10,7 +10,7 @@ use Rattle.exact_depth.specs.declared.projection.Projected.{Projected}
 use Rattle.exact_depth.specs.declared.projection.Fraction.{Fraction}
 use Rattle.exact_depth.specs.declared.projection.Depth.{Depth}
 use Rattle.exact_depth.specs.declared.projection.Depth.the-variants.{Miss as Missed}
-use Rattle.wide_integers.specs.Sizes.{Held}
+use Rattle.wide_integers.specs.Sizes.{Sized61}
 use Rattle.exact_depth.specs.declared.plane.Side.{Side}
 use Rattle.wide_integers.specs.Determinant.{determinant}
 use Rattle.exact_depth.specs.FirstPoint.{seenDeterminant, heightOf, sideOf, entering}
@@ -18,14 +18,14 @@ use Rattle.wide_integers.proofs.Reading.{bits, Fit, fits, plain, widen, held-fi
 use Rattle.wide_integers.proofs.Reading.{bits-back}
 use Rattle.wide_integers.proofs.Polynomials.{times-comm}
 use Rattle.wide_integers.specs.declared.number.Wide.{Wide}
-use Rattle.wide_integers.specs.Value.{value, Middling, Weight, Held as Three}
+use Rattle.wide_integers.specs.Value.{value, Middling, Weight, FitsWide as Three}
 use Rattle.wide_integers.proofs.OperationLaws.{held, middling, word-size}
-use Rattle.exact_depth.specs.declared.wide_projection.Found.{Found}
-use Rattle.exact_depth.specs.declared.wide_projection.Found.the-variants.{Miss}
-use Rattle.exact_depth.specs.declared.wide_plane.Corner.{Corner}
-use Rattle.exact_depth.specs.declared.wide_plane.Edge.{Edge}
-use Rattle.exact_depth.specs.declared.wide_plane.Moment.{Moment}
-use Rattle.exact_depth.specs.Answer.{Finds, pointOf, sideAs, momentOf}
+use Rattle.exact_depth.specs.declared.wide_depth.Found.{Found}
+use Rattle.exact_depth.specs.declared.wide_depth.Found.the-variants.{Miss}
+use Rattle.exact_depth.specs.declared.coplanar_point.Corner.{Corner}
+use Rattle.exact_depth.specs.declared.coplanar_point.Edge.{Edge}
+use Rattle.exact_depth.specs.declared.coplanar_point.PlaneDepth.{PlaneDepth}
+use Rattle.exact_depth.specs.Answer.{Finds, pointOf, sideAs, planeDepthOf}
 use Rattle.exact_depth.specs.Sizes.{Close, Flat, Bounded, Shallow}
 
 -- ---- answers
@@ -41,7 +41,7 @@ module _ {a b c d : ℤ} (fa : SFits w64 a) (fb : SFits w64 b) (fc : SFits w64 c
   determinant-back e = e ∙ (λ i. determinant (bits-back fa i) (bits-back fb i) (bits-back fc i) (bits-back fd i))
 
   -- the first and the third up to 2^61
-  pub determinant-weight : Held a → Held c → Weight (determinant a b c d)
+  pub determinant-weight : Sized61 a → Sized61 c → Weight (determinant a b c d)
   determinant-weight ha hc = difference-size (product-size ha (word-size fd)) (product-size (word-size fb) hc)
 
 -- ---- the range
@@ -124,10 +124,11 @@ entering-kept f s h g = go (ltZ (s .fall) (pos 0)) (ltZ (heightOf s f) (pos 0))
     go true false = h
     go true true = record { t = negated-size (g .level); w = negated-size (g .fall) }
 
-pub entering-shallow : {m r : Moment} {s : Edge} → Shallow m → Bounded s → momentOf r ≡ entering (momentOf m) (sideAs s) → Shallow r
+pub entering-shallow : {m r : PlaneDepth} {s : Edge} → Shallow m → Bounded s → planeDepthOf r ≡ entering (planeDepthOf m) (sideAs s)
+    → Shallow r
 entering-shallow {m} {r} {s} h g e =
-    let k : Kept (momentOf r) =
-    subst Kept (sym e) (entering-kept (momentOf m) (sideAs s) (record { t = h .t; w = h .w })
+    let k : Kept (planeDepthOf r) =
+    subst Kept (sym e) (entering-kept (planeDepthOf m) (sideAs s) (record { t = h .t; w = h .w })
     (record { level = g .level; fall = g .fall })) in
     record { t = k .t; w = k .w }
 

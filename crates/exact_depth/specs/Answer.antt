@@ -6,18 +6,18 @@ use Rattle.exact_depth.specs.declared.projection.Depth.the-variants.{At 
 use Rattle.exact_depth.specs.declared.plane.PlanePoint.{PlanePoint}
 use Rattle.exact_depth.specs.declared.plane.Side.{Side}
 use Rattle.wide_integers.specs.Value.{value, Middling}
-use Rattle.exact_depth.specs.declared.wide_projection.Deep.{Deep}
-use Rattle.exact_depth.specs.declared.wide_projection.Found.{Found}
-use Rattle.exact_depth.specs.declared.wide_projection.Found.the-variants.{At, Miss}
-use Rattle.exact_depth.specs.declared.wide_plane.Corner.{Corner}
-use Rattle.exact_depth.specs.declared.wide_plane.Edge.{Edge}
-use Rattle.exact_depth.specs.declared.wide_plane.Moment.{Moment}
+use Rattle.exact_depth.specs.declared.wide_depth.WideDepth.{WideDepth}
+use Rattle.exact_depth.specs.declared.wide_depth.Found.{Found}
+use Rattle.exact_depth.specs.declared.wide_depth.Found.the-variants.{At, Miss}
+use Rattle.exact_depth.specs.declared.coplanar_point.Corner.{Corner}
+use Rattle.exact_depth.specs.declared.coplanar_point.Edge.{Edge}
+use Rattle.exact_depth.specs.declared.coplanar_point.PlaneDepth.{PlaneDepth}
 
-abbrev pub deepOf : Deep → Fraction
-deepOf d = record { t = value (d .t); w = value (d .w) }
+abbrev pub wideDepthOf : WideDepth → Fraction
+wideDepthOf d = record { t = value (d .t); w = value (d .w) }
 
 abbrev pub answerOf : Found → Depth
-answerOf (At d) = Reached (deepOf d)
+answerOf (At d) = Reached (wideDepthOf d)
 answerOf Miss = Missed
 
 -- its w is below 2^128, so that three words hold its product with an i64
@@ -37,5 +37,5 @@ pointOf p = record { u = p .u; depth = p .depth }
 abbrev pub sideAs : Edge → Side
 sideAs s = record { level = value (s .level); fall = s .fall }
 
-abbrev pub momentOf : Moment → Fraction
-momentOf m = record { t = value (m .t); w = m .w }
+abbrev pub planeDepthOf : PlaneDepth → Fraction
+planeDepthOf m = record { t = value (m .t); w = m .w }

@@ -1,9 +1,9 @@
+use crate::coplanar_point;
 use crate::projection::Projected;
 use crate::sides;
-use crate::wide_plane;
-use crate::wide_projection;
-use crate::wide_projection::Deep;
-use crate::wide_projection::Found;
+use crate::wide_depth;
+use crate::wide_depth::Found;
+use crate::wide_depth::WideDepth;
 use wide_integers::number;
 use wide_integers::number::Wide;
 ghost use Rattle.exact_depth.specs.FirstPoint.{crossing, byWeights, firstPoint};
@@ -25,14 +25,14 @@ fn crossing(a: Wide, b: Wide, c: Wide, x: i64, y: i64, z: i64, near: i64, far: i
     if number::is_negative(c) {
         return Found::Miss;
     }
-    let at = Deep {
+    let at = WideDepth {
         t: number::weighted(a, x, b, y, c, z),
         w: number::total(a, b, c),
     };
-    wide_projection::kept(at, near, far)
+    wide_depth::kept(at, near, far)
 }
 
-// The same by the weights of the corners, turned so that their sum is not below 0.
+// The same by the weights of the corners, with the sign by which their sum is not below 0.
 fn by_weights(
     a: Projected,
     b: Projected,
@@ -46,11 +46,11 @@ fn by_weights(
     requires { ⌜ (Close a × (Close b × Close c)) × (Weight (value alpha) × (Weight (value beta) × Weight (value gamma))) ⌝ }
     ensures { λ r. ⌜ Finds r (byWeights a b c (value alpha) (value beta) (value gamma) near far) ⌝ }
 {
-    let turned = number::total(alpha, beta, gamma);
-    if number::is_positive(turned) {
+    let signed = number::total(alpha, beta, gamma);
+    if number::is_positive(signed) {
         return crossing(alpha, beta, gamma, a.depth, b.depth, c.depth, near, far);
     }
-    if number::is_negative(turned) {
+    if number::is_negative(signed) {
         let first = number::negate(alpha);
         let second = number::negate(beta);
         let third = number::negate(gamma);
@@ -62,7 +62,7 @@ fn by_weights(
     if !number::is_zero(beta) {
         return Found::Miss;
     }
-    wide_plane::coplanar(a, b, c, near, far)
+    coplanar_point::coplanar(a, b, c, near, far)
 }
 
 // The first depth by the corners' turns about the line.

@@ -6,9 +6,9 @@ pub mod projection;
 pub mod plane;
 
 // A depth on the line, and what of it lies on the segment.
-pub mod wide_projection;
+pub mod wide_depth;
 // The first point in a plane that the line lies in.
-mod wide_plane;
+mod coplanar_point;
 // Corners on one side of the line.
 mod sides;
 // The public call.

@@ -273,26 +273,7 @@ units-power = subst (λ (x : Float). HasValue x false (2 ^ 15) 1) (sym units-is)
 parts-power : HasValue partsᶠ false (2 ^ 30) 1
 parts-power = subst (λ (x : Float). HasValue x false (2 ^ 30) 1) (sym parts-is) (refl, refl)
 
-within-reads : (t e : ℕ) (factor x : Float) → HasValue factor false (2 ^ t) 1 → 2 ^ e * 2 ^ t ≤ 2147483648 → T (fits binary64 x)
-    → le (absolute x) (fin false 1 (pos e)) ≡ true → readBy factor x ≡ nearestTo (2 ^ t) x
-within-reads t e factor nan p r f h = unfold le lt eq absolute in absurd (false≢true h)
-within-reads t e factor (inf s) p r f h = unfold le lt eq absolute in absurd (false≢true h)
-within-reads t e factor (fin s m c) p r f h =
-    let l = le-parts (fin false m c) (fin false 1 (pos e)) (unfold isFinite in refl) (unfold isFinite in refl) (unfold absolute in h) in
-    let l' : m * up c * 2 ^ t ≤ 2 ^ e * down c * 2 ^ t = mul-le-mul-right (2 ^ t) (omega (arith, l)) in
-    let r' : 2 ^ e * 2 ^ t * down c ≤ 2147483648 * down c = mul-le-mul-right (down c) r in
-    reads-nearest t factor p s m c f (omega (arith, l', r'))
-
-pub coordinate-read : (x : Float) → T (fits binary64 x) → within furthest x ≡ true → readBy unitsᶠ x ≡ nearestTo units x
-coordinate-read x f h = within-reads 15 13 unitsᶠ x units-power (lit≤ tt) f (ap (le (absolute x)) (sym furthest-is) ∙ h)
-
-pub distance-read : (x : Float) → T (fits binary64 x) → within longest x ≡ true → readBy unitsᶠ x ≡ nearestTo units x
-distance-read x f h = within-reads 15 15 unitsᶠ x units-power (lit≤ tt) f (ap (le (absolute x)) (sym longest-is) ∙ h)
-
-pub direction-read : (x : Float) → T (fits binary64 x) → within two x ≡ true → readBy partsᶠ x ≡ nearestTo parts x
-direction-read x f h = within-reads 30 1 partsᶠ x parts-power (lit≤ tt) f (ap (le (absolute x)) (sym two-is) ∙ h)
-
--- ---- the same for the code's proofs: the float before the cast, and the size
+-- the float before the cast, and the size
 closest-least : (N d B : ℕ) → 0 < d → N ≤ B * d → closest N d ≤ B
 closest-least N d B D h =
     let n = closest-near N d D .0 in

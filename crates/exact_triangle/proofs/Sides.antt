@@ -61,7 +61,7 @@ each f g h (inr (inl x)) = inr (inl (g x))
 each f g h (inr (inr x)) = inr (inr (h x))
 
 -- ---- sizes
-pub record Held (o d : ℤ) (near far : ℕ) : Type 0 where
+pub record EndsSized (o d : ℤ) (near far : ℕ) : Type 0 where
   pub origin : natAbs o ≤ 268435456
   pub direction : natAbs d ≤ 2147483648
   pub least : near ≤ 1073741824
@@ -205,12 +205,12 @@ module _ (A B C O : ℤ) (near far i j k : ℕ) (t : ℤ) (some : 0 < i + j + k)
 fine : {z : ℤ} → Sized 4294967298 z → natAbs z < 2 ^ 53
 fine s = lt-of-le-of-lt (s .size) (lit< tt)
 
-module _ (O d : ℤ) (near far : ℕ) (held : Held O d near far) where
+module _ (O d : ℤ) (near far : ℕ) (sizes : EndsSized O d near far) where
   near-size : Sized 4294967297 (floorAt O d near)
-  near-size = floor-size-at O d (pos near) (held .origin) (held .direction) (held .least)
+  near-size = floor-size-at O d (pos near) (sizes .origin) (sizes .direction) (sizes .least)
 
   far-size : Sized 4294967297 (floorAt O d far)
-  far-size = floor-size-at O d (pos far) (held .origin) (held .direction) (held .most)
+  far-size = floor-size-at O d (pos far) (sizes .origin) (sizes .direction) (sizes .most)
 
   pub high-fine : natAbs (greater (floorAt O d near) (floorAt O d far) +ℤ pos 1) < 2 ^ 53
   high-fine =

@@ -24,14 +24,14 @@ use Rattle.exact_triangle.specs.Surface.{Surface}
 use Rattle.exact_triangle.specs.Grid.{units, signed, nearestTo, within, allWithin, two, furthest, longest, gridPoint}
 use Rattle.exact_triangle.specs.Grid.{gridAdmitted, gridLine}
 use Rattle.exact_triangle.specs.Box.{certainBox}
-use Rattle.exact_triangle.proofs.Sides.{Held, side-touches}
+use Rattle.exact_triangle.proofs.Sides.{EndsSized, side-touches}
 
 -- ---- what is read keeps to its size
 pub signed-size : (s : Bool) (q : ℕ) → natAbs (signed s q) ≡ q
 signed-size false q = refl
 signed-size true q = neg-size (pos q)
 
-bounded : (a d q k n : ℕ) → 0 < d → 2 * (q * d) ≤ 2 * (a * k) + d → a * 1 ≤ n * d → q ≤ n * k
+pub bounded : (a d q k n : ℕ) → 0 < d → 2 * (q * d) ≤ 2 * (a * k) + d → a * 1 ≤ n * d → q ≤ n * k
 bounded a d q k n D h g =
     let g' : a * 1 * k ≤ n * d * k = mul-le-mul-right k g in
     let l : (2 * q) * d ≤ (2 * (n * k) + 1) * d = omega (arith, h, g') in
@@ -66,9 +66,9 @@ within-size k e b x is h = read-size k e x (ap (le (absolute x)) (sym is) ∙ h)
 
 -- ---- a ray that is admitted
 record Sizes (l : Line) : Type 0 where
-  x : Held (l .origin .x) (l .direction .x) (l .near) (l .far)
-  y : Held (l .origin .y) (l .direction .y) (l .near) (l .far)
-  z : Held (l .origin .z) (l .direction .z) (l .near) (l .far)
+  x : EndsSized (l .origin .x) (l .direction .x) (l .near) (l .far)
+  y : EndsSized (l .origin .y) (l .direction .y) (l .near) (l .far)
+  z : EndsSized (l .origin .z) (l .direction .z) (l .near) (l .far)
 
 line-sizes : (r : Ray) → gridAdmitted r ≡ true → Sizes (gridLine r)
 unfolding gridAdmitted gridLine
@@ -81,8 +81,9 @@ line-sizes r h =
     within-size units 15 longest (r .near) longest-is (and-first (within longest (r .near)) _ h₃) in
     let far : natAbs (nearestTo units (r .«max_distance»)) ≤ 1073741824 =
     within-size units 15 longest (r .«max_distance») longest-is (and-second (within longest (r .near)) _ h₃) in
-    let held : (p q : Float) → within furthest p ≡ true → within two q ≡ true
-    → Held (nearestTo units p) (nearestTo parts q) (natAbs (nearestTo units (r .near))) (natAbs (nearestTo units (r .«max_distance»))) =
+    let sizes : (p q : Float) → within furthest p ≡ true → within two q ≡ true
+    → EndsSized (nearestTo units p) (nearestTo parts q) (natAbs (nearestTo units (r .near))) (natAbs (nearestTo units
+    (r .«max_distance»))) =
     λ p q u v. record {
       origin = within-size units 13 furthest p furthest-is u;
       direction = within-size parts 1 two q two-is v;
@@ -90,9 +91,9 @@ line-sizes r h =
       most = far;
     } in
     record {
-      x = held (r .origin .x) (r .direction .x) (first furthest (r .origin) o) (first two (r .direction) d);
-      y = held (r .origin .y) (r .direction .y) (second furthest (r .origin) o) (second two (r .direction) d);
-      z = held (r .origin .z) (r .direction .z) (third furthest (r .origin) o) (third two (r .direction) d);
+      x = sizes (r .origin .x) (r .direction .x) (first furthest (r .origin) o) (first two (r .direction) d);
+      y = sizes (r .origin .y) (r .direction .y) (second furthest (r .origin) o) (second two (r .direction) d);
+      z = sizes (r .origin .z) (r .direction .z) (third furthest (r .origin) o) (third two (r .direction) d);
     }
   where
     first : (b : Float) (v : Vec3) → allWithin b v ≡ true → within b (v .x) ≡ true
@@ -127,7 +128,7 @@ pub met-touches : (r : Ray) → gridAdmitted r ≡ true → (vs : List Vec3) →
 unfolding touches cornersBox certainBox minOf maxOf
 met-touches r admitted vs fa fb fc D t s =
     let l = gridLine r in
-    let held = line-sizes r admitted in
+    let sizes = line-sizes r admitted in
     let a = finite-at (corner vs 0) fa in
     let b = finite-at (corner vs 1) fb in
     let c = finite-at (corner vs 2) fc in
@@ -136,9 +137,9 @@ met-touches r admitted vs fa fb fc D t s =
     let least = subst (λ (n : ℕ). leZ (pos (l .near) *ℤ pos n) t ≡ true) (sym (m .total)) (s .least) in
     let most = subst (λ (n : ℕ). leZ t (pos (l .far) *ℤ pos n) ≡ true) (sym (m .total)) (s .most) in
     and-three _ _ _
-    (side-touches (l .origin .x) (l .direction .x) (l .near) (l .far) (held .x) (corner vs 0 .x) (corner vs 1 .x) (corner vs 2 .x) (a .x)
+    (side-touches (l .origin .x) (l .direction .x) (l .near) (l .far) (sizes .x) (corner vs 0 .x) (corner vs 1 .x) (corner vs 2 .x) (a .x)
     (b .x) (c .x) (m .i) (m .j) (m .k) t some least most (m .x))
-    (side-touches (l .origin .y) (l .direction .y) (l .near) (l .far) (held .y) (corner vs 0 .y) (corner vs 1 .y) (corner vs 2 .y) (a .y)
+    (side-touches (l .origin .y) (l .direction .y) (l .near) (l .far) (sizes .y) (corner vs 0 .y) (corner vs 1 .y) (corner vs 2 .y) (a .y)
     (b .y) (c .y) (m .i) (m .j) (m .k) t some least most (m .y))
-    (side-touches (l .origin .z) (l .direction .z) (l .near) (l .far) (held .z) (corner vs 0 .z) (corner vs 1 .z) (corner vs 2 .z) (a .z)
+    (side-touches (l .origin .z) (l .direction .z) (l .near) (l .far) (sizes .z) (corner vs 0 .z) (corner vs 1 .z) (corner vs 2 .z) (a .z)
     (b .z) (c .z) (m .i) (m .j) (m .k) t some least most (m .z))

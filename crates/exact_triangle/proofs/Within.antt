@@ -1,7 +1,7 @@
 -- A number is within b if it is from -b to b, which two comparisons tell. Assumes nothing.
 use mathlib.Core.Path.{_≡_, refl, sym, ap, _∙_}
 use mathlib.Core.Bool.{Bool, true, false, not, true≢false}
-use Prim.Native.Nat.{ℕ, _+_, _*_}
+use Prim.Native.Nat.{ℕ, _*_}
 use native.Mathlib.Nat.{add-comm}
 use lib.Dec.{ltb}
 use lib.IntN.{ℤ}

@@ -15,7 +15,7 @@ use Rattle.exact_triangle.specs.Grid.{gridPoint}
 use Rattle.exact_triangle.specs.Reach.{cornersRead, gridReach}
 use Rattle.exact_triangle.specs.Normal.{crossOf, normalOf}
 
--- "The normal faces the ray": normalised first (7), then turned
+-- "The normal faces the ray": normalised first (7), then flipped
 unfoldable pub gridNormal : Ray → Point → Float → Answer
 gridNormal r n distance =
     withNormal (normalOf n) noNormal (λ (v : Vec3). hit (facing v (dotOf (r .direction) v)) distance)

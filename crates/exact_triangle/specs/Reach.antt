@@ -16,12 +16,12 @@ use Rattle.exact_depth.specs.declared.projection.Point.{Point}
 use lib.Ieee.{Float}
 use Rattle.wide_integers.specs.Value.{value}
 use Rattle.wide_integers.specs.Division.{fractionOf}
-use Rattle.exact_depth.specs.declared.wide_projection.Deep.{Deep}
+use Rattle.exact_depth.specs.declared.wide_depth.WideDepth.{WideDepth}
 use Rattle.exact_triangle.specs.Line.{Line}
 use Rattle.exact_triangle.specs.Grid.{units, allWithin, furthest, gridAdmitted, gridPoint, gridLine}
 use Rattle.exact_triangle.specs.Shear.{depthOf}
-use Rattle.exact_triangle.specs.declared.cast.Board.{Board}
-use Rattle.exact_triangle.specs.declared.cast.Board.the-variants.{At as Placed, Off}
+use Rattle.exact_triangle.specs.declared.cast.GridCorners.{GridCorners}
+use Rattle.exact_triangle.specs.declared.cast.GridCorners.the-variants.{At as Placed, Off}
 use Rattle.exact_triangle.specs.Sizes.{Near}
 
 -- every corner is within 8,192 mm
@@ -29,16 +29,16 @@ unfoldable pub cornersRead : List Vec3 → Bool
 cornersRead vs = allWithin furthest (corner vs 0) && (allWithin furthest (corner vs 1) && allWithin furthest (corner vs 2))
 
 -- .. and these are they on the grid
-pub record OnBoard (vs : List Vec3) (a b c : Point) : Type 0 where
+pub record CornersOnGrid (vs : List Vec3) (a b c : Point) : Type 0 where
   pub read : cornersRead vs ≡ true
   pub first : a ≡ gridPoint (corner vs 0)
   pub second : b ≡ gridPoint (corner vs 1)
   pub third : c ≡ gridPoint (corner vs 2)
   pub near : Near a × (Near b × Near c)
 
-abbrev pub Boarded : List Vec3 → Board → Type 0
-Boarded vs (Placed a b c) = OnBoard vs a b c
-Boarded vs Off = cornersRead vs ≡ false
+abbrev pub ReadOnGrid : List Vec3 → GridCorners → Type 0
+ReadOnGrid vs (Placed a b c) = CornersOnGrid vs a b c
+ReadOnGrid vs Off = cornersRead vs ≡ false
 
 -- a depth in units of the grid, as the float nearest to it in millimetres
 abbrev pub reachAt : Depth → Reach
@@ -46,7 +46,7 @@ reachAt (Met f) = At (fractionOf (f .t) (f .w *ℤ pos units))
 reachAt Unmet = Miss
 
 -- the same of a depth of the code
-abbrev pub millimetres : Deep → ℕ → Float
+abbrev pub millimetres : WideDepth → ℕ → Float
 millimetres d g = fractionOf (value (d .t)) (value (d .w) *ℤ pos g *ℤ pos units)
 
 unfoldable pub cornersReach : Line → List Vec3 → Reach

@@ -20,8 +20,8 @@ abbrev pub Apart : Point → Type 0
 Apart = SizedAt 536870912
 
 -- a direction from -2 to 2
-abbrev pub Heads : Point → Type 0
-Heads = SizedAt 2147483648
+abbrev pub DirectionSized : Point → Type 0
+DirectionSized = SizedAt 2147483648
 
 -- the cross of two differences
 abbrev pub Crossed : Point → Type 0
@@ -32,10 +32,10 @@ pub record SizedProjected (B : ℕ) (s : Projected) : Type 0 where
   pub up : Sized B (s .up)
   pub depth : Sized B (s .depth)
 
-abbrev pub Faced : Projected → Type 0
-Faced = SizedProjected 536870912
+abbrev pub CornerSized : Projected → Type 0
+CornerSized = SizedProjected 536870912
 
-pub record Turned (d : Projected) (k : ℤ) : Type 0 where
+pub record HeadingSized (d : Projected) (k : ℤ) : Type 0 where
   pub heading : SizedProjected 2147483648 d
   pub ahead : Sized 1073741824 k
 

@@ -17,9 +17,9 @@ use Rattle.exact_triangle.specs.Shear.{ahead as aheadOf, heading as head
 use Rattle.exact_triangle.specs.declared.view.Axis.{Axis}
 use Rattle.exact_triangle.specs.declared.view.Axis.the-variants.{X, Y, Z}
 use Rattle.exact_triangle.specs.declared.view.View.{View}
-use Rattle.exact_triangle.specs.declared.view.Aim.{Aim}
-use Rattle.exact_triangle.specs.declared.view.Aim.the-variants.{On, Off}
-use Rattle.exact_triangle.specs.Sizes.{Near, Heads, Turned}
+use Rattle.exact_triangle.specs.declared.view.GridView.{GridView}
+use Rattle.exact_triangle.specs.declared.view.GridView.the-variants.{On, Off}
+use Rattle.exact_triangle.specs.Sizes.{Near, DirectionSized, HeadingSized}
 
 abbrev pub mainAs : Axis → Main
 mainAs X = alongX
@@ -60,10 +60,10 @@ firstDepth l a b c =
     firstPoint (projectedOf l a) (projectedOf l b) (projectedOf l c) (pos (l .near * gainOf l)) (pos (l .far * gainOf l))
 
 -- its numbers are small
-pub record Aimed (v : View) : Type 0 where
+pub record ViewSized (v : View) : Type 0 where
   pub origin : Near (v .origin)
-  pub direction : Heads (v .direction)
-  pub turned : Turned (v .heading) (v .ahead)
+  pub direction : DirectionSized (v .direction)
+  pub headingSized : HeadingSized (v .heading) (v .ahead)
   pub gain : Sized 2147483648 (v .gain)
   pub near : Sized 2305843009213693952 (v .near)
   pub far : Sized 2305843009213693952 (v .far)
@@ -71,9 +71,9 @@ pub record Aimed (v : View) : Type 0 where
 pub record Shown (r : Ray) (v : View) : Type 0 where
   pub admitted : gridAdmitted r ≡ true
   pub sees : Sees v (gridLine r)
-  pub aimed : Aimed v
+  pub viewSized : ViewSized v
 
 -- a ray's line, where it is read on the grid
-abbrev pub Viewed : Ray → Aim → Type 0
+abbrev pub Viewed : Ray → GridView → Type 0
 Viewed r (On v) = Shown r v
 Viewed r Off = gridAdmitted r ≡ false

@@ -2,15 +2,15 @@ use crate::grid;
 use crate::normal;
 use crate::seen;
 use crate::view;
-use crate::view::Aim;
+use crate::view::GridView;
 use crate::view::View;
 use casts::answer;
 use casts::answer::Cast;
 use casts::answer::Reach;
 use casts::surface;
 use exact_depth::projection::Point;
-use exact_depth::wide_projection::Deep;
-use exact_depth::wide_projection::Found;
+use exact_depth::wide_depth::Found;
+use exact_depth::wide_depth::WideDepth;
 use geometry::ray::Ray;
 use vectors::vec3::Normalized;
 use vectors::vec3::Vec3;
@@ -25,17 +25,17 @@ ghost use Rattle.wide_integers.specs.Value.{value, Middling};
 ghost use Rattle.wide_integers.specs.Division.{fractionOf};
 ghost use Rattle.wide_integers.specs.Sizes.{Sized};
 ghost use Rattle.exact_depth.specs.declared.projection.Depth.the-variants.{At as Met};
-ghost use Rattle.exact_depth.specs.Answer.{deepOf};
+ghost use Rattle.exact_depth.specs.Answer.{wideDepthOf};
 ghost use Rattle.exact_triangle.specs.Line.{Line};
 ghost use Rattle.exact_triangle.specs.Shear.{gain, inUnits, depthOf};
 ghost use Rattle.exact_triangle.specs.Grid.{gridLine};
 ghost use Rattle.exact_triangle.specs.Sizes.{Near};
-ghost use Rattle.exact_triangle.specs.View.{Sees, Aimed};
-ghost use Rattle.exact_triangle.specs.Reach.{cornersRead, Boarded, millimetres, cornersReach, gridReach};
+ghost use Rattle.exact_triangle.specs.View.{Sees, ViewSized};
+ghost use Rattle.exact_triangle.specs.Reach.{cornersRead, ReadOnGrid, millimetres, cornersReach, gridReach};
 ghost use Rattle.exact_triangle.specs.Cast.{gridNormal, gridHit, gridTriangle};
 
 // The three corners on the grid.
-pub enum Board {
+pub enum GridCorners {
     At { a: Point, b: Point, c: Point },
     Off,
 }
@@ -54,20 +54,20 @@ fn corners_read(corners: [Vec3; 3]) -> bool
 }
 
 // The corners on the grid, where each is within 8,192 mm.
-fn board_of(corners: [Vec3; 3]) -> Board
-    ensures { λ r. ⌜ Boarded corners r ⌝ }
+fn grid_corners(corners: [Vec3; 3]) -> GridCorners
+    ensures { λ r. ⌜ ReadOnGrid corners r ⌝ }
 {
     if !corners_read(corners) {
-        return Board::Off;
+        return GridCorners::Off;
     }
     let a = grid::grid_point(corners[0]);
     let b = grid::grid_point(corners[1]);
     let c = grid::grid_point(corners[2]);
-    Board::At { a, b, c }
+    GridCorners::At { a, b, c }
 }
 
 // The distance in millimetres, rounded once.
-fn distance(at: Deep, gain: i64) -> f64
+fn distance(at: WideDepth, gain: i64) -> f64
     requires { ⌜ Middling (value (at .w)) × Sized 2147483648 gain ⌝ }
     ensures { λ r. ⌜ r ≡ fractionOf (value (at .t)) (value (at .w) *ℤ gain *ℤ pos 32768) ⌝ }
 {
@@ -77,9 +77,10 @@ fn distance(at: Deep, gain: i64) -> f64
 }
 
 // The same by a smaller fraction, 2^15 n · (a - o) / n · d with n the cross of the edges, where the line crosses the triangle's plane.
-fn distance_on(line: View, a: Point, b: Point, c: Point, at: Deep) -> f64
-    requires { ⌜ (Aimed line × (Near a × (Near b × Near c))) × Middling (value (at .w)) ⌝ }
-    ensures { λ r. ⌜ ((l : Line) → Sees line l → depthOf l a b c ≡ inUnits (gain l) (Met (deepOf at)) → r ≡ millimetres at (gain l)) ⌝ }
+fn distance_on(line: View, a: Point, b: Point, c: Point, at: WideDepth) -> f64
+    requires { ⌜ (ViewSized line × (Near a × (Near b × Near c))) × Middling (value (at .w)) ⌝ }
+    ensures { λ r. ⌜ ((l : Line) → Sees line l → depthOf l a b c ≡ inUnits (gain l) (Met (wideDepthOf at)) → r ≡ millimetres at
+        (gain l)) ⌝ }
 {
     let n = normal::cross_of(a, b, c);
     let direction = line.direction;
@@ -97,11 +98,11 @@ fn distance_on(line: View, a: Point, b: Point, c: Point, at: Deep) -> f64
 
 // What a ray on the line reaches the corners at: the same for every ray on it.
 pub fn reach_on(line: View, corners: [Vec3; 3]) -> Reach
-    requires { ⌜ Aimed line ⌝ }
+    requires { ⌜ ViewSized line ⌝ }
     ensures { λ r. ⌜ ((ray : AnyRay) → Sees line (gridLine ray) → r ≡ cornersReach (gridLine ray) corners) ⌝ }
 {
-    let board = board_of(corners);
-    let Board::At { a, b, c } = board else {
+    let placed = grid_corners(corners);
+    let GridCorners::At { a, b, c } = placed else {
         return Reach::Refused(answer::OUT_OF_RANGE);
     };
     let depth = seen::depth_of(line, a, b, c);
@@ -115,14 +116,14 @@ pub fn reach_on(line: View, corners: [Vec3; 3]) -> Reach
 pub fn exact_reach(ray: Ray, corners: [Vec3; 3]) -> Reach
     ensures { λ r. ⌜ r ≡ gridReach ray corners ⌝ }
 {
-    let aim = view::view_of(ray);
-    let Aim::On(line) = aim else {
+    let viewed = view::view_of(ray);
+    let GridView::On(line) = viewed else {
         return Reach::Refused(answer::OUT_OF_RANGE);
     };
     reach_on(line, corners)
 }
 
-// The hit at a distance: the cross's normal, turned to face the ray.
+// The hit at a distance: the cross's normal, flipped to face the ray.
 fn normal_at(ray: Ray, n: Point, distance: f64) -> Cast
     ensures { λ r. ⌜ says r ≡ gridNormal ray n distance ⌝ }
 {
@@ -140,8 +141,8 @@ fn normal_at(ray: Ray, n: Point, distance: f64) -> Cast
 pub fn hit_on(ray: Ray, corners: [Vec3; 3], distance: f64) -> Cast
     ensures { λ r. ⌜ says r ≡ gridHit ray corners distance ⌝ }
 {
-    let board = board_of(corners);
-    let Board::At { a, b, c } = board else {
+    let placed = grid_corners(corners);
+    let GridCorners::At { a, b, c } = placed else {
         return Cast::Refused(answer::OUT_OF_RANGE);
     };
     normal_at(ray, normal::cross_of(a, b, c), distance)

@@ -5,7 +5,7 @@ ghost use mathlib.Core.Bool.{true};
 ghost use Rattle.wide_integers.specs.Sizes.{Sized};
 ghost use Rattle.exact_triangle.specs.Line.{parts};
 ghost use Rattle.exact_triangle.specs.Grid.{units, nearestTo, within, allWithin, two, furthest, longest, gridPoint, pointTo};
-ghost use Rattle.exact_triangle.specs.Sizes.{Near, Heads};
+ghost use Rattle.exact_triangle.specs.Sizes.{Near, DirectionSized};
 
 // Each component of a direction is up to here ..
 pub const TWO: f64 = 2.0;
@@ -86,7 +86,7 @@ pub fn grid_point(v: Vec3) -> Point
 // A direction in parts of 2^-30.
 pub fn direction_of(v: Vec3) -> Point
     requires { ⌜ allWithin two v ≡ true ⌝ }
-    ensures { λ r. ⌜ (r ≡ pointTo parts v) × Heads r ⌝ }
+    ensures { λ r. ⌜ (r ≡ pointTo parts v) × DirectionSized r ⌝ }
 {
     Point {
         x: component(v.x),

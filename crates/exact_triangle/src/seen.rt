@@ -3,13 +3,13 @@ use crate::view::View;
 use exact_depth::depth;
 use exact_depth::projection::Point;
 use exact_depth::projection::Projected;
-use exact_depth::wide_projection::Found;
+use exact_depth::wide_depth::Found;
 ghost use mathlib.Core.Path.{_≡_};
 ghost use Rattle.exact_depth.specs.Answer.{answerOf, Narrow};
 ghost use Rattle.exact_triangle.specs.Line.{Line};
 ghost use Rattle.exact_triangle.specs.Shear.{from, projectedOf};
-ghost use Rattle.exact_triangle.specs.Sizes.{Near, Apart, Faced, Turned, ProjectedSize};
-ghost use Rattle.exact_triangle.specs.View.{shearedBy, firstDepth, Sees, Aimed};
+ghost use Rattle.exact_triangle.specs.Sizes.{Near, Apart, CornerSized, HeadingSized, ProjectedSize};
+ghost use Rattle.exact_triangle.specs.View.{shearedBy, firstDepth, Sees, ViewSized};
 
 // What lies where p does, from the origin.
 pub fn from(origin: Point, p: Point) -> Point
@@ -25,7 +25,7 @@ pub fn from(origin: Point, p: Point) -> Point
 
 // The space sheared so that the line with the direction d is where across and up are 0.
 fn sheared(d: Projected, ahead: i64, p: Projected) -> Projected
-    requires { ⌜ Turned d ahead × Faced p ⌝ }
+    requires { ⌜ HeadingSized d ahead × CornerSized p ⌝ }
     ensures { λ r. ⌜ (r ≡ shearedBy d ahead p) × ProjectedSize r ⌝ }
 {
     Projected {
@@ -37,7 +37,7 @@ fn sheared(d: Projected, ahead: i64, p: Projected) -> Projected
 
 // A corner as the line sees it.
 fn projected_of(line: View, p: Point) -> Projected
-    requires { ⌜ Aimed line × Near p ⌝ }
+    requires { ⌜ ViewSized line × Near p ⌝ }
     ensures { λ r. ⌜ ProjectedSize r × ((l : Line) → Sees line l → r ≡ projectedOf l p) ⌝ }
 {
     let axis = line.axis;
@@ -48,7 +48,7 @@ fn projected_of(line: View, p: Point) -> Projected
 
 // The first depth of the line in the triangle.
 pub fn depth_of(line: View, a: Point, b: Point, c: Point) -> Found
-    requires { ⌜ Aimed line × (Near a × (Near b × Near c)) ⌝ }
+    requires { ⌜ ViewSized line × (Near a × (Near b × Near c)) ⌝ }
     ensures { λ r. ⌜ Narrow r × ((l : Line) → Sees line l → answerOf r ≡ firstDepth l a b c) ⌝ }
 {
     let first = projected_of(line, a);

@@ -9,8 +9,8 @@ ghost use lib.Signed.{leZ};
 ghost use Rattle.wide_integers.specs.Sizes.{Sized};
 ghost use Rattle.exact_triangle.specs.Shear.{mainOf, facing, ahead};
 ghost use Rattle.exact_triangle.specs.Grid.{units, nearestTo, within, longest, gridAdmitted};
-ghost use Rattle.exact_triangle.specs.Sizes.{Near, Heads};
-ghost use Rattle.exact_triangle.specs.View.{mainAs, lineFrom, Sees, Aimed, Viewed};
+ghost use Rattle.exact_triangle.specs.Sizes.{Near, DirectionSized};
+ghost use Rattle.exact_triangle.specs.View.{mainAs, lineFrom, Sees, ViewSized, Viewed};
 
 // The axis that the depth is measured along.
 pub enum Axis {
@@ -32,7 +32,7 @@ pub struct View {
     pub far: i64,
 }
 
-pub enum Aim {
+pub enum GridView {
     On(View),
     Off,
 }
@@ -60,7 +60,7 @@ fn leads(x: i64, y: i64, z: i64) -> bool
 
 // The axis along which a direction goes furthest.
 fn main_of(d: Point) -> Axis
-    requires { ⌜ Heads d ⌝ }
+    requires { ⌜ DirectionSized d ⌝ }
     ensures { λ r. ⌜ mainAs r ≡ mainOf d ⌝ }
 {
     let x = size(d.x);
@@ -140,8 +140,8 @@ pub fn depth_at(x: f64, gain: i64) -> i64
 
 // The line with a direction.
 fn looking(origin: Point, direction: Point, near: f64, far: f64) -> View
-    requires { ⌜ (Near origin × Heads direction) × ((within longest near ≡ true) × (within longest far ≡ true)) ⌝ }
-    ensures { λ r. ⌜ Sees r (lineFrom origin direction near far) × Aimed r ⌝ }
+    requires { ⌜ (Near origin × DirectionSized direction) × ((within longest near ≡ true) × (within longest far ≡ true)) ⌝ }
+    ensures { λ r. ⌜ Sees r (lineFrom origin direction near far) × ViewSized r ⌝ }
 {
     let axis = main_of(direction);
     let heading = facing(axis, direction);
@@ -159,13 +159,13 @@ fn looking(origin: Point, direction: Point, near: f64, far: f64) -> View
 }
 
 // A ray on the grid, where it is read on it.
-pub fn view_of(ray: Ray) -> Aim
+pub fn view_of(ray: Ray) -> GridView
     ensures { λ r. ⌜ Viewed ray r ⌝ }
 {
     if !admitted(ray) {
-        return Aim::Off;
+        return GridView::Off;
     }
     let origin = grid::grid_point(ray.origin);
     let direction = grid::direction_of(ray.direction);
-    Aim::On(looking(origin, direction, ray.near, ray.max_distance))
+    GridView::On(looking(origin, direction, ray.near, ray.max_distance))
 }

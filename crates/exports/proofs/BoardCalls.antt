@@ -1,13 +1,13 @@
 -- What the call of the merge tells, refusal by refusal, and what holds of the result where it is done. Assumes nothing.
-use Prim.Native.Nat.{ℕ, _*_, _<_, _≤_}
+use Prim.Native.Nat.{ℕ, _<_, _≤_}
 use mathlib.Core.Path.{_≡_, refl, sym, ap, subst, _∙_}
-use mathlib.Core.Bool.{Bool, true, false, _&&_, cond, true≢false}
+use mathlib.Core.Bool.{Bool, true, false, _&&_}
 use mathlib.Core.List.{List, [], _∷_}
 use native.Mathlib.Omega.{arith}
-use borrow.Author.Tests.{le-leb, lt-leb, leb-true}
+use borrow.Author.Tests.{le-leb, lt-leb}
 use lib.Dec.{leb}
 use lib.ListN.{length}
-use lib.Seq.{sets, getD-set-same}
+use lib.Seq.{sets}
 use Rattle.casts.specs.Answer.{badShape, noRoom}
 use Rattle.tree.specs.Layout.{wordAt}
 use Rattle.merge.specs.Merge.{Answer, nodes, refused, Board, Areas, Outcome, shapesAdmitted, testsPass, mergeOf}

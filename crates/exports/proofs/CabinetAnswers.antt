@@ -2,7 +2,7 @@
 -- nothing.
 use Prim.Native.Nat.{ℕ, _≤_}
 use mathlib.Core.Path.{_≡_, refl, ap, _∙_}
-use mathlib.Core.Bool.{Bool, true, false, _&&_, cond}
+use mathlib.Core.Bool.{Bool, true, false, _&&_}
 use mathlib.Core.List.{List, [], _∷_}
 use borrow.Author.Tests.{leb-true}
 use lib.Dec.{leb, eqb}
@@ -14,13 +14,12 @@ use Rattle.vectors.specs.declared.vec3.Vec3.{Vec3}
 use Rattle.geometry.specs.declared.ray.Ray.{Ray}
 use Rattle.casts.specs.Answer.{noRoom}
 use Rattle.cabinet.specs.declared.part.Part.{Part}
-use Rattle.cabinet.specs.declared.part.Found.{Found}
 use Rattle.cabinet.specs.declared.part.Found.the-variants.{Nothing, Hit, Refused}
 use Rattle.cabinet.specs.declared.part.Progress.{Progress}
 use Rattle.cabinet.specs.declared.part.State.{State}
 use Rattle.cabinet.specs.declared.part.Look.{Look}
 use Rattle.cabinet.specs.Parts.{Areas}
-use Rattle.cabinet.specs.Looks.{lookFrom, lookParts, turnedBy}
+use Rattle.cabinet.specs.Looks.{lookFrom, lookParts, secondPass}
 use Rattle.cabinet.specs.Cabinet.{Answer, hitIn, noneAfter, refused, refusedAfter, castCabinet, testsPass, withResults}
 use Rattle.cabinet.specs.Steps.{isIdle, Kept, begun, between, passes, stepParts, lastAnswer}
 use Rattle.cabinet.proofs.Passes.{tests-keep, passes-are-cabinet}
@@ -93,9 +92,9 @@ module _ (a : Areas) (m k : ℕ) (start : State) (parts : List Part) where
   pub starts-second : (s : State) (i l : Look)
       → i ≡ lookFrom start (length (a .vertices)) (length (a .triangles)) (length (a .nodeBoxes)) (length (a .triangleBoxes))
       (length (a .nodeWords)) (length (a .order)) m k
-      → l ≡ lookParts i parts → s ≡ turnedBy start l → s ≡ between a m k start parts
+      → l ≡ lookParts i parts → s ≡ secondPass start l → s ≡ between a m k start parts
   unfolding between
-  starts-second s i l e f g = g ∙ ap (turnedBy start) (f ∙ ap (λ (z : Look). lookParts z parts) e)
+  starts-second s i l e f g = g ∙ ap (secondPass start) (f ∙ ap (λ (z : Look). lookParts z parts) e)
 
   pub ends-second : (s r : State) → s ≡ between a m k start parts → r ≡ stepParts a m k s parts → r ≡ passes a m k start parts
   unfolding passes

@@ -1,7 +1,6 @@
 -- No refusal that a call answers can be taken for a code. Assumes nothing.
 use Prim.Native.Nat.{ℕ}
 use mathlib.Core.Path.{refl}
-use mathlib.Core.List.{List}
 use Rattle.casts.specs.Answer.{refused}
 use Rattle.conversion.specs.Convert as Conversion
 use Rattle.nearest_hit.specs.Nearest.{stopped}

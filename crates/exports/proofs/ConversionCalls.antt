@@ -1,22 +1,19 @@
 -- The converter's calls, for each of their returns. Assumes nothing.
 use Prim.Native.Nat.{ℕ, _<_, _≤_}
-use mathlib.Core.Path.{_≡_, refl, sym, ap, _∙_}
+use mathlib.Core.Path.{_≡_, refl, ap, _∙_}
 use mathlib.Core.Bool.{Bool, true, false, cond}
-use mathlib.Core.List.{List, [], _∷_}
+use mathlib.Core.List.{List, []}
 use native.Mathlib.Omega.{arith}
 use borrow.Author.Tests.{le-leb, lt-leb}
-use lib.Dec.{leb}
 use lib.ListN.{length}
-use lib.Seq.{sets}
 use Rattle.casts.specs.Answer.{badShape, noRoom}
 use Rattle.float_forms.specs.declared.forms.Form.{Form}
-use Rattle.conversion.specs.declared.shape.Plan.{Plan}
-use Rattle.conversion.specs.declared.shape.Planned.{Planned}
-use Rattle.conversion.specs.declared.shape.Planned.the-variants.{Is, Malformed}
-use Rattle.conversion.specs.Records.{wellFormed}
+use Rattle.record_bytes.specs.declared.shape.Plan.{Plan}
+use Rattle.record_bytes.specs.declared.shape.Planned.the-variants.{Is, Malformed}
+use Rattle.record_bytes.specs.Records.{wellFormed}
 use Rattle.conversion.specs.Convert.{Answer, Outcome, converted}
-use Rattle.conversion.specs.Plans.{planOf, planned}
-use Rattle.results.specs.Results.{Counted, doneCode}
+use Rattle.record_bytes.specs.Plans.{planOf, planned}
+use Rattle.results.specs.Results.{Counted}
 use Rattle.exports.specs.Conversions.{returnedConverted, withoutPlace, ConvertReturned, convertReturned}
 
 -- ---- the place is missing

@@ -1,8 +1,8 @@
 -- What the calls of the exact cast tell, without a tree and through one; that what is read back from the one without a tree is certain; and
 -- that with every tree that passes the check the call through a tree promises the same. Assumes nothing.
 use Prim.Native.Nat.{ℕ, _*_}
-use mathlib.Core.Path.{_≡_, refl, sym, ap, subst, _∙_}
-use mathlib.Core.Bool.{Bool, true, false, _&&_, cond, true≢false}
+use mathlib.Core.Path.{_≡_, sym, ap, subst, _∙_}
+use mathlib.Core.Bool.{Bool, true, false, _&&_, cond}
 use mathlib.Core.List.{List}
 use native.Mathlib.Omega.{arith}
 use lib.Dec.{leb}
@@ -23,7 +23,7 @@ use Rattle.mesh_exact.specs.GridCast.{overTriangles, rayMeshExactPlain}
 use Rattle.mesh_exact.specs.Certain.{CertainMesh}
 use Rattle.mesh_exact.proofs.Certainty.{certain}
 use Rattle.tree_exact.specs.Numbers.{NoNaN, hasNumbers}
-use Rattle.tree_exact.specs.ExactMesh.{roomFor, exactThrough, rayMeshExact}
+use Rattle.tree_exact.specs.ExactMesh.{roomFor, rayMeshExact}
 use Rattle.tree_exact.proofs.Agreement.{shape-admitted, agrees}
 use Rattle.results.specs.Results.{ReturnedIndexed, returnedIndexed, resultsFit, withRoom, yesCode, noCode}
 use Rattle.exports.specs.Plain.{returnedNumber}

@@ -1,7 +1,7 @@
 -- Every refusal of the exact cast, without a tree and through one, has a number below the codes. Assumes nothing.
 use Prim.Native.Nat.{ℕ, zero, suc, _+_}
-use mathlib.Core.Path.{_≡_, refl}
-use mathlib.Core.Bool.{Bool, true, false, _&&_, cond}
+use mathlib.Core.Path.{refl}
+use mathlib.Core.Bool.{Bool, _&&_, cond}
 use mathlib.Core.List.{List, [], _∷_}
 use lib.Dec.{ltb, leb, eqb}
 use lib.Ieee.{Float}
@@ -18,20 +18,19 @@ use Rattle.casts.specs.Reach.{reachOf}
 use Rattle.casts.specs.Surface.{facing}
 use Rattle.casts.specs.declared.answer.Reach.{Reach}
 use Rattle.casts.specs.declared.answer.Reach.the-variants.{At, Miss, Refused}
-use Rattle.nearest_hit.specs.Nearest.{Indexed, hitAt, noHit, stopped}
-use Rattle.nearest_hit.specs.Summary.{Kept, nobody, kept, Found, found, lower, keepOf, Summary, nothing, noteOf, winner, winnerOf, answerAt}
+use Rattle.nearest_hit.specs.Nearest.{noHit, stopped}
+use Rattle.nearest_hit.specs.Summary.{Kept, nobody, kept, Found, found, lower, keepOf, Summary, nothing, noteOf, winnerOf, answerAt}
 use Rattle.tree.specs.Layout.{Tree, wordAt, kindAt, firstAt, secondAt}
 use Rattle.tree.specs.Mesh.{Mesh, thirds, triangleCount, lengthsAdmitted, cornersInside, cornersOf, trianglesFit}
 use Rattle.exact_triangle.specs.Grid.{gridAdmitted, gridLine}
 use Rattle.exact_triangle.specs.Shear.{depthOf}
 use Rattle.exact_depth.specs.declared.projection.Depth.{Depth}
 use Rattle.exact_depth.specs.declared.projection.Depth.the-variants.{At as Met, Miss as Unmet}
-use Rattle.exact_depth.specs.declared.projection.Point.{Point}
 use Rattle.exact_triangle.specs.Normal.{normalOf}
 use Rattle.exact_triangle.specs.Reach.{cornersRead, reachAt, cornersReach, gridReach}
 use Rattle.exact_triangle.specs.Cast.{gridNormal, reachHit, crossAt, gridTriangle}
 use Rattle.mesh_exact.specs.GridCast.{exactAnswer, overTriangles, rayMeshExactPlain}
-use Rattle.tree_exact.specs.FirstWalk.{Seeking, seeking, broken, times, noted, takePlace, takePlaces, atLeaf, atBranch, atNode}
+use Rattle.tree_exact.specs.FirstWalk.{Seeking, seeking, broken, times, takePlace, takePlaces, atLeaf, atBranch, atNode}
 use Rattle.tree_exact.specs.FirstWalk.{takeNode, start, ended, firstOf}
 use Rattle.tree_exact.specs.Opening.{opensNode}
 use Rattle.tree_exact.specs.Order.{leftFirst}

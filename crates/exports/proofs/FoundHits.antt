@@ -1,14 +1,12 @@
 -- What the listing's call tells says its answer back, so that the promises hold of it. Assumes nothing.
 use Prim.Native.Nat.{ℕ, _<_, _≤_}
 use mathlib.Core.Path.{_≡_, refl, sym, ap, subst, _∙_}
-use mathlib.Core.Bool.{Bool, cond}
-use mathlib.Core.List.{List, [], _∷_}
+use mathlib.Core.List.{List, []}
 use native.Mathlib.Omega.{arith}
 use borrow.Author.Tests.{le-leb, lt-leb, ne-eqb}
-use lib.Dec.{leb}
 use lib.Ieee.{Float}
 use lib.ListN.{length}
-use lib.Seq.{sets, getD-set-same}
+use lib.Seq.{getD-set-same}
 use Rattle.geometry.specs.Segment.{rayAdmitted}
 use Rattle.geometry.specs.declared.ray.Ray.{Ray}
 use Rattle.tree.specs.Layout.{Tree}
@@ -19,7 +17,7 @@ use Rattle.mesh_hits.specs.HitArea.{HitArea, Outcome}
 use Rattle.mesh_hits.specs.Listing.{rayMeshAll}
 use Rattle.mesh_hits.specs.Promise.{KeepsPromises}
 use Rattle.results.specs.Results.{Counted, doneCode, shortOf, returnedFound}
-use Rattle.exports.specs.AllHits.{ListingReturned, withoutPlace, allReturned, foundReturned}
+use Rattle.exports.specs.AllHits.{withoutPlace, allReturned, foundReturned}
 use Rattle.exports.proofs.Codes.{refusals-below-codes}
 
 module _ (r : Ray) (m : Mesh) (pose : List Float) (t : Tree) (list stack : ℕ) (area : HitArea) (place : List ℕ) where

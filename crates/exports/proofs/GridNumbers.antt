@@ -57,7 +57,7 @@ use Rattle.level_set.specs.declared.hits.Samples.{Samples}
 use Rattle.level_set.specs.declared.hits.Samples.the-variants.{All, Refused as NoSamples}
 use Rattle.level_set.specs.Hits.{pointAt, along, withSample, hitWith, hitAlong, touchAt, valueAlong, third, twoThirds, samplesOf}
 use Rattle.level_set.specs.Hits.{samplesAlong}
-use Rattle.level_set.specs.Walk.{Turn, done, on, goesOn, rootTurn, cellBy, withSamples, cellCast, goesTo, withBoundary, withCells}
+use Rattle.level_set.specs.Walk.{CellResult, done, on, goesOn, rootResult, cellBy, withSamples, cellCast, goesTo, withBoundary, withCells}
 use Rattle.level_set.specs.Walk.{walkStep, follow, cellLimit, walkFrom, withInterval, levelSetCast, rayLevelSet}
 use Rattle.exports.proofs.RefusalNumbers.{Small, leaf, chosen, boxed, answerNumber, refuses, misses, hits, corners-small}
 use Rattle.exports.proofs.RefusalNumbers.{indexedNumber, nearest-small}
@@ -201,12 +201,12 @@ four-small (SampledAt v g) (SampledAt w h) (SampledAt x i) (NotSampled k) p q s 
 four-small (SampledAt v g) (SampledAt w h) (SampledAt x i) (SampledAt y j) p q s t = leaf samplesNumber (All v w x y) refl
 
 -- ---- its walk
-unfoldable turnNumber : Turn → ℕ
-turnNumber (done answer) = answerNumber answer
-turnNumber (on distance) = 0
+unfoldable resultNumber : CellResult → ℕ
+resultNumber (done answer) = answerNumber answer
+resultNumber (on distance) = 0
 
-ends : (answer : Answer) → Small answerNumber answer → Small turnNumber (done answer)
-unfolding turnNumber
+ends : (answer : Answer) → Small answerNumber answer → Small resultNumber (done answer)
+unfolding resultNumber
 ends answer p = record { below = p .below }
 
 hit-with-small : (gradient : Vec3) (distance : Float) → Small answerNumber (hitWith gradient distance)
@@ -236,48 +236,48 @@ module _ (r : Ray) (g : Grid) (values : List Float) where
       go (SampledAt value gradient) p = chosen (eq value zeroᶠ) (hit-with-small gradient distance) misses
       go (NotSampled k) p = record { below = p .below }
 
-  root-small : (t : Root) (current end exit : Float) → Small turnNumber (rootTurn t r g values current end exit)
-  unfolding goesOn turnNumber
+  root-small : (t : Root) (current end exit : Float) → Small resultNumber (rootResult t r g values current end exit)
+  unfolding goesOn resultNumber
   root-small (RootAt fraction) current end exit = ends _ (along-small (along current end fraction))
-  root-small NoRoot current end exit = chosen (le exit end) (ends none misses) (leaf turnNumber (on end) refl)
+  root-small NoRoot current end exit = chosen (le exit end) (ends none misses) (leaf resultNumber (on end) refl)
   root-small RootOverflow current end exit = ends (refused overflow) (refuses overflow refl)
 
-  cell-cast-small : (current end exit : Float) → Small turnNumber (cellCast r g values current end exit)
-  unfolding cellCast cellBy samplesAlong valueAlong samplesNumber turnNumber answerNumber
+  cell-cast-small : (current end exit : Float) → Small resultNumber (cellCast r g values current end exit)
+  unfolding cellCast cellBy samplesAlong valueAlong samplesNumber resultNumber answerNumber
   cell-cast-small current end exit =
       go _ (four-small _ _ _ _ (at zeroᶠ) (at third) (at twoThirds) (at oneᶠ))
     where
       at : (fraction : Float) → Small sampledNumber (sample g values (pointAt r (along current end fraction)))
       at fraction = sample-small g values (pointAt r (along current end fraction))
 
-      go : (s : Samples) → Small samplesNumber s → Small turnNumber (withSamples s
+      go : (s : Samples) → Small samplesNumber s → Small resultNumber (withSamples s
           (λ (y0 y1 y2 y3 : Float). cellBy r g values current end exit (y0 ∷ y1 ∷ y2 ∷ y3 ∷ [])))
       go (All y0 y1 y2 y3) q = root-small (firstCubicRoot (y0 ∷ y1 ∷ y2 ∷ y3 ∷ [])) current end exit
       go (NoSamples k) q = record { below = q .below }
 
-  goes-small : (current exit next : Float) → Small turnNumber (goesTo r g values current exit next)
+  goes-small : (current exit next : Float) → Small resultNumber (goesTo r g values current exit next)
   unfolding goesTo
   goes-small current exit next =
       chosen (le next current) (ends _ (touch-small current)) (cell-cast-small current (minimumOf next exit) exit)
 
-  step-small : (current exit : Float) → Small turnNumber (walkStep r g values current exit)
+  step-small : (current exit : Float) → Small resultNumber (walkStep r g values current exit)
   unfolding walkStep
   step-small current exit =
       chosen (lt exit current) (ends none misses) (cells (rayCellIndices g (pointAt r current) (r .direction)))
     where
-      bounded : (b : Boundary) → Small turnNumber (withBoundary b (λ (next : Float). goesTo r g values current exit next))
+      bounded : (b : Boundary) → Small resultNumber (withBoundary b (λ (next : Float). goesTo r g values current exit next))
       bounded (BoundaryAt next) = goes-small current exit next
       bounded NoBoundary = ends (refused overflow) (refuses overflow refl)
 
-      cells : (c : Cells) → Small turnNumber (withCells c (λ (x y z : ℕ).
+      cells : (c : Cells) → Small resultNumber (withCells c (λ (x y z : ℕ).
           withBoundary (nextCellBoundary g current (pointAt r current) (r .direction) x y z exit)
           (λ (next : Float). goesTo r g values current exit next)))
       cells (CellsAt x y z) = bounded (nextCellBoundary g current (pointAt r current) (r .direction) x y z exit)
       cells NoCells = ends (refused overflow) (refuses overflow refl)
 
-  follow-small : (t : Turn) (k : Float → Answer) → Small turnNumber t → ((next : Float) → Small answerNumber (k next))
+  follow-small : (t : CellResult) (k : Float → Answer) → Small resultNumber t → ((next : Float) → Small answerNumber (k next))
       → Small answerNumber (follow t k)
-  unfolding turnNumber
+  unfolding resultNumber
   follow-small (done answer) k p q = record { below = p .below }
   follow-small (on distance) k p q = q distance
 

@@ -29,12 +29,12 @@ use Rattle.casts.specs.declared.plane.Plane.{Plane}
 use Rattle.triangle_cast.specs.Triangle.{triangleCast, rayTriangle}
 use Rattle.nearest_hit.specs.Nearest.{Indexed, hitAt, noHit, stopped, nextOf, foldFrom}
 use Rattle.tree.specs.Layout.{Tree}
-use Rattle.tree.specs.Mesh.{Mesh, thirds, lengthsAdmitted, cornersInside, cornersOf, triangleAnswer, candidates}
+use Rattle.tree.specs.Mesh.{Mesh, thirds, lengthsAdmitted, triangleAnswer, candidates}
 use Rattle.tree.specs.Mesh.{trianglesFit}
 use Rattle.tree_walk.specs.Walk.{Walking, walking, broken, walkOf}
 use Rattle.mesh.specs.MeshCast.{overWalk, meshCast, meshTests, rayMesh}
 use Rattle.mesh_plain.specs.PlainCast.{overTriangles, plainCast, rayMeshPlain}
-use Rattle.mesh_hits.proofs.RefusalNumbers.{normal-small, triangle-small, answer-small}
+use Rattle.mesh_hits.proofs.RefusalNumbers.{triangle-small, answer-small}
 use Rattle.slice_casts.specs.Slices.{rayIn, ofSlices}
 use Rattle.exports.specs.Codes.{Below}
 

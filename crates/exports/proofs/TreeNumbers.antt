@@ -26,9 +26,9 @@ use Rattle.tree_check.specs.Check.{treePasses}
 use Rattle.tree_check.specs.Verdict as Verdict
 use Rattle.merge.specs.Merge as Merge
 use Rattle.float_forms.specs.declared.forms.Form.{Form}
-use Rattle.conversion.specs.Records.{saidOf, wellFormed}
-use Rattle.conversion.specs.Writing.{turned}
-use Rattle.conversion.specs.Convert.{saidHeld, Answer as Converted, written, refused as notConverted, Outcome, converted}
+use Rattle.record_bytes.specs.Records.{saidOf, wellFormed}
+use Rattle.conversion.specs.Writing.{rewritten}
+use Rattle.conversion.specs.Convert.{saidRepresentable, Answer as Converted, written, refused as notConverted, Outcome, converted}
 use Rattle.tree_walk.specs.Looking.{Looked, looked, usedUp, walkWithin}
 use Rattle.cabinet.specs.declared.part.Part.{Part}
 use Rattle.cabinet.specs.declared.part.Found.{Found}
@@ -117,8 +117,8 @@ converts answer area h = leaf (λ (o : Outcome). convertedNumber (o .answer)) (r
 pub converted-small : (p q : Form) (bytes area : List ℕ) → Small (λ (o : Outcome). convertedNumber (o .answer)) (converted p q bytes area)
 unfolding converted convertedNumber
 converted-small p q bytes area =
-    chosen (wellFormed p bytes) (chosen (ltb (length area) (length (turned p q bytes))) (converts (notConverted 3) _ refl)
-    (chosen (saidHeld q (saidOf p bytes)) (converts (written _) _ refl) (converts (notConverted 11) _ refl)))
+    chosen (wellFormed p bytes) (chosen (ltb (length area) (length (rewritten p q bytes))) (converts (notConverted 3) _ refl)
+    (chosen (saidRepresentable q (saidOf p bytes)) (converts (written _) _ refl) (converts (notConverted 11) _ refl)))
     (converts (notConverted 2) _ refl)
 
 -- ---- the cabinet

@@ -10,7 +10,7 @@ use Rattle.geometry.specs.declared.aabb.Aabb.{Aabb}
 use Rattle.geometry.specs.declared.ray.Ray.{Ray}
 use Rattle.float_forms.specs.declared.forms.Form.{Form}
 use Rattle.conversion.specs.Convert as Conversion
-use Rattle.casts.specs.Answer.{Answer, refused}
+use Rattle.casts.specs.Answer.{refused}
 use Rattle.casts.specs.Plane.{rayPlane}
 use Rattle.casts.specs.declared.plane.Plane.{Plane}
 use Rattle.triangle_cast.specs.Triangle.{rayTriangle}

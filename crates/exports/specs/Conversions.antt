@@ -7,7 +7,7 @@ use lib.ListN.{length}
 use lib.Seq.{sets}
 use Rattle.casts.specs.Answer.{badShape, noRoom}
 use Rattle.float_forms.specs.declared.forms.Form.{Form}
-use Rattle.conversion.specs.Records.{wellFormed}
+use Rattle.record_bytes.specs.Records.{wellFormed}
 use Rattle.conversion.specs.Convert.{Answer, written, refused, converted}
 use Rattle.results.specs.Results.{Counted, doneCode}
 

@@ -1,7 +1,6 @@
 -- What the call of the cast at heights known only within ranges tells and writes, and that it keeps the promise. Definitions only.
 -- Assumes nothing.
 use Prim.Native.Nat.{ℕ, _≤_}
-use mathlib.Core.Path.{_≡_}
 use mathlib.Core.Bool.{cond}
 use mathlib.Core.List.{List, [], _∷_}
 use lib.Dec.{leb, eqb}

@@ -181,7 +181,7 @@ pub extern "C" fn probe_ray_cabinet(
         stack.len(),
     );
     let looked = pass::look_all(parts, looking);
-    let between = look::turn(start, looked);
+    let between = look::second_pass(start, looked);
     let end = pass::cast_all(
         parts,
         vertices,

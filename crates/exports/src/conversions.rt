@@ -1,9 +1,9 @@
 use casts::answer;
 use conversion::convert;
-use conversion::shape;
-use conversion::shape::Planned;
 use float_forms::forms::Converted;
 use float_forms::forms::Form;
+use record_bytes::shape;
+use record_bytes::shape::Planned;
 ghost use mathlib.Core.Path.{_≡_};
 ghost use Prim.Native.Nat.{_≤_};
 ghost use lib.ListN.{length};

@@ -51,8 +51,8 @@ pub extern "C" fn probe_ray_plane(
     )
 }
 
-// The cast at a triangle of corners a, b and c. On whole millimetres `exact-on-whole-numbers` (whole_numbers/proofs/WholeBoards.antt) says
-// of `rayTriangle`, with which the contract is an equation, where it hits, where it does not, and at which distance.
+// The cast at a triangle of corners a, b and c. On whole millimetres `exact-on-whole-numbers` (whole_numbers/proofs/WholeTriangles.antt)
+// says of `rayTriangle`, with which the contract is an equation, where it hits, where it does not, and at which distance.
 #[no_mangle]
 pub extern "C" fn probe_ray_triangle(
     origin_x: f64,

@@ -14,7 +14,9 @@ use lib.Ieee.Digits.{size-lt, size-reaches, size-le}
 use lib.Ieee.Fits.{and-i, and-l, and-r, fits-widens}
 use borrow.Author.Tests.{leb-true, leb-false, ne-eqb, le-leb, lt-leb, le-ltb}
 use Rattle.arithmetic.proofs.Signs.{zero-exponent}
-use Rattle.float_forms.specs.Short.{guess, guessSize, held}
+use Rattle.float_forms.specs.declared.forms.Form.the-variants.{Short}
+use Rattle.float_forms.specs.Representable.{representable}
+use Rattle.float_forms.specs.Short.{guess, guessSize}
 
 -- ---- powers of two
 
@@ -323,9 +325,9 @@ narrow-right (fin s (suc m) (negsuc k)) f n =
 -- ---- the round trips, on patterns
 
 -- from 8 bytes to 4 and back
-pub back-wide : (bits : ℕ) → bits < 0x1_0000_0000_0000_0000 → T (held (ofBits binary64 bits))
+pub back-wide : (bits : ℕ) → bits < 0x1_0000_0000_0000_0000 → T (representable Short (ofBits binary64 bits))
     → toBits binary64 (ofBits binary32 (toBits binary32 (ofBits binary64 bits))) ≡ bits
-unfolding held
+unfolding representable
 back-wide bits h f =
     ap (toBits binary64)
     (ofBits-toBits binary32 (ofBits binary64 bits) (and-r (not (isNan (ofBits binary64 bits))) (fits binary32 (ofBits binary64 bits)) f))
@@ -338,7 +340,8 @@ back-short bits h n =
     ap (toBits binary32) (ofBits-toBits binary64 (ofBits binary32 bits) (fits-widens (ofBits binary32 bits) (ofBits-fits binary32 bits)))
     ∙ toBits-ofBits binary32 bits h n
 
--- what 4 bytes stand for is held by 4 bytes
-pub widened-held : (bits : ℕ) → T (not (isNan (ofBits binary32 bits))) → T (held (ofBits binary32 bits))
-unfolding held
-widened-held bits n = and-i (not (isNan (ofBits binary32 bits))) (fits binary32 (ofBits binary32 bits)) n (ofBits-fits binary32 bits)
+-- what 4 bytes stand for is representable by 4 bytes
+pub widened-representable : (bits : ℕ) → T (not (isNan (ofBits binary32 bits))) → T (representable Short (ofBits binary32 bits))
+unfolding representable
+widened-representable bits n =
+    and-i (not (isNan (ofBits binary32 bits))) (fits binary32 (ofBits binary32 bits)) n (ofBits-fits binary32 bits)

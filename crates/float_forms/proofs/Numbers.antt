@@ -1,16 +1,16 @@
 -- Numbers from bytes and bytes from numbers are each other's inverse. Assumes nothing.
-use Prim.Native.Nat.{ℕ, zero, suc, _+_, _-_, _*_, _/_, _%_, _<_, _≤_}
-use mathlib.Core.Path.{_≡_, refl, sym, ap, subst, _∙_}
-use mathlib.Core.Bool.{Bool, true, false, not}
+use Prim.Native.Nat.{ℕ, _+_, _*_, _/_, _%_, _<_, _≤_}
+use mathlib.Core.Path.{_≡_, refl, sym, ap, _∙_}
+use mathlib.Core.Bool.{not}
 use mathlib.Core.List.{List, [], _∷_, _++_, append-assoc}
 use native.Mathlib.Omega.{arith}
 use lib.Dec.{T}
-use lib.Ieee.{Float, top, binary32, binary64, ofBits, toBits, fits, isNan}
+use lib.Ieee.{Float, top, binary64, ofBits, toBits, fits, isNan}
 use lib.Ieee.Bits.{ofBits-toBits, toBits-ofBits, toBits-lt, ofBits-fits}
-use lib.ListN.{length, getD, take, drop, length-drop, length-append}
-use lib.Seq.{getD-drop, take-add, drop-at, take-at}
+use lib.ListN.{length, take, drop, length-drop}
+use lib.Seq.{getD-drop, take-add, drop-at}
 use Rattle.float_forms.specs.declared.forms.Form.{Form}
-use Rattle.float_forms.specs.declared.forms.Form.the-variants.{Long, Short}
+use Rattle.float_forms.specs.declared.forms.Form.the-variants.{First, Long, Short}
 use Rattle.float_forms.specs.Forms.{sizeOf, formatOf}
 use Rattle.float_forms.specs.Bytes.{IsBytes, wordOf, wordBytes, patternOf, patternBytes, numberOf, numberBytes}
 
@@ -50,12 +50,17 @@ word-bytes (a ∷ (b ∷ (c ∷ (d ∷ l)))) g n = first-four a b c d l (g .belo
 
 pub pattern-length : (form : Form) (n : ℕ) → length (patternBytes form n) ≡ sizeOf form
 unfolding patternBytes wordBytes
+pattern-length First n = refl
 pattern-length Long n = refl
 pattern-length Short n = refl
 
+two-below : (l : List ℕ) → IsBytes l → wordOf l * 0x1_0000_0000 + wordOf (drop 4 l) < 2 * top binary64
+two-below l b = omega (arith, word-below l b, word-below (drop 4 l) (drop-bytes 4 l b))
+
 pub pattern-below : (form : Form) (l : List ℕ) → IsBytes l → patternOf form l < 2 * top (formatOf form)
 unfolding patternOf
-pattern-below Long l b = omega (arith, word-below l b, word-below (drop 4 l) (drop-bytes 4 l b))
+pattern-below First l b = two-below l b
+pattern-below Long l b = two-below l b
 pattern-below Short l b = word-below l b
 
 halves : (n : ℕ) (rest : List ℕ) → n < 2 * top binary64
@@ -72,19 +77,26 @@ halves n rest h =
 
 pub pattern-back : (form : Form) (n : ℕ) (rest : List ℕ) → n < 2 * top (formatOf form) → patternOf form (patternBytes form n ++ rest) ≡ n
 unfolding patternOf patternBytes
+pattern-back First n rest h = halves n rest h
 pattern-back Long n rest h = halves n rest h
 pattern-back Short n rest h = word-back n rest h
 
-pub pattern-bytes : (form : Form) (l : List ℕ) → IsBytes l → sizeOf form ≤ length l
-    → patternBytes form (patternOf form l) ≡ take (sizeOf form) l
-unfolding patternOf patternBytes
-pattern-bytes Long l b n =
+two-bytes : (l : List ℕ) → IsBytes l → 8 ≤ length l
+    → wordBytes ((wordOf l * 0x1_0000_0000 + wordOf (drop 4 l)) / 0x1_0000_0000) ++ wordBytes
+    ((wordOf l * 0x1_0000_0000 + wordOf (drop 4 l)) % 0x1_0000_0000) ≡ take 8 l
+two-bytes l b n =
     let high : wordOf l < 0x1_0000_0000 = word-below l b in
     let low : wordOf (drop 4 l) < 0x1_0000_0000 = word-below (drop 4 l) (drop-bytes 4 l b) in
     let upper : (wordOf l * 0x1_0000_0000 + wordOf (drop 4 l)) / 0x1_0000_0000 ≡ wordOf l = omega arith in
     let lower : (wordOf l * 0x1_0000_0000 + wordOf (drop 4 l)) % 0x1_0000_0000 ≡ wordOf (drop 4 l) = omega arith in
     let enough : 4 ≤ length (drop 4 l) = omega (arith, n, length-drop 4 l) in
     rw (upper, lower, word-bytes l b (omega (arith, n)), word-bytes (drop 4 l) (drop-bytes 4 l b) enough) (sym (take-add 4 4 l))
+
+pub pattern-bytes : (form : Form) (l : List ℕ) → IsBytes l → sizeOf form ≤ length l
+    → patternBytes form (patternOf form l) ≡ take (sizeOf form) l
+unfolding patternOf patternBytes
+pattern-bytes First l b n = two-bytes l b n
+pattern-bytes Long l b n = two-bytes l b n
 pattern-bytes Short l b n = word-bytes l b n
 
 -- ---- a float

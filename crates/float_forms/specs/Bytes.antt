@@ -1,10 +1,11 @@
--- Numbers at the front of a list of bytes, and the bytes of numbers, all big-endian. Definitions only. Assumes nothing.
+-- "Floats are 8 bytes and u32 4, all big-endian.": numbers at the front of a list of bytes, and the bytes of numbers. Definitions only.
+-- Assumes nothing.
 use Prim.Native.Nat.{ℕ, zero, suc, _+_, _*_, _/_, _%_, _<_}
 use mathlib.Core.List.{List, [], _∷_, _++_}
 use lib.Ieee.{Float, ofBits, toBits}
 use lib.ListN.{getD, drop}
 use Rattle.float_forms.specs.declared.forms.Form.{Form}
-use Rattle.float_forms.specs.declared.forms.Form.the-variants.{Long, Short}
+use Rattle.float_forms.specs.declared.forms.Form.the-variants.{First, Long, Short}
 use Rattle.float_forms.specs.Forms.{sizeOf, formatOf}
 
 -- every element is a byte
@@ -20,10 +21,12 @@ wordBytes n = n / 256 / 256 / 256 % 256 ∷ (n / 256 / 256 % 256 ∷ (n / 256 % 
 
 -- a float's bit pattern: one u32 or two
 unfoldable pub patternOf : Form → List ℕ → ℕ
+patternOf First bytes = wordOf bytes * 0x1_0000_0000 + wordOf (drop 4 bytes)
 patternOf Long bytes = wordOf bytes * 0x1_0000_0000 + wordOf (drop 4 bytes)
 patternOf Short bytes = wordOf bytes
 
 unfoldable pub patternBytes : Form → ℕ → List ℕ
+patternBytes First n = wordBytes (n / 0x1_0000_0000) ++ wordBytes (n % 0x1_0000_0000)
 patternBytes Long n = wordBytes (n / 0x1_0000_0000) ++ wordBytes (n % 0x1_0000_0000)
 patternBytes Short n = wordBytes n
 

@@ -1,11 +1,13 @@
 -- The pattern of 4 bytes for a float that is none that "f32 does not hold exactly or that is NaN" (document 02, M-113). Definitions only.
 -- Assumes nothing.
 use Prim.Native.Nat.{ℕ, _+_, _-_, _*_, _/_, _%_, _^_}
-use mathlib.Core.Bool.{Bool, not, _&&_, cond}
+use mathlib.Core.Bool.{cond}
 use lib.Dec.{leb, ltb, eqb}
-use lib.Ieee.{Float, binary32, isNan, fits, toBits}
+use lib.Ieee.{Float, binary32, toBits}
+use Rattle.float_forms.specs.declared.forms.Form.the-variants as forms
+use Rattle.float_forms.specs.Representable.{representable}
 use Rattle.float_forms.specs.declared.short.Short.{Short}
-use Rattle.float_forms.specs.declared.short.Short.the-variants.{Pattern, Unheld}
+use Rattle.float_forms.specs.declared.short.Short.the-variants.{Pattern, Unrepresentable}
 
 -- the guess at a magnitude: infinity; a normal number; zero, or too small; a subnormal number
 unfoldable pub guessSize : ℕ → ℕ
@@ -18,9 +20,5 @@ guessSize size =
 unfoldable pub guess : ℕ → ℕ
 guess bits = bits / 0x8000_0000_0000_0000 * 0x8000_0000 + guessSize (bits % 0x8000_0000_0000_0000)
 
--- not "a float that f32 does not hold exactly or that is NaN"
-unfoldable pub held : Float → Bool
-held x = not (isNan x) && fits binary32 x
-
 unfoldable pub shortOf : Float → Short
-shortOf x = cond (held x) (Pattern (toBits binary32 x)) Unheld
+shortOf x = cond (representable forms.Short x) (Pattern (toBits binary32 x)) Unrepresentable

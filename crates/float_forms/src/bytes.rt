@@ -1,28 +1,23 @@
+use crate::forms;
 use crate::forms::Form;
+use crate::reader;
+use crate::reader::Word;
 use crate::short;
 ghost use mathlib.Core.Path.{_≡_};
 ghost use Prim.Native.Nat.{_+_, _*_, _<_, _≤_};
-ghost use lib.ListN.{length, getD, drop};
+ghost use lib.ListN.{length, drop};
 ghost use lib.Seq.{sets};
 ghost use lib.Ieee.{top};
 ghost use Rattle.float_forms.specs.Forms.{sizeOf, formatOf};
 ghost use Rattle.float_forms.specs.Bytes.{wordOf, wordBytes, patternBytes, numberOf};
-
-// The byte at a place, as a wide number.
-fn byte_at(bytes: &[u8], place: usize) -> u64
-    requires { ⌜ place < length (now bytes) ⌝ }
-    ensures { λ r. ⌜ (r ≡ getD (now (bytes .entry)) place 0) × (r < 256) ⌝ }
-{
-    bytes[place] as u64
-}
 
 // The u32 whose four bytes begin at a place.
 pub fn word_at(bytes: &[u8], place: usize) -> u64
     requires { ⌜ place + 4 ≤ length (now bytes) ⌝ }
     ensures { λ r. ⌜ (r ≡ wordOf (drop place (now (bytes .entry)))) × (r < 4294967296) ⌝ }
 {
-    let high = byte_at(bytes, place) * 256 + byte_at(bytes, place + 1);
-    let low = byte_at(bytes, place + 2) * 256 + byte_at(bytes, place + 3);
+    let high = reader::byte_at(bytes, place) * 256 + reader::byte_at(bytes, place + 1);
+    let low = reader::byte_at(bytes, place + 2) * 256 + reader::byte_at(bytes, place + 3);
     high * 65536 + low
 }
 
@@ -31,7 +26,10 @@ fn long_at(bytes: &[u8], place: usize) -> f64
     requires { ⌜ place + 8 ≤ length (now bytes) ⌝ }
     ensures { λ r. ⌜ r ≡ numberOf Form.Long (drop place (now (bytes .entry))) ⌝ }
 {
-    let bits = word_at(bytes, place) * 4294967296 + word_at(bytes, place + 4);
+    let word = reader::word_at(bytes, place);
+    let Word::Bits(bits) = word else {
+        return 0.0 / 0.0;
+    };
     if bits % 0x8000_0000_0000_0000 > 0x7ff0_0000_0000_0000 {
         return 0.0 / 0.0;
     }
@@ -52,10 +50,10 @@ pub fn number_at(form: Form, bytes: &[u8], place: usize) -> f64
     requires { ⌜ place + sizeOf form ≤ length (now bytes) ⌝ }
     ensures { λ r. ⌜ r ≡ numberOf form (drop place (now (bytes .entry))) ⌝ }
 {
-    match form {
-        Form::Long => long_at(bytes, place),
-        Form::Short => short_at(bytes, place),
+    if forms::size_of(form) == 4 {
+        return short_at(bytes, place);
     }
+    long_at(bytes, place)
 }
 
 // A u32's four bytes from a place on; the rest stays as it was.
@@ -83,8 +81,9 @@ pub fn put_pattern(form: Form, out: &mut [u8], place: usize, bits: u64)
     requires { ⌜ (place + sizeOf form ≤ length (now out)) × (bits < 2 * top (formatOf form)) ⌝ }
     ensures { λ r. ⌜ now (out .exit) ≡ sets (now (out .entry)) place (patternBytes form bits) ⌝ }
 {
-    match form {
-        Form::Long => put_long(out, place, bits),
-        Form::Short => put_word(out, place, bits),
+    if forms::size_of(form) == 4 {
+        put_word(out, place, bits);
+        return;
     }
+    put_long(out, place, bits);
 }

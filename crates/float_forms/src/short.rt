@@ -1,4 +1,4 @@
-// Floats of 4 bytes that hold a float of 8 bytes exactly (document 02, M-113).
+// Floats of 4 bytes that represent a float of 8 bytes exactly (document 02, M-113).
 ghost use mathlib.Core.Path.{_≡_};
 ghost use Prim.Native.Nat.{_+_, _*_, _<_};
 ghost use lib.Ieee.{ofBits, binary32};
@@ -7,7 +7,7 @@ ghost use Rattle.float_forms.specs.Short.{guess, shortOf};
 // The pattern of 4 bytes that stands for a float, or that there is none.
 pub enum Short {
     Pattern(u32),
-    Unheld,
+    Unrepresentable,
 }
 
 // The pattern of 4 bytes for a pattern of 8, if there is one; else any.
@@ -35,17 +35,17 @@ pub fn short_of(x: f64) -> Short
     ensures { λ r. ⌜ r ≡ shortOf x ⌝ }
 {
     if x != x {
-        return Short::Unheld;
+        return Short::Unrepresentable;
     }
     let bits = f64::to_bits(x);
     let pattern = guess(bits);
     if pattern % 0x8000_0000 > 0x7f80_0000 {
-        return Short::Unheld;
+        return Short::Unrepresentable;
     }
     let short = pattern as u32;
     let back = f32::from_bits(short) as f64;
     if f64::to_bits(back) != bits {
-        return Short::Unheld;
+        return Short::Unrepresentable;
     }
     Short::Pattern(short)
 }

@@ -15,17 +15,17 @@ pub struct Ray {
 
 // The least and the greatest square whose root is not more than 1e-12 from 1. The roots of the next floats outside are.
 // The root grows with the square, so that the square tells.
-const LEAST_SQUARE: f64 = 0.999999999998;
+const LEAST_UNIT_SQUARE: f64 = 0.999999999998;
 
-const GREATEST_SQUARE: f64 = 1.000000000002;
+const GREATEST_UNIT_SQUARE: f64 = 1.000000000002;
 
 // Whether a vector's length is within 1e-12 of 1; a NaN length is not.
 pub fn close_to_unit_length(vector: Vec3) -> bool
     ensures { λ r. ⌜ r ≡ closeToUnitLength vector ⌝ }
 {
     let square = vector.dot(vector);
-    if square >= LEAST_SQUARE {
-        return square <= GREATEST_SQUARE;
+    if square >= LEAST_UNIT_SQUARE {
+        return square <= GREATEST_UNIT_SQUARE;
     }
     false
 }

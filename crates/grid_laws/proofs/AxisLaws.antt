@@ -21,7 +21,7 @@ use Rattle.geometry.specs.Box.{validSide, validBox}
 use Rattle.lists.proofs.JoinedTests.{and-first, and-second}
 use Rattle.geometry.specs.Spacing.{spacingAdmitted}
 use Rattle.distance_grid.specs.Grid.{whole, lastNode, lastCorner, gridBox, sidesAdmitted, gridAdmitted, SideStands}
-use Rattle.grid_laws.specs.Drawing.{AxisStands, AxesStand, Held}
+use Rattle.grid_laws.specs.Clamping.{AxisStands, AxesStand, VectorFits}
 use Rattle.distance_grid.specs.declared.grid.Grid.{Grid}
 use Rattle.distance_grid.proofs.GridLaws.{admitted-stands}
 
@@ -98,7 +98,7 @@ origin-sides : (g : Grid) → finiteVec (g .origin) ≡ true
 unfolding finiteVec
 origin-sides g h = all-three (isFinite (g .origin .x)) (isFinite (g .origin .y)) (isFinite (g .origin .z)) h
 
-pub axes-stand : (g : Grid) (values : List Float) → Held (g .origin) → Held (g .spacing) → gridAdmitted g (length values) ≡ true
+pub axes-stand : (g : Grid) (values : List Float) → VectorFits (g .origin) → VectorFits (g .spacing) → gridAdmitted g (length values) ≡ true
     → validBox (gridBox g) ≡ true → AxesStand g
 unfolding gridAdmitted lastCorner
 axes-stand g values o s a v =

@@ -24,7 +24,7 @@ use Rattle.vectors.specs.Numbers.{_+ᶠ_, _-ᶠ_, _*ᶠ_, _/ᶠ_, zeroᶠ}
 use Rattle.geometry.specs.Spacing.{spacingAdmitted}
 use Rattle.distance_grid.specs.Grid.{whole, lastNode}
 use Rattle.distance_grid.specs.Places.{topOf, clampedTo, clamped, placeOf, placeAt, locateAxis}
-use Rattle.grid_laws.specs.Drawing.{AxisStands, Admitted, Nearest, ClampedRight}
+use Rattle.grid_laws.specs.Clamping.{AxisStands, Admitted, Nearest, ClampedRight}
 use Rattle.distance_grid.specs.declared.places.Place.{Place}
 use Rattle.distance_grid.specs.declared.places.Place.the-variants.{At as PlaceAt, Overflow as NoPlace}
 

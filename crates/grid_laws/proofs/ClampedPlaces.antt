@@ -13,7 +13,7 @@ use Rattle.geometry.specs.Box.{validBox}
 use Rattle.casts.specs.Answer.{overflow}
 use Rattle.distance_grid.specs.Grid.{lastNode, gridBox, gridAdmitted}
 use Rattle.distance_grid.specs.Places.{clamped, clampedPoint, locateAxis, withPlace, locateInside, locate}
-use Rattle.grid_laws.specs.Drawing.{AxisStands, AxesStand, RefusedInside, Held}
+use Rattle.grid_laws.specs.Clamping.{AxisStands, AxesStand, RefusedInside, VectorFits}
 use Rattle.distance_grid.specs.declared.grid.Grid.{Grid}
 use Rattle.distance_grid.specs.declared.places.Place.{Place}
 use Rattle.distance_grid.specs.declared.places.Place.the-variants.{At as PlaceAt, Overflow as NoPlace}
@@ -84,7 +84,8 @@ refused-inside g axes p number f e = go (missing (inside-refused g p number f e)
     go (inr (inr h)) = inr (inr (clamped-refused (g .origin .z) (g .spacing .z) (g .sides .z) (axes .on-z) (p .z) h))
 
 -- on a grid that is admitted and whose box is valid
-pub refused-only-inside : (g : Grid) (values : List Float) → Held (g .origin) → Held (g .spacing) → gridAdmitted g (length values) ≡ true
+pub refused-only-inside : (g : Grid) (values : List Float) → VectorFits (g .origin) → VectorFits (g .spacing) → gridAdmitted g
+    (length values) ≡ true
     → validBox (gridBox g) ≡ true → (p : Vec3) (number : ℕ) → finiteVec p ≡ true → locate g p ≡ Refused number
     → RefusedInside (g .origin .x) (g .spacing .x) (g .sides .x) (p .x)
     ⊎ (RefusedInside (g .origin .y) (g .spacing .y) (g .sides .y) (p .y) ⊎ RefusedInside (g .origin .z) (g .spacing .z) (g .sides .z)

@@ -28,7 +28,7 @@ use Rattle.distance_grid.specs.Places.{withPlace, locateAxis, clampedPoint, loc
 use Rattle.distance_grid.specs.Sampling.{gathered, sampleFaces, sampleCell, withLocated, sample}
 use Rattle.distance_grid.specs.Valued.{valueOf}
 use Rattle.level_set.specs.Hits.{pointAt, along, withSample, hitWith, hitAlong, touchAt, valueAlong, samplesOf, samplesAlong}
-use Rattle.level_set.specs.Walk.{Turn, done, on, goesOn, rootTurn, cellBy, cellCast, goesTo, withSamples, withBoundary}
+use Rattle.level_set.specs.Walk.{CellResult, done, on, goesOn, rootResult, cellBy, cellCast, goesTo, withSamples, withBoundary}
 use Rattle.level_set.specs.Walk.{withCells, walkStep, follow, cellLimit, walkFrom, withInterval, levelSetCast, rayLevelSet}
 use Rattle.distance_grid.specs.declared.grid.Grid.{Grid}
 use Rattle.grid_steps.specs.declared.interval.Interval.{Interval}
@@ -143,9 +143,9 @@ data Other : Answer → Type 0 where
   other-six : Other (refused overflow)
   other-eight : Other (refused notConvergent)
 
-data OtherTurn : Turn → Type 0 where
-  other-done : {answer : Answer} → Other answer → OtherTurn (done answer)
-  other-on : {distance : Float} → OtherTurn (on distance)
+data OtherResult : CellResult → Type 0 where
+  other-done : {answer : Answer} → Other answer → OtherResult (done answer)
+  other-on : {distance : Float} → OtherResult (on distance)
 
 is-five : Answer → Bool
 is-five (hit normal distance) = false
@@ -171,7 +171,7 @@ chosen : (t : Bool) {a b : Answer} → Other a → Other b → Other (cond t a b
 chosen true h k = h
 chosen false h k = k
 
-chosen-turn : (t : Bool) {a b : Turn} → OtherTurn a → OtherTurn b → OtherTurn (cond t a b)
+chosen-turn : (t : Bool) {a b : CellResult} → OtherResult a → OtherResult b → OtherResult (cond t a b)
 chosen-turn true h k = h
 chosen-turn false h k = k
 
@@ -210,37 +210,38 @@ module _ (r : Ray) (g : Grid) (values : List Float) where
   unfolding samplesAlong
   along-found current end = samples-found _ _ _ _ (value-found _) (value-found _) (value-found _) (value-found _)
 
-  root-other : (current end exit : Float) (root : Root) → OtherTurn (rootTurn root r g values current end exit)
+  root-other : (current end exit : Float) (root : Root) → OtherResult (rootResult root r g values current end exit)
   unfolding goesOn
   root-other current end exit (RootAt fraction) = other-done (hit-other (along current end fraction))
   root-other current end exit NoRoot = chosen-turn (le exit end) (other-done other-none) other-on
   root-other current end exit RootOverflow = other-done other-six
 
-  with-samples : (s : Samples) (k : Float → Float → Float → Float → Turn) → FoundSamples s → ((a b c d : Float) → OtherTurn (k a b c d))
-      → OtherTurn (withSamples s k)
+  with-samples : (s : Samples) (k : Float → Float → Float → Float → CellResult) → FoundSamples s → ((a b c d : Float) → OtherResult
+      (k a b c d))
+      → OtherResult (withSamples s k)
   with-samples (All a b c d) k h o = o a b c d
   with-samples (SamplesRefused number) k no-samples o = other-done other-six
 
-  cell-other : (current end exit : Float) → OtherTurn (cellCast r g values current end exit)
+  cell-other : (current end exit : Float) → OtherResult (cellCast r g values current end exit)
   unfolding cellCast cellBy
   cell-other current end exit =
       with-samples (samplesAlong r g values current end) _ (along-found current end)
       (λ a b c d. root-other current end exit (firstCubicRoot (a ∷ b ∷ c ∷ d ∷ [])))
 
-  goes-other : (current exit next : Float) → OtherTurn (goesTo r g values current exit next)
+  goes-other : (current exit next : Float) → OtherResult (goesTo r g values current exit next)
   unfolding goesTo
   goes-other current exit next =
       chosen-turn (le next current) (other-done (touch-other current)) (cell-other current (minimumOf next exit) exit)
 
-  with-boundary : (b : Boundary) (k : Float → Turn) → ((a : Float) → OtherTurn (k a)) → OtherTurn (withBoundary b k)
+  with-boundary : (b : Boundary) (k : Float → CellResult) → ((a : Float) → OtherResult (k a)) → OtherResult (withBoundary b k)
   with-boundary (BoundaryAt a) k o = o a
   with-boundary NoBoundary k o = other-done other-six
 
-  with-cells : (c : Cells) (k : ℕ → ℕ → ℕ → Turn) → ((x y z : ℕ) → OtherTurn (k x y z)) → OtherTurn (withCells c k)
+  with-cells : (c : Cells) (k : ℕ → ℕ → ℕ → CellResult) → ((x y z : ℕ) → OtherResult (k x y z)) → OtherResult (withCells c k)
   with-cells (CellsAt x y z) k o = o x y z
   with-cells NoCells k o = other-done other-six
 
-  step-other : (current exit : Float) → OtherTurn (walkStep r g values current exit)
+  step-other : (current exit : Float) → OtherResult (walkStep r g values current exit)
   unfolding walkStep
   step-other current exit =
       chosen-turn (lt exit current) (other-done other-none)
@@ -248,7 +249,7 @@ module _ (r : Ray) (g : Grid) (values : List Float) where
       (λ x y z. with-boundary (nextCellBoundary g current (pointAt r current) (r .direction) x y z exit) _
       (λ next. goes-other current exit next)))
 
-  following : (t : Turn) (k : Float → Answer) → OtherTurn t → ((a : Float) → Other (k a)) → Other (follow t k)
+  following : (t : CellResult) (k : Float → Answer) → OtherResult t → ((a : Float) → Other (k a)) → Other (follow t k)
   following (done answer) k (other-done h) o = h
   following (on distance) k h o = o distance
 

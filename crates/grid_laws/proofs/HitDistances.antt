@@ -38,7 +38,7 @@ use Rattle.grid_steps.specs.Slab.{kept, cut, slabFrom, slab, started, rayAabbIn
 use Rattle.grid_steps.specs.Cells.{rayCellIndices, slack, Axis, boundaryDistance, boundaryBy, axisBoundary, nextCellBoundary}
 use Rattle.distance_grid.specs.Sampling.{sample}
 use Rattle.level_set.specs.Hits.{pointAt, along, withSample, hitWith, hitAlong, touchAt, samplesAlong}
-use Rattle.level_set.specs.Walk.{Turn, done, on, goesOn, rootTurn, cellBy, cellCast, goesTo, withSamples, withBoundary}
+use Rattle.level_set.specs.Walk.{CellResult, done, on, goesOn, rootResult, cellBy, cellCast, goesTo, withSamples, withBoundary}
 use Rattle.level_set.specs.Walk.{withCells, walkStep, follow, cellLimit, walkFrom, withInterval, levelSetCast, rayLevelSet}
 use Rattle.distance_grid.specs.declared.grid.Grid.{Grid}
 use Rattle.grid_steps.specs.declared.interval.Interval.{Interval}
@@ -237,11 +237,11 @@ module _ (r : Ray) (range : Ranged r) where
       (reached (e .held) (le-reflexive exit (finite-number exit (e .finite))))))
 
   -- ---- one cell
-  data TurnOf : Turn → Type 0 where
+  data TurnOf : CellResult → Type 0 where
     ended : {answer : Answer} → OfHit (FromNear r) answer → TurnOf (done answer)
     going : {distance : Float} → Walked distance → TurnOf (on distance)
 
-  chosen-turn : (b : Bool) {t u : Turn} → (b ≡ true → TurnOf t) → (b ≡ false → TurnOf u) → TurnOf (cond b t u)
+  chosen-turn : (b : Bool) {t u : CellResult} → (b ≡ true → TurnOf t) → (b ≡ false → TurnOf u) → TurnOf (cond b t u)
   chosen-turn true p q = p refl
   chosen-turn false p q = q refl
 
@@ -282,14 +282,14 @@ module _ (r : Ray) (range : Ranged r) where
         }
 
     root-turn : (root : Root) (current end exit : Float) → RootWithin root → Walked current → Walked end → le current end ≡ true
-        → TurnOf (rootTurn root r g values current end exit)
+        → TurnOf (rootResult root r g values current end exit)
     unfolding goesOn
     root-turn (RootAt fraction) current end exit root w e l =
         ended (hit-along (along current end fraction) (part-from-near current end fraction w e l root))
     root-turn NoRoot current end exit root w e l = chosen-turn (le exit end) (λ _. ended (of-none (FromNear r))) (λ _. going e)
     root-turn RootOverflow current end exit root w e l = ended (of-refused (FromNear r) overflow)
 
-    with-samples : (s : Samples) (next : Float → Float → Float → Float → Turn)
+    with-samples : (s : Samples) (next : Float → Float → Float → Float → CellResult)
         → ((a b c d : Float) → TurnOf (next a b c d)) → TurnOf (withSamples s next)
     with-samples (All a b c d) next p = p a b c d
     with-samples (SamplesRefused number) next p = ended (of-refused (FromNear r) number)
@@ -318,12 +318,12 @@ module _ (r : Ray) (range : Ranged r) where
         (lesser-first next exit (not-lt-of-le next exit l) number)
         (cell-turn current next exit w ahead later))
 
-    with-boundary : (exit : Float) (b : Boundary) (next : Float → Turn) → Reached exit b
+    with-boundary : (exit : Float) (b : Boundary) (next : Float → CellResult) → Reached exit b
         → ((a : Float) → Fits a → le a exit ≡ true → TurnOf (next a)) → TurnOf (withBoundary b next)
     with-boundary exit (BoundaryAt a) next (reached f l) p = p a f l
     with-boundary exit NoBoundary next unreached p = ended (of-refused (FromNear r) overflow)
 
-    with-cells : (c : Cells) (next : ℕ → ℕ → ℕ → Turn) → ((x y z : ℕ) → TurnOf (next x y z)) → TurnOf (withCells c next)
+    with-cells : (c : Cells) (next : ℕ → ℕ → ℕ → CellResult) → ((x y z : ℕ) → TurnOf (next x y z)) → TurnOf (withCells c next)
     with-cells (CellsAt x y z) next p = p x y z
     with-cells NoCells next p = ended (of-refused (FromNear r) overflow)
 
@@ -338,7 +338,7 @@ module _ (r : Ray) (range : Ranged r) where
         (λ (next : Float) f l. goes-turn current exit next w e f l)))
 
     -- ---- the walk
-    following : (t : Turn) (next : Float → Answer) → TurnOf t → ((d : Float) → Walked d → OfHit (FromNear r) (next d))
+    following : (t : CellResult) (next : Float → Answer) → TurnOf t → ((d : Float) → Walked d → OfHit (FromNear r) (next d))
         → OfHit (FromNear r) (follow t next)
     following (done answer) next (ended p) q = p
     following (on distance) next (going w) q = q distance w

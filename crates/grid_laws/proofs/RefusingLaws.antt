@@ -26,7 +26,7 @@ use Rattle.distance_grid.specs.Sampling.{withLocated, sampleCell, sample}
 use Rattle.distance_grid.specs.Valued.{valueOf}
 use Rattle.level_set.specs.Hits.{pointAt, along, withSample, hitWith, hitAlong, touchAt, valueAlong, third, twoThirds, samplesOf}
 use Rattle.level_set.specs.Hits.{samplesAlong}
-use Rattle.level_set.specs.Walk.{Turn, done, on, rootTurn, cellBy, cellCast, goesTo, withSamples, withBoundary, withCells}
+use Rattle.level_set.specs.Walk.{CellResult, done, on, rootResult, cellBy, cellCast, goesTo, withSamples, withBoundary, withCells}
 use Rattle.level_set.specs.Walk.{walkStep, follow, cellLimit, walkFrom, withInterval, levelSetCast, rayLevelSet}
 use Rattle.grid_laws.specs.Refusing.{outsideSide, outside, locateRefusing, sampleRefusing, hitBy, touchBy, valueBy, samplesBy}
 use Rattle.grid_laws.specs.Refusing.{rootBy, cellCastBy, goesToBy, walkStepBy, walkBy, castBy, rayLevelSetRefusing}
@@ -53,7 +53,7 @@ Unless five a b = (a ≡ five) ⊎ (a ≡ b)
 abbrev SameAnswer : Answer → Answer → Type 0
 SameAnswer a b = Unless (refused outOfBounds) a b
 
-abbrev SameTurn : Turn → Turn → Type 0
+abbrev SameTurn : CellResult → CellResult → Type 0
 SameTurn a b = Unless (done (refused outOfBounds)) a b
 
 abbrev SameValue : Valued → Valued → Type 0
@@ -165,12 +165,12 @@ module _ (g : Grid) (values : List Float) (sampled : Vec3 → Sampled)
       (value-unless r (along current end twoThirds)) (value-unless r (along current end oneᶠ))
 
   root-unless : (r : Ray) (current end exit : Float) (root : Root)
-      → SameTurn (rootBy sampled root r current end exit) (rootTurn root r g values current end exit)
+      → SameTurn (rootBy sampled root r current end exit) (rootResult root r g values current end exit)
   root-unless r current end exit (RootAt fraction) = through done (hit-unless r (along current end fraction))
   root-unless r current end exit NoRoot = inr refl
   root-unless r current end exit RootOverflow = inr refl
 
-  with-samples : (z : Samples) (k j : Float → Float → Float → Float → Turn) → ((a b c d : Float) → SameTurn (k a b c d) (j a b c d))
+  with-samples : (z : Samples) (k j : Float → Float → Float → Float → CellResult) → ((a b c d : Float) → SameTurn (k a b c d) (j a b c d))
       → SameTurn (withSamples z k) (withSamples z j)
   with-samples (All a b c d) k j h = h a b c d
   with-samples (SamplesRefused n) k j h = inr refl
@@ -180,11 +180,11 @@ module _ (g : Grid) (values : List Float) (sampled : Vec3 → Sampled)
   unfolding cellCastBy cellCast cellBy
   cell-unless r current end exit = go (samplesBy sampled r current end) (samples-unless r current end)
     where
-      k : Float → Float → Float → Float → Turn
+      k : Float → Float → Float → Float → CellResult
       k = λ (y0 y1 y2 y3 : Float). rootBy sampled (firstCubicRoot (y0 ∷ y1 ∷ y2 ∷ y3 ∷ [])) r current end exit
 
-      j : Float → Float → Float → Float → Turn
-      j = λ (y0 y1 y2 y3 : Float). rootTurn (firstCubicRoot (y0 ∷ y1 ∷ y2 ∷ y3 ∷ [])) r g values current end exit
+      j : Float → Float → Float → Float → CellResult
+      j = λ (y0 y1 y2 y3 : Float). rootResult (firstCubicRoot (y0 ∷ y1 ∷ y2 ∷ y3 ∷ [])) r g values current end exit
 
       go : (z : Samples) → SameSamples z (samplesAlong r g values current end)
           → SameTurn (withSamples z k) (withSamples (samplesAlong r g values current end) j)
@@ -200,12 +200,12 @@ module _ (g : Grid) (values : List Float) (sampled : Vec3 → Sampled)
   goes-unless r current exit next =
       chosen (le next current) (through done (touch-unless r current)) (cell-unless r current (minimumOf next exit) exit)
 
-  with-boundary : (z : Boundary) (k j : Float → Turn) → ((a : Float) → SameTurn (k a) (j a))
+  with-boundary : (z : Boundary) (k j : Float → CellResult) → ((a : Float) → SameTurn (k a) (j a))
       → SameTurn (withBoundary z k) (withBoundary z j)
   with-boundary (BoundaryAt a) k j h = h a
   with-boundary NoBoundary k j h = inr refl
 
-  with-cells : (z : Cells) (k j : ℕ → ℕ → ℕ → Turn) → ((a b c : ℕ) → SameTurn (k a b c) (j a b c))
+  with-cells : (z : Cells) (k j : ℕ → ℕ → ℕ → CellResult) → ((a b c : ℕ) → SameTurn (k a b c) (j a b c))
       → SameTurn (withCells z k) (withCells z j)
   with-cells (CellsAt a b c) k j h = h a b c
   with-cells NoCells k j h = inr refl
@@ -218,12 +218,12 @@ module _ (g : Grid) (values : List Float) (sampled : Vec3 → Sampled)
       (λ x y z. with-boundary (nextCellBoundary g current (pointAt r current) (r .direction) x y z exit) _ _
       (λ next. goes-unless r current exit next)))
 
-  following : (t u : Turn) (k j : Float → Answer) → SameTurn t u → ((a : Float) → SameAnswer (k a) (j a))
+  following : (t u : CellResult) (k j : Float → Answer) → SameTurn t u → ((a : Float) → SameAnswer (k a) (j a))
       → SameAnswer (follow t k) (follow u j)
-  following t u k j (inl e) h = inl (ap (λ (z : Turn). follow z k) e)
-  following t u k j (inr e) h = after (ap (λ (z : Turn). follow z k) e) (go u)
+  following t u k j (inl e) h = inl (ap (λ (z : CellResult). follow z k) e)
+  following t u k j (inr e) h = after (ap (λ (z : CellResult). follow z k) e) (go u)
     where
-      go : (z : Turn) → SameAnswer (follow z k) (follow z j)
+      go : (z : CellResult) → SameAnswer (follow z k) (follow z j)
       go (done a) = inr refl
       go (on a) = h a
 

@@ -1,3 +1,3 @@
 -- What is promised of the cast at a distance grid beside its contract. Definitions only. Assumes nothing.
-pub mod Drawing
+pub mod Clamping
 pub mod Refusing

@@ -23,7 +23,7 @@ use Rattle.distance_grid.specs.Places.{locateInside}
 use Rattle.distance_grid.specs.Sampling.{withLocated, sampleCell}
 use Rattle.distance_grid.specs.Valued.{valueOf}
 use Rattle.level_set.specs.Hits.{pointAt, along, withSample, hitWith, third, twoThirds, samplesOf}
-use Rattle.level_set.specs.Walk.{Turn, done, goesOn, withSamples, withBoundary, withCells, follow, cellLimit, withInterval}
+use Rattle.level_set.specs.Walk.{CellResult, done, goesOn, withSamples, withBoundary, withCells, follow, cellLimit, withInterval}
 use Rattle.distance_grid.specs.declared.grid.Grid.{Grid}
 use Rattle.distance_grid.specs.declared.places.Located.{Located}
 use Rattle.distance_grid.specs.declared.places.Located.the-variants.{Refused}
@@ -65,20 +65,20 @@ module _ (sampled : Vec3 → Sampled) where
       samplesOf (valueBy r (along current end zeroᶠ)) (valueBy r (along current end third)) (valueBy r (along current end twoThirds))
       (valueBy r (along current end oneᶠ))
 
-  abbrev pub rootBy : Root → Ray → Float → Float → Float → Turn
+  abbrev pub rootBy : Root → Ray → Float → Float → Float → CellResult
   rootBy (RootAt fraction) r current end exit = done (hitBy r (along current end fraction))
   rootBy NoRoot r current end exit = goesOn end exit
   rootBy RootOverflow r current end exit = done (refused overflow)
 
-  unfoldable pub cellCastBy : Ray → Float → Float → Float → Turn
+  unfoldable pub cellCastBy : Ray → Float → Float → Float → CellResult
   cellCastBy r current end exit =
       withSamples (samplesBy r current end)
       (λ (y0 y1 y2 y3 : Float). rootBy (firstCubicRoot (y0 ∷ y1 ∷ y2 ∷ y3 ∷ [])) r current end exit)
 
-  unfoldable pub goesToBy : Ray → Float → Float → Float → Turn
+  unfoldable pub goesToBy : Ray → Float → Float → Float → CellResult
   goesToBy r current exit next = cond (le next current) (done (touchBy r current)) (cellCastBy r current (minimumOf next exit) exit)
 
-  unfoldable pub walkStepBy : Ray → Grid → Float → Float → Turn
+  unfoldable pub walkStepBy : Ray → Grid → Float → Float → CellResult
   walkStepBy r g current exit =
       cond (lt exit current) (done none)
       (withCells (rayCellIndices g (pointAt r current) (r .direction))

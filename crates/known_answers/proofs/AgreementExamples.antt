@@ -43,10 +43,10 @@ use Rattle.exact_triangle.specs.Reach.{cornersRead, cornersReach, gridReach}
 use Rattle.exact_triangle.specs.Cast.{gridNormal, gridTriangle}
 use Rattle.mesh_exact.specs.GridCast.{exactAnswer, overTriangles, rayMeshExactPlain}
 use Rattle.whole_numbers.specs.Points.{Point}
-use Rattle.whole_numbers.specs.Board.{Drawing, DrawnAt, Parallel, Crossing, downward}
-use Rattle.whole_numbers.specs.Boards.{Plan, Boards}
+use Rattle.whole_numbers.specs.WholeTriangle.{Drawing, DrawnAt, Parallel, Crossing, downward}
+use Rattle.whole_numbers.specs.WholeMesh.{Plan, WholeMesh}
 use Rattle.exact_agreement.specs.Agreement.{NoOpenCase, OthersApart, SameDepth, Agree}
-use Rattle.exact_agreement.proofs.Agreeing.{boards-agree}
+use Rattle.exact_agreement.proofs.Agreeing.{whole-numbers-agree}
 
 -- ---- one at height 0, one beside it, one below it
 abbrev vertices : List Float
@@ -132,10 +132,10 @@ abbrev at : ℤ → ℤ → ℤ → Point
 at x y z = record { x = x; y = y; z = z }
 
 -- a triangle of the column, at a height
-abbrev board : ℤ → ℕ → Point
-board height zero = at (pos 0) (pos 0) height
-board height (suc zero) = at (pos 1) (pos 0) height
-board height (suc (suc k)) = at (pos 0) (pos 1) height
+abbrev whole-triangle : ℤ → ℕ → Point
+whole-triangle height zero = at (pos 0) (pos 0) height
+whole-triangle height (suc zero) = at (pos 1) (pos 0) height
+whole-triangle height (suc (suc k)) = at (pos 0) (pos 1) height
 
 -- the one beside the column is no candidate
 abbrev heightOf : ℕ → ℤ
@@ -143,7 +143,7 @@ heightOf zero = pos 0
 heightOf (suc j) = negsuc 0
 
 abbrev plan : Plan
-plan = record { o = at (pos 0) (pos 0) (pos 1); direction = downward; maximum = 3; corner = λ (j : ℕ). board (heightOf j) }
+plan = record { o = at (pos 0) (pos 0) (pos 1); direction = downward; maximum = 3; corner = λ (j : ℕ). whole-triangle (heightOf j) }
 
 others : OthersApart ray mesh plan
 others = record { in-range = λ j k h g. in-range j k h g; whole-or-apart = λ j h. inr (candidates j h) }
@@ -181,22 +181,22 @@ columnAt h (suc zero) = record { x = i; y = o; z = h }
 columnAt h (suc (suc k)) = record { x = o; y = i; z = h }
 
 column-drawn : (height : ℤ) (h : Float) → eq h (ofInt binary64 height) ≡ true → natAbs height ≤ 1 → (k : ℕ)
-    → DrawnAt 4096 (columnAt h k) (board height k)
+    → DrawnAt 4096 (columnAt h k) (whole-triangle height k)
 column-drawn height h e n zero =
-    drawn-at 4096 (lit≤ tt) o o h (board height 0) is-zero is-zero e (lit≤ tt) (lit≤ tt) n
+    drawn-at 4096 (lit≤ tt) o o h (whole-triangle height 0) is-zero is-zero e (lit≤ tt) (lit≤ tt) n
 column-drawn height h e n (suc zero) =
-    drawn-at 4096 (lit≤ tt) i o h (board height 1) is-one is-zero e (lit≤ tt) (lit≤ tt) n
+    drawn-at 4096 (lit≤ tt) i o h (whole-triangle height 1) is-one is-zero e (lit≤ tt) (lit≤ tt) n
 column-drawn height h e n (suc (suc k)) =
-    drawn-at 4096 (lit≤ tt) o i h (board height 2) is-zero is-one e (lit≤ tt) (lit≤ tt) n
+    drawn-at 4096 (lit≤ tt) o i h (whole-triangle height 2) is-zero is-one e (lit≤ tt) (lit≤ tt) n
 
-upper-drawn : (k : ℕ) → k < 3 → DrawnAt 4096 (cornerAt vertices (mesh .triangles) 0 k) (board (pos 0) k)
+upper-drawn : (k : ℕ) → k < 3 → DrawnAt 4096 (cornerAt vertices (mesh .triangles) 0 k) (whole-triangle (pos 0) k)
 unfolding cornerAt vectorAt
 upper-drawn zero h = column-drawn (pos 0) o is-zero (lit≤ tt) 0
 upper-drawn (suc zero) h = column-drawn (pos 0) o is-zero (lit≤ tt) 1
 upper-drawn (suc (suc zero)) h = column-drawn (pos 0) o is-zero (lit≤ tt) 2
 upper-drawn (suc (suc (suc k))) h = absurd (omega (arith, h))
 
-under-drawn : (k : ℕ) → k < 3 → DrawnAt 4096 (cornerAt vertices (mesh .triangles) 2 k) (board (negsuc 0) k)
+under-drawn : (k : ℕ) → k < 3 → DrawnAt 4096 (cornerAt vertices (mesh .triangles) 2 k) (whole-triangle (negsuc 0) k)
 unfolding cornerAt vectorAt
 under-drawn zero h = column-drawn (negsuc 0) lower is-lower (lit≤ tt) 0
 under-drawn (suc zero) h = column-drawn (negsuc 0) lower is-lower (lit≤ tt) 1
@@ -204,13 +204,13 @@ under-drawn (suc (suc zero)) h = column-drawn (negsuc 0) lower is-lower (lit≤ 
 under-drawn (suc (suc (suc k))) h = absurd (omega (arith, h))
 
 corners-drawn : (j : ℕ) → Candidate ray mesh j → (k : ℕ) → k < 3
-    → DrawnAt 4096 (cornerAt vertices (mesh .triangles) j k) (board (heightOf j) k)
+    → DrawnAt 4096 (cornerAt vertices (mesh .triangles) j k) (whole-triangle (heightOf j) k)
 corners-drawn zero c k h = upper-drawn k h
 corners-drawn (suc zero) c k h = absurd (true≢false (sym (c .near) ∙ second-apart))
 corners-drawn (suc (suc zero)) c k h = under-drawn k h
 corners-drawn (suc (suc (suc j))) c k h = absurd (omega (arith, c .triangle))
 
-column : Boards ray mesh plan
+column : WholeMesh ray mesh plan
 column = record {
   origin = drawn-at 4096 (lit≤ tt) o o i (plan .o) is-zero is-zero is-one (lit≤ tt) (lit≤ tt) (lit≤ tt);
   direction = drawn-at 1 (lit≤ tt) o o lower (at (pos 0) (pos 0) (negsuc 0)) is-zero is-zero is-lower (lit≤ tt) (lit≤ tt) (lit≤ tt);
@@ -230,9 +230,9 @@ drawing height = record {
   o = plan .o;
   direction = downward;
   maximum = 3;
-  a = board height 0;
-  b = board height 1;
-  c = board height 2;
+  a = whole-triangle height 0;
+  b = whole-triangle height 1;
+  c = whole-triangle height 2;
 }
 
 record Column (height : ℤ) (k : ℕ) : Type 0 where
@@ -315,7 +315,8 @@ column-clear = record {
 -- so the cast through that tree and the exact cast agree
 pub odd-agrees : Agree ray mesh (rayMesh ray mesh vertices oddTree 3 4) (rayMeshExactPlain ray mesh)
 unfolding lengthsAdmitted roomFor treeFits
-odd-agrees = boards-agree ray mesh oddTree 3 4 plan refl (record { marks = 9; says-yes = odd-passes }) refl column others column-clear
+odd-agrees = whole-numbers-agree ray mesh oddTree 3 4 plan refl (record { marks = 9; says-yes = odd-passes }) refl column others
+    column-clear
 
 -- .. in the depth: where the cast through the tree is a hit, its distance lies within 2^-51 of the least depth, and 1 is nearest to that
 pub odd-hit : (normal : Vec3) (distance : Float) (index : ℕ) → rayMesh ray mesh vertices oddTree 3 4 ≡ hitAt normal distance index

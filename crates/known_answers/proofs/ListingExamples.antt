@@ -1,5 +1,4 @@
 -- Listings through a tree that no builder of ours would write, computed, and a promise at one of them. Assumes nothing.
-use Prim.Native.Nat.{ℕ}
 use mathlib.Core.Path.{_≡_, refl, ap}
 use mathlib.Core.List.{List, [], _∷_}
 use native.Mathlib.Omega.{arith}
@@ -24,7 +23,7 @@ use Rattle.tree.specs.Mesh.{Mesh, lengthsAdmitted, cornersInside, cornerAt, tri
 use Rattle.tree_check.specs.Check.{childrenOf, placesOf, kindsKnown, childrenAbove, leavesInside, namedOnce, placedOnce}
 use Rattle.tree_check.specs.Check.{orderedOnce, leavesFilled, cornersKnown, boxesSame, boxesValid, nodeEncloses, enclosed}
 use Rattle.tree_check.specs.Check.{clausesHold, treePasses}
-use Rattle.tree_check.specs.Verdict.{yes, checkOf, roomFor as marksFit}
+use Rattle.tree_check.specs.Verdict.{checkOf, roomFor as marksFit}
 use Rattle.tree_walk.specs.Walk.{times, takePlace, takePlaces, atLeaf, childFits, atBranch, atNode, takeNode, start, ended, walkOf}
 use Rattle.tree_query.specs.Query.{Listing, count as countOf, refused}
 use Rattle.known_answers.proofs.QueryExamples.{o, i, quarter, ten, eleven, lower, oddTree}

@@ -24,8 +24,8 @@ use Rattle.mesh.specs.MeshCast.{treeFits, roomFor, rayMesh}
 use Rattle.mesh.specs.Demand3.{Candidate}
 use Rattle.known_answers.proofs.MeshExamples.{odd-passes}
 use Rattle.whole_numbers.specs.Points.{Point}
-use Rattle.whole_numbers.specs.Board.{Drawn, DrawnAt, downward}
-use Rattle.whole_numbers.specs.Boards.{Plan, drawingOf, Boards, Met, MeshExact}
+use Rattle.whole_numbers.specs.WholeTriangle.{Drawn, DrawnAt, downward}
+use Rattle.whole_numbers.specs.WholeMesh.{Plan, drawingOf, WholeMesh, Met, MeshExact}
 use Rattle.whole_numbers.proofs.WholeMeshes.{meshes-exact}
 
 -- ---- the mesh: one at height 0, one beside it, one below it
@@ -112,8 +112,8 @@ corners (suc (suc zero)) h (suc (suc zero)) g = record { first = nought; second 
 corners (suc (suc zero)) h (suc (suc (suc k))) g = absurd (omega (arith, g))
 corners (suc (suc (suc j))) h k g = absurd (omega (arith, h))
 
-pub odd-boards : Boards ray mesh plan
-odd-boards = record {
+pub odd-corners : WholeMesh ray mesh plan
+odd-corners = record {
   origin = record { first = nought; second = nought; third = one };
   direction = record { first = drawn-nought 1; second = drawn-nought 1; third = drawn-lower 1 (lit≤ tt) };
   near = drawn-nought 0;
@@ -124,7 +124,7 @@ odd-boards = record {
 
 pub odd-exact : MeshExact ray mesh plan (rayMesh ray mesh vertices oddTree 3 4)
 unfolding lengthsAdmitted roomFor treeFits
-odd-exact = meshes-exact ray mesh oddTree 3 4 plan refl (record { marks = 9; says-yes = odd-passes }) refl odd-boards
+odd-exact = meshes-exact ray mesh oddTree 3 4 plan refl (record { marks = 9; says-yes = odd-passes }) refl odd-corners
 
 -- ---- the first triangle is crossed in its first corner, a millimetre deep
 first-candidate : Candidate ray mesh 0

@@ -4,7 +4,7 @@ use Prim.Native.Nat.{_*_}
 use lib.Dec.{lit≤, lit<}
 use lib.IntN.{pos, negsuc}
 use lib.Ieee.{binary64, ofBits, round}
-use Rattle.wide_integers.specs.Value.{value, Held, Middling, Weight}
+use Rattle.wide_integers.specs.Value.{value, FitsWide, Middling, Weight}
 use Rattle.wide_integers.specs.Division.{fractionOf}
 
 zero-value : value (record { high = 9223372036854775808; middle = 0; low = 0 }) ≡ pos 0
@@ -27,7 +27,7 @@ weight-asked = record { size = lit≤ tt }
 total-asked : Middling (pos 15950735949418990474845684723364134912)
 total-asked = record { size = lit< tt }
 
-depth-held : Held (pos (15950735949418990474845684723364134912 * 1152921504606846976))
+depth-held : FitsWide (pos (15950735949418990474845684723364134912 * 1152921504606846976))
 depth-held = record { size = lit< tt }
 
 -- ---- fractions

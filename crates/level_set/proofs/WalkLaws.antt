@@ -7,7 +7,7 @@ use lib.Ieee.{Float}
 use Rattle.geometry.specs.declared.ray.Ray.{Ray}
 use Rattle.casts.specs.Answer.{Answer, refused, says, notConvergent}
 use Rattle.casts.specs.declared.answer.Cast.{Cast}
-use Rattle.level_set.specs.Walk.{Turn, tells, follow, walkStep, walkFrom}
+use Rattle.level_set.specs.Walk.{CellResult, tells, follow, walkStep, walkFrom}
 use Rattle.distance_grid.specs.declared.grid.Grid.{Grid}
 use Rattle.level_set.specs.declared.hits.Known.{Known}
 use Rattle.level_set.specs.declared.walk.Step.{Step}
@@ -27,7 +27,7 @@ module _ (r : Ray) (g : Grid) (values : List Float) (exit : Float) where
       → tells step ≡ walkStep r g values current exit → step ≡ given
       → follow (tells given) (λ (next : Float). walkFrom r g values exit (n - 1) next) ≡ whole
   followed n current step given whole i l e f =
-      ap (λ (t : Turn). follow t (λ (next : Float). walkFrom r g values exit (n - 1) next)) (sym (ap tells f) ∙ e)
+      ap (λ (t : CellResult). follow t (λ (next : Float). walkFrom r g values exit (n - 1) next)) (sym (ap tells f) ∙ e)
       ∙ sym (one-cell n current l)
       ∙ i
 

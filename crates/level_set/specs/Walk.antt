@@ -31,11 +31,11 @@ use Rattle.level_set.specs.declared.walk.Step.{Step}
 use Rattle.level_set.specs.declared.walk.Step.the-variants.{Done, On}
 
 -- what a cell gives: the answer, or the distance from which the walk goes on
-pub data Turn : Type 0 where
-  done : Answer → Turn
-  on : Float → Turn
+pub data CellResult : Type 0 where
+  done : Answer → CellResult
+  on : Float → CellResult
 
-abbrev pub tells : Step → Turn
+abbrev pub tells : Step → CellResult
 tells (Done cast) = done (says cast)
 tells (On distance known) = on distance
 
@@ -50,40 +50,40 @@ pub data Kept (r : Ray) (g : Grid) (values : List Float) : Step → Type 0 where
   going : {next : Float} {known : Known} → Remembered r g values known → Kept r g values (On next known)
 
 -- ---- one cell
-unfoldable pub goesOn : Float → Float → Turn
+unfoldable pub goesOn : Float → Float → CellResult
 goesOn end exit = cond (le exit end) (done none) (on end)
 
-abbrev pub rootTurn : Root → Ray → Grid → List Float → Float → Float → Float → Turn
-rootTurn (RootAt fraction) r g values current end exit = done (hitAlong r g values (along current end fraction))
-rootTurn NoRoot r g values current end exit = goesOn end exit
-rootTurn RootOverflow r g values current end exit = done (refused overflow)
+abbrev pub rootResult : Root → Ray → Grid → List Float → Float → Float → Float → CellResult
+rootResult (RootAt fraction) r g values current end exit = done (hitAlong r g values (along current end fraction))
+rootResult NoRoot r g values current end exit = goesOn end exit
+rootResult RootOverflow r g values current end exit = done (refused overflow)
 
-unfoldable pub cellBy : Ray → Grid → List Float → Float → Float → Float → List Float → Turn
-cellBy r g values current end exit ys = rootTurn (firstCubicRoot ys) r g values current end exit
+unfoldable pub cellBy : Ray → Grid → List Float → Float → Float → Float → List Float → CellResult
+cellBy r g values current end exit ys = rootResult (firstCubicRoot ys) r g values current end exit
 
-abbrev pub withSamples : Samples → (Float → Float → Float → Float → Turn) → Turn
+abbrev pub withSamples : Samples → (Float → Float → Float → Float → CellResult) → CellResult
 withSamples (All y0 y1 y2 y3) next = next y0 y1 y2 y3
 withSamples (SamplesRefused number) next = done (refused number)
 
-unfoldable pub cellCast : Ray → Grid → List Float → Float → Float → Float → Turn
+unfoldable pub cellCast : Ray → Grid → List Float → Float → Float → Float → CellResult
 cellCast r g values current end exit =
     withSamples (samplesAlong r g values current end)
     (λ (y0 y1 y2 y3 : Float). cellBy r g values current end exit (y0 ∷ y1 ∷ y2 ∷ y3 ∷ []))
 
-unfoldable pub goesTo : Ray → Grid → List Float → Float → Float → Float → Turn
+unfoldable pub goesTo : Ray → Grid → List Float → Float → Float → Float → CellResult
 goesTo r g values current exit next =
     cond (le next current) (done (touchAt r g values current)) (cellCast r g values current (minimumOf next exit) exit)
 
-abbrev pub withBoundary : Boundary → (Float → Turn) → Turn
+abbrev pub withBoundary : Boundary → (Float → CellResult) → CellResult
 withBoundary (BoundaryAt next) k = k next
 withBoundary NoBoundary k = done (refused overflow)
 
-abbrev pub withCells : Cells → (ℕ → ℕ → ℕ → Turn) → Turn
+abbrev pub withCells : Cells → (ℕ → ℕ → ℕ → CellResult) → CellResult
 withCells (CellsAt x y z) k = k x y z
 withCells NoCells k = done (refused overflow)
 
 -- "The walk's cell index and next boundary are taken from the undrawn point."
-unfoldable pub walkStep : Ray → Grid → List Float → Float → Float → Turn
+unfoldable pub walkStep : Ray → Grid → List Float → Float → Float → CellResult
 walkStep r g values current exit =
     cond (lt exit current) (done none)
     (withCells (rayCellIndices g (pointAt r current) (r .direction))
@@ -93,7 +93,7 @@ walkStep r g values current exit =
 
 -- ---- the walk
 
-abbrev pub follow : Turn → (Float → Answer) → Answer
+abbrev pub follow : CellResult → (Float → Answer) → Answer
 follow (done answer) k = answer
 follow (on distance) k = k distance
 

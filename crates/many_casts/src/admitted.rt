@@ -11,6 +11,7 @@ ghost use Rattle.geometry.specs.Segment.{rayAdmitted};
 ghost use Rattle.nearest_hit.specs.Nearest.{saysIndexed};
 ghost use Rattle.tree.specs.Mesh.{thirds, mesh};
 ghost use Rattle.tree.specs.Layout.{treeOf};
+ghost use Rattle.tree_query.specs.Query.{walkFits};
 ghost use Rattle.tree_walk.specs.Areas.{WalkRoom};
 ghost use Rattle.mesh.specs.MeshCast.{meshCast};
 ghost use Rattle.many_casts.specs.Many.{meshAnswer};
@@ -78,7 +79,10 @@ pub fn cast_ray(
     stack: &mut [u32],
 ) -> IndexedCast
     requires { ⌜ Ready (mesh (now vertices) (now triangles)) (now pose)
-        (treeOf nodes (now «node_boxes») (now «triangle_boxes») (now «node_words») (now order)) (length (now list)) (length (now stack)) ⌝ }
+        (treeOf nodes (now «node_boxes») (now «triangle_boxes») (now «node_words») (now order))
+        (walkFits (thirds (length (now triangles)))
+        (treeOf nodes (now «node_boxes») (now «triangle_boxes») (now «node_words») (now order)) (length (now list)) (length
+        (now stack))) ⌝ }
     ensures { λ r. ⌜ saysIndexed r ≡ meshAnswer (mesh (now (vertices .entry)) (now (triangles .entry))) (now (pose .entry))
         (treeOf nodes (now («node_boxes» .entry)) (now («triangle_boxes» .entry)) (now («node_words» .entry)) (now (order .entry)))
         (length (now (list .entry))) (length (now (stack .entry))) ray ⌝ }

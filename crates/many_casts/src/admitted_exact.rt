@@ -1,7 +1,7 @@
 use casts::answer;
 use exact_triangle::cast as triangle;
 use exact_triangle::view;
-use exact_triangle::view::Aim;
+use exact_triangle::view::GridView;
 use exact_triangle::view::View;
 use geometry::ray::Ray;
 use mesh_exact::bounds;
@@ -13,16 +13,19 @@ use tree::mesh as triangle_mesh;
 use tree_exact::walk;
 use tree_exact::walk::Walked;
 ghost use mathlib.Core.Path.{_≡_};
-ghost use Prim.Native.Nat.{_<_};
+ghost use Prim.Native.Nat.{_+_, _<_};
+ghost use mathlib.Core.Bool.{_&&_};
+ghost use lib.Dec.{leb};
 ghost use lib.ListN.{length};
 ghost use Rattle.nearest_hit.specs.Nearest.{saysIndexed};
 ghost use Rattle.tree.specs.Mesh.{thirds, mesh};
 ghost use Rattle.tree.specs.Layout.{treeOf};
+ghost use Rattle.tree_query.specs.Query.{treeFits};
 ghost use Rattle.mesh_exact.specs.Noted.{Casts};
 ghost use Rattle.tree_exact.specs.ExactMesh.{exactThrough};
 ghost use Rattle.tree_exact.specs.Walking.{WalkRoom};
 ghost use Rattle.many_casts.specs.Many.{exactAnswer};
-ghost use Rattle.many_casts.specs.Ready.{ReadyExact};
+ghost use Rattle.many_casts.specs.Ready.{Ready};
 
 // A copy of the exact cast's own function, so that each of both is compiled into its one caller.
 // The cast once refusals 1, 12 of the ray and 2 to 4 have let it pass, as its caller, the public call, shows; the stack may hold anything
@@ -66,7 +69,7 @@ fn exact_through(
         Outcome::Refused(number) => {
             return IndexedCast::Refused(number);
         }
-        Outcome::Struck { index, distance } => {
+        Outcome::NearestHit { index, distance } => {
             let corners = triangle_mesh::corners_of(pose, triangles, index as usize);
             let hit = triangle::hit_on(ray, corners, distance);
             return nearest::next(IndexedCast::None, index, hit);
@@ -87,8 +90,11 @@ pub fn cast_ray(
     order: &[u32],
     stack: &mut [u32],
 ) -> IndexedCast
-    requires { ⌜ ReadyExact (mesh (now vertices) (now triangles)) (now pose)
-        (treeOf nodes (now «node_boxes») (now «triangle_boxes») (now «node_words») (now order)) (length (now stack)) ⌝ }
+    requires { ⌜ Ready (mesh (now vertices) (now triangles)) (now pose)
+        (treeOf nodes (now «node_boxes») (now «triangle_boxes») (now «node_words») (now order))
+        (treeFits (thirds (length (now triangles)))
+        (treeOf nodes (now «node_boxes») (now «triangle_boxes») (now «node_words») (now order))
+        && leb (nodes + 1) (length (now stack))) ⌝ }
     ensures { λ r. ⌜ saysIndexed r ≡ exactAnswer (mesh (now (vertices .entry)) (now (triangles .entry))) (now (pose .entry))
         (treeOf nodes (now («node_boxes» .entry)) (now («triangle_boxes» .entry)) (now («node_words» .entry)) (now (order .entry)))
         (length (now (stack .entry))) ray ⌝ }
@@ -96,8 +102,8 @@ pub fn cast_ray(
     if !ray.validate() {
         return IndexedCast::Refused(answer::INVALID_INPUT);
     }
-    let aim = view::view_of(ray);
-    let Aim::On(line) = aim else {
+    let viewed = view::view_of(ray);
+    let GridView::On(line) = viewed else {
         return IndexedCast::Refused(answer::OUT_OF_RANGE);
     };
     exact_through(

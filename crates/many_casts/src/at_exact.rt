@@ -5,11 +5,14 @@ use mesh::cast;
 use tree_exact::cast as exact_cast;
 ghost use mathlib.Core.Path.{_≡_};
 ghost use Prim.Native.Nat.{_+_, _*_, _<_, _≤_};
+ghost use mathlib.Core.Bool.{_&&_};
+ghost use lib.Dec.{leb};
 ghost use lib.ListN.{length};
-ghost use Rattle.tree.specs.Mesh.{mesh};
+ghost use Rattle.tree.specs.Mesh.{thirds, mesh};
 ghost use Rattle.tree.specs.Layout.{treeOf};
+ghost use Rattle.tree_query.specs.Query.{treeFits};
 ghost use Rattle.many_casts.specs.Many.{rayAt, places, answerAt, answersOf, exactAnswer, returnedMany, ManyExactCall};
-ghost use Rattle.many_casts.specs.Ready.{ReadyExact};
+ghost use Rattle.many_casts.specs.Ready.{Ready};
 
 // One ray's cast, its answer at its places.
 fn cast_at(
@@ -30,8 +33,11 @@ fn cast_at(
 )
     requires { ⌜ (8 * index + 8 ≤ length (now rays))
         × ((index < length (now codes)) × ((4 * index + 4 ≤ length (now hits)) × (index < length (now indices)))) ⌝
-        ∗ ⌜ ReadyExact (mesh (now vertices) (now triangles)) (now pose)
-        (treeOf nodes (now «node_boxes») (now «triangle_boxes») (now «node_words») (now order)) (length (now stack)) ⌝ }
+        ∗ ⌜ Ready (mesh (now vertices) (now triangles)) (now pose)
+        (treeOf nodes (now «node_boxes») (now «triangle_boxes») (now «node_words») (now order))
+        (treeFits (thirds (length (now triangles)))
+        (treeOf nodes (now «node_boxes») (now «triangle_boxes») (now «node_words») (now order))
+        && leb (nodes + 1) (length (now stack))) ⌝ }
     ensures { λ _. ⌜ places (now (codes .exit)) (now (hits .exit)) (now (indices .exit))
         ≡ answerAt (exactAnswer (mesh (now (vertices .entry)) (now (triangles .entry))) (now (pose .entry))
         (treeOf nodes (now («node_boxes» .entry)) (now («triangle_boxes» .entry)) (now («node_words» .entry)) (now (order .entry)))
@@ -73,8 +79,11 @@ fn cast_each(
 )
     requires { ⌜ (8 * count ≤ length (now rays))
         × ((count ≤ length (now codes)) × ((4 * count ≤ length (now hits)) × (count ≤ length (now indices)))) ⌝
-        ∗ ⌜ ReadyExact (mesh (now vertices) (now triangles)) (now pose)
-        (treeOf nodes (now «node_boxes») (now «triangle_boxes») (now «node_words») (now order)) (length (now stack)) ⌝ }
+        ∗ ⌜ Ready (mesh (now vertices) (now triangles)) (now pose)
+        (treeOf nodes (now «node_boxes») (now «triangle_boxes») (now «node_words») (now order))
+        (treeFits (thirds (length (now triangles)))
+        (treeOf nodes (now «node_boxes») (now «triangle_boxes») (now «node_words») (now order))
+        && leb (nodes + 1) (length (now stack))) ⌝ }
     ensures { λ _. ⌜ places (now (codes .exit)) (now (hits .exit)) (now (indices .exit))
         ≡ answersOf (exactAnswer (mesh (now (vertices .entry)) (now (triangles .entry))) (now (pose .entry))
         (treeOf nodes (now («node_boxes» .entry)) (now («triangle_boxes» .entry)) (now («node_words» .entry)) (now (order .entry)))

@@ -6,8 +6,9 @@ use tree_query::query;
 ghost use mathlib.Core.Path.{_≡_};
 ghost use Prim.Native.Nat.{_+_, _*_, _<_, _≤_};
 ghost use lib.ListN.{length};
-ghost use Rattle.tree.specs.Mesh.{mesh};
+ghost use Rattle.tree.specs.Mesh.{thirds, mesh};
 ghost use Rattle.tree.specs.Layout.{treeOf};
+ghost use Rattle.tree_query.specs.Query.{walkFits};
 ghost use Rattle.many_casts.specs.Many.{rayAt, places, answerAt, answersOf, meshAnswer, returnedMany, ManyCall};
 ghost use Rattle.many_casts.specs.Ready.{Ready};
 
@@ -32,7 +33,10 @@ fn cast_at(
     requires { ⌜ (8 * index + 8 ≤ length (now rays))
         × ((index < length (now codes)) × ((4 * index + 4 ≤ length (now hits)) × (index < length (now indices)))) ⌝
         ∗ ⌜ Ready (mesh (now vertices) (now triangles)) (now pose)
-        (treeOf nodes (now «node_boxes») (now «triangle_boxes») (now «node_words») (now order)) (length (now list)) (length (now stack)) ⌝ }
+        (treeOf nodes (now «node_boxes») (now «triangle_boxes») (now «node_words») (now order))
+        (walkFits (thirds (length (now triangles)))
+        (treeOf nodes (now «node_boxes») (now «triangle_boxes») (now «node_words») (now order)) (length (now list)) (length
+        (now stack))) ⌝ }
     ensures { λ _. ⌜ places (now (codes .exit)) (now (hits .exit)) (now (indices .exit))
         ≡ answerAt (meshAnswer (mesh (now (vertices .entry)) (now (triangles .entry))) (now (pose .entry))
         (treeOf nodes (now («node_boxes» .entry)) (now («triangle_boxes» .entry)) (now («node_words» .entry)) (now (order .entry)))
@@ -77,7 +81,10 @@ fn cast_each(
     requires { ⌜ (8 * count ≤ length (now rays))
         × ((count ≤ length (now codes)) × ((4 * count ≤ length (now hits)) × (count ≤ length (now indices)))) ⌝
         ∗ ⌜ Ready (mesh (now vertices) (now triangles)) (now pose)
-        (treeOf nodes (now «node_boxes») (now «triangle_boxes») (now «node_words») (now order)) (length (now list)) (length (now stack)) ⌝ }
+        (treeOf nodes (now «node_boxes») (now «triangle_boxes») (now «node_words») (now order))
+        (walkFits (thirds (length (now triangles)))
+        (treeOf nodes (now «node_boxes») (now «triangle_boxes») (now «node_words») (now order)) (length (now list)) (length
+        (now stack))) ⌝ }
     ensures { λ _. ⌜ places (now (codes .exit)) (now (hits .exit)) (now (indices .exit))
         ≡ answersOf (meshAnswer (mesh (now (vertices .entry)) (now (triangles .entry))) (now (pose .entry))
         (treeOf nodes (now («node_boxes» .entry)) (now («triangle_boxes» .entry)) (now («node_words» .entry)) (now (order .entry)))

@@ -18,7 +18,7 @@ use Rattle.nearest_hit.specs.Summary.{Summary, nothing, noteOf, summaryFrom, wi
 use Rattle.casts.specs.declared.answer.Reach.{Reach}
 use Rattle.casts.specs.declared.answer.Reach.the-variants.{At}
 use Rattle.nearest_hit.specs.declared.summary.Outcome.{Outcome}
-use Rattle.nearest_hit.specs.declared.summary.Outcome.the-variants.{Nobody, Refused, Struck}
+use Rattle.nearest_hit.specs.declared.summary.Outcome.the-variants.{Nobody, Refused, NearestHit}
 use Rattle.lists.proofs.Members.{Each, each-cons}
 use Rattle.casts.proofs.AnswerLists.{HitsAreNumbers}
 use Rattle.nearest_hit.proofs.SummaryOrder.{Reordered, unchanged, exchanged, behind, through}
@@ -113,7 +113,7 @@ module _ (answer : ℕ → Answer) (numbers : HitsAreNumbers answer) (l : List �
   unfolding answerAt
   refusal-wins number e = ap (answerAt answer) (sym e) ∙ nearest
 
-  module _ (index : ℕ) (distance : Float) (e : outcome ≡ Struck index distance) where
+  module _ (index : ℕ) (distance : Float) (e : outcome ≡ NearestHit index distance) where
     pub hit-wins : (a : Answer) → a ≡ answer index → (r : Indexed) → r ≡ nextOf noHit index a → r ≡ nearestOf answer (sorted l)
     unfolding answerAt
     hit-wins a f r g = g ∙ ap (nextOf noHit index) f ∙ ap (answerAt answer) (sym e) ∙ nearest

@@ -106,7 +106,7 @@ pub fn nearest_of(
         Outcome::Refused(number) => {
             return IndexedCast::Refused(number);
         }
-        Outcome::Struck { index, distance } => {
+        Outcome::NearestHit { index, distance } => {
             let corners = mesh::corners_of(pose, triangles, index as usize);
             let hit = hit_on(ray, corners, distance);
             return nearest::next(IndexedCast::None, index, hit);

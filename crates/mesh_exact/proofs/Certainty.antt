@@ -37,9 +37,9 @@ use Rattle.wide_integers.proofs.Integers.{pp}
 use Rattle.exact_triangle.specs.Line.{Line}
 use Rattle.exact_triangle.specs.Grid.{units, gridAdmitted, gridLine}
 use Rattle.mesh_exact.specs.GridCast.{exactAnswer, overTriangles, rayMeshExactPlain}
-use Rattle.mesh_exact.specs.Certain.{cornerOn, Met, InRange, LeastDepth, Struck, OutOfRange, Reason, CertainMesh}
+use Rattle.mesh_exact.specs.Certain.{cornerOn, Met, InRange, LeastDepth, HitTriangle, OutOfRange, Reason, CertainMesh}
 use Rattle.mesh_exact.specs.Certain.{ray, lengths, triangles, range as byRange}
-use Rattle.mesh_exact.proofs.OneTriangle.{Deep, depth-whole, is-read, none-unmet, hit-deep}
+use Rattle.mesh_exact.proofs.OneTriangle.{WideDepth, depth-whole, is-read, none-unmet, hit-deep}
 use Rattle.mesh_exact.proofs.Leasts.{Least, least-of}
 use Rattle.mesh_exact.proofs.Refusals.{below, corner-in, reason}
 
@@ -147,7 +147,7 @@ module _ (r : Ray) (m : Mesh) (admitted : rayAdmitted r ≡ true) (ranged : grid
     fine : Each (NotRefused answers) listed
     fine = not-refused (hitAt normal distance index) refl is
 
-    deep : (j : ℕ) → List·Memᴰ j listed → (n : Vec3) (d : Float) → answers j ≡ hit n d → Deep l m j d
+    deep : (j : ℕ) → List·Memᴰ j listed → (n : Vec3) (d : Float) → answers j ≡ hit n d → WideDepth l m j d
     deep j k n d e = hit-deep r m admitted ranged j (inner j k) n d e
 
     numbers : Each (HitSuch IsNumber answers) listed
@@ -158,7 +158,7 @@ module _ (r : Ray) (m : Mesh) (admitted : rayAdmitted r ≡ true) (ranged : grid
     lowest : LowestNearest answers listed normal distance index
     lowest = hit-of-lowest-nearest answers listed ascends normal distance index numbers is
 
-    own : Deep l m index distance
+    own : WideDepth l m index distance
     own = deep index (lowest .member) normal distance (lowest .answers)
 
     -- a point of a triangle is a hit of that triangle, not behind it
@@ -194,8 +194,8 @@ module _ (r : Ray) (m : Mesh) (admitted : rayAdmitted r ≡ true) (ranged : grid
         le-transitive distance (b .distance') (rounded n D)
         (lowest .nearest j (listed-of j (q .triangle)) (b .normal') (b .distance') (b .hits)) (b .at-most)
 
-    hit-struck : Struck l m distance index
-    hit-struck = record {
+    hit-triangle : HitTriangle l m distance index
+    hit-triangle = record {
       D = own .D;
       t = own .n;
       met = own .met;
@@ -244,9 +244,9 @@ certain r m = record {
   none = λ is.
       let f = folded r m noHit refl is in
       none-certain r m (f .admitted) (f .ranged) (f .fold);
-  struck = λ n d i is.
+  hitTriangle = λ n d i is.
       let f = folded r m (hitAt n d i) refl is in
-      hit-struck r m (f .admitted) (f .ranged) n d i (f .fold);
+      hit-triangle r m (f .admitted) (f .ranged) n d i (f .fold);
   least = λ n d i is.
       let f = folded r m (hitAt n d i) refl is in
       hit-least r m (f .admitted) (f .ranged) n d i (f .fold);

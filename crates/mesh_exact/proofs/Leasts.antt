@@ -19,7 +19,7 @@ use Rattle.tree.specs.Mesh.{Mesh, triangleCount}
 use Rattle.exact_triangle.specs.Grid.{gridAdmitted, gridLine}
 use Rattle.mesh_exact.specs.GridCast.{exactAnswer}
 use Rattle.mesh_exact.specs.Certain.{Met}
-use Rattle.mesh_exact.proofs.OneTriangle.{Deep, none-unmet, hit-deep}
+use Rattle.mesh_exact.proofs.OneTriangle.{WideDepth, none-unmet, hit-deep}
 
 module _ (r : Ray) (m : Mesh) (admitted : rayAdmitted r ≡ true) (ranged : gridAdmitted r ≡ true) where
   abbrev answers : ℕ → Answer
@@ -36,7 +36,7 @@ module _ (r : Ray) (m : Mesh) (admitted : rayAdmitted r ≡ true) (ranged : grid
   abbrev pub Unmet : ℕ → Type 0
   Unmet j = (D n : ℕ) → Met (gridLine r) m j D (pos n) → ⊥
 
-  least-deep : (x : ℕ) (xs : List ℕ) (d : Float) → Deep (gridLine r) m x d → Each Unmet xs ⊎ Least xs → Least (x ∷ xs)
+  least-deep : (x : ℕ) (xs : List ℕ) (d : Float) → WideDepth (gridLine r) m x d → Each Unmet xs ⊎ Least xs → Least (x ∷ xs)
   least-deep x xs d p (inl free) = record {
     index = x;
     D = p .D;

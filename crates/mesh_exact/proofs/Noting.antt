@@ -18,7 +18,7 @@ use Rattle.casts.specs.declared.answer.Reach.the-variants.{Miss}
 use Rattle.nearest_hit.specs.Nearest.{Indexed, noHit, stopped, nextOf, nearestOf}
 use Rattle.nearest_hit.specs.Summary.{Summary, nothing, noteOf, summaryFrom, winner, answerAt}
 use Rattle.nearest_hit.specs.declared.summary.Outcome.{Outcome}
-use Rattle.nearest_hit.specs.declared.summary.Outcome.the-variants.{Nobody, Refused, Struck}
+use Rattle.nearest_hit.specs.declared.summary.Outcome.the-variants.{Nobody, Refused, NearestHit}
 use Rattle.nearest_hit.proofs.SummaryLaws.{nearest-of-ascending}
 use Rattle.nearest_hit.proofs.SummaryMembers.{winner-of-list}
 use Rattle.tree.specs.Mesh.{Mesh, triangleCount, trianglesFit}
@@ -67,7 +67,7 @@ module _ (r : Ray) (m : Mesh) where
   abbrev all : List ℕ
   all = range 0 (triangleCount m)
 
-  refusal-no-hit : (number index : ℕ) (distance : Float) → Refused number ≡ Struck index distance → ⊥
+  refusal-no-hit : (number index : ℕ) (distance : Float) → Refused number ≡ NearestHit index distance → ⊥
   refusal-no-hit number index distance h = let z : _≡_ {A = ℕ} 0 1 = cc in omega arith
 
   pub unfit-over : trianglesFit m ≡ false → stopped outOfBounds ≡ overTriangles r m
@@ -112,7 +112,7 @@ module _ (r : Ray) (m : Mesh) where
     unfolding answerAt
     refusal-won number e = ap (answerAt answers) (sym e) ∙ won .answers
 
-    pub hit-won : (index : ℕ) (distance : Float) → outcome ≡ Struck index distance → (a : Answer) → a ≡ answers index
+    pub hit-won : (index : ℕ) (distance : Float) → outcome ≡ NearestHit index distance → (a : Answer) → a ≡ answers index
         → (next : Indexed) → next ≡ nextOf noHit index a → next ≡ overTriangles r m
     unfolding answerAt
     hit-won index distance e a f next g = g ∙ ap (nextOf noHit index) f ∙ ap (answerAt answers) (sym e) ∙ won .answers

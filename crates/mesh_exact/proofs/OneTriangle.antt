@@ -50,7 +50,7 @@ depth-whole l a b c D (pos n) s = refl
 depth-whole l a b c D (negsuc n) s = absurd (false≢true (s .least))
 
 -- the first point of a triangle is at n / D units, to which the distance is nearest
-pub record Deep (l : Line) (m : Mesh) (i : ℕ) (distance : Float) : Type 0 where
+pub record WideDepth (l : Line) (m : Mesh) (i : ℕ) (distance : Float) : Type 0 where
   pub D : ℕ
   pub n : ℕ
   pub met : Met l m i D (pos n)
@@ -127,7 +127,7 @@ module _ (r : Ray) (m : Mesh) (h : rayAdmitted r ≡ true) (g : gridAdmitted r �
     one-denominator : near .W ≡ W
     one-denominator = ap natAbs (near .first .denominator)
 
-    deep : Deep (gridLine r) m i distance
+    deep : WideDepth (gridLine r) m i distance
     deep = record {
       D = near .first .D;
       n = n;
@@ -149,7 +149,7 @@ module _ (r : Ray) (m : Mesh) (h : rayAdmitted r ≡ true) (g : gridAdmitted r �
         scaled T D n W u e = let e' : n * W * u ≡ T * D * u = ap (λ (z : ℕ). z * u) e in omega (arith, e')
 
   pub hit-deep : i < triangleCount m → (normal : Vec3) (distance : Float) → answer ≡ hit normal distance
-      → Deep (gridLine r) m i distance
+      → WideDepth (gridLine r) m i distance
   unfolding reachOf
   hit-deep inner normal distance e =
       let fine : (k : ℕ) → answer ≡ refused k → ⊥ = λ k f. false≢true (ap isHit (sym f ∙ e)) in

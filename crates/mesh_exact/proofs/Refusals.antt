@@ -16,7 +16,7 @@ use Rattle.arithmetic.specs.Basic.{isFinite}
 use Rattle.vectors.specs.Numbers.{zeroᶠ}
 use Rattle.vectors.specs.Vector.{finiteVec}
 use Rattle.vectors.specs.declared.vec3.Vec3.{Vec3}
-use Rattle.geometry.specs.Box.{corner, validBox}
+use Rattle.geometry.specs.Box.{validBox}
 use Rattle.geometry.specs.Segment.{unitLength, rangeAdmitted, rayAdmitted}
 use Rattle.geometry.specs.declared.ray.Ray.{Ray}
 use Rattle.casts.specs.Answer.{Answer, hit, none, refused, invalidInput, badShape, outOfBounds, outOfRange}

@@ -59,7 +59,7 @@ pub record LeastDepth (l : Line) (m : Mesh) (distance : Float) : Type 0 where
 
 -- the triangle of a hit has such a point, whose depth is rounded to the same float; where the lowest index decides, each such point of a
 -- triangle below it has a depth that is rounded to more
-pub record Struck (l : Line) (m : Mesh) (distance : Float) (index : ℕ) : Type 0 where
+pub record HitTriangle (l : Line) (m : Mesh) (distance : Float) (index : ℕ) : Type 0 where
   pub D : ℕ
   pub t : ℕ
   pub met : Met l m index D (pos t)
@@ -71,8 +71,8 @@ pub record CertainMesh (r : Ray) (m : Mesh) (answer : Indexed) : Type 0 where
   pub within : ((number : ℕ) → answer ≡ stopped number → ⊥) → InRange r m
   -- 'none exactly where no point of the segment lies in such a triangle of the mesh': a none has none, and a hit has one
   pub none : answer ≡ noHit → (i D : ℕ) (t : ℤ) → Met (gridLine r) m i D t → ⊥
-  pub struck : (normal : Vec3) (distance : Float) (index : ℕ) → answer ≡ hitAt normal distance index
-      → Struck (gridLine r) m distance index
+  pub hitTriangle : (normal : Vec3) (distance : Float) (index : ℕ) → answer ≡ hitAt normal distance index
+      → HitTriangle (gridLine r) m distance index
   -- 'at the least depth of such a point over all triangles, its distance the f64 nearest to that depth'
   pub least : (normal : Vec3) (distance : Float) (index : ℕ) → answer ≡ hitAt normal distance index
       → LeastDepth (gridLine r) m distance

@@ -10,7 +10,7 @@ use Rattle.casts.specs.Reach.{reachOf}
 use Rattle.casts.specs.declared.answer.Reach.the-variants.{At}
 use Rattle.nearest_hit.specs.Summary.{answerAt}
 use Rattle.nearest_hit.specs.declared.summary.Outcome.{Outcome}
-use Rattle.nearest_hit.specs.declared.summary.Outcome.the-variants.{Struck}
+use Rattle.nearest_hit.specs.declared.summary.Outcome.the-variants.{NearestHit}
 use Rattle.tree.specs.Mesh.{Mesh, triangleCount}
 use Rattle.exact_triangle.specs.Grid.{gridLine}
 use Rattle.exact_triangle.specs.Box.{certainBox}
@@ -32,5 +32,5 @@ pub record Won (r : Ray) (m : Mesh) (winner : Outcome) : Type 0 where
   -- its answer is the answer of all
   pub answers : answerAt (exactAnswer r (m .vertices) (m .triangles)) winner ≡ overTriangles r m
   -- one that is hit is a triangle of the mesh, reached at that distance
-  pub reached : (index : ℕ) (distance : Float) → winner ≡ Struck index distance
+  pub reached : (index : ℕ) (distance : Float) → winner ≡ NearestHit index distance
       → (index < triangleCount m) × (reachOf (exactAnswer r (m .vertices) (m .triangles) index) ≡ At distance)

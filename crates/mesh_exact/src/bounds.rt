@@ -7,14 +7,14 @@ use tree::layout;
 use vectors::vec3::Vec3;
 ghost use mathlib.Core.Path.{_≡_};
 ghost use mathlib.Core.Bool.{true};
-ghost use lib.IntN.{pos, natAbs, _+ℤ_, _-ℤ_, _*ℤ_};
+ghost use lib.IntN.{pos, natAbs, _+ℤ_, _*ℤ_};
 ghost use lib.Signed.{shrZ};
 ghost use Prim.Native.Nat.{ℕ};
 ghost use Rattle.wide_integers.specs.Sizes.{Sized};
 ghost use Rattle.exact_triangle.specs.Line.{parts};
 ghost use Rattle.exact_triangle.specs.Grid.{units, nearestTo, within, longest, gridAdmitted, gridLine};
 ghost use Rattle.exact_triangle.specs.Box.{inMillimetres, lesser, greater, lowSide, highSide, certainBox};
-ghost use Rattle.exact_triangle.specs.Sizes.{Near, Heads};
+ghost use Rattle.exact_triangle.specs.Sizes.{Near, DirectionSized};
 ghost use Rattle.mesh_exact.specs.Bounds.{cornerBy, AllWithin};
 
 // A unit of the grid in millimetres.
@@ -84,7 +84,7 @@ fn units_of(x: f64) -> i64
 
 // The lowest corner of the segment's box.
 fn low_corner(o: Point, d: Point, near: i64, far: i64) -> Vec3
-    requires { ⌜ (Near o × Heads d) × (Sized 1073741824 near × Sized 1073741824 far) ⌝ }
+    requires { ⌜ (Near o × DirectionSized d) × (Sized 1073741824 near × Sized 1073741824 far) ⌝ }
     ensures { λ r. ⌜ ((n f : ℕ) → near ≡ pos n → far ≡ pos f → r ≡ cornerBy lowSide o d n f) ⌝ }
 {
     Vec3 {
@@ -96,7 +96,7 @@ fn low_corner(o: Point, d: Point, near: i64, far: i64) -> Vec3
 
 // The highest corner.
 fn high_corner(o: Point, d: Point, near: i64, far: i64) -> Vec3
-    requires { ⌜ (Near o × Heads d) × (Sized 1073741824 near × Sized 1073741824 far) ⌝ }
+    requires { ⌜ (Near o × DirectionSized d) × (Sized 1073741824 near × Sized 1073741824 far) ⌝ }
     ensures { λ r. ⌜ ((n f : ℕ) → near ≡ pos n → far ≡ pos f → r ≡ cornerBy highSide o d n f) ⌝ }
 {
     Vec3 {

@@ -3,7 +3,7 @@ use crate::noted;
 use casts::answer;
 use exact_triangle::cast as triangle;
 use exact_triangle::view;
-use exact_triangle::view::Aim;
+use exact_triangle::view::GridView;
 use exact_triangle::view::View;
 use geometry::aabb::Aabb;
 use geometry::ray::Ray;
@@ -22,7 +22,7 @@ ghost use Rattle.mesh_exact.specs.GridCast.{overTriangles, rayMeshExactP
 ghost use Rattle.mesh_exact.specs.Noted.{Casts, Bounded};
 ghost use Rattle.mesh_exact.specs.Certain.{CertainMesh};
 
-// The answer over all triangles; only the winner's normal is computed. Of up to 32 vertices it is told first on which sides of the
+// The answer over all triangles; only the winner's normal is computed. Of up to 32 vertices it is computed first on which sides of the
 // segment's box they lie.
 fn over_triangles(
     ray: Ray,
@@ -39,8 +39,8 @@ fn over_triangles(
         return IndexedCast::Refused(answer::OUT_OF_BOUNDS);
     }
     let mut codes = [0u64; 32];
-    let told = boxes::put_codes(&mut codes, bounds, vertices);
-    let winner = noted::winner_of(line, bounds, vertices, triangles, within, told, &codes);
+    let coded = boxes::put_codes(&mut codes, bounds, vertices);
+    let winner = noted::winner_of(line, bounds, vertices, triangles, within, coded, &codes);
     match winner {
         Outcome::Nobody => {
             return IndexedCast::None;
@@ -48,7 +48,7 @@ fn over_triangles(
         Outcome::Refused(number) => {
             return IndexedCast::Refused(number);
         }
-        Outcome::Struck { index, distance } => {
+        Outcome::NearestHit { index, distance } => {
             let corners = triangle_mesh::corners_of(vertices, triangles, index as usize);
             let hit = triangle::hit_on(ray, corners, distance);
             return nearest::next(IndexedCast::None, index, hit);
@@ -73,8 +73,8 @@ pub fn ray_mesh_exact_plain(ray: Ray, vertices: &[f64], triangles: &[u32]) -> In
     if !ray.validate() {
         return IndexedCast::Refused(answer::INVALID_INPUT);
     }
-    let aim = view::view_of(ray);
-    let Aim::On(line) = aim else {
+    let viewed = view::view_of(ray);
+    let GridView::On(line) = viewed else {
         return IndexedCast::Refused(answer::OUT_OF_RANGE);
     };
     if !triangle_mesh::lengths_admitted(vertices.len(), triangles.len()) {

@@ -16,7 +16,7 @@ ghost use Rattle.geometry.specs.declared.ray.Ray.{Ray as AnyRay};
 ghost use Rattle.casts.specs.Reach.{reachOf};
 ghost use Rattle.tree.specs.Mesh.{mesh, thirds, cornersInside, cornersOf, trianglesFit};
 ghost use Rattle.mesh_plain.specs.Boxes.{BoxesHold, Coded};
-ghost use Rattle.exact_triangle.specs.View.{Aimed};
+ghost use Rattle.exact_triangle.specs.View.{ViewSized};
 ghost use Rattle.mesh_exact.specs.GridCast.{exactAnswer};
 ghost use Rattle.mesh_exact.specs.Bounds.{AllWithin};
 ghost use Rattle.mesh_exact.specs.Noted.{Casts, Bounded, Won};
@@ -25,7 +25,7 @@ ghost use Rattle.mesh_exact.specs.Noted.{Casts, Bounded, Won};
 pub fn reach_of(line: View, vertices: &[f64], triangles: &[u32], index: usize) -> Reach
     requires { ⌜ (3 * index + 3 ≤ length (now triangles))
         × (cornersInside (thirds (length (now vertices))) (now triangles) index ≡ true) ⌝ }
-    requires { ⌜ Aimed line ⌝ }
+    requires { ⌜ ViewSized line ⌝ }
     ensures { λ r. ⌜ ((ray : AnyRay) → Casts ray line
         → r ≡ reachOf (exactAnswer ray (now (vertices .entry)) (now (triangles .entry)) index)) ⌝ }
 {
@@ -48,7 +48,7 @@ pub fn boxes_hold(within: bool, vertices: &[f64], triangles: &[u32]) -> bool
 // Whether a triangle is looked at: where not all vertices are in range each is, else one whose box touches the segment's.
 fn looked_at(
     within: bool,
-    told: bool,
+    coded: bool,
     codes: &[u64],
     bounds: Aabb,
     vertices: &[f64],
@@ -57,14 +57,14 @@ fn looked_at(
 ) -> bool
     requires { ⌜ (3 * index + 3 ≤ length (now triangles))
         × (cornersInside (thirds (length (now vertices))) (now triangles) index ≡ true) ⌝ }
-    requires { ⌜ (told ≡ true → Coded bounds (now vertices) (now codes)) ⌝ }
+    requires { ⌜ (coded ≡ true → Coded bounds (now vertices) (now codes)) ⌝ }
     ensures { λ r. ⌜ r ≡ (not within
         || touches (cornersBox (cornersOf (now (vertices .entry)) (now (triangles .entry)) index)) bounds) ⌝ }
 {
     if !within {
         return true;
     }
-    boxes::triangle_touches(told, codes, bounds, vertices, triangles, index)
+    boxes::triangle_touches(coded, codes, bounds, vertices, triangles, index)
 }
 
 // The winner of all triangles in one pass, without its normal. An index past the vertices ends it with 5, whatever was found before it.
@@ -74,11 +74,11 @@ pub fn winner_of(
     vertices: &[f64],
     triangles: &[u32],
     within: bool,
-    told: bool,
+    coded: bool,
     codes: &[u64],
 ) -> Outcome
-    requires { ⌜ length (now triangles) ≤ 196608 ⌝ ∗ ⌜ Aimed line ⌝ ∗ ⌜ BoxesHold (mesh (now vertices) (now triangles)) ⌝ }
-    requires { ⌜ (within ≡ true → AllWithin (now vertices)) ⌝ ∗ ⌜ (told ≡ true → Coded bounds (now vertices) (now codes)) ⌝ }
+    requires { ⌜ length (now triangles) ≤ 196608 ⌝ ∗ ⌜ ViewSized line ⌝ ∗ ⌜ BoxesHold (mesh (now vertices) (now triangles)) ⌝ }
+    requires { ⌜ (within ≡ true → AllWithin (now vertices)) ⌝ ∗ ⌜ (coded ≡ true → Coded bounds (now vertices) (now codes)) ⌝ }
     ensures { λ r. ⌜ ((ray : AnyRay) → Bounded ray line bounds → Won ray (mesh (now (vertices .entry)) (now (triangles .entry))) r) ⌝ }
 {
     let limit = vertices.len() / 3;
@@ -89,7 +89,7 @@ pub fn winner_of(
         if !triangle_mesh::corners_inside(limit, triangles, i) {
             return Outcome::Refused(answer::OUT_OF_BOUNDS);
         }
-        if looked_at(within, told, codes, bounds, vertices, triangles, i) {
+        if looked_at(within, coded, codes, bounds, vertices, triangles, i) {
             let reach = reach_of(line, vertices, triangles, i);
             notes = summary::note(notes, i as u32, reach);
         }

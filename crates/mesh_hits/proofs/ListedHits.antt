@@ -16,7 +16,7 @@ use Rattle.nearest_hit.specs.Summary.{Summary, nothing, summaryFrom, winner}
 use Rattle.casts.specs.declared.answer.Reach.the-variants.{At}
 use Rattle.casts.proofs.AnswerLists.{HitsAreNumbers}
 use Rattle.nearest_hit.specs.declared.summary.Outcome.{Outcome as Won}
-use Rattle.nearest_hit.specs.declared.summary.Outcome.the-variants.{Nobody, Refused, Struck as StruckBy}
+use Rattle.nearest_hit.specs.declared.summary.Outcome.the-variants.{Nobody, Refused, NearestHit as HitBy}
 use Rattle.lists.specs.Lists.{count, sorted, allBelow}
 use Rattle.nearest_hit.proofs.NextLaws.{miss-not-at, refused-not-at}
 use Rattle.tree.specs.Layout.{wordAt}
@@ -27,7 +27,7 @@ use Rattle.mesh.proofs.Folding.{nobody-wins, refusal-wins, hit-wins, winner-rea
 use Rattle.mesh_hits.specs.HitArea.{HitArea, hitArea, Outcome, isHit, depthOf, hitsOf, depthAt, inOrder, numbersOf, placesOf}
 use Rattle.mesh_hits.specs.HitListing.{written, fitted, afterRefusals, listingOf}
 use Rattle.mesh_hits.specs.HitArea.{refusedAt}
-use Rattle.mesh_hits.specs.Rows.{Stored, Ready, Struck}
+use Rattle.mesh_hits.specs.Rows.{Stored, Ready, HitsInPlaces}
 use Rattle.depth_sort.specs.SortRows.{Keyed, Ordered}
 use Rattle.mesh_hits.proofs.HitOrder.{in-order-count, sorted-hits}
 use Rattle.mesh_hits.proofs.GatheredHits.{keep-shorter}
@@ -48,10 +48,10 @@ module _ (answer : ℕ → Answer) (numbers : HitsAreNumbers answer) (l : List �
   unfolding listingOf afterRefusals
   nobody-lists e = ap (λ (z : Indexed). afterRefusals z area rest) (nobody-wins answer numbers l notes h outcome w e)
 
-  pub struck-lists : (n : ℕ) → allBelow n l ≡ true → (index : ℕ) (distance : Float) → outcome ≡ StruckBy index distance
+  pub hit-lists : (n : ℕ) → allBelow n l ≡ true → (index : ℕ) (distance : Float) → outcome ≡ HitBy index distance
       → rest ≡ listingOf answer area (sorted l)
   unfolding listingOf
-  struck-lists n below index distance e =
+  hit-lists n below index distance e =
       go (answer index) (winner-reached answer numbers l notes h outcome w index distance e n below .1)
       ∙ ap (λ (z : Indexed). afterRefusals z area rest)
       (hit-wins answer numbers l notes h outcome w index distance e (answer index) refl (nextOf noHit index (answer index)) refl)
@@ -197,8 +197,8 @@ module _ (answer : ℕ → Answer) (n k : ℕ) (indices : List ℕ) (numbers : L
       reached none h = absurd (true≢false (sym h ∙ unfold isHit in refl))
       reached (refused number) h = absurd (true≢false (sym h ∙ unfold isHit in refl))
 
-      pub sorted-struck : Struck answer n (exit ++ drop k indices) k (exitN ++ drop (4 * k) numbers)
-      sorted-struck = record {
+      pub sorted-in-places : HitsInPlaces answer n (exit ++ drop k indices) k (exitN ++ drop (4 * k) numbers)
+      sorted-in-places = record {
         inside = omega (arith, length-append exit (drop k indices), exit-long);
         fits = omega (arith, length-append exitN (drop (4 * k) numbers), exitN-long);
         below = λ (j : ℕ) (h : j < k). subst (λ (x : ℕ). x < n) (sym (first j h)) (at-place j h .0);

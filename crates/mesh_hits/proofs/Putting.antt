@@ -13,7 +13,7 @@ use Rattle.casts.specs.declared.answer.Reach.the-variants.{At}
 use Rattle.nearest_hit.proofs.NextLaws.{miss-not-at, refused-not-at}
 use Rattle.tree.specs.Layout.{numberAt, wordAt}
 use Rattle.mesh_hits.specs.HitArea.{placeOf, numbersOf}
-use Rattle.mesh_hits.specs.Rows.{Struck}
+use Rattle.mesh_hits.specs.Rows.{HitsInPlaces}
 
 -- a triangle that is reached fills its place
 pub place-of-four : (a : Answer) (d : Float) → reachOf a ≡ At d → length (placeOf a) ≡ 4
@@ -43,7 +43,7 @@ module _ (answer : ℕ → Answer) where
   unfolding numbersOf
   numbers-none = refl
 
-  module _ (n : ℕ) (indices : List ℕ) (k : ℕ) (numbers₀ : List Float) (s : Struck answer n indices k numbers₀) where
+  module _ (n : ℕ) (indices : List ℕ) (k : ℕ) (numbers₀ : List Float) (s : HitsInPlaces answer n indices k numbers₀) where
     next-numbers : (i : ℕ) → i < k → numbersOf answer (take (i + 1) indices) ≡ numbersOf answer (take i indices) ++ placeOf
         (answer (wordAt indices i))
     next-numbers i h =

@@ -24,7 +24,7 @@ use Rattle.depth_sort.specs.SortRows.{Keyed}
 -- ---- one triangle
 module _ (index : ℕ) (reach : Reach) (hits places : ℕ) (indices : List ℕ) (numbers : List Float) where
   unstored : ((d : Float) → reach ≡ At d → ⊥) → StoredNext index reach hits places indices numbers hits indices numbers
-  unstored miss = record { missed = λ _. (refl, (refl, refl)); struck = λ d e. absurd (miss d e) }
+  unstored miss = record { missed = λ _. (refl, (refl, refl)); hit = λ d e. absurd (miss d e) }
 
   pub stored-miss : reach ≡ Miss → StoredNext index reach hits places indices numbers hits indices numbers
   stored-miss h = unstored (λ d e. miss-not-at d (sym h ∙ e))
@@ -34,13 +34,13 @@ module _ (index : ℕ) (reach : Reach) (hits places : ℕ) (indices : List ℕ) 
 
   module _ (distance : Float) (h : reach ≡ At distance) where
     pub stored-past : places ≤ hits → StoredNext index reach hits places indices numbers (hits + 1) indices numbers
-    stored-past full = record { missed = λ miss. absurd (miss distance h); struck = λ d e. (refl, λ some. absurd (omega arith)) }
+    stored-past full = record { missed = λ miss. absurd (miss distance h); hit = λ d e. (refl, λ some. absurd (omega arith)) }
 
     pub stored-hit : StoredNext index reach hits places indices numbers (hits + 1) (set indices hits index)
         (set numbers (4 * hits) distance)
     stored-hit = record {
       missed = λ miss. absurd (miss distance h);
-      struck = λ d e. (refl, λ some. (refl, ap (set numbers (4 * hits)) (same-reach distance d (sym h ∙ e))));
+      hit = λ d e. (refl, λ some. (refl, ap (set numbers (4 * hits)) (same-reach distance d (sym h ∙ e))));
     }
 
 -- ---- the hits of a longer list
@@ -137,7 +137,7 @@ module _ (answer : ℕ → Answer) where
           go : (a : Answer) → answer x ≡ a → Stored answer (l ++ (x ∷ [])) places indices₀ numbers₀ hits' indices' numbers'
           go (hit normal d) f =
               let r : reach ≡ At d = e ∙ ap reachOf f in
-              let w = n .struck d r in
+              let w = n .hit d r in
               subst (λ (k : ℕ). Stored answer (l ++ (x ∷ [])) places indices₀ numbers₀ k indices' numbers') (sym (w .0))
               (added d (ap depthOf f) (ap isHit f) indices' numbers' (w .1))
           go none f = same indices' numbers' hits' (n .missed (λ d g. miss-not-at d (sym (ap reachOf f) ∙ sym e ∙ g)))

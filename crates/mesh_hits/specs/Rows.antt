@@ -27,12 +27,12 @@ pub record StoredNext (index : ℕ) (reach : Reach) (hits places : ℕ) (indices
     (next : ℕ) (indices : List ℕ) (numbers : List Float) : Type 0 where
   pub missed : ((distance : Float) → reach ≡ At distance → ⊥)
       → (next ≡ hits) × ((indices ≡ indices₀) × (numbers ≡ numbers₀))
-  pub struck : (distance : Float) → reach ≡ At distance
+  pub hit : (distance : Float) → reach ≡ At distance
       → (next ≡ hits + 1)
       × (hits < places → (indices ≡ set indices₀ hits index) × (numbers ≡ set numbers₀ (4 * hits) distance))
 
--- hits at the first places: triangles of the mesh, each struck at the first number of its place
-pub record Struck (answer : ℕ → Answer) (n : ℕ) (indices : List ℕ) (k : ℕ) (numbers : List Float) : Type 0 where
+-- hits at the first places: triangles of the mesh, each hit at the first number of its place
+pub record HitsInPlaces (answer : ℕ → Answer) (n : ℕ) (indices : List ℕ) (k : ℕ) (numbers : List Float) : Type 0 where
   pub inside : k ≤ length indices
   pub fits : 4 * k ≤ length numbers
   pub below : (j : ℕ) → j < k → wordAt indices j < n

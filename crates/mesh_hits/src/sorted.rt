@@ -103,7 +103,7 @@ pub fn list_hits(
         Outcome::Nobody => {
             return fit(ray, pose, triangles, hits, room, list, indices, numbers);
         }
-        Outcome::Struck {
+        Outcome::NearestHit {
             index: _,
             distance: _,
         } => {

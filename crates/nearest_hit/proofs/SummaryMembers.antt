@@ -8,11 +8,11 @@ use lib.Ieee.{Float}
 use Rattle.casts.specs.Answer.{Answer}
 use Rattle.casts.specs.Reach.{reachOf}
 use Rattle.nearest_hit.specs.Summary.{Kept, nobody, kept, keepOf, Found, found, lower, nearer, Summary, nothing, noteOf, summaryFrom}
-use Rattle.nearest_hit.specs.Summary.{struckOf, winnerOf, winner}
+use Rattle.nearest_hit.specs.Summary.{hitOutcome, winnerOf, winner}
 use Rattle.casts.specs.declared.answer.Reach.{Reach}
 use Rattle.casts.specs.declared.answer.Reach.the-variants.{At, Miss, Refused}
 use Rattle.nearest_hit.specs.declared.summary.Outcome.{Outcome}
-use Rattle.nearest_hit.specs.declared.summary.Outcome.the-variants.{Nobody, Refused as RefusedBy, Struck}
+use Rattle.nearest_hit.specs.declared.summary.Outcome.the-variants.{Nobody, Refused as RefusedBy, NearestHit}
 use Rattle.lists.proofs.Members.{Each, each-rest}
 
 -- of the one that is kept
@@ -35,12 +35,12 @@ module _ (P : ℕ → Reach → Type 0) where
   OfRefuser r = P (r .index) (Refused (r .value))
 
   -- of a triangle hit at a distance
-  abbrev OfStruck : Found Float → Type 0
-  OfStruck s = P (s .index) (At (s .value))
+  abbrev OfHit : Found Float → Type 0
+  OfHit s = P (s .index) (At (s .value))
 
   record OfSummary (s : Summary) : Type 0 where
     refuser : OfKept OfRefuser (s .refuser)
-    least : OfKept OfStruck (s .least)
+    least : OfKept OfHit (s .least)
 
   note-of : (s : Summary) (i : ℕ) (a : Reach) → P i a → OfSummary s → OfSummary (noteOf s i a)
   unfolding noteOf
@@ -51,23 +51,23 @@ module _ (P : ℕ → Reach → Type 0) where
   }
   note-of s i (At d) p h = record {
     refuser = h .refuser;
-    least = keep-of OfStruck nearer (s .least) (found i d) (h .least) p;
+    least = keep-of OfHit nearer (s .least) (found i d) (h .least) p;
   }
 
   -- of the winner: some triangle refuses with its number, or its own triangle is hit at its distance
   abbrev pub OfOutcome : Outcome → Type 0
   OfOutcome Nobody = Unit
   OfOutcome (RefusedBy number) = (i : ℕ) × P i (Refused number)
-  OfOutcome (Struck i d) = P i (At d)
+  OfOutcome (NearestHit i d) = P i (At d)
 
-  struck-of : (k : Kept (Found Float)) → OfKept OfStruck k → OfOutcome (struckOf k)
-  struck-of nobody h = tt
-  struck-of (kept s) h = h
+  hit-of : (k : Kept (Found Float)) → OfKept OfHit k → OfOutcome (hitOutcome k)
+  hit-of nobody h = tt
+  hit-of (kept s) h = h
 
-  winner-of : (r : Kept (Found ℕ)) (l : Kept (Found Float)) → OfKept OfRefuser r → OfKept OfStruck l → OfOutcome (winnerOf r l)
+  winner-of : (r : Kept (Found ℕ)) (l : Kept (Found Float)) → OfKept OfRefuser r → OfKept OfHit l → OfOutcome (winnerOf r l)
   unfolding winnerOf
   winner-of (kept r) l p s = (r .index, p)
-  winner-of nobody l p s = struck-of l s
+  winner-of nobody l p s = hit-of l s
 
   module _ (answer : ℕ → Answer) where
     abbrev OfAnswer : ℕ → Type 0

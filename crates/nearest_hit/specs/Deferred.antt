@@ -43,7 +43,7 @@ pub record Measured (cross : Vec3) (square : Float) : Type 0 where
   pub directs : normalizable cross ≡ true
   pub told : square ≡ dotOf cross cross
 
-abbrev pub Held : Near → Type 0
-Held (Hit cross square distance index) = Measured cross square
-Held None = true ≡ true
-Held (Refused number) = true ≡ true
+abbrev pub HitMeasured : Near → Type 0
+HitMeasured (Hit cross square distance index) = Measured cross square
+HitMeasured None = true ≡ true
+HitMeasured (Refused number) = true ≡ true

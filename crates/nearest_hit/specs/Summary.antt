@@ -16,7 +16,7 @@ use Rattle.nearest_hit.specs.declared.summary.ChosenRefusal.the-variants
 use Rattle.nearest_hit.specs.declared.summary.ChosenHit.{ChosenHit}
 use Rattle.nearest_hit.specs.declared.summary.ChosenHit.the-variants.{Nobody as NoHit, At as AtHit}
 use Rattle.nearest_hit.specs.declared.summary.Outcome.{Outcome}
-use Rattle.nearest_hit.specs.declared.summary.Outcome.the-variants.{Nobody, Refused as RefusedBy, Struck}
+use Rattle.nearest_hit.specs.declared.summary.Outcome.the-variants.{Nobody, Refused as RefusedBy, NearestHit}
 use Rattle.nearest_hit.specs.declared.summary.NearestSoFar.{NearestSoFar}
 
 -- one more comes
@@ -60,14 +60,14 @@ unfoldable pub summaryFrom : (ℕ → Answer) → Summary → List ℕ → Summa
 summaryFrom answer s [] = s
 summaryFrom answer s (index ∷ rest) = summaryFrom answer (noteOf s index (reachOf (answer index))) rest
 
-abbrev pub struckOf : Kept (Found Float) → Outcome
-struckOf nobody = Nobody
-struckOf (kept s) = Struck (s .index) (s .value)
+abbrev pub hitOutcome : Kept (Found Float) → Outcome
+hitOutcome nobody = Nobody
+hitOutcome (kept s) = NearestHit (s .index) (s .value)
 
 -- whose answer it is: a refuser's before any hit's
 unfoldable pub winnerOf : Kept (Found ℕ) → Kept (Found Float) → Outcome
 winnerOf (kept refuser) least = RefusedBy (refuser .value)
-winnerOf nobody least = struckOf least
+winnerOf nobody least = hitOutcome least
 
 abbrev pub winner : Summary → Outcome
 winner s = winnerOf (s .refuser) (s .least)
@@ -76,7 +76,7 @@ winner s = winnerOf (s .refuser) (s .least)
 unfoldable pub answerAt : (ℕ → Answer) → Outcome → Indexed
 answerAt answer Nobody = noHit
 answerAt answer (RefusedBy number) = stopped number
-answerAt answer (Struck index distance) = nextOf noHit index (answer index)
+answerAt answer (NearestHit index distance) = nextOf noHit index (answer index)
 
 -- the nearest hit of a list of triangles, in whatever order they stand
 abbrev pub nearestNoted : (ℕ → Answer) → List ℕ → Indexed

@@ -15,7 +15,7 @@ ghost use Rattle.geometry.specs.declared.ray.Ray.{Ray as RayOf};
 ghost use Rattle.casts.specs.Answer.{hit, refused};
 ghost use Rattle.nearest_hit.specs.Nearest.{saysIndexed, nextOf};
 ghost use Rattle.triangle_cast.specs.Crossing.{crossingAnswer, settledAnswer};
-ghost use Rattle.nearest_hit.specs.Deferred.{saysNear, facedIndexed, unitOf, Measured, Held};
+ghost use Rattle.nearest_hit.specs.Deferred.{saysNear, facedIndexed, unitOf, Measured, HitMeasured};
 ghost use Rattle.triangle_cast.specs.declared.parts.Crossing.the-variants.{Within};
 ghost use Rattle.triangle_cast.specs.Triangle.{triangleCast};
 
@@ -34,7 +34,7 @@ pub enum Near {
 // One more hit, which takes the place of another only where it is strictly nearer.
 fn nearer(best: Near, index: u32, cross: Vec3, square: f64, distance: f64) -> Near
     ensures { λ r. ⌜ saysNear r ≡ nextOf (saysNear best) index (hit cross distance) ⌝ }
-    ensures { λ r. ⌜ (Held best → Measured cross square → Held r) ⌝ }
+    ensures { λ r. ⌜ (HitMeasured best → Measured cross square → HitMeasured r) ⌝ }
 {
     match best {
         Near::Hit {
@@ -75,7 +75,7 @@ fn nearer(best: Near, index: u32, cross: Vec3, square: f64, distance: f64) -> Ne
 // A refusal, where none was met before.
 fn stopped(best: Near, number: u32) -> Near
     ensures { λ r. ⌜ ((index : ℕ) → saysNear r ≡ nextOf (saysNear best) index (refused number)) ⌝ }
-    ensures { λ r. ⌜ Held r ⌝ }
+    ensures { λ r. ⌜ HitMeasured r ⌝ }
 {
     match best {
         Near::Hit {
@@ -99,7 +99,7 @@ fn stopped(best: Near, number: u32) -> Near
 fn next_at(best: Near, index: u32, determinant: f64, a: Vec3, b: Vec3, distance: f64) -> Near
     ensures { λ r. ⌜ ((s : RayOf) → facedIndexed s (saysNear r)
         ≡ nextOf (facedIndexed s (saysNear best)) index (settledAnswer s determinant a b distance)) ⌝ }
-    ensures { λ r. ⌜ (Held best → Held r) ⌝ }
+    ensures { λ r. ⌜ (HitMeasured best → HitMeasured r) ⌝ }
 {
     if triangle::is_flat(determinant, a, b) {
         return best;
@@ -132,7 +132,7 @@ fn next_within(
 ) -> Near
     ensures { λ r. ⌜ facedIndexed ray (saysNear r) ≡ nextOf (facedIndexed ray (saysNear best)) index
         (crossingAnswer ray (Within offset a b determinant inverse u)) ⌝ }
-    ensures { λ r. ⌜ (Held best → Held r) ⌝ }
+    ensures { λ r. ⌜ (HitMeasured best → HitMeasured r) ⌝ }
 {
     let found = triangle::distance_within(ray, offset, a, b, inverse, u);
     let Distance::At(distance) = found else {
@@ -144,7 +144,7 @@ fn next_within(
 // The same of a triangle; most miss at the first of their tests. It is compiled into its one user, the loop of the cast without a tree.
 pub fn next_deferred(best: Near, index: u32, ray: Ray, corners: [Vec3; 3]) -> Near
     ensures { λ r. ⌜ facedIndexed ray (saysNear r) ≡ nextOf (facedIndexed ray (saysNear best)) index (triangleCast ray corners) ⌝ }
-    ensures { λ r. ⌜ (Held best → Held r) ⌝ }
+    ensures { λ r. ⌜ (HitMeasured best → HitMeasured r) ⌝ }
 {
     let start = triangle::crossing(ray, corners);
     match start {
@@ -189,7 +189,7 @@ fn unit_of(cross: Vec3, square: f64) -> Vec3
 
 // The normal of the hit that won.
 pub fn with_normal(ray: Ray, best: Near) -> IndexedCast
-    requires { ⌜ Held best ⌝ }
+    requires { ⌜ HitMeasured best ⌝ }
     ensures { λ r. ⌜ saysIndexed r ≡ facedIndexed ray (saysNear best) ⌝ }
 {
     match best {
@@ -199,10 +199,10 @@ pub fn with_normal(ray: Ray, best: Near) -> IndexedCast
             distance,
             index,
         } => {
-            let turn = ray.direction.dot(cross) > 0.0;
+            let flips = ray.direction.dot(cross) > 0.0;
             let normal = unit_of(cross, square);
             return IndexedCast::Hit {
-                normal: surface::facing_as(normal, ray.direction.dot(normal), turn),
+                normal: surface::facing_as(normal, ray.direction.dot(normal), flips),
                 distance: distance,
                 index: index,
             };

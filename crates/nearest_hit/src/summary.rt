@@ -1,6 +1,6 @@
 use casts::answer::Reach;
 ghost use mathlib.Core.Path.{_≡_};
-ghost use Rattle.nearest_hit.specs.Summary.{keepOf, found, lower, nearer, nothing, noteOf, struckOf, winner, saysChosenRefusal};
+ghost use Rattle.nearest_hit.specs.Summary.{keepOf, found, lower, nearer, nothing, noteOf, hitOutcome, winner, saysChosenRefusal};
 ghost use Rattle.nearest_hit.specs.Summary.{saysChosenHit, saysNearestSoFar};
 
 // An index with the number of its refusal, or nobody yet.
@@ -19,7 +19,7 @@ pub enum ChosenHit {
 pub enum Outcome {
     Nobody,
     Refused(u32),
-    Struck { index: u32, distance: f64 },
+    NearestHit { index: u32, distance: f64 },
 }
 
 // What of many triangles decides the nearest hit, in whatever order they come: the lowest that refuses, and the nearest that is hit.
@@ -137,15 +137,15 @@ pub fn note(notes: NearestSoFar, index: u32, reach: Reach) -> NearestSoFar
 }
 
 // A hit as the winner.
-fn struck(chosen: ChosenHit) -> Outcome
-    ensures { λ r. ⌜ r ≡ struckOf (saysChosenHit chosen) ⌝ }
+fn hit_outcome(chosen: ChosenHit) -> Outcome
+    ensures { λ r. ⌜ r ≡ hitOutcome (saysChosenHit chosen) ⌝ }
 {
     match chosen {
         ChosenHit::Nobody => {
             return Outcome::Nobody;
         }
         ChosenHit::At { index, distance } => {
-            return Outcome::Struck {
+            return Outcome::NearestHit {
                 index: index,
                 distance: distance,
             };
@@ -164,7 +164,7 @@ pub fn winner(notes: NearestSoFar) -> Outcome
             return Outcome::Refused(number);
         }
         ChosenRefusal::Nobody => {
-            return struck(least);
+            return hit_outcome(least);
         }
     }
 }

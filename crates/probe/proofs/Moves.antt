@@ -8,8 +8,8 @@ use borrow.Author.Tests.{ltb-false, le-leb}
 use lib.Dec.{ltb}
 use lib.ListN.{length}
 use lib.Seq.{length-take-le}
-use Rattle.record_stream.specs.declared.answers.AtHand.{AtHand}
-use Rattle.record_stream.specs.AtHand.{Answered, goesOn}
+use Rattle.record_stream.specs.declared.answers.Progress.{Progress}
+use Rattle.record_stream.specs.Progress.{Answered, goesOn}
 use Rattle.probe.specs.declared.runs.Run.{Run}
 use Rattle.probe.specs.Runs.{readsMore, afterWrite, heldOf, idle, asked, Answers, spent, made}
 use Rattle.probe.specs.Runs.{AfterWrite, Stepped, unread, stepped}
@@ -29,7 +29,7 @@ enough run h = go (run .ended) refl (ltb (run .held) 8196) (ltb-false (run .held
     go false e false f h = long (f refl)
 
 -- then one more record would have been answered, if none was
-pub answering : (run : Run) (input : List ℕ) (done : AtHand) → run .held ≤ length input → Enough run → done .over ≡ false
+pub answering : (run : Run) (input : List ℕ) (done : Progress) → run .held ≤ length input → Enough run → done .over ≡ false
     → done .used ≡ 0 → done .filled ≡ 0 → goesOn done (run .ended) (length (heldOf run input)) 65536 ≡ true
 unfolding goesOn
 answering run input done fits (all e) o u f =
@@ -42,7 +42,7 @@ answering run input done fits (long h) o u f =
     go false = refl
 
 module _ (run : Run) (input : List ℕ) (fits : run .held ≤ length input) (n : Enough run) where
-  uses : (done : AtHand) (lines : List ℕ)
+  uses : (done : Progress) (lines : List ℕ)
       → Answered (heldOf run input) (run .ended) (run .next) 65536 lines (done .used) (done .next) (done .over)
       → length lines ≡ done .filled → goesOn done (run .ended) (length (heldOf run input)) 65536 ≡ false → done .over ≡ false
       → run .held - done .used < run .held

@@ -1,13 +1,13 @@
 -- What the functions over a run return, as their contracts say it. Assumes nothing.
 use Prim.Native.Nat.{ℕ, _+_, _-_, _<_, _≤_}
 use mathlib.Core.Path.{_≡_, refl, sym, ap, _∙_}
-use mathlib.Core.Bool.{Bool, true, false, not}
+use mathlib.Core.Bool.{Bool, true, false}
 use mathlib.Core.List.{List, _++_}
 use native.Mathlib.Omega.{arith}
 use lib.ListN.{length, take, drop, length-drop}
 use lib.Seq.{take-add, take-at, drop-at, length-take-le}
-use Rattle.record_stream.specs.declared.answers.AtHand.{AtHand}
-use Rattle.record_stream.specs.AtHand.{Answered, goesOn}
+use Rattle.record_stream.specs.declared.answers.Progress.{Progress}
+use Rattle.record_stream.specs.Progress.{Answered, goesOn}
 use Rattle.probe.specs.declared.runs.Run.{Run}
 use Rattle.probe.specs.Runs.{lastNumber, afterRead, nextRun, afterWrite, heldOf}
 use Rattle.probe.specs.Runs.{Answers, made, AfterWrite}
@@ -34,7 +34,7 @@ front-left input held used low high =
     take-at part (drop (held - used) input) (held - used) size
     ∙ sym (ap (drop used) whole ∙ drop-at (take used input) part used (length-take-le used input (omega arith)))
 
-module _ (run : Run) (input : List ℕ) (done : AtHand) (out : List ℕ) (held-in : run .held ≤ length input) (whole : length out ≡ 65536)
+module _ (run : Run) (input : List ℕ) (done : Progress) (out : List ℕ) (held-in : run .held ≤ length input) (whole : length out ≡ 65536)
     (a : Answered (heldOf run input) (run .ended) (run .next) 65536 (take (done .filled) out) (done .used) (done .next) (done .over)) where
   pub used-held : done .used ≤ run .held
   used-held = omega (arith, a .within, length-take-le (run .held) input held-in)

@@ -9,8 +9,8 @@ use lib.Dec.{ltb}
 use lib.ListN.{take, drop}
 use lib.Seq.{take-add}
 use Rattle.records.specs.Output.{outputOf}
-use Rattle.record_stream.specs.declared.answers.AtHand.{AtHand}
-use Rattle.record_stream.specs.AtHand.{outputFrom, outputAfter, MayCome, Answered}
+use Rattle.record_stream.specs.declared.answers.Progress.{Progress}
+use Rattle.record_stream.specs.Progress.{outputFrom, outputAfter, MayCome, Answered}
 use Rattle.record_stream.proofs.StreamLaws.{output-is}
 use Rattle.probe.specs.declared.runs.Run.{Run}
 use Rattle.probe.specs.Runs.{mostSteps, startRun, readsMore, failedRun, afterRead, nextRun, afterWrite, heldOf}
@@ -20,30 +20,30 @@ use Rattle.probe.specs.Runs.{Steps, none, more, Front, Finished}
 -- ---- what is left to do
 
 -- the output for all that was read and what follows is the lines, and the output for what is held and what follows
-pub record Exact (bytes lines : List ℕ) (run : Run) (hand : List ℕ) : Type 0 where
+pub record Exact (bytes lines : List ℕ) (run : Run) (left : List ℕ) : Type 0 where
   pub output : (following : List ℕ) → MayCome (run .ended) following
-      → outputFrom 1 (bytes ++ following) ≡ lines ++ outputAfter (run .over) (run .next) (hand ++ following)
+      → outputFrom 1 (bytes ++ following) ≡ lines ++ outputAfter (run .over) (run .next) (left ++ following)
 
 -- the lines are its front
 pub record Fronts (bytes lines : List ℕ) (ended : Bool) : Type 0 where
   pub front : (following : List ℕ) → MayCome ended following → Front lines (outputFrom 1 (bytes ++ following))
 
-pub record Progress (bytes lines : List ℕ) (run : Run) (hand : List ℕ) : Type 0 where
+pub record Sound (bytes lines : List ℕ) (run : Run) (left : List ℕ) : Type 0 where
   pub fronts : Fronts bytes lines (run .ended)
-  pub exact : run .failed ≡ false → Exact bytes lines run hand
+  pub exact : run .failed ≡ false → Exact bytes lines run left
   pub untouched : run .over ≡ false → run .failed ≡ false
 
-exact-fronts : {bytes lines : List ℕ} {run : Run} {hand : List ℕ} → Exact bytes lines run hand → Fronts bytes lines (run .ended)
+exact-fronts : {bytes lines : List ℕ} {run : Run} {left : List ℕ} → Exact bytes lines run left → Fronts bytes lines (run .ended)
 exact-fronts x = record { front = λ following m. record { rest = _; is = x .output following m } }
 
 -- nothing failed
-goes-on : {bytes lines : List ℕ} {run : Run} {hand : List ℕ} → Exact bytes lines run hand → run .failed ≡ false
-    → Progress bytes lines run hand
+goes-on : {bytes lines : List ℕ} {run : Run} {left : List ℕ} → Exact bytes lines run left → run .failed ≡ false
+    → Sound bytes lines run left
 goes-on x f = record { fronts = exact-fronts x; exact = λ h. x; untouched = λ h. f }
 
 -- something failed: the lines are a front still
-fails : {bytes lines : List ℕ} (run : Run) (hand : List ℕ) → Fronts bytes lines (run .ended) → Progress bytes lines (failedRun run) hand
-fails run hand f = record { fronts = f; exact = λ h. absurd (true≢false h); untouched = λ h. absurd (true≢false h) }
+fails : {bytes lines : List ℕ} (run : Run) (left : List ℕ) → Fronts bytes lines (run .ended) → Sound bytes lines (failedRun run) left
+fails run left f = record { fronts = f; exact = λ h. absurd (true≢false h); untouched = λ h. absurd (true≢false h) }
 
 -- ---- reading
 
@@ -122,31 +122,31 @@ module _ (bytes lines : List ℕ) (run : Run) (input : List ℕ) (x : Exact byte
 -- ---- answering
 
 module _ (bytes lines : List ℕ) (run : Run) (input : List ℕ) (x : Exact bytes lines run (heldOf run input)) (o : run .over ≡ false) where
-  answered-exact : (done : AtHand) (text : List ℕ)
+  answered-exact : (done : Progress) (text : List ℕ)
       → Answered (heldOf run input) (run .ended) (run .next) 65536 text (done .used) (done .next) (done .over)
       → Exact bytes (lines ++ text) (nextRun run done) (drop (done .used) (heldOf run input))
   unfolding outputAfter
   answered-exact done text a = record {
     output = λ following m.
-        let hand = heldOf run input in
-        let left : outputAfter (run .over) (run .next) (hand ++ following)
-        ≡ text ++ outputAfter (done .over) (done .next) (drop (done .used) hand ++ following)
-        = ap (λ (b : Bool). outputAfter b (run .next) (hand ++ following)) o ∙ a .output following m in
+        let held = heldOf run input in
+        let left : outputAfter (run .over) (run .next) (held ++ following)
+        ≡ text ++ outputAfter (done .over) (done .next) (drop (done .used) held ++ following)
+        = ap (λ (b : Bool). outputAfter b (run .next) (held ++ following)) o ∙ a .output following m in
         x .output following m ∙ (ap (λ (z : List ℕ). lines ++ z) left ∙ sym (append-assoc lines text _));
   }
 
   answer-step : {answered : Run} {last text : List ℕ} → Answers run input answered last text
-      → Progress bytes (lines ++ text) answered (heldOf answered last)
+      → Sound bytes (lines ++ text) answered (heldOf answered last)
   answer-step (spent n e t) = rw (t, append-nil lines, e) (fails run _ (exact-fronts x))
   answer-step {answered} {last} {text} (made done n a c g e l) = rw (l, e) (goes-on (answered-exact done text a) refl)
 
 -- ---- writing
 
-write-step : (bytes lines last : List ℕ) (run after : Run) → Progress bytes lines run (heldOf run last) → AfterWrite run after
-    → Progress bytes lines after (heldOf after last)
+write-step : (bytes lines last : List ℕ) (run after : Run) → Sound bytes lines run (heldOf run last) → AfterWrite run after
+    → Sound bytes lines after (heldOf after last)
 write-step bytes lines last run after p w = go (w .written) (w .is)
   where
-    go : (written : Bool) → after ≡ afterWrite run written → Progress bytes lines after (heldOf after last)
+    go : (written : Bool) → after ≡ afterWrite run written → Sound bytes lines after (heldOf after last)
     go true e = rw e p
     go false e = rw e (fails run _ (p .fronts))
 
@@ -159,8 +159,8 @@ unread-is run input after last (idle h e a) f t = absurd (false≢true (sym (ap 
 unread-is run input after last (asked failed count h c e k) f t = not-given run after failed count e t
 
 step-progress : (bytes lines : List ℕ) (run : Run) (input : List ℕ) (after : Run) (last new text : List ℕ)
-    → Progress bytes lines run (heldOf run input) → run .over ≡ false → Stepped run input after last new text
-    → Progress (bytes ++ new) (lines ++ text) after (heldOf after last)
+    → Sound bytes lines run (heldOf run input) → run .over ≡ false → Stepped run input after last new text
+    → Sound (bytes ++ new) (lines ++ text) after (heldOf after last)
 step-progress bytes lines run input after last new text p o (unread r f b t) =
     rw (b, t, append-nil bytes, append-nil lines, unread-is run input after last r (p .untouched o) f) (fails run _ (p .fronts))
 step-progress bytes lines run input after last new text p o (stepped ready answered area r f b a w) =
@@ -174,7 +174,7 @@ step-progress bytes lines run input after last new text p o (stepped ready answe
 -- ---- all steps
 
 pub steps-progress : {count : ℕ} {bytes lines : List ℕ} {run : Run} {input : List ℕ} → Steps count bytes lines run input
-    → Progress bytes lines run (heldOf run input)
+    → Sound bytes lines run (heldOf run input)
 unfolding outputAfter
 steps-progress none = goes-on record { output = λ following m. refl } refl
 steps-progress (more {count} {bytes} {lines} {run} {input} {after} {last} s o t) =

@@ -6,8 +6,8 @@ use mathlib.Core.List.{List, [], _++_}
 use lib.Dec.{ltb, eqb}
 use lib.ListN.{length, take, drop}
 use Rattle.records.specs.Output.{outputOf}
-use Rattle.record_stream.specs.declared.answers.AtHand.{AtHand}
-use Rattle.record_stream.specs.AtHand.{longestRecord, MayCome, Answered, goesOn}
+use Rattle.record_stream.specs.declared.answers.Progress.{Progress}
+use Rattle.record_stream.specs.Progress.{longestRecord, MayCome, Answered, goesOn}
 use Rattle.probe.specs.declared.runs.Run.{Run}
 
 -- the length of the input area and of the output area
@@ -40,7 +40,7 @@ afterRead run true more = failedRun run
 afterRead run false more =
     record { held = run .held + more; next = run .next; filled = 0; ended = eqb more 0; over = false; failed = false }
 
-abbrev pub nextRun : Run → AtHand → Run
+abbrev pub nextRun : Run → Progress → Run
 nextRun run done = record {
   held = run .held - done .used;
   next = done .next;
@@ -74,7 +74,7 @@ readBytes run ready area = take (ready .held - run .held) (drop (run .held) area
 -- What answering does: `lines` are made of what is held, as many as can be, and what is left is held.
 pub data Answers (run : Run) (input : List ℕ) (answered : Run) (last lines : List ℕ) : Type 0 where
   spent : lastNumber ≤ run .next → answered ≡ failedRun run → lines ≡ [] → Answers run input answered last lines
-  made : (done : AtHand) → run .next < lastNumber
+  made : (done : Progress) → run .next < lastNumber
       → Answered (heldOf run input) (run .ended) (run .next) areaLength lines (done .used) (done .next) (done .over)
       → length lines ≡ done .filled → goesOn done (run .ended) (length (heldOf run input)) areaLength ≡ false
       → answered ≡ nextRun run done → heldOf answered last ≡ drop (done .used) (heldOf run input)

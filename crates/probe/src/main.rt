@@ -44,7 +44,6 @@ fn read_on(run: Run, input: &mut [u8]) -> Run
 fn answer(
     run: Run,
     input: &mut [u8],
-    wide: &mut [u8; 8196],
     work: &mut [f64; 1024],
     triangles: &mut [u32; 2031],
     node_boxes: &mut [f64; 8124],
@@ -63,11 +62,10 @@ fn answer(
         return runs::failed_run(run);
     }
     let held = run.held;
-    let done = answers::answer_at_hand(
+    let done = answers::answer_records(
         run.next,
         run.ended,
         &input[..held],
-        wide,
         work,
         triangles,
         node_boxes,
@@ -100,7 +98,6 @@ fn write_lines(run: Run, output: &[u8]) -> Run
 fn step(
     run: Run,
     input: &mut [u8],
-    wide: &mut [u8; 8196],
     work: &mut [f64; 1024],
     triangles: &mut [u32; 2031],
     node_boxes: &mut [f64; 8124],
@@ -122,7 +119,6 @@ fn step(
     let answered = answer(
         ready,
         input,
-        wide,
         work,
         triangles,
         node_boxes,
@@ -141,7 +137,6 @@ fn all_steps() -> Run
     ensures { λ r. ⌜ Finished r ⌝ }
 {
     let mut input = io::large_buffer();
-    let mut wide = [0u8; 8196];
     let mut work = [0.0; 1024];
     let mut triangles = [0u32; 2031];
     let mut node_boxes = [0.0; 8124];
@@ -157,7 +152,6 @@ fn all_steps() -> Run
         run = step(
             run,
             &mut input,
-            &mut wide,
             &mut work,
             &mut triangles,
             &mut node_boxes,

@@ -1,5 +1,5 @@
 // A run between two calls of the system, and what each call's result makes of it.
-use record_stream::answers::AtHand;
+use record_stream::answers::Progress;
 ghost use mathlib.Core.Path.{_≡_};
 ghost use mathlib.Core.List.{_++_};
 ghost use Prim.Native.Nat.{_+_, _-_, _<_, _≤_};
@@ -77,7 +77,7 @@ pub fn after_read(run: Run, failed: bool, more: usize) -> Run
 }
 
 // After an answer: what it did not use is held.
-pub fn next_run(run: Run, done: AtHand) -> Run
+pub fn next_run(run: Run, done: Progress) -> Run
     requires { ⌜ done .used ≤ run .held ⌝ }
     ensures { λ r. ⌜ r ≡ nextRun run done ⌝ }
 {

@@ -1,16 +1,15 @@
 -- The first record of a stream lies within it, and what follows 8,196 bytes does not change it. Assumes nothing.
-use Prim.Native.Nat.{ℕ, zero, suc, _+_, _≤_, _<_}
-use mathlib.Core.Path.{_≡_, refl, sym, ap, _∙_}
+use Prim.Native.Nat.{ℕ, _+_, _≤_}
+use mathlib.Core.Path.{_≡_, refl}
 use mathlib.Core.Bool.{Bool, true, false, cond}
 use mathlib.Core.List.{List, _++_}
 use native.Mathlib.Omega.{arith}
-use borrow.Author.Tests.{ltb-true, ltb-false, eqb-true, le-ltb, lt-ltb, ne-eqb}
+use borrow.Author.Tests.{ltb-false, le-ltb, ne-eqb}
 use lib.Dec.{ltb, eqb}
-use lib.ListN.{length, getD, length-append, List·getD-append}
-use Rattle.record_bytes.specs.Bytes.{wordAt}
-use Rattle.record_bytes.specs.Parse.{longest}
+use lib.ListN.{length, length-append, List·getD-append}
+use Rattle.float_forms.specs.Bytes.{wordOf}
+use Rattle.record_bytes.specs.Records.{longest}
 use Rattle.record_bytes.specs.Stream.{nextOf}
-use Rattle.record_bytes.specs.declared.stream.Found.{Found}
 use Rattle.record_bytes.specs.declared.stream.Found.the-variants.{Record, Cut, End}
 
 -- ---- a record that is found lies within the bytes
@@ -35,13 +34,13 @@ within length' word end false false false false s e =
 pub next-within : (bytes : List ℕ) (end : ℕ) → nextOf bytes ≡ Record end → (4 ≤ end) × (end ≤ length bytes)
 unfolding nextOf
 next-within bytes end e =
-    within (length bytes) (wordAt bytes 0) end (eqb (length bytes) 0) (ltb (length bytes) 4) (ltb longest (wordAt bytes 0))
-    (ltb (length bytes) (4 + wordAt bytes 0)) refl e
+    within (length bytes) (wordOf bytes) end (eqb (length bytes) 0) (ltb (length bytes) 4) (ltb longest (wordOf bytes))
+    (ltb (length bytes) (4 + wordOf bytes)) refl e
 
 -- ---- 8,196 bytes are enough
 
-word-stays : (bytes more : List ℕ) → 4 ≤ length bytes → wordAt (bytes ++ more) 0 ≡ wordAt bytes 0
-unfolding wordAt
+word-stays : (bytes more : List ℕ) → 4 ≤ length bytes → wordOf (bytes ++ more) ≡ wordOf bytes
+unfolding wordOf
 word-stays bytes more h =
     rw (
       List·getD-append bytes more 0 0 (omega arith),
@@ -73,4 +72,4 @@ pub next-stays : (bytes more : List ℕ) → 8196 ≤ length bytes → nextOf (b
 unfolding nextOf
 next-stays bytes more h =
     rw (word-stays bytes more (omega arith), length-append bytes more)
-    (same (length bytes) (length bytes + length more) (wordAt bytes 0) h (omega arith) (ltb longest (wordAt bytes 0)) refl)
+    (same (length bytes) (length bytes + length more) (wordOf bytes) h (omega arith) (ltb longest (wordOf bytes)) refl)

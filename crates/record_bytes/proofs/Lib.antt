@@ -1,7 +1,8 @@
 -- Laws about the bytes of records. Assumes nothing.
-pub mod Patterns
-pub mod WellFormed
-pub mod Counts
-pub mod Decoding
+pub mod ShapeLaws
+pub mod Parts
+pub mod PlanLaws
+pub mod Tests
+pub mod Lengths
+pub mod RoundTrip
 pub mod Frames
-pub mod WordLaws

@@ -1,7 +1,4 @@
--- What a record of `probe` says, byte by byte, after document 01's 'Printed result'. Definitions only. Assumes nothing.
-pub mod Bytes
-pub mod Fields
-pub mod Parse
-pub mod Encode
+-- The layout of a record of `probe`, byte by byte, after document 01's 'Printed result'. Definitions only. Assumes nothing.
+pub mod Records
+pub mod Plans
 pub mod Stream
-pub mod Words

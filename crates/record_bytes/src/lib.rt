@@ -1,27 +1,29 @@
 // The bytes of a record, on lent slices (document 01, 'Printed result').
 //
-// A record is four bytes of length and a body of that many bytes. The body's fields, by place:
+// A record is a u32, the length of the rest, and its fields. Their places, by version:
 //
-// | place | field                                   |
-// |-------|-----------------------------------------|
-// | 0     | version, 1 or 2                         |
-// | 1     | kind: 1 plane, 2 triangle, 3 mesh, 4 height grid, 5 distance grid |
-// | 2     | origin, three floats                    |
-// | 26    | direction, three floats                 |
-// | 50    | maximum, a float                        |
-// | 58    | version 2: near, a float                |
-// | 58 or 66 | the shape, to the end of the body    |
+// | field                                      | version 1 | version 2 | version 3 |
+// |--------------------------------------------|-----------|-----------|-----------|
+// | bytes of a float                           | 8         | 8         | 4         |
+// | length of the rest, a u32                  | 0         | 0         | 0         |
+// | version, a byte                            | 4         | 4         | 4         |
+// | kind, a byte                               | 5         | 5         | 5         |
+// | origin, three floats                       | 6         | 6         | 6         |
+// | direction, three floats                    | 30        | 30        | 18        |
+// | maximum, a float                           | 54        | 54        | 30        |
+// | near, a float                              | means 0   | 62        | 34        |
+// | the shape's counts, each a u32             | 62        | 70        | 38        |
+// | the shape's floats, then its u32 indices   | behind the counts     |||
 //
-// A record of version 3, with floats of four bytes, is read as the version 2 record of the same numbers (`longBody`, specs/Stream).
+// | kind              | counts                      | floats                 | indices |
+// |-------------------|-----------------------------|------------------------|---------|
+// | 1 plane           |                             | normal, distance       |         |
+// | 2 triangle        |                             | three corners          |         |
+// | 3 mesh            | vertices v, triangles t     | 3v                     | 3t      |
+// | 4 height grid     | rows r, columns c           | two spacings, rc       |         |
+// | 5 distance grid   | sides x, y, z               | origin, spacing, xyz   |         |
 
-// Readers of one number at a place.
-pub mod bytes;
-// The fields of a body.
-pub mod fields;
-// Which bodies are well formed.
-pub mod parse;
+// Which records are well formed, and how many numbers they have.
+pub mod shape;
 // Where a record ends in a stream.
 pub mod stream;
-
-// The reader of one 64-bit word.
-pub mod reader;

@@ -1,9 +1,7 @@
-use crate::bytes;
+use crate::shape;
+use float_forms::bytes;
 ghost use mathlib.Core.Path.{_≡_};
 ghost use Rattle.record_bytes.specs.Stream.{nextOf};
-
-// The largest length that a record may give.
-pub const LONGEST: u64 = 8192;
 
 // What stands at the front of a stream.
 pub enum Found {
@@ -25,11 +23,11 @@ pub fn next(bytes: &[u8]) -> Found
     if bytes.len() < 4 {
         return Found::Cut;
     }
-    let length = bytes::word_at(bytes, 0);
-    if length > LONGEST {
+    let length = bytes::word_at(bytes, 0) as usize;
+    if length > shape::LONGEST {
         return Found::Cut;
     }
-    let end = 4 + length as usize;
+    let end = 4 + length;
     if bytes.len() < end {
         return Found::Cut;
     }

@@ -1,8 +1,5 @@
--- Laws about the output for a part of the input. Assumes nothing.
+-- Laws about the lines for a part of the input, and about records of either version. Assumes nothing.
 pub mod StreamLaws
-pub mod HandLaws
+pub mod StepLaws
 pub mod LoopLaws
 pub mod Versions
-pub mod Places
-pub mod Malformed
-pub mod ReadFields

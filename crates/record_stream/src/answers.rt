@@ -1,21 +1,16 @@
-use conversion::convert;
-use record_bytes::parse;
 use record_bytes::stream;
 use record_bytes::stream::Found;
-use record_text::text;
 use records::lines;
 ghost use mathlib.Core.Path.{_≡_};
 ghost use mathlib.Core.Bool.{false};
 ghost use Prim.Native.Nat.{_+_, _<_, _≤_};
 ghost use lib.ListN.{length, take, drop};
-ghost use Rattle.record_text.specs.Text.{Put};
-ghost use Rattle.records.specs.Lines.{lineOf, badLine};
 ghost use Rattle.record_bytes.specs.Stream.{nextOf};
-ghost use Rattle.record_stream.specs.AtHand.{stepBy, stepOf, Turned, Answered, goesOn};
+ghost use Rattle.record_stream.specs.Progress.{stepOf, Stepped, Answered, goesOn};
 
-// What is left to do, after some records were answered.
-pub struct AtHand {
-    // How many of the bytes at hand are used.
+// How far the input is answered.
+pub struct Progress {
+    // How many bytes of the input are used.
     pub used: usize,
     // How many bytes of the output area are lines.
     pub filled: usize,
@@ -25,55 +20,10 @@ pub struct AtHand {
     pub over: bool,
 }
 
-// The line of a record's body, in the output area from a place on; returns the place behind it.
-fn put_line(
-    number: u64,
-    body: &[u8],
-    work: &mut [f64; 1024],
-    triangles: &mut [u32; 2031],
-    node_boxes: &mut [f64; 8124],
-    triangle_boxes: &mut [f64; 4062],
-    node_words: &mut [u32; 4062],
-    order: &mut [u32; 677],
-    list: &mut [u32; 677],
-    stack: &mut [u32; 1355],
-    output: &mut [u8],
-    filled: usize,
-) -> usize
-    requires { ⌜ filled + 114 ≤ length (now output) ⌝ }
-    ensures { λ r. ⌜ Put (now (output .entry)) filled (lineOf number (now (body .entry))) (now (output .exit)) r ⌝ }
-{
-    let mut line = [0u8; 114];
-    let count = lines::line(
-        number,
-        body,
-        work,
-        triangles,
-        node_boxes,
-        triangle_boxes,
-        node_words,
-        order,
-        list,
-        stack,
-        &mut line,
-    );
-    text::put_text(output, filled, &line[..count])
-}
-
-// The line of a record that is cut short or over length.
-fn put_bad(number: u64, output: &mut [u8], filled: usize) -> usize
-    requires { ⌜ filled + 114 ≤ length (now output) ⌝ }
-    ensures { λ r. ⌜ Put (now (output .entry)) filled (badLine number) (now (output .exit)) r ⌝ }
-{
-    let mut line = [0u8; 114];
-    let count = lines::bad_line(number, &mut line);
-    text::put_text(output, filled, &line[..count])
-}
-
-// After a record of that many bytes at the front of what is left: itself, or what it is widened to.
-fn body_step(
-    s: AtHand,
-    whole: &[u8],
+// After the record of that many bytes at the front of what is left.
+fn record_step(
+    s: Progress,
+    rest: &[u8],
     end: usize,
     work: &mut [f64; 1024],
     triangles: &mut [u32; 2031],
@@ -84,15 +34,14 @@ fn body_step(
     list: &mut [u32; 677],
     stack: &mut [u32; 1355],
     output: &mut [u8],
-) -> AtHand
-    requires { ⌜ (4 ≤ length (now whole)) × (s .filled + 114 ≤ length (now output)) ⌝ }
+) -> Progress
+    requires { ⌜ (end ≤ length (now rest)) × (s .filled + 114 ≤ length (now output)) ⌝ }
     requires { ⌜ (s .next < 18446744073709551615) × (s .used + end < 18446744073709551616) ⌝ }
-    ensures { λ r. ⌜ Turned (stepBy (s .next) end (drop 4 (now (whole .entry)))) s r (now (output .entry)) (now (output .exit)) ⌝ }
+    ensures { λ r. ⌜ Stepped (stepOf (s .next) (now (rest .entry)) (Found.Record end)) s r (now (output .entry)) (now (output .exit)) ⌝ }
 {
-    let body = &whole[4..];
-    let filled = put_line(
+    let printed = lines::line(
         s.next,
-        body,
+        &rest[..end],
         work,
         triangles,
         node_boxes,
@@ -104,74 +53,18 @@ fn body_step(
         output,
         s.filled,
     );
-    AtHand {
+    Progress {
         used: s.used + end,
-        filled: filled,
+        filled: printed.end,
         next: s.next + 1,
-        over: !parse::is_well_formed(body),
+        over: printed.malformed,
     }
-}
-
-// After the record of that many bytes at the front of what is left. One of version 3 is read as version 2, in an area of its own.
-fn record_step(
-    s: AtHand,
-    rest: &[u8],
-    end: usize,
-    wide: &mut [u8],
-    work: &mut [f64; 1024],
-    triangles: &mut [u32; 2031],
-    node_boxes: &mut [f64; 8124],
-    triangle_boxes: &mut [f64; 4062],
-    node_words: &mut [u32; 4062],
-    order: &mut [u32; 677],
-    list: &mut [u32; 677],
-    stack: &mut [u32; 1355],
-    output: &mut [u8],
-) -> AtHand
-    requires { ⌜ (4 ≤ end) × ((end ≤ length (now rest)) × (s .filled + 114 ≤ length (now output))) ⌝ }
-    requires { ⌜ 8196 ≤ length (now wide) ⌝ }
-    requires { ⌜ (s .next < 18446744073709551615) × (s .used + end < 18446744073709551616) ⌝ }
-    ensures { λ r. ⌜ Turned (stepOf (s .next) (now (rest .entry)) (Found.Record end)) s r (now (output .entry)) (now (output .exit)) ⌝ }
-{
-    let whole = &rest[..end];
-    if convert::is_short(whole) {
-        let stop = 4 + convert::widen(whole, wide);
-        return body_step(
-            s,
-            &wide[..stop],
-            end,
-            work,
-            triangles,
-            node_boxes,
-            triangle_boxes,
-            node_words,
-            order,
-            list,
-            stack,
-            output,
-        );
-    }
-    body_step(
-        s,
-        whole,
-        end,
-        work,
-        triangles,
-        node_boxes,
-        triangle_boxes,
-        node_words,
-        order,
-        list,
-        stack,
-        output,
-    )
 }
 
 // After the record at the front of what is left, whatever stands there.
 fn step(
-    s: AtHand,
+    s: Progress,
     input: &[u8],
-    wide: &mut [u8; 8196],
     work: &mut [f64; 1024],
     triangles: &mut [u32; 2031],
     node_boxes: &mut [f64; 8124],
@@ -181,10 +74,10 @@ fn step(
     list: &mut [u32; 677],
     stack: &mut [u32; 1355],
     output: &mut [u8],
-) -> AtHand
+) -> Progress
     requires { ⌜ (s .used ≤ length (now input)) × (s .filled + 114 ≤ length (now output)) ⌝ }
     requires { ⌜ s .next < 18446744073709551615 ⌝ }
-    ensures { λ r. ⌜ Turned (stepOf (s .next) (drop (s .used) (now (input .entry))) (nextOf (drop (s .used) (now (input .entry))))) s r
+    ensures { λ r. ⌜ Stepped (stepOf (s .next) (drop (s .used) (now (input .entry))) (nextOf (drop (s .used) (now (input .entry))))) s r
         (now (output .entry)) (now (output .exit)) ⌝ }
 {
     let used = s.used;
@@ -196,7 +89,6 @@ fn step(
                 s,
                 rest,
                 end,
-                wide,
                 work,
                 triangles,
                 node_boxes,
@@ -209,15 +101,15 @@ fn step(
             );
         }
         Found::Cut => {
-            return AtHand {
+            return Progress {
                 used: used,
-                filled: put_bad(s.next, output, s.filled),
+                filled: lines::bad_line(s.next, output, s.filled),
                 next: s.next,
                 over: true,
             };
         }
         Found::End => {
-            return AtHand {
+            return Progress {
                 used: used,
                 filled: s.filled,
                 next: s.next,
@@ -227,8 +119,8 @@ fn step(
     }
 }
 
-// Whether another record is answered: no malformed one or end was met, a line has room, and a whole record is at hand.
-fn goes_on(s: AtHand, ended: bool, length: usize, room: usize) -> bool
+// Whether another record is answered: no malformed one or end was met, a line has room, and the input has a whole record left.
+fn goes_on(s: Progress, ended: bool, length: usize, room: usize) -> bool
     requires { ⌜ (s .filled ≤ room) × (s .used ≤ length) ⌝ }
     ensures { λ r. ⌜ r ≡ goesOn s ended length room ⌝ }
 {
@@ -244,13 +136,12 @@ fn goes_on(s: AtHand, ended: bool, length: usize, room: usize) -> bool
     length - s.used >= 8196
 }
 
-// The lines for the bytes at hand, of which more may come unless `ended`, at the front of the output area: as many as have room. All
-// areas between are work areas, which may hold anything afterwards. No public call: the caller shows that record numbers do not run out.
-pub fn answer_at_hand(
+// The lines for the input, which goes on unless `ended`, at the front of the output area: as many as have room. All areas between are work
+// areas, which may hold anything afterwards. No public call: the caller shows that record numbers do not run out.
+pub fn answer_records(
     number: u64,
     ended: bool,
     input: &[u8],
-    wide: &mut [u8; 8196],
     work: &mut [f64; 1024],
     triangles: &mut [u32; 2031],
     node_boxes: &mut [f64; 8124],
@@ -260,14 +151,14 @@ pub fn answer_at_hand(
     list: &mut [u32; 677],
     stack: &mut [u32; 1355],
     output: &mut [u8],
-) -> AtHand
+) -> Progress
     requires { ⌜ number + length (now input) < 18446744073709551615 ⌝ }
     ensures { λ r. ⌜ Answered (now (input .entry)) ended number (length (now (output .entry))) (take (r .filled) (now (output .exit)))
         (r .used) (r .next) (r .over) ⌝ }
     ensures { λ r. ⌜ goesOn r ended (length (now (input .entry))) (length (now (output .entry))) ≡ false ⌝ }
     ensures { λ r. ⌜ r .filled ≤ length (now (output .entry)) ⌝ }
 {
-    let mut s = AtHand {
+    let mut s = Progress {
         used: 0,
         filled: 0,
         next: number,
@@ -277,7 +168,6 @@ pub fn answer_at_hand(
         s = step(
             s,
             input,
-            wide,
             work,
             triangles,
             node_boxes,

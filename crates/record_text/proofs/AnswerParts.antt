@@ -5,9 +5,9 @@ use mathlib.Core.List.{List, [], _∷_, _++_}
 use lib.Ieee.{Float}
 use Rattle.vectors.specs.declared.vec3.Vec3.{Vec3}
 use Rattle.casts.specs.Answer.{Answer, hit, none, refused}
-use Rattle.nearest_hit.specs.Nearest.{Indexed, hitAt, noHit, stopped, withoutIndex}
+use Rattle.nearest_hit.specs.Nearest.{Indexed, hitAt, noHit, stopped}
 use Rattle.record_text.specs.Text.{decimal, hexadecimal, printedBits, Put}
-use Rattle.record_text.specs.AnswerText.{hitWord, noneWord, refusedWord, floatText, hitText, answerText, indexText, indexedText}
+use Rattle.record_text.specs.AnswerText.{hitWord, noneWord, refusedWord, floatText, hitText, answerText, indexedText}
 use Rattle.record_text.proofs.Storing.{put-then}
 
 -- the same text under another name
@@ -39,21 +39,16 @@ pub refused-case : (a : Answer) (number : ℕ) → a ≡ refused number → refu
 unfolding answerText
 refused-case a number e = rw e
 
--- what a mesh adds, by the answer's cases
-pub index-hit : (a : Indexed) (normal : Vec3) (distance : Float) (index : ℕ) → a ≡ hitAt normal distance index → (32 ∷ []) ++ decimal index
-    ≡ indexText a
-unfolding indexText
-index-hit a normal distance index e = rw e
-
-pub index-none : (a : Indexed) → a ≡ noHit → indexText a ≡ []
-unfolding indexText
-index-none a e = rw e
-
-pub index-stopped : (a : Indexed) (number : ℕ) → a ≡ stopped number → indexText a ≡ []
-unfolding indexText
-index-stopped a number e = rw e
-
-pub put-both : {area after last : List ℕ} {at next end : ℕ} (a : Indexed) (b : Answer) → b ≡ withoutIndex a
-    → Put area at (answerText b) after next → Put after next (indexText a) last end → Put area at (indexedText a) last end
+-- a mesh's answer's cases
+pub indexed-hit : (a : Indexed) (normal : Vec3) (distance : Float) (index : ℕ) → a ≡ hitAt normal distance index
+    → (hitText normal distance ++ (32 ∷ [])) ++ decimal index ≡ indexedText a
 unfolding indexedText
-put-both a b e p q = put-then (answerText (withoutIndex a)) (indexText a) (rw e at p) q
+indexed-hit a normal distance index e = rw e
+
+pub indexed-none : (a : Indexed) → a ≡ noHit → noneWord ≡ indexedText a
+unfolding indexedText
+indexed-none a e = rw e
+
+pub indexed-refused : (a : Indexed) (number : ℕ) → a ≡ stopped number → refusedWord ++ decimal number ≡ indexedText a
+unfolding indexedText
+indexed-refused a number e = rw e

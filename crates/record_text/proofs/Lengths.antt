@@ -1,15 +1,15 @@
 -- How long the text of an answer is. Assumes nothing.
 use Prim.Native.Nat.{ℕ, _≤_}
 use mathlib.Core.Path.{_≡_}
-use mathlib.Core.List.{[], _∷_}
+use mathlib.Core.List.{[], _∷_, _++_}
 use native.Mathlib.Omega.{arith}
 use lib.Ieee.{Float}
 use lib.ListN.{length, length-append}
 use Rattle.vectors.specs.declared.vec3.Vec3.{Vec3}
 use Rattle.casts.specs.Answer.{Answer, hit, none, refused}
-use Rattle.nearest_hit.specs.Nearest.{Indexed, hitAt, noHit, stopped, withoutIndex}
+use Rattle.nearest_hit.specs.Nearest.{Indexed, hitAt, noHit, stopped}
 use Rattle.record_text.specs.Text.{decimal, hexadecimal, printedBits, placesOf}
-use Rattle.record_text.specs.AnswerText.{refusedWord, floatText, hitText, answerText, indexText, indexedText}
+use Rattle.record_text.specs.AnswerText.{refusedWord, floatText, hitText, answerText, indexedText}
 use Rattle.record_text.proofs.Places.{length-digits, places-at-most}
 
 pub length-decimal : (n : ℕ) → length (decimal n) ≤ 20
@@ -34,12 +34,15 @@ length-answer (hit normal distance) = omega (arith, length-hit normal distance)
 length-answer none = omega arith
 length-answer (refused number) = omega (arith, length-append refusedWord (decimal number), length-decimal number)
 
-length-index : (a : Indexed) → length (indexText a) ≤ 21
-unfolding indexText
-length-index (hitAt normal distance index) = omega (arith, length-append (32 ∷ []) (decimal index), length-decimal index)
-length-index noHit = omega arith
-length-index (stopped number) = omega arith
-
 pub length-indexed : (a : Indexed) → length (indexedText a) ≤ 92
 unfolding indexedText
-length-indexed a = omega (arith, length-append (answerText (withoutIndex a)) (indexText a), length-answer (withoutIndex a), length-index a)
+length-indexed (hitAt normal distance index) =
+    omega (
+      arith,
+      length-append (hitText normal distance ++ (32 ∷ [])) (decimal index),
+      length-append (hitText normal distance) (32 ∷ []),
+      length-hit normal distance,
+      length-decimal index,
+    )
+length-indexed noHit = omega arith
+length-indexed (stopped number) = omega (arith, length-append refusedWord (decimal number), length-decimal number)

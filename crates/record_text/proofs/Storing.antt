@@ -1,12 +1,12 @@
 -- Texts stored one behind another are one text. Assumes nothing.
 use Prim.Native.Nat.{ℕ, suc, _+_, _-_, _/_, _%_, _<_, _≤_}
-use mathlib.Core.Path.{_≡_, refl, sym, ap, _∙_}
+use mathlib.Core.Path.{_≡_, sym, ap, _∙_}
 use mathlib.Core.List.{List, [], _∷_, _++_}
-use native.Mathlib.Nat.{add-suc, suc-add, add-zero, add-assoc}
+use native.Mathlib.Nat.{add-zero}
 use native.Mathlib.Omega.{arith}
 use native.Mathlib.Numerals.{add-one}
-use lib.ListN.{length, set, getD, take, drop, length-append}
-use lib.Seq.{sets, sets-eq, length-sets, length-take-le, take-suc, take-all}
+use lib.ListN.{length, set, getD, take, length-append}
+use lib.Seq.{sets, length-sets, length-take-le, take-suc, take-all}
 use Rattle.record_text.specs.Text.{glyph, digits, Put}
 use Rattle.record_text.proofs.Places.{digits-next}
 
@@ -25,12 +25,6 @@ put-then {area} {after} {last} {at} {next} {end} xs ys p q = record {
 -- the area keeps its length
 pub put-keeps : {area after : List ℕ} {at next : ℕ} {text : List ℕ} → Put area at text after next → length after ≡ length area
 put-keeps {area} {after} {at} {next} {text} p = rw (p .stored) (length-sets area at text)
-
--- stored at the front: the text, then what was there
-pub put-front : {area after : List ℕ} {next : ℕ} {text : List ℕ} → Put area 0 text after next → length text ≤ length area → after ≡ text ++
-    drop (length text) area
-put-front {area} {after} {next} {text} p h = p .stored ∙
-    (sets-eq text area 0 (omega arith) ∙ (let e : 0 + length text ≡ length text = omega arith in rw e))
 
 -- one more byte of a text
 pub put-one : (area now text : List ℕ) (at i : ℕ) → now ≡ sets area at (take i text) → i < length text → set now (at + i) (getD text i 0) ≡

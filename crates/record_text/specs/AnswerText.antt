@@ -4,7 +4,7 @@ use mathlib.Core.List.{List, [], _∷_, _++_}
 use lib.Ieee.{Float}
 use Rattle.vectors.specs.declared.vec3.Vec3.{Vec3}
 use Rattle.casts.specs.Answer.{Answer, hit, none, refused}
-use Rattle.nearest_hit.specs.Nearest.{Indexed, hitAt, noHit, stopped, withoutIndex}
+use Rattle.nearest_hit.specs.Nearest.{Indexed, hitAt, noHit, stopped}
 use Rattle.record_text.specs.Text.{decimal, hexadecimal, printedBits}
 
 -- `hit`, `none` and `refused `
@@ -33,10 +33,7 @@ answerText none = noneWord
 answerText (refused number) = refusedWord ++ decimal number
 
 -- "a mesh adds the index in decimal"
-unfoldable pub indexText : Indexed → List ℕ
-indexText (hitAt normal distance index) = (32 ∷ []) ++ decimal index
-indexText noHit = []
-indexText (stopped number) = []
-
 unfoldable pub indexedText : Indexed → List ℕ
-indexedText answer = answerText (withoutIndex answer) ++ indexText answer
+indexedText (hitAt normal distance index) = (hitText normal distance ++ (32 ∷ [])) ++ decimal index
+indexedText noHit = noneWord
+indexedText (stopped number) = refusedWord ++ decimal number

@@ -5,7 +5,7 @@ use mathlib.Core.Bool.{cond}
 use mathlib.Core.List.{List, [], _∷_, _++_}
 use lib.Dec.{ltb}
 use lib.Ieee.{Float, binary64, toBits, isNan}
-use lib.ListN.{length, drop}
+use lib.ListN.{length}
 use lib.Seq.{sets}
 
 -- a digit below 16: `0` to `9`, then `a` to `f`
@@ -38,8 +38,3 @@ printedBits x = cond (isNan x) 0x7ff8_0000_0000_0000 (toBits binary64 x)
 pub record Put (area : List ℕ) (at : ℕ) (text : List ℕ) (after : List ℕ) (next : ℕ) : Type 0 where
   pub stored : after ≡ sets area at text
   pub behind : next ≡ at + length text
-
--- a text at the front of an area, the rest of which is as before, and how many bytes it has
-pub record Written (text area after : List ℕ) (count : ℕ) : Type 0 where
-  pub bytes : after ≡ text ++ drop (length text) area
-  pub counted : count ≡ length text

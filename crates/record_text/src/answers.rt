@@ -1,6 +1,5 @@
 use crate::text;
 use casts::answer::Cast;
-use nearest_hit::nearest;
 use nearest_hit::nearest::IndexedCast;
 use vectors::vec3::Vec3;
 ghost use mathlib.Core.List.{[], _∷_, _++_};
@@ -9,7 +8,7 @@ ghost use lib.ListN.{length};
 ghost use Rattle.casts.specs.Answer.{says};
 ghost use Rattle.nearest_hit.specs.Nearest.{saysIndexed};
 ghost use Rattle.record_text.specs.Text.{Put, decimal};
-ghost use Rattle.record_text.specs.AnswerText.{floatText, hitText, answerText, indexText, indexedText};
+ghost use Rattle.record_text.specs.AnswerText.{refusedWord, floatText, hitText, answerText, indexedText};
 
 // A line's answer has at most 92 bytes: `hit` with four floats of 17 bytes, and a triangle's index after a space; 20 digits are set aside
 // for each whole number.
@@ -35,6 +34,15 @@ fn put_hit(out: &mut [u8], at: usize, normal: Vec3, distance: f64) -> usize
     put_float(out, z, distance)
 }
 
+// The word and the number of a refusal.
+fn put_refused(out: &mut [u8], at: usize, number: u32) -> usize
+    requires { ⌜ at + 28 ≤ length (now out) ⌝ }
+    ensures { λ r. ⌜ Put (now (out .entry)) at (refusedWord ++ decimal number) (now (out .exit)) r ⌝ }
+{
+    let word = text::put_text(out, at, b"refused ");
+    text::put_decimal(out, word, number as u64)
+}
+
 // An answer's text.
 pub fn put_answer(out: &mut [u8], at: usize, cast: Cast) -> usize
     requires { ⌜ at + 71 ≤ length (now out) ⌝ }
@@ -48,49 +56,40 @@ pub fn put_answer(out: &mut [u8], at: usize, cast: Cast) -> usize
             return text::put_text(out, at, b"none");
         }
         Cast::Refused(number) => {
-            let word = text::put_text(out, at, b"refused ");
-            return text::put_decimal(out, word, number as u64);
+            return put_refused(out, at, number);
         }
     }
 }
 
-// What a mesh adds to an answer.
-fn put_index(out: &mut [u8], at: usize, cast: IndexedCast) -> usize
-    requires { ⌜ at + 21 ≤ length (now out) ⌝ }
-    ensures { λ r. ⌜ Put (now (out .entry)) at (indexText (saysIndexed cast)) (now (out .exit)) r ⌝ }
-{
-    match cast {
-        IndexedCast::Hit {
-            normal: _,
-            distance: _,
-            index,
-        } => {
-            let next = text::put_byte(out, at, b' ');
-            return text::put_decimal(out, next, index as u64);
-        }
-        IndexedCast::None => {
-            return at;
-        }
-        IndexedCast::Refused(_) => {
-            return at;
-        }
-    }
-}
-
-// An answer's text with its index.
+// A mesh's answer: a hit has its index behind it.
 pub fn put_indexed(out: &mut [u8], at: usize, cast: IndexedCast) -> usize
     requires { ⌜ at + 92 ≤ length (now out) ⌝ }
     ensures { λ r. ⌜ Put (now (out .entry)) at (indexedText (saysIndexed cast)) (now (out .exit)) r ⌝ }
 {
-    let next = put_answer(out, at, nearest::without_index(cast));
-    put_index(out, next, cast)
+    match cast {
+        IndexedCast::Hit {
+            normal,
+            distance,
+            index,
+        } => {
+            let behind = put_hit(out, at, normal, distance);
+            let next = text::put_byte(out, behind, b' ');
+            return text::put_decimal(out, next, index as u64);
+        }
+        IndexedCast::None => {
+            return text::put_text(out, at, b"none");
+        }
+        IndexedCast::Refused(number) => {
+            return put_refused(out, at, number);
+        }
+    }
 }
 
-// The record number and a space, at the front.
-pub fn put_number(out: &mut [u8], number: u64) -> usize
-    requires { ⌜ 21 ≤ length (now out) ⌝ }
-    ensures { λ r. ⌜ Put (now (out .entry)) 0 (decimal number ++ (32 ∷ [])) (now (out .exit)) r ⌝ }
+// The record number and a space.
+pub fn put_number(out: &mut [u8], at: usize, number: u64) -> usize
+    requires { ⌜ at + 21 ≤ length (now out) ⌝ }
+    ensures { λ r. ⌜ Put (now (out .entry)) at (decimal number ++ (32 ∷ [])) (now (out .exit)) r ⌝ }
 {
-    let end = text::put_decimal(out, 0, number);
+    let end = text::put_decimal(out, at, number);
     text::put_byte(out, end, b' ')
 }

@@ -8,7 +8,7 @@ use Rattle.triangle_cast.specs.Triangle.{rayTriangle}
 use Rattle.height_field.specs.Cast.{rayHeightField}
 use Rattle.level_set.specs.Walk.{rayLevelSet}
 use Rattle.geometry.specs.declared.ray.Ray.{Ray}
-use Rattle.record_bytes.specs.Parse.{Shape, plane, triangle, mesh, heights, distances, Parsed, says, malformed, parse}
+use Rattle.records.specs.Shapes.{Shape, plane, triangle, mesh, heights, distances, Parsed, says, malformed, parse}
 use Rattle.records.specs.MeshAnswer.{meshAnswer}
 use Rattle.record_text.specs.Text.{decimal}
 use Rattle.records.specs.Lines.{shapeText, parsedText, badWord, recordText, lineWith, lineOf, badLine}
@@ -41,8 +41,8 @@ longest-line number text short =
       length-number number,
     )
 
-pub length-line : (number : ℕ) (body : List ℕ) → length (lineOf number body) ≤ 114
-length-line number body = longest-line number (recordText body) (length-parsed (parse body))
+pub length-line : (number : ℕ) (bytes : List ℕ) → length (lineOf number bytes) ≤ 114
+length-line number bytes = longest-line number (recordText bytes) (length-parsed (parse bytes))
 
 pub length-bad-line : (number : ℕ) → length (badLine number) ≤ 114
 length-bad-line number = longest-line number badWord (omega arith)

@@ -12,14 +12,12 @@ use Rattle.geometry.specs.Segment.{rayAdmitted}
 use Rattle.geometry.specs.declared.ray.Ray.{Ray}
 use Rattle.casts.specs.Answer.{invalidInput}
 use Rattle.nearest_hit.specs.Nearest.{Indexed, stopped}
-use Rattle.tree.specs.Mesh.{Mesh, thirds, mesh}
+use Rattle.tree.specs.Mesh.{Mesh, thirds}
 use Rattle.tree_build.specs.Build.{says, Outcome, buildOf}
 use Rattle.tree.specs.Layout.{Areas, areas, treeIn}
 use Rattle.tree_build.specs.declared.build.Built.{Built}
 use Rattle.tree_build.specs.declared.build.Built.the-variants.{Nodes, Refused}
 use Rattle.mesh.specs.MeshCast.{rayMesh}
-use Rattle.record_bytes.specs.Bytes.{floatsAt, wordsAt}
-use Rattle.record_bytes.specs.Fields.{vertexCount, triangleCount, meshOf}
 use Rattle.mesh.specs.Through.{throughBuilt, throughTree}
 use Rattle.records.specs.MeshAnswer.{meshAnswer}
 use Rattle.records.specs.Areas.{TreeRoom, TreeLent}
@@ -55,28 +53,17 @@ unfolding meshAnswer
 fresh-answer ray m a admitted room n t w o e =
     simp admitted (rw (n, t, w, o, room .boxed, room .bounded, room .worded, room .ordered, room .listed, room .stacked) at e)
 
--- ---- decoded
+-- ---- parts of the areas
 
-pub decoded-mesh : (shape : List ℕ) (ray : Ray) (vertices : List Float) (triangles : List ℕ) (corners start indices : ℕ) (a : Indexed)
-    → vertices ≡ floatsAt shape 8 corners → triangles ≡ wordsAt shape start indices
-    → corners ≡ 3 * vertexCount shape → start ≡ 8 + 24 * vertexCount shape → indices ≡ 3 * triangleCount shape
-    → a ≡ meshAnswer ray (mesh vertices triangles) → a ≡ meshAnswer ray (meshOf shape)
-unfolding meshOf
-decoded-mesh shape ray vertices triangles corners start indices a v t c s i e = rw (v, t, c, s, i) at e
-
--- the areas, cut to a number of triangles
-pub cut-room : (count : ℕ) (triangles : List ℕ) {nodeBoxes triangleBoxes : List Float} {nodeWords order list stack : List ℕ}
-    → 3 * count ≤ length triangles → count ≤ 677 → TreeLent nodeBoxes triangleBoxes nodeWords order list stack
-    → TreeRoom (thirds (length (take (3 * count) triangles))) (take (12 * count) nodeBoxes) (take (6 * count) triangleBoxes)
+pub cut-room : (count : ℕ) {nodeBoxes triangleBoxes : List Float} {nodeWords order list stack : List ℕ}
+    → count ≤ 677 → TreeLent nodeBoxes triangleBoxes nodeWords order list stack
+    → TreeRoom count (take (12 * count) nodeBoxes) (take (6 * count) triangleBoxes)
     (take (6 * count) nodeWords) (take count order) (take count list) (take (2 * count + 1) stack)
-cut-room count triangles {nodeBoxes} {triangleBoxes} {nodeWords} {order} {list} {stack} enough few lent =
-    let n : thirds (length (take (3 * count) triangles)) ≡ count = omega (arith, length-take-le (3 * count) triangles enough) in
-    rw n
-    record {
-      boxed = length-take-le (12 * count) nodeBoxes (omega (arith, lent .boxed));
-      bounded = length-take-le (6 * count) triangleBoxes (omega (arith, lent .bounded));
-      worded = length-take-le (6 * count) nodeWords (omega (arith, lent .worded));
-      ordered = length-take-le count order (omega (arith, lent .ordered));
-      listed = length-take-le count list (omega (arith, lent .listed));
-      stacked = length-take-le (2 * count + 1) stack (omega (arith, lent .stacked));
-    }
+cut-room count {nodeBoxes} {triangleBoxes} {nodeWords} {order} {list} {stack} few lent = record {
+  boxed = length-take-le (12 * count) nodeBoxes (omega (arith, lent .boxed));
+  bounded = length-take-le (6 * count) triangleBoxes (omega (arith, lent .bounded));
+  worded = length-take-le (6 * count) nodeWords (omega (arith, lent .worded));
+  ordered = length-take-le count order (omega (arith, lent .ordered));
+  listed = length-take-le count list (omega (arith, lent .listed));
+  stacked = length-take-le (2 * count + 1) stack (omega (arith, lent .stacked));
+}

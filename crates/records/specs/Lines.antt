@@ -7,7 +7,7 @@ use Rattle.triangle_cast.specs.Triangle.{rayTriangle}
 use Rattle.height_field.specs.Cast.{rayHeightField}
 use Rattle.level_set.specs.Walk.{rayLevelSet}
 use Rattle.records.specs.MeshAnswer.{meshAnswer}
-use Rattle.record_bytes.specs.Parse.{Shape, plane, triangle, mesh, heights, distances, Parsed, says, malformed, parse}
+use Rattle.records.specs.Shapes.{Shape, plane, triangle, mesh, heights, distances, Parsed, says, malformed, parse}
 use Rattle.record_text.specs.Text.{decimal}
 use Rattle.record_text.specs.AnswerText.{answerText, indexedText}
 
@@ -28,17 +28,17 @@ unfoldable pub parsedText : Parsed → List ℕ
 parsedText (says ray shape) = shapeText ray shape
 parsedText malformed = badWord
 
--- the answer to a record's body
+-- the answer to a whole record, its length bytes included
 abbrev pub recordText : List ℕ → List ℕ
-recordText body = parsedText (parse body)
+recordText bytes = parsedText (parse bytes)
 
 -- the record number, a space, the answer, the end of the line
 unfoldable pub lineWith : ℕ → List ℕ → List ℕ
 lineWith number text = ((decimal number ++ (32 ∷ [])) ++ text) ++ (10 ∷ [])
 
--- the line of a record's body
+-- the line of a whole record
 abbrev pub lineOf : ℕ → List ℕ → List ℕ
-lineOf number body = lineWith number (recordText body)
+lineOf number bytes = lineWith number (recordText bytes)
 
 -- "it prints the record number and `bad`"
 abbrev pub badLine : ℕ → List ℕ

@@ -2,9 +2,9 @@
 use Prim.Native.Nat.{ℕ, zero, suc}
 use mathlib.Core.Bool.{cond}
 use mathlib.Core.List.{List, [], _++_}
-use lib.ListN.{length, drop}
-use Rattle.record_bytes.specs.Parse.{wellFormed}
-use Rattle.record_bytes.specs.Stream.{nextOf, bodyOf}
+use lib.ListN.{length, take, drop}
+use Rattle.record_bytes.specs.Records.{isRecord}
+use Rattle.record_bytes.specs.Stream.{nextOf}
 use Rattle.record_bytes.specs.declared.stream.Found.{Found}
 use Rattle.record_bytes.specs.declared.stream.Found.the-variants.{Record, Cut, End}
 use Rattle.records.specs.Lines.{lineOf, badLine}
@@ -15,8 +15,8 @@ linesFrom zero number bytes found = []
 linesFrom (suc most) number bytes End = []
 linesFrom (suc most) number bytes Cut = badLine number
 linesFrom (suc most) number bytes (Record end) =
-    cond (wellFormed (bodyOf end bytes))
-    (lineOf number (bodyOf end bytes) ++ linesFrom most (suc number) (drop end bytes) (nextOf (drop end bytes)))
+    cond (isRecord (take end bytes))
+    (lineOf number (take end bytes) ++ linesFrom most (suc number) (drop end bytes) (nextOf (drop end bytes)))
     (badLine number)
 
 -- "Whole output": what `probe` writes for its standard input

@@ -3,17 +3,15 @@ use geometry::ray::Ray;
 use lists::fill;
 use mesh::cast;
 use nearest_hit::nearest::IndexedCast;
-use record_bytes::bytes;
 use tree_build::build;
 use tree_build::build::Built;
 ghost use mathlib.Core.Path.{_≡_};
-ghost use Prim.Native.Nat.{_+_, _*_, _≤_};
+ghost use Prim.Native.Nat.{_≤_};
 ghost use lib.ListN.{length};
 ghost use Rattle.nearest_hit.specs.Nearest.{saysIndexed};
 ghost use Rattle.tree.specs.Mesh.{thirds, mesh};
 ghost use Rattle.tree.specs.Layout.{areas};
 ghost use Rattle.tree_build.specs.Build.{buildOf};
-ghost use Rattle.record_bytes.specs.Fields.{vertexCount, triangleCount, meshOf};
 ghost use Rattle.mesh.specs.Through.{throughTree};
 ghost use Rattle.records.specs.MeshAnswer.{meshAnswer};
 ghost use Rattle.records.specs.Areas.{TreeRoom, TreeLent};
@@ -104,13 +102,11 @@ fn cast_fresh(
     )
 }
 
-// The cast at a shape of kind 3, from its own bytes; its mesh is decoded into the first two areas, and the tree is built in parts of the
-// others.
+// The cast at a shape of kind 3; the tree is built in parts of the areas.
 pub fn mesh_answer(
-    shape: &[u8],
     ray: Ray,
-    vertices: &mut [f64],
-    triangles: &mut [u32],
+    vertices: &[f64],
+    triangles: &[u32],
     node_boxes: &mut [f64],
     triangle_boxes: &mut [f64],
     node_words: &mut [u32],
@@ -118,24 +114,18 @@ pub fn mesh_answer(
     list: &mut [u32],
     stack: &mut [u32],
 ) -> IndexedCast
-    requires { ⌜ (8 + 24 * vertexCount (now shape) + 12 * triangleCount (now shape) ≡ length (now shape)) × (length (now shape) ≤ 8134) ⌝ }
-    requires { ⌜ (1024 ≤ length (now vertices)) × ((2031 ≤ length (now triangles)) × TreeLent (now «node_boxes») (now «triangle_boxes»)
-        (now «node_words») (now order) (now list) (now stack)) ⌝ }
-    ensures { λ r. ⌜ saysIndexed r ≡ meshAnswer ray (meshOf (now (shape .entry))) ⌝ }
+    requires { ⌜ (length (now triangles) ≤ 2031) × TreeLent (now «node_boxes») (now «triangle_boxes») (now «node_words») (now order)
+        (now list) (now stack) ⌝ }
+    ensures { λ r. ⌜ saysIndexed r ≡ meshAnswer ray (mesh (now (vertices .entry)) (now (triangles .entry))) ⌝ }
 {
-    let corners = 3 * bytes::word_at(shape, 0) as usize;
-    let count = bytes::word_at(shape, 4) as usize;
-    let indices = 3 * count;
-    let start = 8 + 8 * corners;
-    bytes::floats_at(shape, 8, corners, vertices);
-    bytes::words_at(shape, start, indices, triangles);
+    let count = triangles.len() / 3;
     let boxes = 12 * count;
     let words = 6 * count;
     let nodes = 2 * count + 1;
     cast_fresh(
         ray,
-        &vertices[..corners],
-        &triangles[..indices],
+        vertices,
+        triangles,
         &mut node_boxes[..boxes],
         &mut triangle_boxes[..words],
         &mut node_words[..words],

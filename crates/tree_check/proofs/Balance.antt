@@ -11,7 +11,7 @@ use lib.Dec.{eqb}
 use lib.ListN.{getD}
 use Rattle.lists.specs.Lists.{range, count, every, flatMap}
 use Rattle.tree.specs.Layout.{kindAt, firstAt, secondAt}
-use Rattle.tree_check.specs.Marks.{once, places, secondMark, marked, heldBefore, heldOnce}
+use Rattle.tree_check.specs.Marks.{once, places, secondMark, marked, leavesAt, inOneLeaf}
 use Rattle.tree_check.specs.Sound.{nodeSound}
 use Rattle.lists.proofs.EveryLaws.{every-at, every-agree}
 use Rattle.tree_check.proofs.Counting.{by-equality, count-other, count-agree, count-cons, count-append}
@@ -119,8 +119,8 @@ gather-balance f g n p start (suc size) h =
 
 module _ (n : ℕ) (marks held gathered : List ℕ) (counted : (x : ℕ) → x < 3 * n → getD marks x 0 ≡ count x gathered)
     (balanced : (p : ℕ) → p < n → Balanced n p held gathered) where
-  held-before-is : (p : ℕ) → p ≤ n → heldBefore n marks p ≡ before p held
-  unfolding heldBefore before
+  held-before-is : (p : ℕ) → p ≤ n → leavesAt n marks p ≡ before p held
+  unfolding leavesAt before
   held-before-is zero h = refl
   held-before-is (suc p) h = omega (
     arith,
@@ -131,14 +131,14 @@ module _ (n : ℕ) (marks held gathered : List ℕ) (counted : (x : ℕ) → x <
         p) (omega arith),
   )
 
-  held-once-is : (p : ℕ) → p < n → heldOnce n marks p ≡ once held p
-  unfolding heldOnce once before
+  held-once-is : (p : ℕ) → p < n → inOneLeaf n marks p ≡ once held p
+  unfolding inOneLeaf once before
   held-once-is p h = ap (λ (k : ℕ). eqb k 1) (held-before-is (suc p) h)
 
 -- the marks of sound leaves tell how many leaves hold each place
 pub placed-once-is : (n nodes : ℕ) (words marks : List ℕ) → every (nodeSound n nodes words) (range 0 nodes) ≡ true
     → ((x : ℕ) → x < 3 * n → getD marks x 0 ≡ count x (flatMap (marked 0 n words) (range 0 nodes)))
-    → every (heldOnce n marks) (range 0 n) ≡ every (once (flatMap (places words) (range 0 nodes))) (range 0 n)
+    → every (inOneLeaf n marks) (range 0 n) ≡ every (once (flatMap (places words) (range 0 nodes))) (range 0 n)
 placed-once-is n nodes words marks sound counted =
     every-agree _ _ 0 n
     (λ p low high. held-once-is n marks (flatMap (places words) (range 0 nodes)) (flatMap (marked 0 n words) (range 0 nodes)) counted

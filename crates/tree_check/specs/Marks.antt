@@ -34,10 +34,10 @@ pub record Inside (kind n : ℕ) (words : List ℕ) (node : ℕ) : Type 0 where
       (secondMark kind n (firstAt words node) (secondAt words node) < 3 * n)
 
 -- how many leaves hold the place before p, from the marks: those begun less those ended
-unfoldable pub heldBefore : ℕ → List ℕ → ℕ → ℕ
-heldBefore n marks zero = 0
-heldBefore n marks (suc p) = heldBefore n marks p + getD marks p 0 - getD marks (n + p) 0
+unfoldable pub leavesAt : ℕ → List ℕ → ℕ → ℕ
+leavesAt n marks zero = 0
+leavesAt n marks (suc p) = leavesAt n marks p + getD marks p 0 - getD marks (n + p) 0
 
 -- one leaf holds p
-unfoldable pub heldOnce : ℕ → List ℕ → ℕ → Bool
-heldOnce n marks p = eqb (heldBefore n marks (suc p)) 1
+unfoldable pub inOneLeaf : ℕ → List ℕ → ℕ → Bool
+inOneLeaf n marks p = eqb (leavesAt n marks (suc p)) 1

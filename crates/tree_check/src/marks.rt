@@ -4,7 +4,7 @@ ghost use mathlib.Core.List.{[], _∷_};
 ghost use Prim.Native.Nat.{ℕ, _+_, _-_, _*_, _<_, _≤_};
 ghost use lib.ListN.{length, getD};
 ghost use Rattle.lists.specs.Lists.{range, count, every};
-ghost use Rattle.tree_check.specs.Marks.{markedOnce, heldOnce};
+ghost use Rattle.tree_check.specs.Marks.{markedOnce, inOneLeaf};
 
 // Zeros below end.
 pub fn clear(marks: &mut [u32], end: usize)
@@ -39,9 +39,9 @@ pub fn all_once(marks: &[u32], start: usize, end: usize) -> bool
 
 // Whether one leaf holds each place below n, where the marks count how many begin at a place and, n further on, how many have ended before
 // it.
-pub fn all_held_once(n: usize, marks: &[u32]) -> bool
+pub fn all_in_one_leaf(n: usize, marks: &[u32]) -> bool
     requires { ⌜ 2 * n ≤ length (now marks) ⌝ }
-    ensures { λ r. ⌜ r ≡ every (heldOnce n (now (marks .entry))) (range 0 n) ⌝ }
+    ensures { λ r. ⌜ r ≡ every (inOneLeaf n (now (marks .entry))) (range 0 n) ⌝ }
 {
     let mut held: usize = 0;
     let mut p = 0;

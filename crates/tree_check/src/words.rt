@@ -139,7 +139,7 @@ pub fn placed_once(n: usize, nodes: usize, words: &[u32], marks: &mut [u32]) -> 
     ensures { λ r. ⌜ r ≡ every (once (flatMap (places (now (words .entry))) (range 0 nodes))) (range 0 n) ⌝ }
 {
     mark_nodes(0, n, nodes, words, marks);
-    marks::all_held_once(n, marks)
+    marks::all_in_one_leaf(n, marks)
 }
 
 // One more of the triangle at an order place, if it is one.

@@ -37,7 +37,7 @@ use Rattle.exact_triangle.proofs.Laws.{first-read, second-read, third-read}
 use Rattle.exact_triangle.proofs.Certainty.{reach-certain}
 use Rattle.exact_triangle.proofs.Hits.{off-hit, reached-as, never-refused}
 use Rattle.mesh_exact.proofs.Reaching.{inside-answer}
-use Rattle.tree_exact.specs.Demand.{gridBox, Deep, GridAnswers}
+use Rattle.tree_exact.specs.Demand.{gridBox, HitPoint, GridAnswers}
 use Rattle.mesh_exact.specs.GridCast.{exactAnswer}
 use Rattle.tree_exact.specs.Numbers.{NoNaN}
 use Rattle.tree_exact.proofs.Corners.{Among, among-box, Numbers}
@@ -65,7 +65,7 @@ depth-is n D (pos t) h = refl
 depth-is n D (negsuc t) h = absurd (false≢true h)
 
 nearest-deep : (l : Line) (a b c : Vec3) → allWithin furthest a ≡ true → allWithin furthest b ≡ true → allWithin furthest c ≡ true
-    → (x : Float) → Nearest l (gridPoint a) (gridPoint b) (gridPoint c) x → Deep l a b c x
+    → (x : Float) → Nearest l (gridPoint a) (gridPoint b) (gridPoint c) x → HitPoint l a b c x
 nearest-deep l a b c pa pb pc x s =
     let f = s .first in
     let z = depth-is (l .near) (f .D) (f .t) (f .on .least) in
@@ -109,7 +109,7 @@ module _ (r : Ray) (pose : List Float) (triangles : List ℕ) where
   module _ (admitted : rayAdmitted r ≡ true) (read : gridAdmitted r ≡ true) where
     module _ (i : ℕ) where
       hit-deep : (normal : Vec3) (distance : Float) → answer i ≡ hit normal distance
-          → Deep (gridLine r) (cornerAt pose triangles i 0) (cornerAt pose triangles i 1) (cornerAt pose triangles i 2) distance
+          → HitPoint (gridLine r) (cornerAt pose triangles i 0) (cornerAt pose triangles i 1) (cornerAt pose triangles i 2) distance
       unfolding cornersOf reachOf
       hit-deep normal distance h =
           let vs = cornersOf pose triangles i in

@@ -20,7 +20,7 @@ use Rattle.nearest_hit.specs.Nearest.{Indexed, noHit, stopped, nextOf}
 use Rattle.nearest_hit.specs.Summary.{Kept, nobody, kept, Found, Summary, winnerOf, winner, answerAt, saysNearestSoFar}
 use Rattle.nearest_hit.specs.declared.summary.NearestSoFar.{NearestSoFar}
 use Rattle.nearest_hit.specs.declared.summary.Outcome.{Outcome}
-use Rattle.nearest_hit.specs.declared.summary.Outcome.the-variants.{Nobody, Refused, Struck}
+use Rattle.nearest_hit.specs.declared.summary.Outcome.the-variants.{Nobody, Refused, NearestHit}
 use Rattle.tree.specs.Layout.{Tree}
 use Rattle.tree.specs.Mesh.{Mesh, thirds, lengthsAdmitted}
 use Rattle.tree_query.specs.Query.{treeFits, walkFits}
@@ -28,8 +28,8 @@ use Rattle.tree_query.proofs.Queries.{fits-room}
 use Rattle.mesh.specs.MeshCast.{shapeAdmitted}
 use Rattle.exact_triangle.specs.Grid.{gridAdmitted, gridLine}
 use Rattle.exact_triangle.specs.declared.view.View.{View}
-use Rattle.exact_triangle.specs.declared.view.Aim.{Aim}
-use Rattle.exact_triangle.specs.declared.view.Aim.the-variants.{On, Off}
+use Rattle.exact_triangle.specs.declared.view.GridView.{GridView}
+use Rattle.exact_triangle.specs.declared.view.GridView.the-variants.{On, Off}
 use Rattle.exact_triangle.specs.View.{Shown, Viewed}
 use Rattle.tree_exact.specs.Onward.{Reached}
 use Rattle.tree_exact.specs.Opening.{opensNode}
@@ -45,27 +45,27 @@ use Rattle.tree_exact.specs.declared.walk.Walked.the-variants.{Ended, Br
 abbrev kind : Outcome → ℕ
 kind Nobody = 0
 kind (Refused number) = 1
-kind (Struck index distance) = 2
+kind (NearestHit index distance) = 2
 
-abbrev struckIndex : Outcome → ℕ
-struckIndex Nobody = 0
-struckIndex (Refused number) = 0
-struckIndex (Struck index distance) = index
+abbrev hitIndex : Outcome → ℕ
+hitIndex Nobody = 0
+hitIndex (Refused number) = 0
+hitIndex (NearestHit index distance) = index
 
-abbrev struckAt : Float → Outcome → Float
-struckAt other Nobody = other
-struckAt other (Refused number) = other
-struckAt other (Struck index distance) = distance
+abbrev hitDistance : Float → Outcome → Float
+hitDistance other Nobody = other
+hitDistance other (Refused number) = other
+hitDistance other (NearestHit index distance) = distance
 
 module _ (t : Tree) (n : ℕ) (answer : ℕ → Answer) (opens : ℕ → Summary → Bool) (leftFirst : ℕ → Bool) where
   winner-reached : (r : Kept (Found ℕ)) (l : Kept (Found Float)) → Reached t n answer opens leftFirst l
-      → (index : ℕ) (distance : Float) → winnerOf r l ≡ Struck index distance → (index < n) × (reachOf (answer index) ≡ At distance)
+      → (index : ℕ) (distance : Float) → winnerOf r l ≡ NearestHit index distance → (index < n) × (reachOf (answer index) ≡ At distance)
   unfolding winnerOf
   winner-reached (kept r) l h index distance e = let z = ap kind e in absurd (omega (arith, z))
   winner-reached nobody nobody h index distance e = let z = ap kind e in absurd (omega (arith, z))
   winner-reached nobody (kept best) h index distance e =
-      subst (λ (i : ℕ). (i < n) × (reachOf (answer i) ≡ At distance)) (ap struckIndex e)
-      (subst (λ (d : Float). (best .index < n) × (reachOf (answer (best .index)) ≡ At d)) (ap (struckAt distance) e) h)
+      subst (λ (i : ℕ). (i < n) × (reachOf (answer i) ≡ At distance)) (ap hitIndex e)
+      (subst (λ (d : Float). (best .index < n) × (reachOf (answer (best .index)) ≡ At d)) (ap (hitDistance distance) e) h)
 
 module _ (line : View) (reach : Aabb) (pose : List Float) (triangles : List ℕ) (nodes : ℕ) (boxes : List Float) (words order : List ℕ)
     (result : Walked) (walked : Walks line reach pose triangles nodes boxes words order result) (r : Ray) (on : Bounded r line reach)
@@ -94,7 +94,7 @@ module _ (line : View) (reach : Aabb) (pose : List Float) (triangles : List ℕ)
     unfolding answerAt
     through-refused number h = ap (answerAt answer) (sym h) ∙ ends
 
-    module _ (index : ℕ) (distance : Float) (h : outcome ≡ Struck index distance) where
+    module _ (index : ℕ) (distance : Float) (h : outcome ≡ NearestHit index distance) where
       pub through-reached : (index < n) × (reachOf (answer index) ≡ At distance)
       through-reached =
           winner-reached t n answer (opensNode (gridLine r) t) (leftFirst (gridLine r) t) (saysNearestSoFar notes .refuser)
@@ -105,11 +105,11 @@ module _ (line : View) (reach : Aabb) (pose : List Float) (triangles : List ℕ)
       through-hit a f x g = g ∙ ap (nextOf noHit index) f ∙ ap (answerAt answer) (sym h) ∙ ends
 
 -- ---- what the ray's line is
-pub off-line : (r : Ray) (aim : Aim) → Viewed r aim → aim ≡ Off → gridAdmitted r ≡ false
-off-line r aim h e = subst (Viewed r) e h
+pub off-line : (r : Ray) (viewed : GridView) → Viewed r viewed → viewed ≡ Off → gridAdmitted r ≡ false
+off-line r viewed h e = subst (Viewed r) e h
 
-pub on-line : (r : Ray) (aim : Aim) → Viewed r aim → (line : View) → aim ≡ On line → Shown r line
-on-line r aim h line e = subst (Viewed r) e h
+pub on-line : (r : Ray) (viewed : GridView) → Viewed r viewed → (line : View) → viewed ≡ On line → Shown r line
+on-line r viewed h line e = subst (Viewed r) e h
 
 -- ---- refusals 1, 12 and 2 to 4, in their order
 module _ (r : Ray) (m : Mesh) (pose : List Float) (t : Tree) (stack : ℕ) where

@@ -16,7 +16,7 @@ use Rattle.nearest_hit.specs.Summary.{Kept, nobody, kept, keepOf, Found, found,
 use Rattle.exact_triangle.specs.Line.{Line}
 use Rattle.exact_triangle.specs.Grid.{units, nearestTo, within, longest}
 use Rattle.tree_exact.specs.Opening.{limitOf}
-use Rattle.tree_exact.specs.Demand.{Deep}
+use Rattle.tree_exact.specs.Demand.{HitPoint}
 use Rattle.tree_exact.proofs.Reading.{read-below}
 
 -- ---- one that is farther does not go before
@@ -31,7 +31,7 @@ farther-stays : (y : Found Float) (x : ℕ) (d : Float) → lt (y .value) d ≡ 
 unfolding keepOf nearer
 farther-stays y x d h = simp (lt-asymmetric (y .value) d h, not-le (y .value) d h)
 
-module _ (l : Line) (a b c : Vec3) (distance : Float) (deep : Deep l a b c distance) where
+module _ (l : Line) (a b c : Vec3) (distance : Float) (deep : HitPoint l a b c distance) where
   abbrev D : ℕ
   D = deep .D
 

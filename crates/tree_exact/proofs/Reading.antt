@@ -22,7 +22,7 @@ use Rattle.wide_integers.proofs.Integers.{neg-pp, neg-np}
 use Rattle.wide_integers.proofs.Polynomials.{own}
 use Rattle.wide_integers.proofs.Order.{le-rep}
 use Rattle.exact_triangle.specs.Grid.{units, signed, nearestTo, within, furthest, longest}
-use Rattle.exact_triangle.proofs.Touching.{furthest-is, longest-is, signed-size}
+use Rattle.exact_triangle.proofs.Touching.{furthest-is, longest-is, signed-size, bounded}
 
 -- ---- the order
 nothing-read : (a d k : ℕ) → 0 < d → a ≤ 0 → closest (a * k) d ≤ 0
@@ -83,13 +83,6 @@ value-of : (n : ℕ) → n < 2 ^ 53 → HasValue (round binary64 false n units) 
 value-of n l =
     let room : n * 2 ^ 1059 ≤ 2 ^ 53 * 2 ^ 1059 = mul-le-mul-right (2 ^ 1059) (le-of-lt l) in
     round-exact binary64 false n units n 1059 (lit< tt) l (lt-of-le-of-lt room (lit< tt)) (sym (mul-assoc n (2 ^ 1059) units))
-
-bounded : (a d q k n : ℕ) → 0 < d → 2 * (q * d) ≤ 2 * (a * k) + d → a * 1 ≤ n * d → q ≤ n * k
-bounded a d q k n D h g =
-    let g' : a * 1 * k ≤ n * d * k = mul-le-mul-right k g in
-    let l : (2 * q) * d ≤ (2 * (n * k) + 1) * d = omega (arith, h, g') in
-    let m : 2 * q ≤ 2 * (n * k) + 1 = le-of-mul-le-mul-right l D in
-    omega (arith, m)
 
 next-above : (s : Bool) (a d q : ℕ) → 0 < d → 2 * (a * units) ≤ 2 * (q * d) + d → below s (a * units) false (suc q * d) ≡ true
 next-above false a d q p h = lt-ltb (a * units) (suc q * d) (omega (arith, h, p))

@@ -11,7 +11,7 @@ use Rattle.wide_integers.specs.Sizes.{Sized}
 use Rattle.wide_integers.proofs.Reading.{bits, fits, plain, widen, product-size, difference-size}
 use Rattle.exact_triangle.specs.Box.{lesser, greater}
 use Rattle.lists.proofs.JoinedTests.{test-passed, test-failed}
-use Rattle.tree_exact.specs.Room.{multiple, minus, holdsZero, reaches, SideSized, MultipleSized, MinusSized}
+use Rattle.tree_exact.specs.Room.{multiple, difference, holdsZero, reaches, SideSized, MultipleSized, DifferenceSized}
 use Rattle.tree_exact.specs.declared.room.Span.{Span}
 
 -- ---- a product
@@ -52,9 +52,9 @@ in-order {x = x} {y = y} e d h =
     (λ i. record { low = e i; high = d i })
     ∙ sym (ap (λ (b : Bool). record { low = cond b x y; high = cond b y x }) (at-most-read e d h))
 
-pub turned : {X Y x y : ℤ} → X ≡ x → Y ≡ y → leZ X Y ≡ false
+pub headingSized : {X Y x y : ℤ} → X ≡ x → Y ≡ y → leZ X Y ≡ false
     → _≡_ {A = Span} (record { low = Y; high = X }) (record { low = lesser x y; high = greater x y })
-turned {x = x} {y = y} e d h =
+headingSized {x = x} {y = y} e d h =
     (λ i. record { low = d i; high = e i })
     ∙ sym (ap (λ (b : Bool). record { low = cond b x y; high = cond b y x }) (at-most-read e d h))
 
@@ -71,7 +71,7 @@ multiple-sized d s h g =
     let q : Sized 1152921504606846976 y = product-sized (h .high) g in
     record { low = chosen (Sized 1152921504606846976) (leZ x y) x y p q; high = chosen (Sized 1152921504606846976) (leZ x y) y x q p }
 
-pub minus-sized : (s r : Span) → MultipleSized s → MultipleSized r → MinusSized (minus s r)
+pub minus-sized : (s r : Span) → MultipleSized s → MultipleSized r → DifferenceSized (difference s r)
 minus-sized s r h g = record { low = difference-sized (h .low) (g .high); high = difference-sized (h .high) (g .low) }
 
 -- ---- the tests
@@ -93,12 +93,12 @@ module _ (s : Span) (d : ℤ) {r : Span} {D : ℤ} (e : r ≡ multiple D s) (p :
   pub multiple-small : SideSized s → Sized 2147483648 d → MultipleSized r
   multiple-small h g = subst MultipleSized (sym multiple-is) (multiple-sized d s h g)
 
-pub minus-small : {q : Span} (s r : Span) → q ≡ minus s r → MultipleSized s → MultipleSized r → MinusSized q
-minus-small s r e h g = subst MinusSized (sym e) (minus-sized s r h g)
+pub difference-small : {q : Span} (s r : Span) → q ≡ difference s r → MultipleSized s → MultipleSized r → DifferenceSized q
+difference-small s r e h g = subst DifferenceSized (sym e) (minus-sized s r h g)
 
-pub side-is : {b : Bool} (q p r s t : Span) (d e : ℤ) → b ≡ holdsZero q → q ≡ minus p r → p ≡ multiple d s
-    → r ≡ multiple e t → b ≡ holdsZero (minus (multiple d s) (multiple e t))
-side-is q p r s t d e h g x y = h ∙ ap holdsZero (g ∙ (λ i. minus (x i) (y i)))
+pub side-is : {b : Bool} (q p r s t : Span) (d e : ℤ) → b ≡ holdsZero q → q ≡ difference p r → p ≡ multiple d s
+    → r ≡ multiple e t → b ≡ holdsZero (difference (multiple d s) (multiple e t))
+side-is q p r s t d e h g x y = h ∙ ap holdsZero (g ∙ (λ i. difference (x i) (y i)))
 
 -- ---- a depth
 module _ (s : Span) (d near past : ℤ) {m : Span} {D N P : ℤ} (known : m ≡ multiple D s) (p : D ≡ d) (h : SideSized s)
@@ -130,9 +130,9 @@ second-fails d e h f k = sym (λ i. test-passed e h i && (test-failed f k i && d
 pub last-decides : {a b p q r s : Bool} → a ≡ b → not a ≡ false → p ≡ q → not p ≡ false → r ≡ s → r ≡ (b && (q && s))
 last-decides {s = s} e h f k g = g ∙ sym (λ i. test-passed e h i && (test-passed f k i && s))
 
-pub side-plain : {b : Bool} (s t : Span) {d e D E : ℤ} → b ≡ holdsZero (minus (multiple D s) (multiple E t)) → D ≡ d → E ≡ e
-    → b ≡ holdsZero (minus (multiple d s) (multiple e t))
-side-plain s t h p q = h ∙ (λ i. holdsZero (minus (multiple (p i) s) (multiple (q i) t)))
+pub side-plain : {b : Bool} (s t : Span) {d e D E : ℤ} → b ≡ holdsZero (difference (multiple D s) (multiple E t)) → D ≡ d → E ≡ e
+    → b ≡ holdsZero (difference (multiple d s) (multiple e t))
+side-plain s t h p q = h ∙ (λ i. holdsZero (difference (multiple (p i) s) (multiple (q i) t)))
 
 pub depth-plain : {b : Bool} (s : Span) {d near past D N P : ℤ} → b ≡ reaches N P (multiple D s) → D ≡ d → N ≡ near → P ≡ past
     → b ≡ reaches near past (multiple d s)

@@ -20,7 +20,7 @@ use Rattle.exact_triangle.proofs.SegmentCertainty.{main-moves, on-of}
 use Rattle.tree_exact.specs.Room.{multiple, facingRoom, shearedRoom, holdsZero, roomMet}
 use Rattle.tree_exact.specs.declared.room.Span.{Span}
 use Rattle.tree_exact.specs.declared.room.Room.{Room}
-use Rattle.tree_exact.proofs.Spans.{InSpan, in-multiple, in-minus, mean-above, mean-below, mean-past}
+use Rattle.tree_exact.proofs.Spans.{InSpan, in-multiple, in-difference, mean-above, mean-below, mean-past}
 
 -- ---- what is in a room
 pub record InRoom (r : Room) (p : Projected) : Type 0 where
@@ -31,10 +31,10 @@ pub record InRoom (r : Room) (p : Projected) : Type 0 where
 pub in-sheared : (d : Projected) (r : Room) (p : Projected) → InRoom r p → InRoom (shearedRoom d r) (sheared d p)
 in-sheared d r p h = record {
   across =
-      in-minus (multiple (d .depth) (r .across)) (multiple (d .across) (r .depth)) (p .across *ℤ d .depth) (p .depth *ℤ d .across)
+      in-difference (multiple (d .depth) (r .across)) (multiple (d .across) (r .depth)) (p .across *ℤ d .depth) (p .depth *ℤ d .across)
       (in-multiple (d .depth) (r .across) (p .across) (h .across)) (in-multiple (d .across) (r .depth) (p .depth) (h .depth));
   up =
-      in-minus (multiple (d .depth) (r .up)) (multiple (d .up) (r .depth)) (p .up *ℤ d .depth) (p .depth *ℤ d .up)
+      in-difference (multiple (d .depth) (r .up)) (multiple (d .up) (r .depth)) (p .up *ℤ d .depth) (p .depth *ℤ d .up)
       (in-multiple (d .depth) (r .up) (p .up) (h .up)) (in-multiple (d .up) (r .depth) (p .depth) (h .depth));
   depth =
       subst (InSpan (multiple (ahead (d .depth)) (r .depth))) (times-comm (p .depth) (ahead (d .depth)))

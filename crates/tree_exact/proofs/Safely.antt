@@ -32,7 +32,7 @@ use Rattle.tree_exact.specs.Room.{roomOf, roomMet}
 use Rattle.exact_triangle.specs.Box.{certainBox}
 use Rattle.exact_triangle.specs.Surface.{Surface}
 use Rattle.tree_exact.specs.Opening.{limitOf, boxRead, lineMet, shortSegment, boxMet, opensNode}
-use Rattle.tree_exact.specs.Demand.{gridBox, Deep, GridAnswers}
+use Rattle.tree_exact.specs.Demand.{gridBox, HitPoint, GridAnswers}
 use Rattle.tree_exact.proofs.Rooms.{beyond}
 use Rattle.exact_triangle.proofs.Touching.{furthest-is}
 use Rattle.tree_exact.proofs.Limits.{nothing-changes}
@@ -114,7 +114,7 @@ corners-enclosed box vertices triangles x h = h
 module _ (l : Line) (moves : Moves (l .direction)) (box : Aabb) (limit : ℕ) (read : boxRead box ≡ true)
     (shut : roomMet l limit (roomOf l box) ≡ false) where
   -- a hit in a box that is not met before the limit is past the limit
-  pub hit-past : (a b c : Vec3) (distance : Float) (deep : Deep l a b c distance) → encloses box (boxOf a b c) ≡ true
+  pub hit-past : (a b c : Vec3) (distance : Float) (deep : HitPoint l a b c distance) → encloses box (boxOf a b c) ≡ true
       → limit * deep .D ≤ deep .t
   hit-past a b c distance deep h =
       let e = among-box box a b c (numbers-of a (deep .first)) (numbers-of b (deep .second)) (numbers-of c (deep .third)) h in
@@ -165,7 +165,7 @@ module _ (l : Line) (moves : Moves (l .direction)) (m : Mesh) (t : Tree) (c : Ch
       around : encloses box (boxOf a₀ a₁ a₂) ≡ true
       around = corners-enclosed box (m .vertices) (m .triangles) x enclosed
 
-      by : (normal : Vec3) (d : Float) → Deep l a₀ a₁ a₂ d
+      by : (normal : Vec3) (d : Float) → HitPoint l a₀ a₁ a₂ d
           → (touches box (certainBox l) ≡ false) ⊎ (roomMet l (limitOf l (s .least)) (roomOf l box) ≡ false)
           → noteOf s x (reachOf (hit normal d)) ≡ s
       by normal d deep (inl apart) =

@@ -14,7 +14,7 @@ use Rattle.wide_integers.proofs.Order.{rep-le, le-rep}
 use Rattle.exact_depth.proofs.Weights.{mix-parts}
 use Rattle.exact_triangle.proofs.Floors.{leZ-trans, first-most, second-most, first-least, second-least, OneOf, part-below, part-above}
 use Rattle.exact_triangle.specs.Box.{lesser, greater}
-use Rattle.tree_exact.specs.Room.{multiple, minus}
+use Rattle.tree_exact.specs.Room.{multiple, difference}
 use Rattle.tree_exact.specs.declared.room.Span.{Span}
 
 pub record InSpan (s : Span) (x : ℤ) : Type 0 where
@@ -57,8 +57,8 @@ less-both x y z w h g =
     let f = rep-le (own z) (own w) g in
     le-rep (rep-sub (own x) (own w)) (rep-sub (own y) (own z)) (omega (arith, e, f))
 
-pub in-minus : (s r : Span) (x y : ℤ) → InSpan s x → InSpan r y → InSpan (minus s r) (x -ℤ y)
-in-minus s r x y h g = record {
+pub in-difference : (s r : Span) (x y : ℤ) → InSpan s x → InSpan r y → InSpan (difference s r) (x -ℤ y)
+in-difference s r x y h g = record {
   above = less-both (s .low) x y (r .high) (h .above) (g .below);
   below = less-both x (s .high) (r .low) y (h .below) (g .above);
 }

@@ -22,7 +22,7 @@ gridBox = record {
 
 -- a hit is at a point of the closed segment and the closed triangle, whose corners are read on the grid; its distance is the float nearest
 -- to that point's depth, t / D units, which is p / W
-pub record Deep (l : Line) (a b c : Vec3) (distance : Float) : Type 0 where
+pub record HitPoint (l : Line) (a b c : Vec3) (distance : Float) : Type 0 where
   pub first : allWithin furthest a ≡ true
   pub second : allWithin furthest b ≡ true
   pub third : allWithin furthest c ≡ true
@@ -40,5 +40,5 @@ pub record GridAnswers (l : Line) (m : Mesh) (answer : ℕ → Answer) : Type 0 
   pub answered : (x number : ℕ) → x < triangleCount m → encloses gridBox (triangleBox (m .vertices) (m .triangles) x) ≡ true
       → answer x ≡ refused number → ⊥
   pub deep : (x : ℕ) → x < triangleCount m → (normal : Vec3) (distance : Float) → answer x ≡ hit normal distance
-      → Deep l (cornerAt (m .vertices) (m .triangles) x 0) (cornerAt (m .vertices) (m .triangles) x 1)
+      → HitPoint l (cornerAt (m .vertices) (m .triangles) x 0) (cornerAt (m .vertices) (m .triangles) x 1)
       (cornerAt (m .vertices) (m .triangles) x 2) distance

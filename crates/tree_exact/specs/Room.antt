@@ -22,8 +22,8 @@ abbrev pub multiple : ℤ → Span → Span
 multiple d s = record { low = lesser (s .low *ℤ d) (s .high *ℤ d); high = greater (s .low *ℤ d) (s .high *ℤ d) }
 
 -- each less each of another
-abbrev pub minus : Span → Span → Span
-minus s r = record { low = s .low -ℤ r .high; high = s .high -ℤ r .low }
+abbrev pub difference : Span → Span → Span
+difference s r = record { low = s .low -ℤ r .high; high = s .high -ℤ r .low }
 
 -- as the shear faces a point
 abbrev pub facingRoom : Main → Span → Span → Span → Room
@@ -34,8 +34,8 @@ facingRoom alongZ x y z = record { across = x; up = y; depth = z }
 -- as it shears a point, by 2^30 with the direction's sign
 abbrev pub shearedRoomBy : Projected → ℤ → Room → Room
 shearedRoomBy d k r = record {
-  across = minus (multiple (d .depth) (r .across)) (multiple (d .across) (r .depth));
-  up = minus (multiple (d .depth) (r .up)) (multiple (d .up) (r .depth));
+  across = difference (multiple (d .depth) (r .across)) (multiple (d .across) (r .depth));
+  up = difference (multiple (d .depth) (r .up)) (multiple (d .up) (r .depth));
   depth = multiple k (r .depth);
 }
 
@@ -82,7 +82,7 @@ pub record MultipleSized (s : Span) : Type 0 where
   pub high : Sized 1152921504606846976 (s .high)
 
 -- the differences of those
-pub record MinusSized (s : Span) : Type 0 where
+pub record DifferenceSized (s : Span) : Type 0 where
   pub low : Sized 2305843009213693952 (s .low)
   pub high : Sized 2305843009213693952 (s .high)
 

@@ -14,7 +14,7 @@ ghost use Rattle.exact_triangle.specs.Line.{Line};
 ghost use Rattle.exact_triangle.specs.Grid.{within, furthest};
 ghost use Rattle.exact_triangle.specs.Shear.{gain};
 ghost use Rattle.exact_triangle.specs.Box.{certainBox};
-ghost use Rattle.exact_triangle.specs.View.{mainAs, Sees, Aimed};
+ghost use Rattle.exact_triangle.specs.View.{mainAs, Sees, ViewSized};
 ghost use Rattle.tree_exact.specs.Room.{sideOn, facingRoom, boxRoom, SideSized, RoomSized};
 ghost use Rattle.tree_exact.specs.Opening.{boxRead, lineMet, shortSegment, boxMet};
 
@@ -72,7 +72,7 @@ fn is_read(bounds: Aabb) -> bool
 
 // Such a box from the origin, as the line faces it.
 fn room_of(line: View, bounds: Aabb) -> Room
-    requires { ⌜ Aimed line × (boxRead bounds ≡ true) ⌝ }
+    requires { ⌜ ViewSized line × (boxRead bounds ≡ true) ⌝ }
     ensures { λ r. ⌜ (r ≡ boxRoom (mainAs (line .axis)) (line .origin) bounds) × RoomSized r ⌝ }
 {
     let axis = line.axis;
@@ -85,7 +85,7 @@ fn room_of(line: View, bounds: Aabb) -> Room
 
 // Whether the line can meet a box at a depth before past; a box out of range counts as one that it can meet.
 fn line_met(line: View, past: i64, bounds: Aabb) -> bool
-    requires { ⌜ Aimed line ⌝ }
+    requires { ⌜ ViewSized line ⌝ }
     ensures { λ r. ⌜ ((l : Line) (limit : ℕ) → Sees line l → past ≡ pos (limit * gain l) → r ≡ lineMet l limit bounds) ⌝ }
 {
     if !is_read(bounds) {
@@ -97,7 +97,7 @@ fn line_met(line: View, past: i64, bounds: Aabb) -> bool
 
 // Whether the segment is at most 64 mm long.
 pub fn is_short(line: View) -> bool
-    requires { ⌜ Aimed line ⌝ }
+    requires { ⌜ ViewSized line ⌝ }
     ensures { λ r. ⌜ ((l : Line) → Sees line l → r ≡ shortSegment l) ⌝ }
 {
     let length = line.far - line.near;
@@ -108,7 +108,7 @@ pub fn is_short(line: View) -> bool
 // Whether a node with such a box is opened: its box against the segment's, reach, decides most of them, and for a short segment all in
 // range.
 pub fn box_met(line: View, reach: Aabb, past: i64, bounds: Aabb) -> bool
-    requires { ⌜ Aimed line ⌝ }
+    requires { ⌜ ViewSized line ⌝ }
     ensures { λ r. ⌜ ((l : Line) (limit : ℕ) → Sees line l → reach ≡ certainBox l → past ≡ pos (limit * gain l)
         → r ≡ boxMet l limit bounds) ⌝ }
 {

@@ -3,7 +3,7 @@ use crate::walk::Walked;
 use casts::answer;
 use exact_triangle::cast as triangle;
 use exact_triangle::view;
-use exact_triangle::view::Aim;
+use exact_triangle::view::GridView;
 use exact_triangle::view::View;
 use geometry::ray::Ray;
 use mesh::cast as mesh_cast;
@@ -68,7 +68,7 @@ fn exact_through(
         Outcome::Refused(number) => {
             return IndexedCast::Refused(number);
         }
-        Outcome::Struck { index, distance } => {
+        Outcome::NearestHit { index, distance } => {
             let corners = triangle_mesh::corners_of(pose, triangles, index as usize);
             let hit = triangle::hit_on(ray, corners, distance);
             return nearest::next(IndexedCast::None, index, hit);
@@ -120,8 +120,8 @@ pub fn ray_mesh_exact(
     if !ray.validate() {
         return IndexedCast::Refused(answer::INVALID_INPUT);
     }
-    let aim = view::view_of(ray);
-    let Aim::On(line) = aim else {
+    let viewed = view::view_of(ray);
+    let GridView::On(line) = viewed else {
         return IndexedCast::Refused(answer::OUT_OF_RANGE);
     };
     if !mesh_cast::shape_admitted(vertices.len(), triangles.len(), pose.len(), nodes) {

@@ -8,7 +8,7 @@ ghost use mathlib.Core.Path.{_≡_};
 ghost use Prim.Native.Nat.{_*_, _≤_};
 ghost use lib.ListN.{length};
 ghost use Rattle.exact_triangle.specs.Line.{Line};
-ghost use Rattle.exact_triangle.specs.View.{mainAs, Sees, Aimed};
+ghost use Rattle.exact_triangle.specs.View.{mainAs, Sees, ViewSized};
 ghost use Rattle.tree_exact.specs.Order.{coordinateOn, comesFirst, nearerFirst, takenFirst};
 
 // The coordinate on an axis.
@@ -30,7 +30,7 @@ fn coordinate_on(axis: Axis, v: Vec3) -> f64
 
 // Whether the line comes to a box before another, or at once.
 fn comes_first(line: View, a: Aabb, b: Aabb) -> bool
-    requires { ⌜ Aimed line ⌝ }
+    requires { ⌜ ViewSized line ⌝ }
     ensures { λ r. ⌜ ((l : Line) → Sees line l → r ≡ comesFirst l a b) ⌝ }
 {
     let axis = line.axis;
@@ -43,7 +43,7 @@ fn comes_first(line: View, a: Aabb, b: Aabb) -> bool
 
 // Whether the left child is the nearer one.
 fn nearer_first(line: View, nodes: usize, node_boxes: &[f64], left: usize, right: usize) -> bool
-    requires { ⌜ Aimed line × (6 * nodes ≤ length (now «node_boxes»)) ⌝ }
+    requires { ⌜ ViewSized line × (6 * nodes ≤ length (now «node_boxes»)) ⌝ }
     ensures { λ r. ⌜ ((l : Line) → Sees line l → r ≡ nearerFirst l nodes (now («node_boxes» .entry)) left right) ⌝ }
 {
     if left >= nodes {
@@ -61,7 +61,7 @@ fn nearer_first(line: View, nodes: usize, node_boxes: &[f64], left: usize, right
 
 // Whether the left child is taken before the right one.
 pub fn taken_first(line: View, nodes: usize, node_boxes: &[f64], left: usize, right: usize) -> bool
-    requires { ⌜ Aimed line × (6 * nodes ≤ length (now «node_boxes»)) ⌝ }
+    requires { ⌜ ViewSized line × (6 * nodes ≤ length (now «node_boxes»)) ⌝ }
     ensures { λ r. ⌜ ((l : Line) → Sees line l → r ≡ takenFirst l nodes (now («node_boxes» .entry)) left right) ⌝ }
 {
     if boxes::is_short(line) {

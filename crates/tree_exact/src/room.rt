@@ -1,9 +1,9 @@
 use exact_depth::projection::Projected;
 ghost use mathlib.Core.Path.{_≡_};
 ghost use Rattle.wide_integers.specs.Sizes.{Sized};
-ghost use Rattle.exact_triangle.specs.Sizes.{Turned};
-ghost use Rattle.tree_exact.specs.Room.{multiple, minus, shearedRoomBy, holdsZero, reaches, passes};
-ghost use Rattle.tree_exact.specs.Room.{SideSized, MultipleSized, MinusSized, RoomSized};
+ghost use Rattle.exact_triangle.specs.Sizes.{HeadingSized};
+ghost use Rattle.tree_exact.specs.Room.{multiple, difference, shearedRoomBy, holdsZero, reaches, passes};
+ghost use Rattle.tree_exact.specs.Room.{SideSized, MultipleSized, DifferenceSized, RoomSized};
 
 // The whole numbers from low to high.
 pub struct Span {
@@ -38,9 +38,9 @@ fn multiple(s: Span, d: i64) -> Span
 }
 
 // Each number of a span less each of another.
-fn minus(s: Span, r: Span) -> Span
+fn difference(s: Span, r: Span) -> Span
     requires { ⌜ MultipleSized s × MultipleSized r ⌝ }
-    ensures { λ q. ⌜ q ≡ minus s r ⌝ }
+    ensures { λ q. ⌜ q ≡ difference s r ⌝ }
 {
     Span {
         low: s.low - r.high,
@@ -50,7 +50,7 @@ fn minus(s: Span, r: Span) -> Span
 
 // Whether a span holds 0.
 fn holds_zero(s: Span) -> bool
-    requires { ⌜ MinusSized s ⌝ }
+    requires { ⌜ DifferenceSized s ⌝ }
     ensures { λ r. ⌜ r ≡ holdsZero s ⌝ }
 {
     if s.low <= 0 {
@@ -63,9 +63,9 @@ fn holds_zero(s: Span) -> bool
 // holds 0.
 fn side_met(side: Span, depth: Span, onward: i64, aside: i64) -> bool
     requires { ⌜ (SideSized side × SideSized depth) × (Sized 2147483648 onward × Sized 2147483648 aside) ⌝ }
-    ensures { λ r. ⌜ r ≡ holdsZero (minus (multiple onward side) (multiple aside depth)) ⌝ }
+    ensures { λ r. ⌜ r ≡ holdsZero (difference (multiple onward side) (multiple aside depth)) ⌝ }
 {
-    holds_zero(minus(multiple(side, onward), multiple(depth, aside)))
+    holds_zero(difference(multiple(side, onward), multiple(depth, aside)))
 }
 
 // Whether a room has a depth from near on and one before past; ahead is 2^30 with the sign of the direction's depth.
@@ -82,7 +82,7 @@ fn depth_met(depth: Span, ahead: i64, near: i64, past: i64) -> bool
 
 // Whether the line along d passes through a room at a depth from near on and before past.
 pub fn passes(room: Room, d: Projected, ahead: i64, near: i64, past: i64) -> bool
-    requires { ⌜ RoomSized room × Turned d ahead ⌝ }
+    requires { ⌜ RoomSized room × HeadingSized d ahead ⌝ }
     ensures { λ r. ⌜ r ≡ passes near past (shearedRoomBy d ahead room) ⌝ }
 {
     let across = room.across;

@@ -25,7 +25,7 @@ ghost use Rattle.tree.specs.Mesh.{thirds};
 ghost use Rattle.wide_integers.specs.Sizes.{Sized};
 ghost use Rattle.exact_triangle.specs.Line.{Line};
 ghost use Rattle.exact_triangle.specs.Shear.{gain};
-ghost use Rattle.exact_triangle.specs.View.{Sees, Aimed};
+ghost use Rattle.exact_triangle.specs.View.{Sees, ViewSized};
 ghost use Rattle.tree_exact.specs.Opening.{limitOf};
 ghost use Rattle.mesh_exact.specs.GridCast.{exactAnswer};
 ghost use Rattle.mesh_exact.specs.Noted.{Casts};
@@ -57,7 +57,7 @@ pub enum Walked {
 
 // The depth from which on nothing can take the place of the nearest hit so far.
 fn past_of(line: View, least: ChosenHit) -> i64
-    requires { ⌜ Aimed line ⌝ }
+    requires { ⌜ ViewSized line ⌝ }
     ensures { λ r. ⌜ Sized 4611686018427387904 r × ((l : Line) → Sees line l → r ≡ pos (limitOf l (saysChosenHit least) * gain l)) ⌝ }
 {
     let ChosenHit::At { index: _, distance } = least else {
@@ -71,7 +71,7 @@ fn past_of(line: View, least: ChosenHit) -> i64
 
 // What was found, with its limit.
 fn best_of(line: View, notes: NearestSoFar) -> Best
-    requires { ⌜ Aimed line ⌝ }
+    requires { ⌜ ViewSized line ⌝ }
     ensures { λ r. ⌜ (r .notes ≡ notes) × Limited line r ⌝ }
 {
     let least = notes.least;
@@ -83,7 +83,7 @@ fn best_of(line: View, notes: NearestSoFar) -> Best
 
 // The answer of one triangle without its normal: an index past the vertices is 5.
 fn reach_at(line: View, pose: &[f64], triangles: &[u32], index: usize) -> Reach
-    requires { ⌜ Aimed line × (3 * index + 3 ≤ length (now triangles)) ⌝ }
+    requires { ⌜ ViewSized line × (3 * index + 3 ≤ length (now triangles)) ⌝ }
     ensures { λ r. ⌜ ((ray : AnyRay) → Casts ray line
         → r ≡ reachOf (exactAnswer ray (now (pose .entry)) (now (triangles .entry)) index)) ⌝ }
 {
@@ -103,7 +103,7 @@ fn note_leaf(
     end: usize,
     notes: NearestSoFar,
 ) -> Noted
-    requires { ⌜ Aimed line × (end ≤ length (now order)) ⌝ }
+    requires { ⌜ ViewSized line × (end ≤ length (now order)) ⌝ }
     ensures { λ r. ⌜ NearestSoFarLeaf line (now (pose .entry)) (now (triangles .entry)) (now (order .entry)) start end notes r ⌝ }
 {
     let count = triangles.len() / 3;
@@ -135,7 +135,7 @@ fn open_node(
     top: usize,
     best: Best,
 ) -> Step
-    requires { ⌜ (Aimed line × Limited line best)
+    requires { ⌜ (ViewSized line × Limited line best)
         × (WalkRoom (thirds (length (now triangles))) nodes (now «node_boxes») (now «node_words») (now order)
         × ((node < nodes) × (top + 2 ≤ length (now stack)))) ⌝ }
     ensures { λ r. ⌜ OpensNode line (now (pose .entry)) (now (triangles .entry)) nodes (now («node_boxes» .entry))
@@ -182,7 +182,7 @@ fn take_node(
     top: usize,
     best: Best,
 ) -> Step
-    requires { ⌜ (Aimed line × Limited line best)
+    requires { ⌜ (ViewSized line × Limited line best)
         × (WalkRoom (thirds (length (now triangles))) nodes (now «node_boxes») (now «node_words») (now order)
         × ((0 < top) × (top + 1 ≤ length (now stack)))) ⌝ }
     ensures { λ r. ⌜ TakesNode line reach (now (pose .entry)) (now (triangles .entry)) nodes (now («node_boxes» .entry))
@@ -226,7 +226,7 @@ pub fn find_nearest(
     order: &[u32],
     stack: &mut [u32],
 ) -> Walked
-    requires { ⌜ Aimed line × (WalkRoom (thirds (length (now triangles))) nodes (now «node_boxes») (now «node_words») (now order)
+    requires { ⌜ ViewSized line × (WalkRoom (thirds (length (now triangles))) nodes (now «node_boxes») (now «node_words») (now order)
         × (nodes < length (now stack))) ⌝ }
     ensures { λ r. ⌜ Walks line reach (now (pose .entry)) (now (triangles .entry)) nodes (now («node_boxes» .entry))
         (now («node_words» .entry)) (now (order .entry)) r ⌝ }

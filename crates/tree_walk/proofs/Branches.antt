@@ -14,7 +14,7 @@ use Rattle.tree.specs.Layout.{Tree, wordAt}
 use Rattle.lists.proofs.JoinedTests.{and-second}
 use Rattle.tree_walk.specs.Walk.{walking, childFits, atBranch}
 use Rattle.lists.specs.Lists.{allBelow}
-use Rattle.tree_walk.specs.Areas.{onStack, popped, held, Grown, KeptBy, Pushed}
+use Rattle.tree_walk.specs.Areas.{onStack, popped, walkingAfter, Grown, KeptBy, Pushed}
 use Rattle.tree_walk.specs.declared.step.Stepped.the-variants.{Next, Ended, Stopped}
 use Rattle.lists.proofs.EveryLaws.{every-cons}
 
@@ -46,7 +46,7 @@ popped-next stack top found e =
     ap (λ (k : ℕ). popped stack k found) (sym s)
 
 -- the stack is as it was: its next node stands first
-pub popped-held : (stack list : List ℕ) (top found : ℕ) → held (popped stack top found) list stack ≡ walking (onStack stack top)
+pub popped-held : (stack list : List ℕ) (top found : ℕ) → walkingAfter (popped stack top found) list stack ≡ walking (onStack stack top)
     (take found list)
 unfolding popped onStack
 popped-held stack list zero found = refl

@@ -11,7 +11,7 @@ use lib.ListN.{length, take}
 use Rattle.geometry.specs.declared.aabb.Aabb.{Aabb}
 use Rattle.tree.specs.Layout.{Tree}
 use Rattle.tree_walk.specs.Walk.{Walking, walking, broken, takeNode, start, ended, walkOf}
-use Rattle.tree_walk.specs.Areas.{onStack, held, Grown, NodeRoom, NodeTaken, WalkRoom}
+use Rattle.tree_walk.specs.Areas.{onStack, walkingAfter, Grown, NodeRoom, NodeTaken, WalkRoom}
 use Rattle.tree_walk.specs.declared.step.Stepped.{Stepped}
 use Rattle.tree_walk.specs.declared.step.Stepped.the-variants.{Next, Ended, Stopped}
 use Rattle.tree_walk.proofs.Walks.{Walks, walks-none, walks-begin, walks-room, walks-next, walks-stopped, walks-ended, walks-past}
@@ -111,7 +111,7 @@ module _ (t : Tree) (n : ℕ) (box : Aabb) (limit : ℕ) where
 
         module _ (r : Stepped) (list' stack' : List ℕ) (d : NodeTaken n box t list found stack node top r list' stack') where
           step-counts : (x : Stepped) → r ≡ x
-              → (taken + 1) + lookedIn t n box (t .nodeCount - taken) (held x list' stack') ≡ nodesLooked t n box
+              → (taken + 1) + lookedIn t n box (t .nodeCount - taken) (walkingAfter x list' stack') ≡ nodesLooked t n box
           step-counts x e =
               let d' : NodeTaken n box t list found stack node top x list' stack' = subst (λ (y : Stepped). NodeTaken n box t list
               found stack node top y list' stack') e d in

@@ -56,10 +56,10 @@ popped area zero found = Ended found
 popped area (suc k) found = Next (wordAt area k) k found
 
 -- what a step leaves: the node that is taken next stands before those on the stack
-abbrev pub held : Stepped → List ℕ → List ℕ → Walking
-held (Next node top found) list stack = walking (node ∷ onStack stack top) (take found list)
-held (Ended found) list stack = walking [] (take found list)
-held Stopped list stack = broken
+abbrev pub walkingAfter : Stepped → List ℕ → List ℕ → Walking
+walkingAfter (Next node top found) list stack = walking (node ∷ onStack stack top) (take found list)
+walkingAfter (Ended found) list stack = walking [] (take found list)
+walkingAfter Stopped list stack = broken
 
 -- nodes below the node count, those on the stack not more than said
 pub record Stands (nodes limit : ℕ) (stack : List ℕ) (node top : ℕ) : Type 0 where
@@ -77,7 +77,8 @@ KeptBy n nodes entry from limit Stopped list stack = Unit
 
 -- a branch, whatever else the tree and the list hold
 pub record Pushed (nodes node left right : ℕ) (entry : List ℕ) (top found : ℕ) (r : Stepped) (exit : List ℕ) : Type 0 where
-  pub holds : (t : Tree) (n : ℕ) (box : Aabb) (list : List ℕ) → t .nodeCount ≡ nodes → held r list exit ≡ atBranch t n box node left right
+  pub holds : (t : Tree) (n : ℕ) (box : Aabb) (list : List ℕ) → t .nodeCount ≡ nodes
+      → walkingAfter r list exit ≡ atBranch t n box node left right
       (onStack entry top) (take found list)
   pub kept : (n : ℕ) (list₀ list : List ℕ) (from : ℕ) → Grown n list₀ list from found → KeptBy n nodes list₀ from (top + 1) r list exit
 
@@ -92,7 +93,7 @@ pub record NodeRoom (n : ℕ) (t : Tree) (list : List ℕ) (found : ℕ) (stack 
 -- and what it promises
 pub record NodeTaken (n : ℕ) (box : Aabb) (t : Tree) (list : List ℕ) (found : ℕ) (stack : List ℕ) (node top : ℕ) (r : Stepped)
     (list' stack' : List ℕ) : Type 0 where
-  pub holds : held r list' stack' ≡ takeNode t n box (walking (node ∷ onStack stack top) (take found list))
+  pub holds : walkingAfter r list' stack' ≡ takeNode t n box (walking (node ∷ onStack stack top) (take found list))
   pub kept : KeptBy n (t .nodeCount) list found (top + 1) r list' stack'
 
 -- what the walk asks of the areas

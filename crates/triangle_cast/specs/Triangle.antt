@@ -22,7 +22,7 @@ unfoldable pub flat : Float → Vec3 → Vec3 → Bool
 flat determinant a b =
     le (absolute determinant) (maximumOf (maximumOf (maxElement (absOf a)) (maxElement (absOf b))) oneᶠ *ᶠ epsilon *ᶠ thirtyTwo)
 
--- "The normal faces the ray": normalised first (7), then turned
+-- "The normal faces the ray": normalised first (7), then flipped
 unfoldable pub triangleNormal : Ray → Vec3 → Vec3 → Float → Answer
 triangleNormal r a b distance =
     withNormal (tryNormalize (crossOf a b)) noNormal

@@ -47,7 +47,7 @@ pub fn is_flat(determinant: f64, a: Vec3, b: Vec3) -> bool
     basic::abs(determinant) <= scale * numbers::EPSILON * 32.0
 }
 
-// The hit at a distance: the edges' normal, turned to face the ray.
+// The hit at a distance: the edges' normal, flipped to face the ray.
 pub fn triangle_normal(ray: Ray, a: Vec3, b: Vec3, distance: f64) -> Cast
     ensures { λ r. ⌜ says r ≡ triangleNormal ray a b distance ⌝ }
 {
@@ -127,7 +127,7 @@ pub fn settled(
 }
 
 // The hit at a distance, as `triangle_normal` finds it, where the determinant is known: but for its sign and for rounding that is the
-// direction's dot with the edges' cross, and so tells beforehand whether the normal is to be turned.
+// direction's dot with the edges' cross, and so tells beforehand whether the normal is to be flipped.
 pub fn normal_by(ray: Ray, determinant: f64, a: Vec3, b: Vec3, distance: f64) -> Cast
     ensures { λ r. ⌜ says r ≡ triangleNormal ray a b distance ⌝ }
 {

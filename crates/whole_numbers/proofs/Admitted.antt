@@ -22,7 +22,7 @@ use Rattle.arithmetic.proofs.SignedOrder.{plus}
 use Rattle.exact_depth.proofs.Standing.{Stands}
 use Rattle.whole_numbers.proofs.Whole.{WholeVec}
 use Rattle.whole_numbers.specs.Points.{Point, dotP}
-use Rattle.whole_numbers.specs.Board.{Axis, east, west, north, south, upward, downward, along}
+use Rattle.whole_numbers.specs.WholeTriangle.{Axis, east, west, north, south, upward, downward, along}
 use Rattle.arithmetic.proofs.ValueOrder.{value-finite, lt-values}
 use Rattle.whole_numbers.proofs.Decisions.{parted, zero-value}
 use Rattle.whole_numbers.proofs.Vectors.{dot-whole}

@@ -28,12 +28,12 @@ use Rattle.wide_integers.proofs.Integers.{no-factor, pp, np, add-size, mul-size
 use Rattle.exact_depth.proofs.Standing.{Stands}
 use Rattle.whole_numbers.proofs.Whole.{Whole, WholeVec}
 use Rattle.whole_numbers.specs.Points.{Point, subP, crossP, dotP}
-use Rattle.whole_numbers.specs.Board.{Drawing, Board, along, firstEdge, secondEdge}
+use Rattle.whole_numbers.specs.WholeTriangle.{Drawing, WholeTriangle, along, firstEdge, secondEdge}
 use Rattle.whole_numbers.proofs.Vectors.{sub-whole, dot-whole, cross-whole}
 use Rattle.arithmetic.proofs.ValueOrder.{value-number}
 use Rattle.arithmetic.proofs.WholeValues.{zero-is, zero-value as zero-value-of}
 use Rattle.arithmetic.proofs.ScalingLaws.{one-value}
-use Rattle.whole_numbers.proofs.Decisions.{Ratio, ratio, turned, turned-size, zero-value, not-negative, negative, above-whole}
+use Rattle.whole_numbers.proofs.Decisions.{Ratio, ratio, signedBy, signed-size, zero-value, not-negative, negative, above-whole}
 use Rattle.whole_numbers.proofs.Decisions.{not-above-whole, near-is, parted}
 use Rattle.whole_numbers.proofs.Sums.{sum-not-above-one, sum-above-one}
 use Rattle.whole_numbers.proofs.Drawings.{drawn, drawn-at}
@@ -110,7 +110,7 @@ whole-normalizable B v p w h = go (natAbs (p .x)) (natAbs (p .y)) refl refl
     go zero zero a b = simp (finite-vec B v p w, stands-not-zero (v .z) (p .z) (w .third .value) (omega (arith, a, b, h)), and-false)
 
 -- ---- the board
-module _ (r : Ray) (vs : List Vec3) (g : Drawing) (board : Board r vs g) where
+module _ (r : Ray) (vs : List Vec3) (g : Drawing) (whole-triangle : WholeTriangle r vs g) where
   -- the edges, the offset, and the two crosses, in floats
   abbrev pub A : Vec3
   A = subOf (corner vs 1) (corner vs 0)
@@ -147,22 +147,22 @@ module _ (r : Ray) (vs : List Vec3) (g : Drawing) (board : Board r vs g) where
   D = dotP (secondEdge g) (crossP off (firstEdge g))
 
   whole-dir : WholeVec 1 (r .direction) dir
-  whole-dir = drawn-at 1 (r .direction) dir (lit≤ tt) (board .direction)
+  whole-dir = drawn-at 1 (r .direction) dir (lit≤ tt) (whole-triangle .direction)
 
   pub whole-A : WholeVec 8192 A (firstEdge g)
   whole-A =
-      sub-whole 4096 4096 (corner vs 1) (corner vs 0) (g .b) (g .a) (drawn-at 4096 (corner vs 1) (g .b) (lit≤ tt) (board .second))
-      (drawn-at 4096 (corner vs 0) (g .a) (lit≤ tt) (board .first)) (lit≤ tt)
+      sub-whole 4096 4096 (corner vs 1) (corner vs 0) (g .b) (g .a) (drawn-at 4096 (corner vs 1) (g .b) (lit≤ tt) (whole-triangle .second))
+      (drawn-at 4096 (corner vs 0) (g .a) (lit≤ tt) (whole-triangle .first)) (lit≤ tt)
 
   pub whole-B : WholeVec 8192 B (secondEdge g)
   whole-B =
-      sub-whole 4096 4096 (corner vs 2) (corner vs 0) (g .c) (g .a) (drawn-at 4096 (corner vs 2) (g .c) (lit≤ tt) (board .third))
-      (drawn-at 4096 (corner vs 0) (g .a) (lit≤ tt) (board .first)) (lit≤ tt)
+      sub-whole 4096 4096 (corner vs 2) (corner vs 0) (g .c) (g .a) (drawn-at 4096 (corner vs 2) (g .c) (lit≤ tt) (whole-triangle .third))
+      (drawn-at 4096 (corner vs 0) (g .a) (lit≤ tt) (whole-triangle .first)) (lit≤ tt)
 
   whole-O : WholeVec 8192 O off
   whole-O =
-      sub-whole 4096 4096 (r .origin) (corner vs 0) (g .o) (g .a) (drawn-at 4096 (r .origin) (g .o) (lit≤ tt) (board .origin))
-      (drawn-at 4096 (corner vs 0) (g .a) (lit≤ tt) (board .first)) (lit≤ tt)
+      sub-whole 4096 4096 (r .origin) (corner vs 0) (g .o) (g .a) (drawn-at 4096 (r .origin) (g .o) (lit≤ tt) (whole-triangle .origin))
+      (drawn-at 4096 (corner vs 0) (g .a) (lit≤ tt) (whole-triangle .first)) (lit≤ tt)
 
   whole-P : WholeVec 16384 P (crossP dir (secondEdge g))
   whole-P = cross-whole 1 8192 (r .direction) B dir (secondEdge g) whole-dir whole-B (lit≤ tt)
@@ -183,18 +183,18 @@ module _ (r : Ray) (vs : List Vec3) (g : Drawing) (board : Board r vs g) where
   whole-D = dot-whole 8192 (2 ^ 27) B Q (secondEdge g) (crossP off (firstEdge g)) whole-B whole-Q (lit≤ tt)
 
   maximum-whole : Stands (r .«max_distance») (pos (g .maximum))
-  maximum-whole = drawn 16384 (r .«max_distance») (pos (g .maximum)) (lit≤ tt) (board .maximum) .value
+  maximum-whole = drawn 16384 (r .«max_distance») (pos (g .maximum)) (lit≤ tt) (whole-triangle .maximum) .value
 
   near-whole : Stands (r .near) (pos 0)
-  near-whole = drawn 0 (r .near) (pos 0) (lit≤ tt) (board .near) .value
+  near-whole = drawn 0 (r .near) (pos 0) (lit≤ tt) (whole-triangle .near) .value
 
   pub maximum-value : HasValue (r .«max_distance») false (g .maximum) 1
-  maximum-value = not-below-zero (r .«max_distance») (g .maximum) (board .positive) maximum-whole .0
+  maximum-value = not-below-zero (r .«max_distance») (g .maximum) (whole-triangle .positive) maximum-whole .0
 
   pub ray-admitted : rayAdmitted r ≡ true
   ray-admitted =
-      admitted r (g .o) (g .direction) (g .maximum) 4096 (drawn-at 4096 (r .origin) (g .o) (lit≤ tt) (board .origin)) whole-dir
-      (board .positive) maximum-whole near-whole
+      admitted r (g .o) (g .direction) (g .maximum) 4096 (drawn-at 4096 (r .origin) (g .o) (lit≤ tt) (whole-triangle .origin)) whole-dir
+      (whole-triangle .positive) maximum-whole near-whole
 
   -- the three quotients in floats
   abbrev pub u : Float
@@ -224,24 +224,24 @@ module _ (r : Ray) (vs : List Vec3) (g : Drawing) (board : Board r vs g) where
     δ-small : δ ≤ 2 ^ 29
     δ-small = le-trans (whole-Δ .bound) (lit≤ tt)
 
-    pub ratio-u : Ratio u (turned Δ U) δ
+    pub ratio-u : Ratio u (signedBy Δ U) δ
     ratio-u =
         ratio (dotOf O P) (dotOf A P) U Δ (whole-U .value) (whole-Δ .value) some (le-trans (whole-U .bound) (lit≤ tt))
         (le-trans (whole-Δ .bound) (lit≤ tt))
 
-    pub ratio-v : Ratio v (turned Δ W) δ
+    pub ratio-v : Ratio v (signedBy Δ W) δ
     ratio-v =
         ratio (dotOf (r .direction) Q) (dotOf A P) W Δ (whole-W .value) (whole-Δ .value) some (le-trans (whole-W .bound) (lit≤ tt))
         (le-trans (whole-Δ .bound) (lit≤ tt))
 
-    pub ratio-t : Ratio t (turned Δ D) δ
+    pub ratio-t : Ratio t (signedBy Δ D) δ
     ratio-t =
         ratio (dotOf B Q) (dotOf A P) D Δ (whole-D .value) (whole-Δ .value) some (le-trans (whole-D .bound) (lit≤ tt))
         (le-trans (whole-Δ .bound) (lit≤ tt))
 
     -- near is 0, of either sign, and the depth is a number
     from-near : lt t (r .near) ≡ lt t zeroᶠ
-    from-near = let p = parted (r .near) (pos 0) near-whole in near-is t (turned Δ D) δ some ratio-t (r .near) (p .sign) (p .value)
+    from-near = let p = parted (r .near) (pos 0) near-whole in near-is t (signedBy Δ D) δ some ratio-t (r .near) (p .sign) (p .value)
 
     depth-number : isNan t ≡ false
     depth-number = value-number t (ratio-t .sign) (ratio-t .quotient .units) _ (ratio-t .quotient .value)
@@ -264,33 +264,35 @@ module _ (r : Ray) (vs : List Vec3) (g : Drawing) (board : Board r vs g) where
         (le-is-not-lt zeroᶠ x (value-number zeroᶠ false 0 1 zero-value) n, le-is-not-lt x oneᶠ n (value-number oneᶠ false 1 1 one-value))
 
     -- the tests that fail
-    pub u-negative : 0 < np (turned Δ U) → rayTriangle r vs ≡ none
+    pub u-negative : 0 < np (signedBy Δ U) → rayTriangle r vs ≡ none
     u-negative h =
-        answer-is ∙ first-fails _ _ _ _ _ _ (u-number u (turned Δ U) ratio-u .0 ∙ ap not (negative u (turned Δ U) δ some ratio-u h))
+        answer-is ∙ first-fails _ _ _ _ _ _ (u-number u (signedBy Δ U) ratio-u .0 ∙ ap not (negative u (signedBy Δ U) δ some ratio-u h))
 
-    pub v-negative : 0 < np (turned Δ W) → rayTriangle r vs ≡ none
-    v-negative h = answer-is ∙ third-fails (le zeroᶠ u) (le u oneᶠ) _ _ _ _ (negative v (turned Δ W) δ some ratio-v h)
+    pub v-negative : 0 < np (signedBy Δ W) → rayTriangle r vs ≡ none
+    v-negative h = answer-is ∙ third-fails (le zeroᶠ u) (le u oneᶠ) _ _ _ _ (negative v (signedBy Δ W) δ some ratio-v h)
 
-    pub sum-above : np (turned Δ U) ≡ 0 → np (turned Δ W) ≡ 0 → δ < natAbs (turned Δ U) + natAbs (turned Δ W) → rayTriangle r vs ≡ none
+    pub sum-above : np (signedBy Δ U) ≡ 0 → np (signedBy Δ W) ≡ 0 → δ < natAbs (signedBy Δ U) + natAbs (signedBy Δ W)
+        → rayTriangle r vs ≡ none
     sum-above p q h =
         answer-is ∙ fourth-fails (le zeroᶠ u) (le u oneᶠ) (lt v zeroᶠ) _ _ _
-        (sum-above-one u v (turned Δ U) (turned Δ W) δ some ratio-u ratio-v p q (let l = δ-small in omega (arith, l)) h
-        (let a = whole-U .bound in let b = whole-W .bound in omega (arith, a, b, turned-size Δ U, turned-size Δ W)))
+        (sum-above-one u v (signedBy Δ U) (signedBy Δ W) δ some ratio-u ratio-v p q (let l = δ-small in omega (arith, l)) h
+        (let a = whole-U .bound in let b = whole-W .bound in omega (arith, a, b, signed-size Δ U, signed-size Δ W)))
 
-    pub t-negative : 0 < np (turned Δ D) → rayTriangle r vs ≡ none
+    pub t-negative : 0 < np (signedBy Δ D) → rayTriangle r vs ≡ none
     t-negative h =
         answer-is
         ∙ fifth-fails (le zeroᶠ u) (le u oneᶠ) (lt v zeroᶠ) (lt oneᶠ (u +ᶠ v)) _ _
-        (or-first _ _ (negative t (turned Δ D) δ some ratio-t h))
+        (or-first _ _ (negative t (signedBy Δ D) δ some ratio-t h))
 
     reach-small : g .maximum * δ ≤ 2 ^ 43
-    reach-small = le-trans (mul-le-mul-right δ (board .maximum .bound)) (let l = δ-small in omega (arith, l))
+    reach-small = le-trans (mul-le-mul-right δ (whole-triangle .maximum .bound)) (let l = δ-small in omega (arith, l))
 
-    pub t-above : g .maximum * δ < pp (turned Δ D) → rayTriangle r vs ≡ none
+    pub t-above : g .maximum * δ < pp (signedBy Δ D) → rayTriangle r vs ≡ none
     t-above h =
         answer-is
         ∙ fifth-fails (le zeroᶠ u) (le u oneᶠ) (lt v zeroᶠ) (lt oneᶠ (u +ᶠ v)) _ _
-        (or-second (lt t zeroᶠ) _ (above-whole t (turned Δ D) δ some ratio-t (r .«max_distance») (g .maximum) maximum-value h reach-small))
+        (or-second (lt t zeroᶠ) _ (above-whole t (signedBy Δ D) δ some ratio-t (r .«max_distance»)
+        (g .maximum) maximum-value h reach-small))
 
     -- the normal can be told
     abbrev normal : Point
@@ -321,19 +323,19 @@ module _ (r : Ray) (vs : List Vec3) (g : Drawing) (board : Board r vs g) where
         (normalized-where (crossOf A B) has-normal)
 
     -- all tests passed
-    pub passes : np (turned Δ U) ≡ 0 → np (turned Δ W) ≡ 0 → natAbs (turned Δ U) + natAbs (turned Δ W) < δ → np (turned Δ D) ≡ 0
-        → natAbs (turned Δ D) < g .maximum * δ
+    pub passes : np (signedBy Δ U) ≡ 0 → np (signedBy Δ W) ≡ 0 → natAbs (signedBy Δ U) + natAbs (signedBy Δ W) < δ → np (signedBy Δ D) ≡ 0
+        → natAbs (signedBy Δ D) < g .maximum * δ
         → rayTriangle r vs ≡ triangleNormal r A B t
     unfolding chain
     passes p q s n m =
         answer-is
         ∙ simp (
-          u-number u (turned Δ U) ratio-u .0,
-          u-number u (turned Δ U) ratio-u .1,
-          not-negative u (turned Δ U) δ some ratio-u p,
-          not-above-whole u (turned Δ U) δ some ratio-u oneᶠ 1 one-value (omega (arith, s)) (let l = δ-small in omega (arith, l)),
-          not-negative v (turned Δ W) δ some ratio-v q,
-          sum-not-above-one u v (turned Δ U) (turned Δ W) δ some ratio-u ratio-v p q (let l = δ-small in omega (arith, l)) s,
-          not-negative t (turned Δ D) δ some ratio-t n,
-          not-above-whole t (turned Δ D) δ some ratio-t (r .«max_distance») (g .maximum) maximum-value m reach-small,
+          u-number u (signedBy Δ U) ratio-u .0,
+          u-number u (signedBy Δ U) ratio-u .1,
+          not-negative u (signedBy Δ U) δ some ratio-u p,
+          not-above-whole u (signedBy Δ U) δ some ratio-u oneᶠ 1 one-value (omega (arith, s)) (let l = δ-small in omega (arith, l)),
+          not-negative v (signedBy Δ W) δ some ratio-v q,
+          sum-not-above-one u v (signedBy Δ U) (signedBy Δ W) δ some ratio-u ratio-v p q (let l = δ-small in omega (arith, l)) s,
+          not-negative t (signedBy Δ D) δ some ratio-t n,
+          not-above-whole t (signedBy Δ D) δ some ratio-t (r .«max_distance») (g .maximum) maximum-value m reach-small,
         )

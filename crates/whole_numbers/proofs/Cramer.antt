@@ -5,8 +5,8 @@ use native.Mathlib.Omega.{arith}
 use lib.IntN.{ℤ, pos, negsuc, negℤ, natAbs, _+ℤ_, _-ℤ_, _*ℤ_, +ℤ-idl, +ℤ-idr, +ℤ-invr, +ℤ-negℤ-cancel, *ℤ-zero}
 use Rattle.wide_integers.proofs.Integers.{pp, np, neg-pp, neg-np}
 use Rattle.whole_numbers.specs.Points.{Point, crossP, dotP}
-use Rattle.whole_numbers.specs.Board.{addP, scaleP}
-use Rattle.whole_numbers.proofs.Decisions.{turned}
+use Rattle.whole_numbers.specs.WholeTriangle.{addP, scaleP}
+use Rattle.whole_numbers.proofs.Decisions.{signedBy}
 use Rattle.wide_integers.proofs.Polynomials.{ring, times-neg, times-comm, diff-minus, diff-add, diff-left, diff-right}
 use Rattle.wide_integers.proofs.Polynomials.{diff-equal, Diff}
 use Rattle.whole_numbers.proofs.Polynomials.{triple}
@@ -18,14 +18,14 @@ linear p q a b c = simp ring
 cycle : (a b c : Point) → dotP a (crossP b c) ≡ dotP b (crossP c a)
 cycle a b c = simp ring
 
-minus-turned : (p q : ℤ) → p *ℤ q -ℤ q *ℤ p ≡ pos 0
-minus-turned p q = ap (λ (z : ℤ). p *ℤ q -ℤ z) (times-comm q p) ∙ +ℤ-invr (p *ℤ q)
+minus-swapped : (p q : ℤ) → p *ℤ q -ℤ q *ℤ p ≡ pos 0
+minus-swapped p q = ap (λ (z : ℤ). p *ℤ q -ℤ z) (times-comm q p) ∙ +ℤ-invr (p *ℤ q)
 
 self-cross : (a b : Point) → dotP a (crossP b b) ≡ pos 0
 self-cross a b =
-    ap (λ (z : ℤ). a .x *ℤ z +ℤ a .y *ℤ (crossP b b .y) +ℤ a .z *ℤ (crossP b b .z)) (minus-turned (b .y) (b .z))
-    ∙ ap (λ (z : ℤ). a .x *ℤ pos 0 +ℤ a .y *ℤ z +ℤ a .z *ℤ (crossP b b .z)) (minus-turned (b .z) (b .x))
-    ∙ ap (λ (z : ℤ). a .x *ℤ pos 0 +ℤ a .y *ℤ pos 0 +ℤ a .z *ℤ z) (minus-turned (b .x) (b .y))
+    ap (λ (z : ℤ). a .x *ℤ z +ℤ a .y *ℤ (crossP b b .y) +ℤ a .z *ℤ (crossP b b .z)) (minus-swapped (b .y) (b .z))
+    ∙ ap (λ (z : ℤ). a .x *ℤ pos 0 +ℤ a .y *ℤ z +ℤ a .z *ℤ (crossP b b .z)) (minus-swapped (b .z) (b .x))
+    ∙ ap (λ (z : ℤ). a .x *ℤ pos 0 +ℤ a .y *ℤ pos 0 +ℤ a .z *ℤ z) (minus-swapped (b .x) (b .y))
     ∙ simp (*ℤ-zero)
 
 pub own-first : (a b : Point) → dotP a (crossP a b) ≡ pos 0
@@ -66,9 +66,9 @@ module _ (k t u v : ℤ) (off dir a b : Point) (m : addP (scaleP k off) (scaleP 
       moved x y h = sym (+ℤ-negℤ-cancel x y) ∙ ap (λ (z : ℤ). z -ℤ y) h ∙ +ℤ-idl (negℤ y)
 
 -- ---- with the divisor's sign
-turn : (k w n d : ℤ) → k *ℤ n ≡ w *ℤ d → k *ℤ turned d n ≡ w *ℤ pos (natAbs d)
-turn k w n (pos d) h = h
-turn k w n (negsuc d) h = times-neg k n ∙ ap negℤ h ∙ sym (times-neg w (negsuc d))
+sign-moves : (k w n d : ℤ) → k *ℤ n ≡ w *ℤ d → k *ℤ signedBy d n ≡ w *ℤ pos (natAbs d)
+sign-moves k w n (pos d) h = h
+sign-moves k w n (negsuc d) h = times-neg k n ∙ ap negℤ h ∙ sym (times-neg w (negsuc d))
 
 pos-pp : (k : ℕ) (z : ℤ) → pp (pos k *ℤ z) ≡ k * pp z
 pos-pp k (pos n) = refl
@@ -79,10 +79,11 @@ pos-np k (pos n) = omega arith
 pos-np k (negsuc n) = neg-np (pos (k * suc n))
 
 pub parts : (K δ : ℕ) (w n d : ℤ) → δ ≡ natAbs d → pos K *ℤ n ≡ w *ℤ d
-    → (K * pp (turned d n) ≡ δ * pp w) × (K * np (turned d n) ≡ δ * np w)
+    → (K * pp (signedBy d n) ≡ δ * pp w) × (K * np (signedBy d n) ≡ δ * np w)
 parts K δ w n d e h =
-    let q : pos K *ℤ turned d n ≡ pos δ *ℤ w = turn (pos K) w n d h ∙ times-comm w (pos (natAbs d)) ∙ ap (λ (z : ℕ). pos z *ℤ w) (sym e) in
-    (sym (pos-pp K (turned d n)) ∙ ap pp q ∙ pos-pp δ w, sym (pos-np K (turned d n)) ∙ ap np q ∙ pos-np δ w)
+    let q : pos K *ℤ signedBy d n ≡ pos δ *ℤ w = sign-moves (pos K) w n d h ∙ times-comm w (pos (natAbs d)) ∙ ap (λ (z : ℕ). pos z *ℤ w)
+    (sym e) in
+    (sym (pos-pp K (signedBy d n)) ∙ ap pp q ∙ pos-pp δ w, sym (pos-np K (signedBy d n)) ∙ ap np q ∙ pos-np δ w)
 
 -- ---- and back: where the determinant is not 0 the line meets the plane there
 diff-triple : (a b c : Point) → Diff (dotP a (crossP b c))
@@ -110,26 +111,26 @@ module _ (o d a b : Point) where
       (diff-add (diff-right (diff-triple o d b) (a .z)) (diff-right (diff-triple d o a) (b .z))) (simp ring)
 
   -- with the sign of the determinant
-  all-turned : (k t u v : ℤ) (x y z w : ℤ) → k *ℤ x +ℤ t *ℤ y ≡ u *ℤ z +ℤ v *ℤ w
-      → pos (natAbs k) *ℤ x +ℤ turned k t *ℤ y ≡ turned k u *ℤ z +ℤ turned k v *ℤ w
-  all-turned (pos k) t u v x y z w h = h
-  all-turned (negsuc k) t u v x y z w h = sym (both (negsuc k) t x y) ∙ ap negℤ h ∙ both u v z w
+  all-signed : (k t u v : ℤ) (x y z w : ℤ) → k *ℤ x +ℤ t *ℤ y ≡ u *ℤ z +ℤ v *ℤ w
+      → pos (natAbs k) *ℤ x +ℤ signedBy k t *ℤ y ≡ signedBy k u *ℤ z +ℤ signedBy k v *ℤ w
+  all-signed (pos k) t u v x y z w h = h
+  all-signed (negsuc k) t u v x y z w h = sym (both (negsuc k) t x y) ∙ ap negℤ h ∙ both u v z w
     where
       both : (p q x y : ℤ) → negℤ (p *ℤ x +ℤ q *ℤ y) ≡ negℤ p *ℤ x +ℤ negℤ q *ℤ y
       both p q x y = simp ring
 
   pub meet :
       let Δ = dotP a (crossP d b) in
-      addP (scaleP (pos (natAbs Δ)) o) (scaleP (turned Δ (dotP b (crossP o a))) d)
-      ≡ addP (scaleP (turned Δ (dotP o (crossP d b))) a) (scaleP (turned Δ (dotP d (crossP o a))) b)
+      addP (scaleP (pos (natAbs Δ)) o) (scaleP (signedBy Δ (dotP b (crossP o a))) d)
+      ≡ addP (scaleP (signedBy Δ (dotP o (crossP d b))) a) (scaleP (signedBy Δ (dotP d (crossP o a))) b)
   meet = λ i. record {
     x =
-        all-turned (dotP a (crossP d b)) (dotP b (crossP o a)) (dotP o (crossP d b)) (dotP d (crossP o a)) (o .x) (d .x) (a .x)
+        all-signed (dotP a (crossP d b)) (dotP b (crossP o a)) (dotP o (crossP d b)) (dotP d (crossP o a)) (o .x) (d .x) (a .x)
         (b .x) meet-x i;
     y =
-        all-turned (dotP a (crossP d b)) (dotP b (crossP o a)) (dotP o (crossP d b)) (dotP d (crossP o a)) (o .y) (d .y) (a .y)
+        all-signed (dotP a (crossP d b)) (dotP b (crossP o a)) (dotP o (crossP d b)) (dotP d (crossP o a)) (o .y) (d .y) (a .y)
         (b .y) meet-y i;
     z =
-        all-turned (dotP a (crossP d b)) (dotP b (crossP o a)) (dotP o (crossP d b)) (dotP d (crossP o a)) (o .z) (d .z) (a .z)
+        all-signed (dotP a (crossP d b)) (dotP b (crossP o a)) (dotP o (crossP d b)) (dotP d (crossP o a)) (o .z) (d .z) (a .z)
         (b .z) meet-z i;
   }

@@ -46,13 +46,13 @@ pub record Ratio (x : Float) (z : ℤ) (D : ℕ) : Type 0 where
   pub below-zero : np z ≡ less sign (natAbs z)
 
 -- N with the sign of N / D
-abbrev pub turned : ℤ → ℤ → ℤ
-turned (pos d) n = n
-turned (negsuc d) n = negℤ n
+abbrev pub signedBy : ℤ → ℤ → ℤ
+signedBy (pos d) n = n
+signedBy (negsuc d) n = negℤ n
 
-pub turned-size : (d n : ℤ) → natAbs (turned d n) ≡ natAbs n
-turned-size (pos d) n = refl
-turned-size (negsuc d) n = neg-size n
+pub signed-size : (d n : ℤ) → natAbs (signedBy d n) ≡ natAbs n
+signed-size (pos d) n = refl
+signed-size (negsuc d) n = neg-size n
 
 plus-not : (s : Bool) (a : ℕ) → plus (not s) a ≡ less s a
 plus-not true a = refl
@@ -81,7 +81,7 @@ unlike-true false = refl
 
 -- N times the rounded inverse of D
 pub ratio : (y x : Float) (n d : ℤ) → Stands y n → Stands x d → 0 < natAbs d → natAbs n ≤ 2 ^ 53 → natAbs d ≤ 2 ^ 53
-    → Ratio (y *ᶠ (oneᶠ /ᶠ x)) (turned d n) (natAbs d)
+    → Ratio (y *ᶠ (oneᶠ /ᶠ x)) (signedBy d n) (natAbs d)
 ratio y x n (pos D) v w p h k =
     let a = parted y n v in
     let b = parted x (pos D) w in

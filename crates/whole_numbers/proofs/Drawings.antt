@@ -7,7 +7,7 @@ use Rattle.vectors.specs.declared.vec3.Vec3.{Vec3}
 use Rattle.exact_depth.proofs.Standing.{stands}
 use Rattle.whole_numbers.proofs.Whole.{Whole, WholeVec}
 use Rattle.whole_numbers.specs.Points.{Point}
-use Rattle.whole_numbers.specs.Board.{Drawn, DrawnAt}
+use Rattle.whole_numbers.specs.WholeTriangle.{Drawn, DrawnAt}
 
 pub drawn : (B : ℕ) (x : Float) (z : ℤ) → B ≤ 2 ^ 53 → Drawn B x z → Whole B x z
 drawn B x z l d = record { value = stands x z (le-trans (d .bound) l) (d .equal); bound = d .bound }

@@ -23,9 +23,9 @@ use Rattle.casts.specs.Surface.{offSegment, facing}
 use Rattle.casts.specs.Answer.{Answer, hit, none, refused}
 use Rattle.triangle_cast.specs.Triangle.{flat, triangleNormal, triangleAbove, triangleAt, triangleOf, rayTriangle}
 use Rattle.whole_numbers.specs.Points.{Point}
-use Rattle.whole_numbers.specs.Board.{Drawing, Board, Drawn, DrawnAt, Crossing, sum as far, downward, along}
-use Rattle.whole_numbers.specs.Boards.{Met}
-use Rattle.whole_numbers.proofs.WholeBoards.{exact-on-whole-numbers}
+use Rattle.whole_numbers.specs.WholeTriangle.{Drawing, WholeTriangle, Drawn, DrawnAt, Crossing, sum as far, downward, along}
+use Rattle.whole_numbers.specs.WholeMesh.{Met}
+use Rattle.whole_numbers.proofs.WholeTriangles.{exact-on-whole-numbers}
 
 -- ---- a drawing as floats
 abbrev floats : Point → Vec3
@@ -70,7 +70,7 @@ pub record Fits (g : Drawing) : Type 0 where
   pub least : 1 ≤ g .maximum
   pub most : g .maximum ≤ 16384
 
-pub board-of : (g : Drawing) → Fits g → Board (rayOf g) (cornersOf g) g
+pub board-of : (g : Drawing) → Fits g → WholeTriangle (rayOf g) (cornersOf g) g
 board-of g f = record {
   origin = drawn-at 4096 (g .o) (f .o);
   direction = drawn-at 1 (along (g .direction)) (f .direction);
@@ -103,8 +103,8 @@ is-negative (negsuc n) = true
 abbrev pub k4 : Drawing
 k4 = down (at (pos 1) (pos 1) (pos 4)) 5 (at (pos 4) (pos 0) (pos 0)) (at (pos 0) (pos 4) (pos 0))
 
-pub k4-board : Board (rayOf k4) (cornersOf k4) k4
-k4-board = board-of k4 (record {
+pub k4-whole : WholeTriangle (rayOf k4) (cornersOf k4) k4
+k4-whole = board-of k4 (record {
   o = record { first = lit≤ tt; second = lit≤ tt; third = lit≤ tt };
   a = zeros;
   b = record { first = lit≤ tt; second = lit≤ tt; third = lit≤ tt };
@@ -129,15 +129,15 @@ k4-met = record {
 k4-hit : (normal : Vec3) × (distance : Float) × (rayTriangle (rayOf k4) (cornersOf k4) ≡ hit normal distance)
 k4-hit =
     let m = k4-met in
-    exact-on-whole-numbers (rayOf k4) (cornersOf k4) k4 k4-board .hits (m .apart) 4 (pos 1) (pos 1) (pos 16) (m .crossing)
+    exact-on-whole-numbers (rayOf k4) (cornersOf k4) k4 k4-whole .hits (m .apart) 4 (pos 1) (pos 1) (pos 16) (m .crossing)
     (m .inside) (m .from-zero) (m .below-maximum)
 
 -- ---- K6, four times as large: promised to be missed
 abbrev pub k6 : Drawing
 k6 = down (at (pos 3) (pos 2) (pos 4)) 5 (at (pos 4) (pos 0) (pos 0)) (at (pos 0) (pos 4) (pos 0))
 
-pub k6-board : Board (rayOf k6) (cornersOf k6) k6
-k6-board = board-of k6 (record {
+pub k6-whole : WholeTriangle (rayOf k6) (cornersOf k6) k6
+k6-whole = board-of k6 (record {
   o = record { first = lit≤ tt; second = lit≤ tt; third = lit≤ tt };
   a = zeros;
   b = record { first = lit≤ tt; second = lit≤ tt; third = lit≤ tt };
@@ -152,7 +152,7 @@ k6-crossing = record { divisor = lit≤ tt; meets = refl }
 
 k6-none : rayTriangle (rayOf k6) (cornersOf k6) ≡ none
 k6-none =
-    exact-on-whole-numbers (rayOf k6) (cornersOf k6) k6 k6-board .outside 4 (pos 3) (pos 2) (pos 16) k6-crossing (far (ltZ-yes tt))
+    exact-on-whole-numbers (rayOf k6) (cornersOf k6) k6 k6-whole .outside 4 (pos 3) (pos 2) (pos 16) k6-crossing (far (ltZ-yes tt))
 
 -- ---- the open cases
 abbrev is-hit : Answer → Bool

@@ -10,7 +10,7 @@ pub mod Admitted
 pub mod Polynomials
 pub mod Cramer
 pub mod Casting
-pub mod WholeBoards
+pub mod WholeTriangles
 pub mod WholeMeshes
 pub mod Examples
 pub mod WholeReturned

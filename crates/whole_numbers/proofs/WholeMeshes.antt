@@ -20,13 +20,14 @@ use Rattle.tree.specs.Mesh.{Mesh, cornersOf}
 use Rattle.mesh.specs.MeshCast.{rayMesh}
 use Rattle.mesh.specs.Demand3.{Candidate, answerOf, IsHit, MeetsDemand}
 use Rattle.mesh.proofs.Demand3.{demand3}
-use Rattle.whole_numbers.specs.Board.{Board, Parallel, Crossing, Within, ExactOnWholeNumbers}
-use Rattle.whole_numbers.specs.Boards.{Plan, drawingOf, Boards, Met, Missed, parallel, outside, behind, beyond, AtMost, MeshExact}
-use Rattle.whole_numbers.specs.Boards.{MeshesExact}
+use Rattle.whole_numbers.specs.WholeTriangle.{WholeTriangle, Parallel, Crossing, Within, ExactOnWholeNumbers}
+use Rattle.whole_numbers.specs.WholeMesh.{Plan, drawingOf, WholeMesh, Met, Missed, parallel, outside, behind, beyond, AtMost}
+use Rattle.whole_numbers.specs.WholeMesh.{MeshExact}
+use Rattle.whole_numbers.specs.WholeMesh.{MeshesExact}
 use Rattle.whole_numbers.proofs.Drawings.{drawn, drawn-at}
 use Rattle.whole_numbers.proofs.Vectors.{whole-add, whole-mul}
 use Rattle.whole_numbers.proofs.Admitted.{finite-vec, admitted}
-use Rattle.whole_numbers.proofs.WholeBoards.{exact-on-whole-numbers, none-no-hit}
+use Rattle.whole_numbers.proofs.WholeTriangles.{exact-on-whole-numbers, none-no-hit}
 
 -- ---- the least depth: x is at most y, which is within 2^-51 of t / D
 nearer-still : (X d Y d' t D : ℕ) → 0 < d' → X * d' ≤ Y * d → 2 ^ 51 * (Y * D) ≤ 2 ^ 51 * (t * d') + t * d'
@@ -69,7 +70,7 @@ is-hit (hitAt n d i) f g = (n, d, i, refl)
 is-hit noHit f g = absurd (f refl)
 is-hit (stopped number) f g = absurd (g number refl)
 
-module _ (r : Ray) (m : Mesh) (p : Plan) (b : Boards r m p) where
+module _ (r : Ray) (m : Mesh) (p : Plan) (b : WholeMesh r m p) where
   -- ---- the ray is admitted and its segment's end is finite
   pub ray-admitted : rayAdmitted r ≡ true
   ray-admitted =
@@ -90,9 +91,9 @@ module _ (r : Ray) (m : Mesh) (p : Plan) (b : Boards r m p) where
       })
 
   -- ---- each candidate is a board
-  board : (i : ℕ) → Candidate r m i → Board r (cornersOf (m .vertices) (m .triangles) i) (drawingOf p i)
+  whole-triangle : (i : ℕ) → Candidate r m i → WholeTriangle r (cornersOf (m .vertices) (m .triangles) i) (drawingOf p i)
   unfolding cornersOf
-  board i c = record {
+  whole-triangle i c = record {
     origin = b .origin;
     direction = b .direction;
     near = b .near;
@@ -104,7 +105,7 @@ module _ (r : Ray) (m : Mesh) (p : Plan) (b : Boards r m p) where
   }
 
   exact : (i : ℕ) → Candidate r m i → ExactOnWholeNumbers r (cornersOf (m .vertices) (m .triangles) i) (drawingOf p i)
-  exact i c = exact-on-whole-numbers r (cornersOf (m .vertices) (m .triangles) i) (drawingOf p i) (board i c)
+  exact i c = exact-on-whole-numbers r (cornersOf (m .vertices) (m .triangles) i) (drawingOf p i) (whole-triangle i c)
 
   never-refused : (i number : ℕ) → Candidate r m i → answerOf r m i ≡ refused number → ⊥
   unfolding answerOf

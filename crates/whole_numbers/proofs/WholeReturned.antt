@@ -18,20 +18,20 @@ use Rattle.casts.specs.Answer.{Answer, hit, none, refused}
 use Rattle.triangle_cast.specs.Triangle.{rayTriangle}
 use Rattle.tree.specs.Layout.{numberAt}
 use Rattle.results.specs.Results.{Returned, rayFrom, rayOf, cornersOf, hitCode, noneCode, returned, answered}
-use Rattle.whole_numbers.specs.Board.{Drawing, Drawn, Board, Crossing, Within, sum as far, ExactOnWholeNumbers}
-use Rattle.whole_numbers.specs.Boards.{Met, Missed, parallel, outside, behind, beyond}
+use Rattle.whole_numbers.specs.WholeTriangle.{Drawing, Drawn, WholeTriangle, Crossing, Within, sum as far, ExactOnWholeNumbers}
+use Rattle.whole_numbers.specs.WholeMesh.{Met, Missed, parallel, outside, behind, beyond}
 use Rattle.whole_numbers.specs.Returned.{Says, ReturnedExact, NearCallExact, CallExact}
-use Rattle.whole_numbers.proofs.WholeBoards.{exact-on-whole-numbers}
-use Rattle.whole_numbers.proofs.Examples.{k4, k4-board, k4-met, k6, k6-board, k6-crossing}
+use Rattle.whole_numbers.proofs.WholeTriangles.{exact-on-whole-numbers}
+use Rattle.whole_numbers.proofs.Examples.{k4, k4-whole, k4-met, k6, k6-whole, k6-crossing}
 
 with-room : (a : Answer) (area : List Float) → 4 ≤ length area → answered a area ≡ returned a area
 unfolding answered
 with-room a area room = simp (le-leb 4 (length area) room)
 
-module _ (r : Ray) (vs : List Vec3) (g : Drawing) (board : Board r vs g)
+module _ (r : Ray) (vs : List Vec3) (g : Drawing) (whole-triangle : WholeTriangle r vs g)
     (number : ℕ) (before after : List Float) (room : 4 ≤ length before) (says : Says r vs number before after) where
   exact : ExactOnWholeNumbers r vs g
-  exact = exact-on-whole-numbers r vs g board
+  exact = exact-on-whole-numbers r vs g whole-triangle
 
   -- ---- each answer of the cast, as it is told
   is-returned : (a : Answer) → rayTriangle r vs ≡ a → _≡_ {A = Returned} (record { number = number; hit = after }) (returned a before)
@@ -98,12 +98,13 @@ module _ (r : Ray) (vs : List Vec3) (g : Drawing) (board : Board r vs g)
 
 -- ---- both calls
 pub near-call-exact : NearCallExact
-near-call-exact ox oy oz dx dy dz maximum least ax ay az bx by bz cx cy cz g number before after board room says =
-    returned-exact (rayFrom ox oy oz dx dy dz maximum least) (cornersOf ax ay az bx by bz cx cy cz) g board number before after room says
+near-call-exact ox oy oz dx dy dz maximum least ax ay az bx by bz cx cy cz g number before after whole-triangle room says =
+    returned-exact (rayFrom ox oy oz dx dy dz maximum least) (cornersOf ax ay az bx by bz cx cy cz) g whole-triangle number before after
+    room says
 
 pub call-exact : CallExact
-call-exact ox oy oz dx dy dz maximum ax ay az bx by bz cx cy cz g number before after board room says =
-    near-call-exact ox oy oz dx dy dz maximum zeroᶠ ax ay az bx by bz cx cy cz g number before after board room says
+call-exact ox oy oz dx dy dz maximum ax ay az bx by bz cx cy cz g number before after whole-triangle room says =
+    near-call-exact ox oy oz dx dy dz maximum zeroᶠ ax ay az bx by bz cx cy cz g number before after whole-triangle room says
 
 -- ---- K4, four times as large, by eight numbers: 256, and the fourth number is 16 / 4 within the bound
 abbrev whole : ℕ → Float
@@ -125,7 +126,7 @@ pub k4-exact : ReturnedExact k4 (k4-returned .number) four (k4-returned .hit)
 k4-exact =
     near-call-exact (whole 1) (whole 1) (whole 4) (whole 0) (whole 0) down (whole 5) (whole 0)
     (whole 0) (whole 0) (whole 0) (whole 4) (whole 0) (whole 0) (whole 0) (whole 4) (whole 0)
-    k4 (k4-returned .number) four (k4-returned .hit) k4-board (lit≤ tt) refl
+    k4 (k4-returned .number) four (k4-returned .hit) k4-whole (lit≤ tt) refl
 
 pub k4-says-hit : (k4-returned .number ≡ hitCode) × Within (numberAt (k4-returned .hit) 3) 16 4
 k4-says-hit =
@@ -139,16 +140,16 @@ nought : Drawn 0 zeroᶠ (pos 0)
 unfolding eq ofInt round units odd size climb span ofBits ofFields
 nought = record { equal = refl; bound = lit≤ tt }
 
-k6-drawn : Board k6-ray corners k6
+k6-drawn : WholeTriangle k6-ray corners k6
 k6-drawn = record {
-  origin = k6-board .origin;
-  direction = k6-board .direction;
+  origin = k6-whole .origin;
+  direction = k6-whole .direction;
   near = nought;
-  maximum = k6-board .maximum;
-  positive = k6-board .positive;
-  first = k6-board .first;
-  second = k6-board .second;
-  third = k6-board .third;
+  maximum = k6-whole .maximum;
+  positive = k6-whole .positive;
+  first = k6-whole .first;
+  second = k6-whole .second;
+  third = k6-whole .third;
 }
 
 abbrev k6-returned : Returned

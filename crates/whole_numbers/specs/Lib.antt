@@ -1,5 +1,5 @@
 -- What is certain on whole millimetres. Definitions only. Assumes nothing.
 pub mod Points
-pub mod Board
-pub mod Boards
+pub mod WholeTriangle
+pub mod WholeMesh
 pub mod Returned

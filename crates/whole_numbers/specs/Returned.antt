@@ -1,4 +1,4 @@
--- Boards on whole millimetres: what the exported triangle calls answer and leave in the hit slice. Definitions only. Assumes nothing.
+-- WholeMesh on whole millimetres: what the exported triangle calls answer and leave in the hit slice. Definitions only. Assumes nothing.
 use Prim.Native.Nat.{ℕ, _≤_}
 use mathlib.Core.Path.{_≡_}
 use mathlib.Core.Logic.{_⊎_}
@@ -11,8 +11,8 @@ use Rattle.geometry.specs.declared.ray.Ray.{Ray}
 use Rattle.triangle_cast.specs.Triangle.{rayTriangle}
 use Rattle.tree.specs.Layout.{numberAt}
 use Rattle.results.specs.Results.{Returned, rayFrom, rayOf, cornersOf, hitCode, noneCode, answered}
-use Rattle.whole_numbers.specs.Board.{Drawing, Board, Degenerate, Crossing, Within}
-use Rattle.whole_numbers.specs.Boards.{Met, Missed}
+use Rattle.whole_numbers.specs.WholeTriangle.{Drawing, WholeTriangle, Degenerate, Crossing, Within}
+use Rattle.whole_numbers.specs.WholeMesh.{Met, Missed}
 
 -- what the contract of a triangle call says of its number and of the hit slice before and after
 abbrev pub Says : Ray → List Vec3 → ℕ → List Float → List Float → Type 0
@@ -38,7 +38,7 @@ pub record ReturnedExact (g : Drawing) (number : ℕ) (before after : List Float
 abbrev pub NearCallExact : Type 0
 NearCallExact =
     (ox oy oz dx dy dz maximum near ax ay az bx by bz cx cy cz : Float) (g : Drawing) (number : ℕ) (before after : List Float)
-    → Board (rayFrom ox oy oz dx dy dz maximum near) (cornersOf ax ay az bx by bz cx cy cz) g → 4 ≤ length before
+    → WholeTriangle (rayFrom ox oy oz dx dy dz maximum near) (cornersOf ax ay az bx by bz cx cy cz) g → 4 ≤ length before
     → Says (rayFrom ox oy oz dx dy dz maximum near) (cornersOf ax ay az bx by bz cx cy cz) number before after
     → ReturnedExact g number before after
 
@@ -46,6 +46,6 @@ NearCallExact =
 abbrev pub CallExact : Type 0
 CallExact =
     (ox oy oz dx dy dz maximum ax ay az bx by bz cx cy cz : Float) (g : Drawing) (number : ℕ) (before after : List Float)
-    → Board (rayOf ox oy oz dx dy dz maximum) (cornersOf ax ay az bx by bz cx cy cz) g → 4 ≤ length before
+    → WholeTriangle (rayOf ox oy oz dx dy dz maximum) (cornersOf ax ay az bx by bz cx cy cz) g → 4 ≤ length before
     → Says (rayOf ox oy oz dx dy dz maximum) (cornersOf ax ay az bx by bz cx cy cz) number before after
     → ReturnedExact g number before after

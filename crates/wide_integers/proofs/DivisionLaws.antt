@@ -14,7 +14,7 @@ use borrow.Author.Tests.{ltb-true, ltb-false}
 use Rattle.arithmetic.proofs.RoundingError.{cmp, Cmp}
 use Rattle.wide_integers.specs.declared.number.Wide.{Wide}
 use Rattle.wide_integers.specs.declared.division.Quotient.{Quotient}
-use Rattle.wide_integers.specs.Value.{zeroAt, value, Held}
+use Rattle.wide_integers.specs.Value.{zeroAt, value, FitsWide}
 use Rattle.wide_integers.specs.Division.{magnitude, Counts, Below, Grows, Less, Proper, Stepped, Divided, digitsOf}
 use Rattle.wide_integers.proofs.NaturalLaws.{magnitude-is, counted, sum-held}
 use Rattle.wide_integers.proofs.NaturalLaws.{sum-counts, difference-held, difference-counts, below-counts}
@@ -55,7 +55,7 @@ growing-first {l} {s} h =
     }
 
 module _ {L S e : ℕ} {l w : Wide} (k : Counts l L) (g : Growing L S e w) where
-  pub room-held : Held (value l -ℤ value w)
+  pub room-held : FitsWide (value l -ℤ value w)
   room-held = difference-held k (g .whole) (g .most)
 
   module _ (room : Wide) (r : value room ≡ value l -ℤ value w) {t : Bool} (q : t ≡ ltZ (value room) (value w)) where
@@ -83,7 +83,7 @@ module _ {L S e : ℕ} {l w : Wide} (k : Counts l L) (g : Growing L S e w) where
     twice-small : t ≡ false → S * 2 ^ e + S * 2 ^ e < zeroAt
     twice-small h = lt-of-le-of-lt (twice-most h) (k .small)
 
-    pub twice-held : t ≡ false → Held (value w +ℤ value w)
+    pub twice-held : t ≡ false → FitsWide (value w +ℤ value w)
     twice-held h = sum-held (g .whole) (g .whole) (twice-small h)
 
     module _ (v : Wide) (h : t ≡ false) (j : value v ≡ value w +ℤ value w) where
@@ -112,7 +112,7 @@ module _ {L S e : ℕ} {l w : Wide} (k : Counts l L) (g : Growing L S e w) where
 
 -- ---- one digit more
 module _ (p : Quotient) {d : Wide} (h : Less (p .rest) d) where
-  pub left-held : Held (value d -ℤ value (p .rest))
+  pub left-held : FitsWide (value d -ℤ value (p .rest))
   left-held = difference-held (h .whole) (h .rest) (le-of-lt (h .below))
 
   module _ (room : Wide) (r : value room ≡ value d -ℤ value (p .rest)) {t : Bool} (q : t ≡ ltZ (value (p .rest)) (value room)) where
@@ -134,7 +134,7 @@ module _ (p : Quotient) {d : Wide} (h : Less (p .rest) d) where
     low-small : t ≡ true → magnitude (p .rest) + magnitude (p .rest) < zeroAt
     low-small k = lt-of-le-of-lt (le-of-lt (twice-below k)) (h .whole .small)
 
-    pub low-held : t ≡ true → Held (value (p .rest) +ℤ value (p .rest))
+    pub low-held : t ≡ true → FitsWide (value (p .rest) +ℤ value (p .rest))
     low-held k = sum-held (h .rest) (h .rest) (low-small k)
 
     pub stepped-low : (s : Wide) → t ≡ true → value s ≡ value (p .rest) +ℤ value (p .rest)
@@ -159,7 +159,7 @@ module _ (p : Quotient) {d : Wide} (h : Less (p .rest) d) where
         same : (w D R s : ℕ) → s ≡ R + R → (w + w) * D + s ≡ (w * D + R) + (w * D + R)
         same w D R s e = omega (arith, e)
 
-    pub high-held : t ≡ false → Held (value (p .rest) -ℤ value room)
+    pub high-held : t ≡ false → FitsWide (value (p .rest) -ℤ value room)
     high-held k = difference-held (h .rest) left-counts (high-digit k)
 
     pub stepped-high : (s : Wide) → t ≡ false → value s ≡ value (p .rest) -ℤ value room

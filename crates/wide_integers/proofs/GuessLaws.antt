@@ -16,7 +16,7 @@ use Rattle.wide_integers.specs.declared.number.Wide.{Wide}
 use Rattle.wide_integers.specs.declared.division.Quotient.{Quotient}
 use Rattle.wide_integers.specs.declared.guess.Sought.{Sought}
 use Rattle.wide_integers.specs.declared.guess.Sought.the-variants.{At, Not as Lost}
-use Rattle.wide_integers.specs.Value.{base, half, zeroAt, raised, value, Held, Middling}
+use Rattle.wide_integers.specs.Value.{base, half, zeroAt, raised, value, FitsWide, Middling}
 use Rattle.wide_integers.specs.Division.{magnitude, Counts, Ready, digitsOf}
 use Rattle.wide_integers.specs.Guess.{Left, Divides, Found, Finds, Answers}
 use Rattle.wide_integers.proofs.Limbs.{low-high}
@@ -49,7 +49,7 @@ module _ {n part : Wide} {N P : ℕ} (cn : Counts n N) (cp : Counts part P) {t :
   left-least : P ≤ N
   left-least = ltb-false N P (sym (below-counts cn cp q) ∙ f)
 
-  pub left-asks : Held (value n -ℤ value part)
+  pub left-asks : FitsWide (value n -ℤ value part)
   left-asks = difference-held cn cp left-least
 
   pub left-is : (v : Wide) → value v ≡ value n -ℤ value part → Left N P v
@@ -81,7 +81,7 @@ module _ {d rest : Wide} {N D g : ℕ} (cd : Counts d D) (l : Left N (D * g) res
     rest-least : D ≤ magnitude rest
     rest-least = ltb-false (magnitude rest) D (sym (below-counts (l .counts) cd q) ∙ k)
 
-    pub settled-asks : Held (value rest -ℤ value d)
+    pub settled-asks : FitsWide (value rest -ℤ value d)
     settled-asks = difference-held (l .counts) cd rest-least
 
     module _ (less : Wide) (e : value less ≡ value rest -ℤ value d) {u : Bool} (f : u ≡ ltZ (value less) (value d)) where
@@ -220,7 +220,7 @@ module _ {rest low d : Wide} (T W first P : ℕ) (q : Quotient) (positive : 0 < 
   left-small : left-over < zeroAt
   left-small = lt-of-le-of-lt (le-of-lt left-below) (cd .small)
 
-  pub low-asks : Held (value low +ℤ value (q .rest))
+  pub low-asks : FitsWide (value low +ℤ value (q .rest))
   low-asks = sum-held cl (h .rest) left-small
 
   module _ (v : Wide) (e : value v ≡ value low +ℤ value (q .rest)) where

@@ -11,7 +11,7 @@ use lib.IntN.{ℤ, pos, negsuc, natAbs, _+ℤ_, _-ℤ_}
 use lib.Signed.{ltZ, leZ}
 use Rattle.wide_integers.proofs.Polynomials.{Rep, own-pos, rep-sub, equal}
 use Rattle.wide_integers.specs.declared.number.Wide.{Wide}
-use Rattle.wide_integers.specs.Value.{base, half, zeroAt, raised, value, Held}
+use Rattle.wide_integers.specs.Value.{base, half, zeroAt, raised, value, FitsWide}
 use Rattle.wide_integers.specs.Division.{magnitude, Counts, Positive, fractionOf}
 use Rattle.wide_integers.proofs.Limbs.{three-below}
 use Rattle.wide_integers.proofs.ValueLaws.{value-rep}
@@ -33,8 +33,8 @@ module _ {a b : Wide} {m n : ℕ} (h : Counts a m) (k : Counts b n) where
   sum-pos : value a +ℤ value b ≡ pos (m + n)
   sum-pos = λ i. h .is i +ℤ k .is i
 
-  pub sum-held : m + n < zeroAt → Held (value a +ℤ value b)
-  sum-held l = subst Held (sym sum-pos) (record { size = l })
+  pub sum-held : m + n < zeroAt → FitsWide (value a +ℤ value b)
+  sum-held l = subst FitsWide (sym sum-pos) (record { size = l })
 
   pub sum-counts : {r : Wide} → m + n < zeroAt → value r ≡ value a +ℤ value b → Counts r (m + n)
   sum-counts l e = record { is = e ∙ sum-pos; small = l }
@@ -42,8 +42,8 @@ module _ {a b : Wide} {m n : ℕ} (h : Counts a m) (k : Counts b n) where
   difference-pos : n ≤ m → value a -ℤ value b ≡ pos (m - n)
   difference-pos l = (λ i. h .is i -ℤ k .is i) ∙ pos-minus m n l
 
-  pub difference-held : n ≤ m → Held (value a -ℤ value b)
-  difference-held l = subst Held (sym (difference-pos l)) (record { size = lt-of-le-of-lt (lower m n) (h .small) })
+  pub difference-held : n ≤ m → FitsWide (value a -ℤ value b)
+  difference-held l = subst FitsWide (sym (difference-pos l)) (record { size = lt-of-le-of-lt (lower m n) (h .small) })
 
   pub difference-counts : {r : Wide} → n ≤ m → value r ≡ value a -ℤ value b → Counts r (m - n)
   difference-counts l e = record { is = e ∙ difference-pos l; small = lt-of-le-of-lt (lower m n) (h .small) }

@@ -19,8 +19,8 @@ use Rattle.wide_integers.specs.declared.number.Wide.{Wide}
 use Rattle.wide_integers.specs.declared.words.Digit.{Digit}
 use Rattle.wide_integers.specs.declared.words.Double.{Double}
 use Rattle.wide_integers.specs.declared.words.Part.{Part}
-use Rattle.wide_integers.specs.Value.{base, half, zeroAt, raised, value, Held, Middling}
-use Rattle.wide_integers.specs.Steps.{Added, Taken, Multiplied, Parted}
+use Rattle.wide_integers.specs.Value.{base, half, zeroAt, raised, value, FitsWide, Middling}
+use Rattle.wide_integers.specs.Steps.{Added, Subtracted, Multiplied, SplitSign}
 use Rattle.wide_integers.proofs.Limbs.{three, sum-words, difference-words, product-words}
 use Rattle.wide_integers.proofs.Limbs.{times-words, order-words, three-below, order-less}
 use Rattle.wide_integers.proofs.Limbs.{order-not-less, high-less, high-not-less, sign-words}
@@ -29,7 +29,7 @@ use Rattle.wide_integers.proofs.Limbs.{middle-least, middle-most, middl
 use Rattle.wide_integers.proofs.ValueLaws.{difference-rep, rep-least, rep-most, value-rep, value-is, value-told}
 
 -- ---- sizes
-pub held : {B : ℕ} {z : ℤ} → Sized B z → B < zeroAt → Held z
+pub held : {B : ℕ} {z : ℤ} → Sized B z → B < zeroAt → FitsWide z
 held s l = record { size = lt-of-le-of-lt (s .size) l }
 
 pub middling : {B : ℕ} {z : ℤ} → Sized B z → B < base * base → Middling z
@@ -47,7 +47,7 @@ below-product n k C H h g p =
 -- ---- sums and differences
 module _ (a b : Wide) (l m : Digit) (s h : ℕ) where
   pub sum-told : Added (a .low) (b .low) 0 l → Added (a .middle) (b .middle) (l .over) m → s ≡ (a .high + b .high) % 2 ^ 64
-      → h ≡ (s + (half + m .over)) % 2 ^ 64 → Held (value a +ℤ value b)
+      → h ≡ (s + (half + m .over)) % 2 ^ 64 → FitsWide (value a +ℤ value b)
       → value (record { high = h; middle = m .word; low = l .word }) ≡ value a +ℤ value b
   sum-told e f g k held =
       value-told (rep-add (value-rep a) (value-rep b)) (record { high = h; middle = m .word; low = l .word }) half
@@ -66,8 +66,8 @@ taken-twice : (h o s y t : ℕ) → (h + o) % 2 ^ 64 ≡ s → (s + y) % 2 ^ 64 
 taken-twice h o s y t e f = omega (arith, e, f)
 
 module _ (a b : Wide) (l m : Digit) (t s h : ℕ) (hh : h < base) where
-  pub difference-told : Taken (a .low) (b .low) 0 l → Taken (a .middle) (b .middle) (l .over) m → t ≡ (a .high + half) % 2 ^ 64
-      → (s + b .high) % 2 ^ 64 ≡ t → (h + m .over) % 2 ^ 64 ≡ s → Held (value a -ℤ value b)
+  pub difference-told : Subtracted (a .low) (b .low) 0 l → Subtracted (a .middle) (b .middle) (l .over) m → t ≡ (a .high + half) % 2 ^ 64
+      → (s + b .high) % 2 ^ 64 ≡ t → (h + m .over) % 2 ^ 64 ≡ s → FitsWide (value a -ℤ value b)
       → value (record { high = h; middle = m .word; low = l .word }) ≡ value a -ℤ value b
   difference-told e f g k j held =
       value-told (rep-sub (value-rep a) (value-rep b)) (record { high = h; middle = m .word; low = l .word }) (b .high + m .over)
@@ -76,16 +76,16 @@ module _ (a b : Wide) (l m : Digit) (t s h : ℕ) (hh : h < base) where
       (e .rest) (f .rest)) held hh (taken-twice h (m .over) s (b .high) t j k ∙ g) (f .word) (e .word)
 
 -- ---- products
-pub part-rep : {x : ℤ} {r : Part} → Parted x r → Rep x (r .word) (r .below * base)
+pub part-rep : {x : ℤ} {r : Part} → SplitSign x r → Rep x (r .word) (r .below * base)
 part-rep {r = r} h = subst (λ (z : ℤ). Rep z (r .word) (r .below * base)) (h .whole) (difference-rep (r .word) (r .below * base))
 
 pub flag-word : {s w : ℕ} → s ≤ 1 → w < base → s * w < base
 flag-word {s} {w} h k = let g : s * w ≤ 1 * w = mul-le-mul-right w h in omega (arith, g, k)
 
-module _ {x y : ℤ} (a b : Part) (d : Double) (once twice : Digit) (pa : Parted x a) (pb : Parted y b) (fx : SFits w64 x)
+module _ {x y : ℤ} (a b : Part) (d : Double) (once twice : Digit) (pa : SplitSign x a) (pb : SplitSign y b) (fx : SFits w64 x)
     (fy : SFits w64 y) where
-  product-told : Multiplied (a .word) (b .word) d → Taken (d .high) (b .below * a .word) 0 once
-      → Taken (once .word) (a .below * b .word) 0 twice
+  product-told : Multiplied (a .word) (b .word) d → Subtracted (d .high) (b .below * a .word) 0 once
+      → Subtracted (once .word) (a .below * b .word) 0 twice
       → value (record { high = half + a .below * b .below - (once .over + twice .over); middle = twice .word; low = d .low }) ≡ x *ℤ y
   product-told e f g =
       value-is (rep-mul (part-rep pa) (part-rep pb))
@@ -119,10 +119,10 @@ high-told w hm hl k =
         split true p q = let l = p refl in let n = g l in omega (arith, l, n, a, hm)
         split false p q = let l = q refl in let n = f l in omega (arith, l, n, b)
 
-module _ {x y : ℤ} (a b : Part) (d : Double) (once twice : Digit) (pa : Parted x a) (pb : Parted y b) (fx : SFits w64 x)
+module _ {x y : ℤ} (a b : Part) (d : Double) (once twice : Digit) (pa : SplitSign x a) (pb : SplitSign y b) (fx : SFits w64 x)
     (fy : SFits w64 y) where
-  pub product-signed : Multiplied (a .word) (b .word) d → Taken (d .high) (b .below * a .word) 0 once
-      → Taken (once .word) (a .below * b .word) 0 twice
+  pub product-signed : Multiplied (a .word) (b .word) d → Subtracted (d .high) (b .below * a .word) 0 once
+      → Subtracted (once .word) (a .below * b .word) 0 twice
       → value (record { high = half - twice .word / half; middle = twice .word; low = d .low }) ≡ x *ℤ y
   product-signed e f g =
       let h = half + a .below * b .below - (once .over + twice .over) in
@@ -155,10 +155,10 @@ module _ (a : Wide) (hm : a .middle < base) (hl : a .low < base) (k : Middling (
       plain : (h : ℕ) → h ≤ half → h + (half - h) ≡ half
       plain h g = omega (arith, g)
 
-  module _ {y : ℤ} (b : Part) (lower upper : Double) (once twice : Digit) (over first second h : ℕ) (pb : Parted y b) (fy : SFits w64 y)
+  module _ {y : ℤ} (b : Part) (lower upper : Double) (once twice : Digit) (over first second h : ℕ) (pb : SplitSign y b) (fy : SFits w64 y)
       (hh : h < base) where
     pub times-told : Multiplied (a .low) (b .word) lower → Multiplied (a .middle) (b .word) upper → Added (lower .high) (upper .low) 0 once
-        → Taken (once .word) (b .below * a .low) 0 twice → over ≡ (upper .high + (half + once .over)) % 2 ^ 64
+        → Subtracted (once .word) (b .below * a .low) 0 twice → over ≡ (upper .high + (half + once .over)) % 2 ^ 64
         → (first + twice .over) % 2 ^ 64 ≡ over → (second + b .below * a .middle) % 2 ^ 64 ≡ first
         → (h + (half - a .high) * b .word) % 2 ^ 64 ≡ second
         → value (record { high = h; middle = twice .word; low = lower .low }) ≡ value a *ℤ y
@@ -197,7 +197,8 @@ moved-not : (x y z : ℕ) → x ≤ y → x + z ≤ y + z
 moved-not x y z h = omega (arith, h)
 
 module _ (a b : Wide) (l m h : Digit) where
-  pub below-told : Taken (a .low) (b .low) 0 l → Taken (a .middle) (b .middle) (l .over) m → Taken (a .high) (b .high) (m .over) h
+  pub below-told : Subtracted (a .low) (b .low) 0 l → Subtracted (a .middle) (b .middle) (l .over) m → Subtracted (a .high) (b .high)
+      (m .over) h
       → ltb 0 (h .over) ≡ ltZ (value a) (value b)
   below-told e f g =
       go (h .over) (g .over) (three-below base half (h .word) (m .word) (l .word) (g .word) (f .word) (e .word))
@@ -246,7 +247,7 @@ negative-told a hm hl = go (ltb (a .high) half) (ltb-true (a .high) half) (ltb-f
         (high-not-less base half (a .high) (a .middle) (a .low) (g refl))))
 
 -- a single word with its sign, as three words
-pub whole-told : {x : ℤ} (a : Part) → Parted x a
+pub whole-told : {x : ℤ} (a : Part) → SplitSign x a
     → value (record { high = half - a .below; middle = a .below * 18446744073709551615; low = a .word }) ≡ x
 whole-told {x} a h =
     value-is (part-rep h) (record { high = half - a .below; middle = a .below * 18446744073709551615; low = a .word }) (a .below) half

@@ -10,7 +10,7 @@ use lib.Ieee.{binary64, units, round}
 use Rattle.wide_integers.specs.declared.number.Wide.{Wide}
 use Rattle.wide_integers.specs.declared.division.Grown.{Grown}
 use Rattle.wide_integers.specs.declared.division.Quotient.{Quotient}
-use Rattle.wide_integers.specs.Value.{value, Held}
+use Rattle.wide_integers.specs.Value.{value, FitsWide}
 use Rattle.wide_integers.specs.Division.{magnitude, Counts, Less, Ready, Grows, Divided, digitsOf}
 use Rattle.wide_integers.proofs.NaturalLaws.{magnitude-is, counted, difference-held, difference-counts}
 use Rattle.wide_integers.proofs.RoundLaws.{round-told}
@@ -38,7 +38,7 @@ quotient-rounds T W D N a c k q w e f s h =
 
 -- ---- t is at least w: w · 2^power is the whole
 module _ {t : Wide} (g : Grown) {T W : ℕ} (ct : Counts t T) (h : Grows T W g) where
-  pub over-held : Held (value t -ℤ value (g .whole))
+  pub over-held : FitsWide (value t -ℤ value (g .whole))
   over-held = difference-held ct (h .whole) (h .most)
 
   module _ (rest : Wide) (r : value rest ≡ value t -ℤ value (g .whole)) where
@@ -79,7 +79,7 @@ module _ {w : Wide} (g : Grown) {T W : ℕ} (cw : Counts w W) (p : 0 < W) (h : G
       plain : (X W : ℕ) → X ≤ W - 1 → X ≤ W
       plain X W l = omega (arith, l)
 
-  pub under-held : Held (value w -ℤ value (g .whole))
+  pub under-held : FitsWide (value w -ℤ value (g .whole))
   under-held = difference-held cw (h .whole) under-most
 
   module _ (room : Wide) (r : value room ≡ value w -ℤ value (g .whole)) where
@@ -92,7 +92,7 @@ module _ {w : Wide} (g : Grown) {T W : ℕ} (cw : Counts w W) (p : 0 < W) (h : G
         plain : (X W : ℕ) → W - 1 < X + X → W - X ≤ X
         plain X W l = omega (arith, l)
 
-    pub rest-held : Held (value (g .whole) -ℤ value room)
+    pub rest-held : FitsWide (value (g .whole) -ℤ value room)
     rest-held = difference-held (h .whole) under-room under-twice
 
     module _ (rest : Wide) (s : value rest ≡ value (g .whole) -ℤ value room) where

@@ -10,7 +10,7 @@ use lib.Signed.{mag, ltZ}
 use mir.Syntax.{w64}
 use mir.Val.{SFits, toZ, ofZ}
 use mir.ValLaws.{toZ-ofZ}
-use Rattle.wide_integers.specs.Sizes.{Sized, Held}
+use Rattle.wide_integers.specs.Sizes.{Sized, Sized61}
 use Rattle.wide_integers.proofs.Integers.{add-size, sub-size, mul-size, neg-size}
 
 abbrev pub bits : ℤ → ℤ
@@ -41,7 +41,7 @@ plain h = bits-back (fits h)
 pub widen : {A B : ℕ} {z : ℤ} → Sized A z → A ≤ B → Sized B z
 widen h l = record { size = le-trans (h .size) l }
 
-pub held-fit : {z : ℤ} → Held z → Fit z
+pub held-fit : {z : ℤ} → Sized61 z → Fit z
 held-fit h = widen h (lit≤ tt)
 
 pub mul-le : (a b A B : ℕ) → a ≤ A → b ≤ B → a * b ≤ A * B
@@ -62,7 +62,7 @@ pub negated-size : {A : ℕ} {x : ℤ} → Sized A x → Sized A (negℤ x)
 negated-size {A} {x} h = let m = h .size in record { size = omega (arith, neg-size x, m) }
 
 -- ---- a step on numbers that are read back: that it fits, and what it gives
-module _ {X Y x y : ℤ} (e : X ≡ x) (d : Y ≡ y) (h : Held x) (g : Held y) where
+module _ {X Y x y : ℤ} (e : X ≡ x) (d : Y ≡ y) (h : Sized61 x) (g : Sized61 y) where
   pub add-fits : SFits w64 (X +ℤ Y)
   add-fits =
       subst (λ (z : ℤ). SFits w64 (z +ℤ Y)) (sym e) (subst (λ (z : ℤ). SFits w64 (x +ℤ z)) (sym d) (fits (sum-size h g)))

@@ -7,7 +7,7 @@ use lib.IntN.{ℤ, pos, negsuc, natAbs, _-ℤ_}
 use Rattle.wide_integers.proofs.Integers.{pp, np}
 use Rattle.wide_integers.proofs.Polynomials.{Rep, own-pos, rep-sub, equal}
 use Rattle.wide_integers.specs.declared.number.Wide.{Wide}
-use Rattle.wide_integers.specs.Value.{base, half, zeroAt, raised, value, Held}
+use Rattle.wide_integers.specs.Value.{base, half, zeroAt, raised, value, FitsWide}
 use Rattle.wide_integers.proofs.Limbs.{top-least, top-most, whole-words}
 
 -- a number of a size, as a difference
@@ -45,7 +45,7 @@ module _ {z : ℤ} {P N : ℕ} (r : Rep z P N) (w : Wide) (p q : ℕ)
       shuffle a n p l g = omega (arith, g)
 
   -- .. with the highest word up to a multiple of 2^64
-  pub value-told : Held z → w .high < base → (w .high + p) % base ≡ q % base → w .middle < base → w .low < base → value w ≡ z
+  pub value-told : FitsWide z → w .high < base → (w .high + p) % base ≡ q % base → w .middle < base → w .low < base → value w ≡ z
   value-told k hh h hm hl =
       value-is
       (top-word (w .high) p q hh (top-least base half P N p q (w .middle) (w .low) hm hl e (le-of-lt (rep-least r zeroAt (k .size))))

@@ -14,7 +14,7 @@ use borrow.Author.Tests.{ltb-true, ltb-false}
 use Rattle.wide_integers.proofs.Polynomials.{own-pos, own-neg, rep-sub, equal}
 use Rattle.wide_integers.proofs.Reading.{bits}
 use Rattle.wide_integers.specs.Value.{base}
-use Rattle.wide_integers.specs.Steps.{Added, Taken, Multiplied, Parted}
+use Rattle.wide_integers.specs.Steps.{Added, Subtracted, Multiplied, SplitSign}
 
 -- ---- sums and differences
 pub flags-fit : (x y : Bool) → Fits w64 (boolByte x + boolByte y)
@@ -36,11 +36,11 @@ added a b c s w ha hb hc hs hw = go (ltb s a) (ltb-true s a) (ltb-false s a) (lt
     go false f g false f′ g′ = let p = g refl in let q = g′ refl in record { sum = omega arith; word = omega arith; over = omega arith }
 
 pub taken : (a b c s w : ℕ) → a < base → b < base → c ≤ 1 → s < base → w < base → (s + b) % 2 ^ 64 ≡ a → (w + c) % 2 ^ 64 ≡ s
-    → Taken a b c (record { word = w; over = boolByte (ltb a b) + boolByte (ltb s c) })
+    → Subtracted a b c (record { word = w; over = boolByte (ltb a b) + boolByte (ltb s c) })
 taken a b c s w ha hb hc ks kw hs hw = go (ltb a b) (ltb-true a b) (ltb-false a b) (ltb s c) (ltb-true s c) (ltb-false s c)
   where
     go : (x : Bool) → (x ≡ true → a < b) → (x ≡ false → b ≤ a) → (y : Bool) → (y ≡ true → s < c) → (y ≡ false → c ≤ s)
-        → Taken a b c (record { word = w; over = boolByte x + boolByte y })
+        → Subtracted a b c (record { word = w; over = boolByte x + boolByte y })
     go true f g true f′ g′ = let p = f refl in let q = f′ refl in absurd (omega arith)
     go true f g false f′ g′ = let p = f refl in let q = g′ refl in record { rest = omega arith; word = omega arith; over = omega arith }
     go false f g true f′ g′ = let p = g refl in let q = f′ refl in record { rest = omega arith; word = omega arith; over = omega arith }
@@ -112,8 +112,12 @@ module _ (X : ℤ) (g : Negative X) where
       let s = g .small in
       (subst (λ (z : ℤ). T (nonNeg z)) (sym other-read) tt, record { fits = omega arith })
 
-  pub negative-parted : (x : ℤ) → X ≡ x → Parted x (record { word = 18446744073709551615 - natAbs (bits (negsuc 0 -ℤ X)); below = 1 })
-  negative-parted x e =
+  pub negative-split-sign : (x : ℤ) → X ≡ x → SplitSign x (record {
+    word = 18446744073709551615 - natAbs (bits
+        (negsuc 0 -ℤ X));
+    below = 1;
+  })
+  negative-split-sign x e =
       let k = other-size in
       let s = g .small in
       record {
@@ -129,12 +133,12 @@ pub not-negative : (X : ℤ) → SFits w64 X → ltZ X (pos 0) ≡ false → T (
 not-negative (pos a) f h = let s = f .sfits in (tt, record { fits = omega (arith, s) })
 not-negative (negsuc a) f h = absurd (true≢false h)
 
-pub positive-parted : (X x : ℤ) → SFits w64 X → X ≡ x → ltZ X (pos 0) ≡ false → Parted x (record { word = natAbs X; below = 0 })
-positive-parted (pos a) x f e h =
+pub positive-split-sign : (X x : ℤ) → SFits w64 X → X ≡ x → ltZ X (pos 0) ≡ false → SplitSign x (record { word = natAbs X; below = 0 })
+positive-split-sign (pos a) x f e h =
     let s = f .sfits in
     record {
       whole = equal (rep-sub (own-pos a) (own-pos 0)) (own-pos a) (omega arith) ∙ e;
       word = omega (arith, s);
       below = omega arith;
     }
-positive-parted (negsuc a) x f e h = absurd (true≢false h)
+positive-split-sign (negsuc a) x f e h = absurd (true≢false h)

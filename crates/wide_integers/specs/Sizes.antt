@@ -6,5 +6,5 @@ pub record Sized (B : ℕ) (z : ℤ) : Type 0 where
   pub size : natAbs z ≤ B
 
 -- up to 2^61
-abbrev pub Held : ℤ → Type 0
-Held = Sized 2305843009213693952
+abbrev pub Sized61 : ℤ → Type 0
+Sized61 = Sized 2305843009213693952

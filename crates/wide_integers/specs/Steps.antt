@@ -12,7 +12,7 @@ pub record Added (a b carry : ℕ) (r : Digit) : Type 0 where
   pub word : r .word < base
   pub over : r .over ≤ 1
 
-pub record Taken (a b borrow : ℕ) (r : Digit) : Type 0 where
+pub record Subtracted (a b borrow : ℕ) (r : Digit) : Type 0 where
   pub rest : r .word + (b + borrow) ≡ a + r .over * base
   pub word : r .word < base
   pub over : r .over ≤ 1
@@ -21,7 +21,7 @@ pub record Multiplied (a b : ℕ) (r : Double) : Type 0 where
   pub product : r .high * base + r .low ≡ a * b
   pub low : r .low < base
 
-pub record Parted (x : ℤ) (r : Part) : Type 0 where
+pub record SplitSign (x : ℤ) (r : Part) : Type 0 where
   pub whole : pos (r .word) -ℤ pos (r .below * base) ≡ x
   pub word : r .word < base
   pub below : r .below ≤ 1

@@ -25,7 +25,7 @@ unfoldable pub value : Wide → ℤ
 value w = pos (raised w) -ℤ pos zeroAt
 
 -- below 2^191, above -2^191
-pub record Held (z : ℤ) : Type 0 where
+pub record FitsWide (z : ℤ) : Type 0 where
   pub size : natAbs z < zeroAt
 
 -- below 2^128, above -2^128: its product with an i64 is below 2^191

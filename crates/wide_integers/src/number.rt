@@ -3,7 +3,7 @@ ghost use mathlib.Core.Path.{_≡_};
 ghost use lib.IntN.{pos, negℤ, _+ℤ_, _-ℤ_, _*ℤ_};
 ghost use lib.Signed.{ltZ, leZ};
 ghost use Rattle.wide_integers.specs.Determinant.{determinant, isZero};
-ghost use Rattle.wide_integers.specs.Value.{value, Held, Middling, Weight};
+ghost use Rattle.wide_integers.specs.Value.{value, FitsWide, Middling, Weight};
 
 // A whole number from -2^191 to below 2^191: high · 2^128 + middle · 2^64 + low - 2^191. So numbers are in order as their words are.
 pub struct Wide {
@@ -26,7 +26,7 @@ pub fn zero() -> Wide
 pub fn of_i64(x: i64) -> Wide
     ensures { λ r. ⌜ value r ≡ x ⌝ }
 {
-    let part = words::parted(x);
+    let part = words::split_sign(x);
     Wide {
         high: 9223372036854775808 - part.below,
         middle: part.below * 18446744073709551615,
@@ -38,11 +38,11 @@ pub fn of_i64(x: i64) -> Wide
 pub fn product(a: i64, b: i64) -> Wide
     ensures { λ r. ⌜ value r ≡ a *ℤ b ⌝ }
 {
-    let x = words::parted(a);
-    let y = words::parted(b);
+    let x = words::split_sign(a);
+    let y = words::split_sign(b);
     let whole = words::times(x.word, y.word);
-    let once = words::minus(whole.high, y.below * x.word, 0);
-    let twice = words::minus(once.word, x.below * y.word, 0);
+    let once = words::subtract(whole.high, y.below * x.word, 0);
+    let twice = words::subtract(once.word, x.below * y.word, 0);
     Wide {
         high: 9223372036854775808 - twice.word / 9223372036854775808,
         middle: twice.word,
@@ -52,11 +52,11 @@ pub fn product(a: i64, b: i64) -> Wide
 
 // a + b.
 pub fn sum(a: Wide, b: Wide) -> Wide
-    requires { ⌜ Held (value a +ℤ value b) ⌝ }
+    requires { ⌜ FitsWide (value a +ℤ value b) ⌝ }
     ensures { λ r. ⌜ value r ≡ value a +ℤ value b ⌝ }
 {
-    let low = words::plus(a.low, b.low, 0);
-    let middle = words::plus(a.middle, b.middle, low.over);
+    let low = words::add_carry(a.low, b.low, 0);
+    let middle = words::add_carry(a.middle, b.middle, low.over);
     let high = std::num::wrapping_add_u64(
         std::num::wrapping_add_u64(a.high, b.high),
         9223372036854775808 + middle.over,
@@ -70,11 +70,11 @@ pub fn sum(a: Wide, b: Wide) -> Wide
 
 // a - b.
 pub fn difference(a: Wide, b: Wide) -> Wide
-    requires { ⌜ Held (value a -ℤ value b) ⌝ }
+    requires { ⌜ FitsWide (value a -ℤ value b) ⌝ }
     ensures { λ r. ⌜ value r ≡ value a -ℤ value b ⌝ }
 {
-    let low = words::minus(a.low, b.low, 0);
-    let middle = words::minus(a.middle, b.middle, low.over);
+    let low = words::subtract(a.low, b.low, 0);
+    let middle = words::subtract(a.middle, b.middle, low.over);
     let over = std::num::wrapping_add_u64(a.high, 9223372036854775808);
     let left = std::num::wrapping_sub_u64(over, b.high);
     let high = std::num::wrapping_sub_u64(left, middle.over);
@@ -87,7 +87,7 @@ pub fn difference(a: Wide, b: Wide) -> Wide
 
 // -a.
 pub fn negate(a: Wide) -> Wide
-    requires { ⌜ Held (negℤ (value a)) ⌝ }
+    requires { ⌜ FitsWide (negℤ (value a)) ⌝ }
     ensures { λ r. ⌜ value r ≡ negℤ (value a) ⌝ }
 {
     difference(zero(), a)
@@ -105,12 +105,12 @@ pub fn times(a: Wide, k: i64) -> Wide
     requires { ⌜ Middling (value a) ⌝ }
     ensures { λ r. ⌜ value r ≡ value a *ℤ k ⌝ }
 {
-    let y = words::parted(k);
+    let y = words::split_sign(k);
     let below = 9223372036854775808 - a.high;
     let lower = words::times(a.low, y.word);
     let upper = words::times(a.middle, y.word);
-    let once = words::plus(lower.high, upper.low, 0);
-    let twice = words::minus(once.word, y.below * a.low, 0);
+    let once = words::add_carry(lower.high, upper.low, 0);
+    let twice = words::subtract(once.word, y.below * a.low, 0);
     let over = std::num::wrapping_add_u64(upper.high, 9223372036854775808 + once.over);
     let first = std::num::wrapping_sub_u64(over, twice.over);
     let second = std::num::wrapping_sub_u64(first, y.below * a.middle);
@@ -141,9 +141,9 @@ pub fn weighted(a: Wide, x: i64, b: Wide, y: i64, c: Wide, z: i64) -> Wide
 pub fn below(a: Wide, b: Wide) -> bool
     ensures { λ r. ⌜ r ≡ ltZ (value a) (value b) ⌝ }
 {
-    let low = words::minus(a.low, b.low, 0);
-    let middle = words::minus(a.middle, b.middle, low.over);
-    let high = words::minus(a.high, b.high, middle.over);
+    let low = words::subtract(a.low, b.low, 0);
+    let middle = words::subtract(a.middle, b.middle, low.over);
+    let high = words::subtract(a.high, b.high, middle.over);
     high.over > 0
 }
 

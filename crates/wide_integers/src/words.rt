@@ -1,5 +1,5 @@
 ghost use Prim.Native.Nat.{_+_, _*_, _≤_};
-ghost use Rattle.wide_integers.specs.Steps.{Added, Taken, Multiplied, Parted};
+ghost use Rattle.wide_integers.specs.Steps.{Added, Subtracted, Multiplied, SplitSign};
 
 // The lowest 64 digits of a sum or a difference, and what passes them: 1 or 0.
 pub struct Digit {
@@ -20,7 +20,7 @@ pub struct Part {
 }
 
 // a + b + carry.
-pub fn plus(a: u64, b: u64, carry: u64) -> Digit
+pub fn add_carry(a: u64, b: u64, carry: u64) -> Digit
     requires { ⌜ carry ≤ 1 ⌝ }
     ensures { λ r. ⌜ Added a b carry r ⌝ }
 {
@@ -31,9 +31,9 @@ pub fn plus(a: u64, b: u64, carry: u64) -> Digit
 }
 
 // a - b - borrow.
-pub fn minus(a: u64, b: u64, borrow: u64) -> Digit
+pub fn subtract(a: u64, b: u64, borrow: u64) -> Digit
     requires { ⌜ borrow ≤ 1 ⌝ }
-    ensures { λ r. ⌜ Taken a b borrow r ⌝ }
+    ensures { λ r. ⌜ Subtracted a b borrow r ⌝ }
 {
     let half = std::num::wrapping_sub_u64(a, b);
     let word = std::num::wrapping_sub_u64(half, borrow);
@@ -59,8 +59,8 @@ pub fn times(a: u64, b: u64) -> Double
 }
 
 // A whole number as its lowest 64 digits and its sign.
-pub fn parted(x: i64) -> Part
-    ensures { λ r. ⌜ Parted x r ⌝ }
+pub fn split_sign(x: i64) -> Part
+    ensures { λ r. ⌜ SplitSign x r ⌝ }
 {
     if x < 0 {
         return Part {

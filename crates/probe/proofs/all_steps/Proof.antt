@@ -12,13 +12,13 @@ use Rattle.probe.proofs.all_steps.Statement.{statement}
 use Rattle.probe.proofs.all_steps.Tie as tie
 
 abbrev Inv-loop : tie.InvT-loop
-Inv-loop input₀ wide₀ work₀ triangles₀ nodeBoxes₀ triangleBoxes₀ nodeWords₀ order₀ list₀ stack₀ output₀ run₀ steps₀
-    input wide work triangles nodeBoxes triangleBoxes nodeWords order list stack output run steps =
+Inv-loop input₀ work₀ triangles₀ nodeBoxes₀ triangleBoxes₀ nodeWords₀ order₀ list₀ stack₀ output₀ run₀ steps₀
+    input work triangles nodeBoxes triangleBoxes nodeWords order list stack output run steps =
     (length input ≡ 65536) × ((length output ≡ 65536) × ((run .held ≤ 65536) × Looped steps run input))
 
 abbrev μ-loop : tie.MeasureT-loop
-μ-loop input₀ wide₀ work₀ triangles₀ nodeBoxes₀ triangleBoxes₀ nodeWords₀ order₀ list₀ stack₀ output₀ run₀ steps₀
-    input wide work triangles nodeBoxes triangleBoxes nodeWords order list stack output run steps =
+μ-loop input₀ work₀ triangles₀ nodeBoxes₀ triangleBoxes₀ nodeWords₀ order₀ list₀ stack₀ output₀ run₀ steps₀
+    input work triangles nodeBoxes triangleBoxes nodeWords order list stack output run steps =
     18446744073709551615 - steps
 
 abbrev Loop : Type 0
@@ -49,7 +49,7 @@ loop-again c =
     let inv = l .loop .inv in (
       omega (arith, t .step .kept .1 .0, inv .0),
       (
-        omega (arith, t .step .kept .1 .1 .1 .1 .1 .1 .1 .1 .1 .1 .1 .0, inv .1 .0),
+        omega (arith, t .step .kept .1 .1 .1 .1 .1 .1 .1 .1 .1 .1 .0, inv .1 .0),
         (t .step .ensures .1, looped-more (inv .1 .1 .1) (not-true _ (o .if1 .taken)) (t .step .ensures .0)),
       ),
     )

@@ -15,7 +15,7 @@ abbrev area : tie.After-read-on → List ℕ
 area k = k .read-on .last .1 .0
 
 abbrev output : tie.After-answer → List ℕ
-output k = k .answer .last .1 .1 .1 .1 .1 .1 .1 .1 .1 .1 .1 .0
+output k = k .answer .last .1 .1 .1 .1 .1 .1 .1 .1 .1 .1 .0
 
 -- the read failed
 returns : tie.Need-returns
@@ -26,7 +26,7 @@ returns c =
 write-lines-requires : tie.Need-write-lines-requires
 write-lines-requires c κs =
     let (s, a) : tie.Start × tie.After-answer = search in
-    omega (arith, s .pre .1 .1, a .answer .ensures .1 .1, a .answer .kept .1 .1 .1 .1 .1 .1 .1 .1 .1 .1 .1 .0)
+    omega (arith, s .pre .1 .1, a .answer .ensures .1 .1, a .answer .kept .1 .1 .1 .1 .1 .1 .1 .1 .1 .1 .0)
 
 -- where the answer was made
 places : tie.After-answer → tie.Start × tie.After-read-on × tie.Else1

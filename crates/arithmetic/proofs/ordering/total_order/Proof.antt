@@ -1,5 +1,5 @@
--- `ordering::total_order` meets its contract: its tests are those of the definition, and the bit patterns decide between equal numbers.
--- Assumes nothing.
+-- `arithmetic::ordering::total_order` meets its contract: its tests are those of the definition, and the bit patterns decide between equal
+-- numbers. Assumes nothing.
 use mathlib.Core.Path.{_≡_, sym, _∙_}
 use mathlib.Core.Bool.{false}
 use lib.Ieee.{isNan}

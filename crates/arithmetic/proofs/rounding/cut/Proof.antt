@@ -1,4 +1,4 @@
--- `rounding::cut` meets its contract: below 2^52 the cast neither saturates nor loses a digit. Assumes nothing.
+-- `arithmetic::rounding::cut` meets its contract: below 2^52 the cast neither saturates nor loses a digit. Assumes nothing.
 use mathlib.Core.Path.{ap, _∙_}
 use Prim.Native.Nat.{ℕ}
 use native.Mathlib.Omega.{arith}

@@ -1,5 +1,5 @@
--- `rounding::floor` meets its contract: the whole part above zero, the size rounded up below it, and the number itself where every float is
--- whole. Assumes nothing.
+-- `arithmetic::rounding::floor` meets its contract: the whole part above zero, the size rounded up below it, and the number itself where
+-- every float is whole. Assumes nothing.
 use mathlib.Core.Path.{sym, ap, _∙_, subst}
 use lib.Dec.{T}
 use lib.Ieee.{binary64, fits, ofBits, neg}

@@ -1,5 +1,5 @@
--- `rounding::nearest` meets its contract: the doubled number is exact, and half of its whole part and one is the nearest whole number.
--- Assumes nothing.
+-- `arithmetic::rounding::nearest` meets its contract: the doubled number is exact, and half of its whole part and one is the nearest whole
+-- number. Assumes nothing.
 use mathlib.Core.Path.{sym, ap, _∙_, subst}
 use Prim.Native.Nat.{ℕ, _+_, _/_}
 use native.Mathlib.Omega.{arith}

@@ -1,4 +1,4 @@
--- `rounding::raised` meets its contract: the whole part is below the number exactly where there is a fraction. Assumes nothing.
+-- `arithmetic::rounding::raised` meets its contract: the whole part is below the number exactly where there is a fraction. Assumes nothing.
 use mathlib.Core.Path.{_≡_, sym, ap, _∙_, subst}
 use mathlib.Core.Bool.{true, false}
 use Prim.Native.Nat.{ℕ, _+_}

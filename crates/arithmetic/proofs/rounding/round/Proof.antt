@@ -1,5 +1,5 @@
--- `rounding::round` meets its contract: the size rounded to the nearest on either side of zero, and the number itself where every float is
--- whole. Assumes nothing.
+-- `arithmetic::rounding::round` meets its contract: the size rounded to the nearest on either side of zero, and the number itself where
+-- every float is whole. Assumes nothing.
 use mathlib.Core.Path.{sym, ap, _∙_, subst}
 use lib.Dec.{T}
 use lib.Ieee.{binary64, fits, ofBits, neg}

@@ -1,4 +1,4 @@
--- `rounding::to_u64` meets its contract: it casts between 0 and 2^64, and saturates elsewhere. Assumes nothing.
+-- `arithmetic::rounding::to_u64` meets its contract: it casts between 0 and 2^64, and saturates elsewhere. Assumes nothing.
 use mathlib.Core.Path.{sym}
 use lib.Ieee.{ofBits}
 use Rattle.arithmetic.proofs.Casts.{cast-in-range, cast-of-large, cast-of-none}

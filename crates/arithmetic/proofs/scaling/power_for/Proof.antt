@@ -1,4 +1,5 @@
--- `power_for` meets its contract: the two exponents' fields add up to 2046, and 2^-1023 is the subnormal pattern. Assumes nothing.
+-- `arithmetic::scaling::power_for` meets its contract: the two exponents' fields add up to 2046, and 2^-1023 is the subnormal pattern.
+-- Assumes nothing.
 use mathlib.Core.Path.{sym, subst}
 use lib.Dec.{T}
 use borrow.Author.Needs.{needs}

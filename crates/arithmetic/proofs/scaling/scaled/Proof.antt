@@ -1,4 +1,4 @@
--- `scaled` meets its contract: below 1 by two products, of which the first is exact, and else by one. Assumes nothing.
+-- `arithmetic::scaling::scaled` meets its contract: below 1 by two products, of which the first is exact, and else by one. Assumes nothing.
 use mathlib.Core.Path.{sym, subst}
 use lib.Dec.{T}
 use lib.Ieee.{binary64, fits}

@@ -1,4 +1,4 @@
--- `careful_root` meets its contract: it hands on the digits and half of the exponent. Assumes nothing.
+-- `arithmetic::square_root::careful_root` meets its contract: it hands on the digits and half of the exponent. Assumes nothing.
 use mathlib.Core.Path.{refl, sym, subst}
 use mathlib.Core.Bool.{false}
 use Prim.Native.Nat.{ℕ, _+_, _*_, _/_, _%_, _^_}

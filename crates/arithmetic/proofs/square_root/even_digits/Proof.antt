@@ -1,4 +1,4 @@
--- `even_digits` meets its contract. Assumes nothing.
+-- `arithmetic::square_root::even_digits` meets its contract. Assumes nothing.
 use borrow.Author.Needs.{needs}
 use Rattle.arithmetic.proofs.RootPatterns.{digits-once, digits-twice}
 use Rattle.arithmetic.proofs.square_root.even_digits.Statement.{statement}

@@ -1,4 +1,5 @@
--- `halved_root` meets its contract. The loop's invariant: the interval holds the root. The measure is its width. Assumes nothing.
+-- `arithmetic::square_root::halved_root` meets its contract. The loop's invariant: the interval holds the root. The measure is its width.
+-- Assumes nothing.
 use mathlib.Core.Path.{sym, _∙_}
 use Prim.Native.Nat.{_-_}
 use borrow.Author.Needs.{needs}

@@ -1,4 +1,4 @@
--- `is_nearest` meets its contract: of a close q the rest modulo 2 ^ 64 tells. Assumes nothing.
+-- `arithmetic::square_root::is_nearest` meets its contract: of a close q the rest modulo 2 ^ 64 tells. Assumes nothing.
 use Prim.Native.Nat.{_*_}
 use native.Mathlib.Omega.{arith}
 use borrow.Author.Needs.{needs}

@@ -1,4 +1,4 @@
--- `is_root` meets its contract: a guess that passes the test is close, and then its digits tell. Assumes nothing.
+-- `arithmetic::square_root::is_root` meets its contract: a guess that passes the test is close, and then its digits tell. Assumes nothing.
 use mathlib.Core.Path.{sym, subst}
 use mathlib.Core.Bool.{false≢true}
 use Prim.Native.Nat.{_+_, _^_}

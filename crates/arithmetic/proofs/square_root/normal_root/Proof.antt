@@ -1,4 +1,4 @@
--- `normal_root` meets its contract: by the guess and a power of two, or by `careful_root`. Assumes nothing.
+-- `arithmetic::square_root::normal_root` meets its contract: by the guess and a power of two, or by `careful_root`. Assumes nothing.
 use mathlib.Core.Path.{refl, sym, subst}
 use mathlib.Core.Bool.{false}
 use Prim.Native.Nat.{ℕ, _+_, _*_, _/_, _%_, _^_}

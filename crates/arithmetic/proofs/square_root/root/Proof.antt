@@ -1,4 +1,4 @@
--- `root` meets its contract: each of its tests singles out a case of the definition. Assumes nothing.
+-- `arithmetic::square_root::root` meets its contract: each of its tests singles out a case of the definition. Assumes nothing.
 use mathlib.Core.Path.{sym, ap, _∙_, subst}
 use native.Mathlib.Omega.{arith}
 use lib.Dec.{T}

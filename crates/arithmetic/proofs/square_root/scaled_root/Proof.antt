@@ -1,4 +1,5 @@
--- `scaled_root` meets its contract: the pattern that it puts together is no NaN's and is the root's. Assumes nothing.
+-- `arithmetic::square_root::scaled_root` meets its contract: the pattern that it puts together is no NaN's and is the root's. Assumes
+-- nothing.
 use native.Mathlib.Omega.{arith}
 use borrow.Author.Needs.{needs}
 use Rattle.arithmetic.proofs.RootScaled.{Assembled, assembled}

@@ -1,4 +1,4 @@
--- `square_at_most` meets its contract: the products of the halves fit, and they make the square. Assumes nothing.
+-- `arithmetic::square_root::square_at_most` meets its contract: the products of the halves fit, and they make the square. Assumes nothing.
 use Prim.Native.Nat.{_*_, _/_, _%_, _^_}
 use native.Mathlib.Omega.{arith}
 use borrow.Author.Needs.{needs}

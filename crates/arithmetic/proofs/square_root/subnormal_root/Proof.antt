@@ -1,4 +1,5 @@
--- `subnormal_root` meets its contract. The loop's invariant: m * 4 ^ k stays the number's value. The measure is k. Assumes nothing.
+-- `arithmetic::square_root::subnormal_root` meets its contract. The loop's invariant: m * 4 ^ k stays the number's value. The measure is k.
+-- Assumes nothing.
 use native.Mathlib.Omega.{arith}
 use lib.Ieee.{binary64, ofBits}
 use borrow.Author.Needs.{needs}

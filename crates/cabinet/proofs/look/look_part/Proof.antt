@@ -1,5 +1,4 @@
 -- `cabinet::look::look_part` meets its contract. Assumes nothing.
-use mathlib.Core.Path.{_≡_, refl, sym, _∙_}
 use Rattle.lists.proofs.JoinedTests.{test-passed, test-failed}
 use Rattle.cabinet.proofs.LookTests.{look-few, look-bad, look-short, look-passes}
 use borrow.Author.Needs.{needs}

@@ -1,7 +1,6 @@
 -- `cabinet::look::room_fits` meets its contract. Assumes nothing.
 use mathlib.Core.Path.{refl, sym}
 use borrow.Author.Tests.{not-true, not-false, le-leb, lt-leb}
-use native.Mathlib.Omega.{arith}
 use Rattle.cabinet.specs.Looks.{lookRoom}
 use Rattle.cabinet.proofs.LookTests.{stack-fits}
 use borrow.Author.Needs.{needs}

@@ -1,6 +1,5 @@
 -- `cabinet::ranges::stays_in` meets its contract. Assumes nothing.
 use Rattle.cabinet.proofs.PartSteps.{stays-out, stays-by-rest}
-use borrow.Author.Needs.{needs}
 use Rattle.cabinet.proofs.ranges.stays_in.Statement.{statement}
 use Rattle.cabinet.proofs.ranges.stays_in.Tie as tie
 

@@ -1,94 +1,88 @@
 -- `conversion::writing::write` meets its contract. Assumes nothing.
-use Prim.Native.Nat.{_+_, _*_}
-use Rattle.float_forms.specs.Forms.{sizeOf}
-use Rattle.float_forms.specs.Holding.{fitsIn}
+use Prim.Native.Nat.{ℕ, _+_, _*_, _≤_}
+use mathlib.Core.List.{List}
+use mathlib.Core.Path.{_≡_}
 use native.Mathlib.Omega.{arith}
-use denote.Ref.{now}
 use lib.ListN.{length}
-use Rattle.conversion.proofs.WritingLaws.{sizes, kept-by, head-room, ray-room, shape-room, ray-passes, numbers-pass, all-written}
+use Rattle.float_forms.specs.Forms.{sizeOf, raysOf}
+use Rattle.float_forms.specs.Representable.{fitsIn}
+use Rattle.record_bytes.specs.Records.{countsPlace}
+use Rattle.record_bytes.proofs.PlanLaws.{Sizes, sizes}
+use Rattle.conversion.proofs.WritingLaws.{kept-by, head-room, ray-room, shape-room, ray-passes, numbers-pass, all-written}
 use borrow.Author.Needs.{needs}
 use Rattle.conversion.proofs.writing.write.Statement.{statement}
 use Rattle.conversion.proofs.writing.write.Tie as tie
 
+sizes-of : (s : tie.Start) → Sizes (s .args .p) (s .args .source .now) (s .args .plan)
+sizes-of s = sizes (s .args .p) (s .args .source .now) (s .args .plan) (s .pre .0)
+
+as-many-floats : (s : tie.Start) → raysOf (s .args .p) ≡ raysOf (s .args .q)
+as-many-floats s = s .pre .1 .1 .1
+
+-- the area as each part leaves it
+abbrev after-head : tie.After-write-head → List ℕ
+after-head h = h .write-head .last .1 .1 .1 .0
+
+abbrev after-ray : tie.After-write-ray → List ℕ
+after-ray r = r .write-ray .last .1 .1 .1 .1 .0
+
 numbers-place-requires : tie.Need-numbers-place-requires
-numbers-place-requires c κs =
-    let start : tie.Start = search in
-    (sizes (start .args .p) (now (start .args .source)) (start .args .plan) (start .pre .0)) .few
+numbers-place-requires c κs = let s : tie.Start = search in sizes-of s .few
 
 numbers-place-requires-2 : tie.Need-numbers-place-requires-2
-numbers-place-requires-2 c κs =
-    let start : tie.Start = search in
-    (sizes (start .args .p) (now (start .args .source)) (start .args .plan) (start .pre .0)) .few
+numbers-place-requires-2 c κs = let s : tie.Start = search in sizes-of s .few
 
 write-head-requires : tie.Need-write-head-requires
 write-head-requires c κs =
-    let start : tie.Start = search in
-    head-room (start .args .p) (start .args .q) (now (start .args .source)) (start .args .plan)
-    (sizes (start .args .p) (now (start .args .source)) (start .args .plan) (start .pre .0)) (start .args .body)
-    (length (now (start .args .out))) (start .pre .1 .0 .0) (start .pre .1 .0 .1)
+    let s : tie.Start = search in
+    let a = s .args in
+    head-room (a .p) (a .q) (a .source .now) (a .plan) (as-many-floats s) (sizes-of s) (a .body) (length (a .out .now)) (s .pre .1 .0 .0)
+    (s .pre .1 .0 .1)
+
+-- the ray and the counts have room
+ray-fits : (s : tie.Start) → countsPlace (s .args .q) + 4 * s .args .plan .counts ≤ length (s .args .out .now)
+ray-fits s =
+    let a = s .args in
+    ray-room (a .p) (a .q) (a .source .now) (a .plan) (as-many-floats s) (sizes-of s) (a .body) (length (a .out .now)) (s .pre .1 .0 .0)
+    (s .pre .1 .0 .1)
 
 write-ray-requires : tie.Need-write-ray-requires
 write-ray-requires c κs =
-    let (start, at-write-head) : tie.Start × tie.After-write-head = search in (
+    let (s, h) : tie.Start × tie.After-write-head = search in
+    let a = s .args in (
+      (sizes-of s .few, omega (arith, sizes-of s .whole)),
       (
-        (sizes (start .args .p) (now (start .args .source)) (start .args .plan) (start .pre .0)) .few,
-        omega
-            (arith, (sizes (start .args .p) (now (start .args .source)) (start .args .plan) (start .pre .0)) .whole),
-      ),
-      (
-        kept-by (now (start .args .out)) (at-write-head .write-head .last .1 .1 .1 .0)
-            (6 + sizeOf (start .args .q) * 8 + 4 * start .args .plan .counts) (at-write-head .write-head .kept .1 .1 .1 .0)
-            (ray-room (start .args .p) (start .args .q) (now (start .args .source)) (start .args .plan)
-            (sizes (start .args .p) (now (start .args .source)) (start .args .plan) (start .pre .0)) (start .args .body)
-            (length (now (start .args .out))) (start .pre .1 .0 .0) (start .pre .1 .0 .1)),
-        ray-passes (start .args .p) (fitsIn (start .args .q)) (now (start .args .source)) (start .pre .1 .1),
+        kept-by (a .out .now) (after-head h) _ (h .write-head .kept .1 .1 .1 .0) (ray-fits s),
+        (ray-passes (a .p) (fitsIn (a .q)) (a .source .now) (s .pre .1 .1 .0), as-many-floats s),
       ),
     )
 
 write-shape-requires : tie.Need-write-shape-requires
 write-shape-requires c κs =
-    let (start, at-numbers-place, at-numbers-place2, at-write-head, at-write-ray) :
-    tie.Start × tie.After-numbers-place × tie.After-numbers-place2 × tie.After-write-head × tie.After-write-ray = search in (
+    let (s, n, m, h, r) : tie.Start × tie.After-numbers-place × tie.After-numbers-place2 × tie.After-write-head × tie.After-write-ray =
+    search in
+    let a = s .args in
+    let end = m .numbers-place2 .result + sizeOf (a .q) * a .plan .numbers + 4 * a .plan .indices in
+    let fits = shape-room (a .p) (a .q) (a .source .now) (a .plan) (as-many-floats s) (sizes-of s) (a .body) (length (a .out .now))
+    (s .pre .1 .0 .0) (s .pre .1 .0 .1) (m .numbers-place2 .result) (m .numbers-place2 .ensures .0) in (
+      (omega (arith, sizes-of s .small), omega (arith, sizes-of s .whole, n .numbers-place .ensures .0)),
       (
-        omega (arith, (sizes (start .args .p) (now (start .args .source)) (start .args .plan) (start .pre .0)) .small),
-        omega (
-          arith,
-          (sizes (start .args .p) (now (start .args .source)) (start .args .plan) (start .pre .0)) .whole,
-          at-numbers-place
-              .numbers-place .ensures .0,
-        ),
-      ),
-      (
-        kept-by (at-write-head .write-head .last .1 .1 .1 .0) (at-write-ray .write-ray .last .1 .1 .1 .1 .0)
-            (at-numbers-place2 .numbers-place2 .result + sizeOf (start .args .q) * start .args .plan .numbers + 4 * start .args .plan
-            .indices)
-            (at-write-ray .write-ray .kept .1 .1 .1 .1 .0)
-            (kept-by (now (start .args .out)) (at-write-head .write-head .last .1 .1 .1 .0)
-            (at-numbers-place2 .numbers-place2 .result + sizeOf (start .args .q) * start .args .plan .numbers + 4 * start .args .plan
-            .indices) (at-write-head .write-head .kept .1 .1 .1 .0) (shape-room (start .args .p) (start .args .q)
-            (now (start .args .source)) (start .args .plan)
-            (sizes (start .args .p) (now (start .args .source)) (start .args .plan) (start .pre .0)) (start .args .body)
-            (length (now (start .args .out))) (start .pre .1 .0 .0) (start .pre .1 .0 .1) (at-numbers-place2 .numbers-place2 .result)
-            (at-numbers-place2 .numbers-place2 .ensures .0))),
-        numbers-pass (start .args .p) (fitsIn (start .args .q)) (now (start .args .source)) (start .pre .1 .1) (start .args .plan)
-            (at-numbers-place .numbers-place .result)
-            (sizes (start .args .p) (now (start .args .source)) (start .args .plan) (start .pre .0))
-            (at-numbers-place .numbers-place .ensures .0),
+        kept-by (after-head h) (after-ray r) end (r .write-ray .kept .1 .1 .1 .1 .0)
+            (kept-by (a .out .now) (after-head h) end (h .write-head .kept .1 .1 .1 .0) fits),
+        numbers-pass (a .p) (fitsIn (a .q)) (a .source .now) (s .pre .1 .1 .0) (a .plan) (n .numbers-place .result) (sizes-of s)
+            (n .numbers-place .ensures .0),
       ),
     )
 
 returns : tie.Need-returns
 returns c =
-    let (start, at-numbers-place, at-numbers-place2, at-write-head, at-write-ray, at-write-shape) :
-    tie.Start × tie.After-numbers-place × tie.After-numbers-place2 × tie.After-write-head × tie.After-write-ray × tie.After-write-shape
-    = search in
-    all-written (start .args .p) (start .args .q) (now (start .args .source)) (now (start .args .out)) (start .args .plan)
-    (sizes (start .args .p) (now (start .args .source)) (start .args .plan) (start .pre .0))
-    (at-write-head .write-head .last .1 .1 .1 .0) (at-write-ray .write-ray .last .1 .1 .1 .1 .0)
-    (at-write-shape .write-shape .last .1 .1 .1 .1 .1 .1 .0) (start .args .body) (at-numbers-place .numbers-place .result)
-    (at-numbers-place2 .numbers-place2 .result)
-    (start .pre .1 .0 .0) (at-numbers-place .numbers-place .ensures .0) (at-numbers-place2 .numbers-place2 .ensures .0)
-    (at-write-head .write-head .ensures) (at-write-ray .write-ray .ensures) (at-write-shape .write-shape .ensures)
+    let (s, n, m, h, r, w) : tie.Start × tie.After-numbers-place × tie.After-numbers-place2 × tie.After-write-head × tie.After-write-ray ×
+    tie.After-write-shape = search in
+    let a = s .args in
+    all-written (a .p) (a .q) (a .source .now) (a .out .now) (a .plan) (as-many-floats s) (sizes-of s) (after-head h) (after-ray r)
+    (w .write-shape .last .1 .1 .1 .1 .1 .1 .0) (a .body) (n .numbers-place .result) (m .numbers-place2 .result) (s .pre .1 .0 .0)
+    (n .numbers-place .ensures .0) (m .numbers-place2 .ensures .0) (h .write-head .ensures) (r .write-ray .ensures)
+    (w .write-shape .ensures)
 
 pub write-spec : {M : Type 1} → statement M
 write-spec =

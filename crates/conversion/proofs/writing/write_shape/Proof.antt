@@ -3,7 +3,7 @@ use lib.Seq.{sets}
 use native.Mathlib.Omega.{arith}
 use denote.Ref.{now}
 use Prim.Native.Nat.{ℕ, _+_, _*_}
-use mathlib.Core.Path.{sym, _∙_, ap}
+use mathlib.Core.Path.{_∙_, ap}
 use lib.ListN.{drop}
 use Rattle.float_forms.specs.Forms.{sizeOf}
 use Rattle.float_forms.specs.Bytes.{numbersOf, numbersBytes, wordsOf, wordsBytes}

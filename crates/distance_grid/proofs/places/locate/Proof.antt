@@ -11,7 +11,7 @@ returns : tie.Need-returns
 unfolding locate
 returns c = simp (sym (c .before .is-finite .ensures), not-true (c .before .is-finite .result) (c .if1 .taken))
 
--- a finite point, drawn onto the box
+-- a finite point, clamped to the box
 returns-2 : tie.Need-returns-2
 unfolding locate
 returns-2 c =
@@ -19,7 +19,7 @@ returns-2 c =
     simp (
       sym (f .is-finite .ensures),
       not-false (f .is-finite .result) (e .if1 .left),
-      sym (c .before .draw-point .ensures),
+      sym (c .before .clamp-point .ensures),
       sym (c .locate-inside .ensures),
     )
 
@@ -29,6 +29,6 @@ locate-spec =
     (tie.spec
     (λ c κs. tt)  -- is-finite-requires
     returns
-    (search needs)  -- draw-point-requires
+    (search needs)  -- clamp-point-requires
     (search needs)  -- locate-inside-requires
     returns-2)

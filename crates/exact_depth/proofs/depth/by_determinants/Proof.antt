@@ -1,11 +1,11 @@
 -- `exact_depth::depth::by_determinants` meets its contract. Assumes nothing.
-use mathlib.Core.Path.{_≡_, refl, sym, ap, _∙_, subst}
+use mathlib.Core.Path.{_≡_, sym, subst}
 use lib.IntN.{ℤ}
 use Rattle.exact_depth.specs.declared.projection.Projected.{Projected}
 use Rattle.wide_integers.specs.Determinant.{determinant}
 use Rattle.exact_depth.specs.FirstPoint.{seenDeterminant, byWeights, firstPoint}
 use Rattle.wide_integers.proofs.Reading.{bits, fits, held-fit, bits-back}
-use Rattle.wide_integers.specs.Value.{value, Weight}
+use Rattle.wide_integers.specs.Value.{Weight}
 use Rattle.exact_depth.specs.Sizes.{Close}
 use Rattle.exact_depth.proofs.Laws.{finds-as, determinant-back, seen-weight}
 use borrow.Author.Needs.{needs}

@@ -48,8 +48,8 @@ straight s =
     let v = s .args in
     crossing (value (v .alpha)) (value (v .beta)) (value (v .gamma)) (v .a .depth) (v .b .depth) (v .c .depth) (v .near) (v .far)
 
-abbrev turned-over : tie.Start → Depth
-turned-over s =
+abbrev signed-over : tie.Start → Depth
+signed-over s =
     let v = s .args in
     crossing (negℤ (value (v .alpha))) (negℤ (value (v .beta))) (negℤ (value (v .gamma))) (v .a .depth) (v .b .depth) (v .c .depth)
     (v .near) (v .far)
@@ -86,7 +86,7 @@ returns c =
     let (s, p, e) : tie.Start × tie.After-is-positive × tie.Then1 = search in
     let v = s .args in
     finds-as (c .crossing .ensures)
-    (taken (cond (ltZ (sum-of s) (pos 0)) (turned-over s) (flat s)) (above p true (e .if1 .taken))
+    (taken (cond (ltZ (sum-of s) (pos 0)) (signed-over s) (flat s)) (above p true (e .if1 .taken))
     (λ i. crossing (value (v .alpha)) (value (v .beta)) (value (v .gamma)) (bits-back (depth-a s) i) (bits-back (depth-b s) i)
     (bits-back (depth-c s) i) (bits-back (s .fits .near) i) (bits-back (s .fits .far) i)))
 
@@ -104,10 +104,10 @@ returns-2 c =
 
 -- past the two tests of the sum
 past : (d : tie.Else2) {r : Depth} → let s : tie.Start = search in r ≡ flat s
-    → r ≡ cond (ltZ (pos 0) (sum-of s)) (straight s) (cond (ltZ (sum-of s) (pos 0)) (turned-over s) (flat s))
+    → r ≡ cond (ltZ (pos 0) (sum-of s)) (straight s) (cond (ltZ (sum-of s) (pos 0)) (signed-over s) (flat s))
 past d f =
     let (s, p, e, n) : tie.Start × tie.After-is-positive × tie.Else1 × tie.After-is-negative = search in
-    left (straight s) (above p false (e .if1 .left)) (left (turned-over s) (below n false (d .if2 .left)) f)
+    left (straight s) (above p false (e .if1 .left)) (left (signed-over s) (below n false (d .if2 .left)) f)
 
 second-not : (p q : Bool) → p ≡ true → q ≡ false → (p && q) ≡ false
 second-not p q h g = ap (λ (b : Bool). b && q) h ∙ g

@@ -1,5 +1,4 @@
 -- `exact_depth::depth::first_point` meets its contract. Assumes nothing.
-use mathlib.Core.Path.{_≡_}
 use Rattle.exact_depth.specs.FirstPoint.{firstPoint}
 use Rattle.wide_integers.proofs.Reading.{plain, held-fit, bits-back}
 use Rattle.exact_depth.proofs.Laws.{finds-as, missed}

@@ -17,18 +17,18 @@ returns c =
     left (cornersReach (gridLine (s .args .ray)) (s .args .corners))
     (subst (Viewed (s .args .ray)) (c .enum-told .given .1) (a .view-of .ensures)) refl
 
-shown : (k : tie.After-aim) → let s : tie.Start = search in Shown (s .args .ray) (k .aim .given .0 .0)
+shown : (k : tie.After-viewed) → let s : tie.Start = search in Shown (s .args .ray) (k .viewed .given .0 .0)
 shown k =
     let (s, a) : tie.Start × tie.After-view-of = search in
-    subst (Viewed (s .args .ray)) (k .aim .given .1) (a .view-of .ensures)
+    subst (Viewed (s .args .ray)) (k .viewed .given .1) (a .view-of .ensures)
 
 reach-on-requires : tie.Need-reach-on-requires
-reach-on-requires c κs = let k : tie.After-aim = search in shown k .aimed
+reach-on-requires c κs = let k : tie.After-viewed = search in shown k .viewSized
 
 returns-2 : tie.Need-returns-2
 unfolding gridReach
 returns-2 c =
-    let (s, k) : tie.Start × tie.After-aim = search in
+    let (s, k) : tie.Start × tie.After-viewed = search in
     taken (Refused outOfRange) (shown k .admitted) (c .reach-on .ensures (s .args .ray) (shown k .sees))
 
 pub exact-reach-spec : {M : Type 1} → statement M
@@ -36,7 +36,7 @@ exact-reach-spec =
     tie.close
     (tie.spec
     (search needs)  -- sight-of-requires
-    (search needs)  -- enum-known-aim
+    (search needs)  -- enum-known-viewed
     (search needs)  -- enum-told
     returns
     reach-on-requires

@@ -3,7 +3,7 @@ use mathlib.Core.Path.{refl, _∙_, subst}
 use Rattle.casts.specs.Answer.{refused, outOfRange}
 use Rattle.wide_integers.proofs.Reading.{taken, left}
 use Rattle.exact_triangle.specs.Normal.{crossOf}
-use Rattle.exact_triangle.specs.Reach.{Boarded, OnBoard}
+use Rattle.exact_triangle.specs.Reach.{ReadOnGrid, CornersOnGrid}
 use Rattle.exact_triangle.specs.Cast.{gridNormal, crossAt, gridHit}
 use borrow.Author.Needs.{needs}
 use Rattle.exact_triangle.proofs.cast.hit_on.Statement.{statement}
@@ -13,26 +13,26 @@ use Rattle.exact_triangle.proofs.cast.hit_on.Tie as tie
 returns : tie.Need-returns
 unfolding gridHit
 returns c =
-    let (s, b) : tie.Start × tie.After-board-of = search in
+    let (s, b) : tie.Start × tie.After-grid-corners = search in
     left (gridNormal (s .args .ray) (crossAt (s .args .corners)) (s .args .distance))
-    (subst (Boarded (s .args .corners)) (c .enum-told .given .1) (b .board-of .ensures)) refl
+    (subst (ReadOnGrid (s .args .corners)) (c .enum-told .given .1) (b .grid-corners .ensures)) refl
 
 -- the three corners
-on-board : (k : tie.After-board) → let s : tie.Start = search in
-    OnBoard (s .args .corners) (k .board .given .0 .0) (k .board .given .0 .1 .0) (k .board .given .0 .1 .1 .0)
-on-board k =
-    let (s, b) : tie.Start × tie.After-board-of = search in
-    subst (Boarded (s .args .corners)) (k .board .given .1) (b .board-of .ensures)
+on-grid : (k : tie.After-placed) → let s : tie.Start = search in
+    CornersOnGrid (s .args .corners) (k .placed .given .0 .0) (k .placed .given .0 .1 .0) (k .placed .given .0 .1 .1 .0)
+on-grid k =
+    let (s, b) : tie.Start × tie.After-grid-corners = search in
+    subst (ReadOnGrid (s .args .corners)) (k .placed .given .1) (b .grid-corners .ensures)
 
 cross-of-requires : tie.Need-cross-of-requires
-cross-of-requires c κs = let k : tie.After-board = search in on-board k .near
+cross-of-requires c κs = let k : tie.After-placed = search in on-grid k .near
 
 -- the cross of the three corners, and its normal
 returns-2 : tie.Need-returns-2
 unfolding gridHit
 returns-2 c =
-    let (s, k, n) : tie.Start × tie.After-board × tie.After-cross-of = search in
-    let b = on-board k in
+    let (s, k, n) : tie.Start × tie.After-placed × tie.After-cross-of = search in
+    let b = on-grid k in
     let v = s .args in
     taken (refused outOfRange) (b .read)
     (c .normal-at .ensures
@@ -43,8 +43,8 @@ pub hit-on-spec : {M : Type 1} → statement M
 hit-on-spec =
     tie.close
     (tie.spec
-    (search needs)  -- board-of-requires
-    (search needs)  -- enum-known-board
+    (search needs)  -- grid-corners-requires
+    (search needs)  -- enum-known-placed
     (search needs)  -- enum-told
     returns
     cross-of-requires

@@ -5,7 +5,7 @@ use lib.IntN.{_+ℤ_, _*ℤ_}
 use mir.Syntax.{w64}
 use mir.Val.{SFits}
 use Rattle.wide_integers.proofs.Reading.{product-size, sum-size, bits-back}
-use Rattle.wide_integers.specs.Value.{value, Held}
+use Rattle.wide_integers.specs.Value.{value, FitsWide}
 use Rattle.wide_integers.proofs.OperationLaws.{held, word-size}
 use borrow.Author.Needs.{needs}
 use Rattle.exact_triangle.proofs.normal.dot.Statement.{statement}
@@ -40,7 +40,7 @@ pair-is k =
 sum-requires : tie.Need-sum-requires
 sum-requires c κs =
     let (s, k) : tie.Start × tie.After-product2 = search in
-    subst Held (sym (pair-is k))
+    subst FitsWide (sym (pair-is k))
     (held (sum-size (product-size (word-size (nx s)) (word-size (px s))) (product-size (word-size (ny s)) (word-size (py s)))) (lit< tt))
 
 all-is : (k : tie.After-product3) → let (s, t) : tie.Start × tie.After-sum = search in
@@ -53,7 +53,7 @@ all-is k =
 sum-requires-2 : tie.Need-sum-requires-2
 sum-requires-2 c κs =
     let (s, k) : tie.Start × tie.After-product3 = search in
-    subst Held (sym (all-is k))
+    subst FitsWide (sym (all-is k))
     (held (sum-size (sum-size (product-size (word-size (nx s)) (word-size (px s))) (product-size (word-size (ny s)) (word-size (py s))))
     (product-size (word-size (nz s)) (word-size (pz s)))) (lit< tt))
 

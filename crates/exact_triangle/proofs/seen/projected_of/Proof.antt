@@ -3,7 +3,7 @@ use mathlib.Core.Path.{_≡_, sym, _∙_, subst}
 use lib.Dec.{lit≤}
 use Rattle.wide_integers.proofs.Reading.{bits, plain, widen, sized-bits}
 use Rattle.exact_triangle.specs.Shear.{mainOf, facing, from, ahead, sheared, heading}
-use Rattle.exact_triangle.specs.Sizes.{Faced}
+use Rattle.exact_triangle.specs.Sizes.{CornerSized}
 use Rattle.exact_triangle.specs.View.{mainAs, shearedBy}
 use Rattle.exact_triangle.proofs.Laws.{faced-size}
 use borrow.Author.Needs.{needs}
@@ -12,14 +12,14 @@ use Rattle.exact_triangle.proofs.seen.projected_of.Tie as tie
 
 -- 2^30 with its sign, as it comes
 plain-ahead : (s : tie.Start) → bits (s .args .line .ahead) ≡ s .args .line .ahead
-plain-ahead s = plain (widen (s .pre .0 .turned .ahead) (lit≤ tt))
+plain-ahead s = plain (widen (s .pre .0 .headingSized .ahead) (lit≤ tt))
 
 sheared-requires : tie.Need-sheared-requires
 sheared-requires c κs =
     let (s, f, g) : tie.Start × tie.After-from × tie.After-facing = search in
-    let t = s .pre .0 .turned in (
+    let t = s .pre .0 .headingSized in (
       record { heading = t .heading; ahead = sized-bits (t .ahead) (lit≤ tt) },
-      subst Faced (sym (g .facing .ensures)) (faced-size (mainAs (s .args .line .axis)) (f .from .ensures .1)),
+      subst CornerSized (sym (g .facing .ensures)) (faced-size (mainAs (s .args .line .axis)) (f .from .ensures .1)),
     )
 
 returns : tie.Need-returns

@@ -81,7 +81,7 @@ returns c =
       record {
         origin = s .pre .0 .0;
         direction = s .pre .0 .1;
-        turned = record { heading = heading-sized f; ahead = told-sized (ahead-sized a) (lit≤ tt) };
+        headingSized = record { heading = heading-sized f; ahead = told-sized (ahead-sized a) (lit≤ tt) };
         gain = told-sized (gain-sized g) (lit≤ tt);
         near = told-sized (n .depth-at .ensures .1) (lit≤ tt);
         far = told-sized (k .depth-at2 .ensures .1) (lit≤ tt);

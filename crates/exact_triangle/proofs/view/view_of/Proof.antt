@@ -41,7 +41,7 @@ returns-2 c =
     record {
       admitted = passed e;
       sees = subst (Sees (c .looking .result)) (line-is d) (c .looking .ensures .0);
-      aimed = c .looking .ensures .1;
+      viewSized = c .looking .ensures .1;
     }
 
 pub view-of-spec : {M : Type 1} → statement M

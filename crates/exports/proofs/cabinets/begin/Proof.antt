@@ -1,7 +1,5 @@
 -- `exports::cabinets::begin` meets its contract. Assumes nothing.
-use mathlib.Core.Path.{_≡_, ap, _∙_}
-use mathlib.Core.Bool.{Bool}
-use Rattle.cabinet.specs.declared.part.State.{State}
+use mathlib.Core.Path.{ap, _∙_}
 use Rattle.cabinet.specs.Steps.{begun}
 use Rattle.results.specs.Results.{rayFrom}
 use borrow.Author.Needs.{needs}

@@ -2,7 +2,7 @@
 use Rattle.lists.proofs.JoinedTests.{test-passed, test-failed}
 use borrow.Author.Tests.{eq-eqb, ne-eqb}
 use native.Mathlib.Omega.{arith}
-use Rattle.exports.proofs.CabinetAnswers.{Places, places-there}
+use Rattle.exports.proofs.CabinetAnswers.{places-there}
 use Rattle.exports.proofs.CabinetAnswers.{none-short, none-returned, hit-short}
 use Rattle.exports.proofs.CabinetAnswers.{hit-told, refused-early, refused-short, refused-returned}
 use borrow.Author.Needs.{needs}

@@ -1,7 +1,6 @@
 -- `exports::cabinets::results_fit` meets its contract. Assumes nothing.
 use borrow.Author.Tests.{le-leb, lt-leb}
 use Rattle.exports.specs.CabinetResults.{cabinetFits}
-use borrow.Author.Needs.{needs}
 use Rattle.exports.proofs.cabinets.results_fit.Statement.{statement}
 use Rattle.exports.proofs.cabinets.results_fit.Tie as tie
 

@@ -1,9 +1,7 @@
 -- `exports::plain::probe_ray_mesh_plain` meets its contract. Assumes nothing.
 use mathlib.Core.Bool.{true}
 use mathlib.Core.Path.{_≡_}
-use lib.ListN.{length}
 use Rattle.geometry.specs.Segment.{rayAdmitted}
-use Rattle.tree.specs.Mesh.{lengthsAdmitted}
 use Rattle.exports.proofs.PlainCalls.{returned-for, returned-invalid, returned-bad}
 use Rattle.exports.proofs.PlainCalls.{returned-short-hit, returned-short-index, returned-passed}
 use Rattle.lists.proofs.JoinedTests.{test-passed, test-failed}

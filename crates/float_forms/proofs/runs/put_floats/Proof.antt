@@ -1,15 +1,15 @@
 -- `float_forms::runs::put_floats` meets its contract. Assumes nothing.
 use lib.Ieee.{toBits}
 use mathlib.Core.List.{List}
-use mathlib.Core.Path.{_≡_, refl, sym, ap, _∙_}
-use Prim.Native.Nat.{ℕ, _*_}
+use mathlib.Core.Path.{refl, ap, _∙_}
+use Prim.Native.Nat.{ℕ}
 use native.Mathlib.Omega.{arith}
 use lib.ListN.{length, drop}
 use lib.Seq.{sets}
 use borrow.Author.Needs.{needs}
 use Rattle.float_forms.specs.Forms.{sizeOf, formatOf}
 use Rattle.float_forms.specs.Bytes.{numbersOf, numbersBytes}
-use Rattle.float_forms.specs.Holding.{fitsIn}
+use Rattle.float_forms.specs.Representable.{fitsIn}
 use Rattle.float_forms.proofs.RunSteps.{Writing, next-inside, next-fits, write-next, write-done}
 use Rattle.float_forms.proofs.runs.put_floats.Statement.{statement}
 use Rattle.float_forms.proofs.runs.put_floats.Tie as tie

@@ -1,13 +1,10 @@
 -- `float_forms::runs::put_words` meets its contract. Assumes nothing.
-use Prim.Native.Nat.{_+_, _-_, _*_, _<_, _≤_}
-use mathlib.Core.Path.{_≡_, refl, sym, ap, subst, _∙_}
-use native.Mathlib.Omega.{arith}
+use mathlib.Core.Path.{refl}
 use lib.ListN.{length, drop}
 use lib.Seq.{sets}
 use denote.Ref.{now}
 use borrow.Author.Needs.{needs}
-use Rattle.float_forms.specs.Forms.{sizeOf}
-use Rattle.float_forms.specs.Bytes.{numbersOf, numbersBytes, wordsOf, wordsBytes}
+use Rattle.float_forms.specs.Bytes.{wordsOf, wordsBytes}
 use Rattle.float_forms.proofs.RunSteps.{Copying, copy-next, copy-done}
 use Rattle.float_forms.proofs.runs.put_words.Statement.{statement}
 use Rattle.float_forms.proofs.runs.put_words.Tie as tie

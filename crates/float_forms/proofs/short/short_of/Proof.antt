@@ -4,14 +4,15 @@ use mathlib.Core.Path.{_≡_, sym, subst}
 use lib.Dec.{T}
 use lib.Ieee.{binary32, binary64, toBits, ofBits}
 use Rattle.arithmetic.proofs.Order.{ne-self-passes}
-use Rattle.float_forms.proofs.Shorts.{nan-unheld, nan-guess, number-pattern, pattern-number, widens, other-guess}
+use Rattle.float_forms.proofs.Shorts.{nan-unrepresentable, nan-guess, pattern-number, widens, other-guess}
 use Rattle.float_forms.proofs.Shorts.{right-guess}
+use Rattle.float_forms.proofs.Patterns.{number-pattern}
 use borrow.Author.Needs.{needs}
 use Rattle.float_forms.proofs.short.short_of.Statement.{statement}
 use Rattle.float_forms.proofs.short.short_of.Tie as tie
 
 returns : tie.Need-returns
-returns c = nan-unheld (c .before .args .x) (c .if1 .taken)
+returns c = nan-unrepresentable (c .before .args .x) (c .if1 .taken)
 
 float-to-bits-bits : tie.Need-float-to-bits-bits
 float-to-bits-bits c = ne-self-passes (c .before .args .x) (c .if1 .left)
@@ -23,7 +24,7 @@ returns-2 c =
     nan-guess (a .args .x) (e .if1 .left) (subst (λ (z : ℕ). 0x7f80_0000 < z % 0x8000_0000) (c .before .guess .ensures .0) (c .if2 .taken))
 
 float-from-bits-back : tie.Need-float-from-bits-back
-float-from-bits-back c = number-pattern (c .before .guess .result) (c .if2 .left)
+float-from-bits-back c = number-pattern binary32 (c .before .guess .result) (c .if2 .left)
 
 float-to-float-back : tie.Need-float-to-float-back
 float-to-float-back c =

@@ -1,4 +1,4 @@
--- `apart::around_cell` meets its contract. Assumes nothing.
+-- `height_field::apart::around_cell` meets its contract. Assumes nothing.
 use mathlib.Core.Path.{sym}
 use Rattle.vectors.proofs.FiniteVectors.{finite-numbers}
 use Rattle.height_field.specs.Pass.{aroundCell}

@@ -1,4 +1,4 @@
--- `apart::cell_touches` meets its contract. Assumes nothing.
+-- `height_field::apart::cell_touches` meets its contract. Assumes nothing.
 use mathlib.Core.Path.{sym}
 use Rattle.height_field.specs.Listing.{cellFinite}
 use Rattle.height_field.specs.Pass.{cellTouches}

@@ -1,4 +1,4 @@
--- `apart::sum_finite` meets its contract. Assumes nothing.
+-- `height_field::apart::sum_finite` meets its contract. Assumes nothing.
 use mathlib.Core.Path.{sym, ap, _∙_}
 use Rattle.arithmetic.specs.Basic.{isFinite}
 use Rattle.vectors.specs.Numbers.{_+ᶠ_}

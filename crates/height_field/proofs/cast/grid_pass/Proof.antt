@@ -1,4 +1,5 @@
--- `cast::grid_pass` meets its contract: outside the grid there is no cell, and the visited cells stand in the grid. Assumes nothing.
+-- `height_field::cast::grid_pass` meets its contract: outside the grid there is no cell, and the visited cells stand in the grid. Assumes
+-- nothing.
 use mathlib.Core.Path.{sym, _∙_}
 use native.Mathlib.Omega.{arith}
 use Rattle.height_field.proofs.Ranges.{visited-stands, pass-outside, pass-inside}

@@ -1,4 +1,4 @@
--- `cast::height_cast` meets its contract. Assumes nothing.
+-- `height_field::cast::height_cast` meets its contract. Assumes nothing.
 use mathlib.Core.Path.{sym, ap, _∙_}
 use Rattle.geometry.proofs.BoxLaws.{origin-finite}
 use Rattle.height_field.specs.Listing.{gridListing}

@@ -1,4 +1,4 @@
--- `cast::pass_answer` meets its contract. Assumes nothing.
+-- `height_field::cast::pass_answer` meets its contract. Assumes nothing.
 use Rattle.height_field.specs.Pass.{answerOfPass}
 use mathlib.Core.Path.{sym}
 use borrow.Author.Needs.{needs}

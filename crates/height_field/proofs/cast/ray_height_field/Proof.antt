@@ -1,4 +1,4 @@
--- `cast::ray_height_field` meets its contract. Assumes nothing.
+-- `height_field::cast::ray_height_field` meets its contract. Assumes nothing.
 use Rattle.height_field.specs.Cast.{rayHeightField}
 use Rattle.height_field.proofs.Sizes.{admitted-sized}
 use mathlib.Core.Path.{sym, _∙_}

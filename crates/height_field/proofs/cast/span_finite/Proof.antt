@@ -1,4 +1,4 @@
--- `cast::span_finite` meets its contract. Assumes nothing.
+-- `height_field::cast::span_finite` meets its contract. Assumes nothing.
 use Rattle.height_field.specs.Cast.{spanFinite}
 use mathlib.Core.Path.{sym}
 use borrow.Author.Tests.{not-true, not-false}

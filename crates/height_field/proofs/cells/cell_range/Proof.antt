@@ -1,4 +1,4 @@
--- `cells::cell_range` meets its contract. Assumes nothing.
+-- `height_field::cells::cell_range` meets its contract. Assumes nothing.
 use Rattle.height_field.specs.Cells.{cellRange}
 use mathlib.Core.Path.{sym}
 use borrow.Author.Needs.{needs}

@@ -1,4 +1,4 @@
--- `cells::scaled_range` meets its contract: a cast of the floor is the cast of the number. Assumes nothing.
+-- `height_field::cells::scaled_range` meets its contract: a cast of the floor is the cast of the number. Assumes nothing.
 use Rattle.height_field.specs.Cells.{scaledRange}
 use mathlib.Core.Path.{sym, subst}
 use lib.Dec.{T}

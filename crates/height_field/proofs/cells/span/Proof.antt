@@ -1,4 +1,4 @@
--- `cells::span` meets its contract. Assumes nothing.
+-- `height_field::cells::span` meets its contract. Assumes nothing.
 use Rattle.height_field.specs.Cells.{spanOf}
 use mathlib.Core.Path.{sym}
 use borrow.Author.Needs.{needs}

@@ -1,4 +1,4 @@
--- `field::field_vertex` meets its contract: a row and a column of the grid have a place in its heights. Assumes nothing.
+-- `height_field::field::field_vertex` meets its contract: a row and a column of the grid have a place in its heights. Assumes nothing.
 use Prim.Native.Nat.{_+_, _*_, _≤_, _<_}
 use mathlib.Core.Path.{sym}
 use lib.ListN.{length}

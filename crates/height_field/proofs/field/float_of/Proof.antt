@@ -1,4 +1,4 @@
--- `field::float_of` meets its contract: a small number is the same number signed, and a float exactly. Assumes nothing.
+-- `height_field::field::float_of` meets its contract: a small number is the same number signed, and a float exactly. Assumes nothing.
 use Prim.Native.Nat.{ℕ, suc, _-_, _^_, _≤_}
 use mathlib.Core.Path.{_≡_, sym, ap, subst}
 use mathlib.Core.Bool.{Bool}

@@ -1,4 +1,4 @@
--- `field::is_admitted` meets its contract. Assumes nothing.
+-- `height_field::field::is_admitted` meets its contract. Assumes nothing.
 use mathlib.Core.Path.{sym, _∙_}
 use native.Mathlib.Omega.{arith}
 use Rattle.height_field.specs.Grid.{fieldAdmitted}

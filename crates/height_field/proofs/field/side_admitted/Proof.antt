@@ -1,4 +1,4 @@
--- `field::side_admitted` meets its contract. Assumes nothing.
+-- `height_field::field::side_admitted` meets its contract. Assumes nothing.
 use Rattle.height_field.specs.Grid.{sideAdmitted}
 use borrow.Author.Tests.{le-leb, lt-leb}
 use Rattle.height_field.proofs.field.side_admitted.Statement.{statement}

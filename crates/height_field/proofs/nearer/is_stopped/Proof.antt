@@ -1,4 +1,4 @@
--- `nearer::is_stopped` meets its contract. Assumes nothing.
+-- `height_field::nearer::is_stopped` meets its contract. Assumes nothing.
 use Rattle.height_field.specs.Pass.{isStopped}
 use borrow.Author.Needs.{needs}
 use Rattle.height_field.proofs.nearer.is_stopped.Statement.{statement}

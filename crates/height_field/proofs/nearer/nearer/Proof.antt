@@ -1,4 +1,4 @@
--- `nearer::nearer` meets its contract. Assumes nothing.
+-- `height_field::nearer::nearer` meets its contract. Assumes nothing.
 use mathlib.Core.Path.{sym}
 use Rattle.height_field.specs.Pass.{nearerOf}
 use borrow.Author.Needs.{needs}

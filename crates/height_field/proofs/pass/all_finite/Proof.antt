@@ -1,4 +1,4 @@
--- `pass::all_finite` meets its contract. Assumes nothing.
+-- `height_field::pass::all_finite` meets its contract. Assumes nothing.
 use Rattle.height_field.specs.Listing.{allFinite}
 use mathlib.Core.Path.{sym}
 use borrow.Author.Tests.{not-true, not-false}

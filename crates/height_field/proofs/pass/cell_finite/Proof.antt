@@ -1,4 +1,4 @@
--- `pass::cell_finite` meets its contract. Assumes nothing.
+-- `height_field::pass::cell_finite` meets its contract. Assumes nothing.
 use mathlib.Core.Path.{sym}
 use Rattle.height_field.specs.Listing.{cellFinite}
 use borrow.Author.Needs.{needs}

@@ -1,4 +1,4 @@
--- `pass::half` meets its contract. Assumes nothing.
+-- `height_field::pass::half` meets its contract. Assumes nothing.
 use Rattle.height_field.specs.Pass.{halfOf}
 use borrow.Author.Tests.{eq-eqb, ne-eqb}
 use Rattle.height_field.proofs.pass.half.Statement.{statement}

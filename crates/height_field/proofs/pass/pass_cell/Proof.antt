@@ -1,4 +1,4 @@
--- `pass::pass_cell` meets its contract: the four vertices, then the two triangles. Assumes nothing.
+-- `height_field::pass::pass_cell` meets its contract: the four vertices, then the two triangles. Assumes nothing.
 use Prim.Native.Nat.{_+_, _-_, _*_, _<_}
 use mathlib.Core.Path.{sym}
 use native.Mathlib.Omega.{arith}

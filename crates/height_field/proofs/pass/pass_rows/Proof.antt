@@ -1,5 +1,5 @@
--- `pass::pass_rows` meets its contract. The loop's invariant: the rows that are left, on top of what was found, give what all of them give.
--- Assumes nothing.
+-- `height_field::pass::pass_rows` meets its contract. The loop's invariant: the rows that are left, on top of what was found, give what all
+-- of them give. Assumes nothing.
 use Prim.Native.Nat.{_+_, _-_}
 use mathlib.Core.Path.{_≡_, refl, sym, ap, _∙_}
 use native.Mathlib.Omega.{arith}

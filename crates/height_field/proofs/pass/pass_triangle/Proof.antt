@@ -1,4 +1,4 @@
--- `pass::pass_triangle` meets its contract. Assumes nothing.
+-- `height_field::pass::pass_triangle` meets its contract. Assumes nothing.
 use mathlib.Core.Path.{sym, ap, _∙_}
 use Rattle.arithmetic.proofs.Numbers.{finite-number}
 use Rattle.vectors.proofs.FiniteVectors.{finite-z}

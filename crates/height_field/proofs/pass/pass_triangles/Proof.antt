@@ -1,4 +1,5 @@
--- `pass::pass_triangles` meets its contract. The loop's invariant: what was found is what the triangles so far give. Assumes nothing.
+-- `height_field::pass::pass_triangles` meets its contract. The loop's invariant: what was found is what the triangles so far give. Assumes
+-- nothing.
 use Prim.Native.Nat.{_+_, _-_, _≤_}
 use mathlib.Core.Path.{_≡_, refl, sym, ap, _∙_, subst}
 use mathlib.Core.List.{List}

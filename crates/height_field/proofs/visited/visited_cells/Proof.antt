@@ -1,4 +1,4 @@
--- `visited::visited_cells` meets its contract. Assumes nothing.
+-- `height_field::visited::visited_cells` meets its contract. Assumes nothing.
 use mathlib.Core.Path.{sym, _∙_}
 use Rattle.height_field.specs.Cells.{columnRange, rowRange}
 use Rattle.height_field.proofs.Ranges.{beside, before, within}

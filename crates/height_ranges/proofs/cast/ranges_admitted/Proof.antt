@@ -1,4 +1,4 @@
--- `cast::ranges_admitted` meets its contract. Assumes nothing.
+-- `height_ranges::cast::ranges_admitted` meets its contract. Assumes nothing.
 use mathlib.Core.Path.{sym, _∙_}
 use native.Mathlib.Omega.{arith}
 use Rattle.height_field.proofs.Sizes.{admitted-sized, product-small}

@@ -1,4 +1,4 @@
--- `cast::ranges_cast` meets its contract. Assumes nothing.
+-- `height_ranges::cast::ranges_cast` meets its contract. Assumes nothing.
 use mathlib.Core.Path.{sym, ap, _∙_}
 use Rattle.vectors.specs.Vector.{finiteVec}
 use Rattle.geometry.proofs.BoxLaws.{origin-finite}

@@ -1,4 +1,4 @@
--- `cast::ray_height_ranges` meets its contract. Assumes nothing.
+-- `height_ranges::cast::ray_height_ranges` meets its contract. Assumes nothing.
 use Prim.Native.Nat.{ℕ}
 use mathlib.Core.Path.{sym}
 use Rattle.height_ranges.specs.RangesCast.{rayHeightRanges}

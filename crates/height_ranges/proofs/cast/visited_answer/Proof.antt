@@ -1,4 +1,5 @@
--- `cast::visited_answer` meets its contract: no visited cell is clear, and the visited cells stand in the grid. Assumes nothing.
+-- `height_ranges::cast::visited_answer` meets its contract: no visited cell is clear, and the visited cells stand in the grid. Assumes
+-- nothing.
 use mathlib.Core.Path.{sym, _∙_}
 use native.Mathlib.Omega.{arith}
 use Rattle.height_field.proofs.Ranges.{visited-stands}

@@ -1,4 +1,4 @@
--- `order::node_in_order` meets its contract. Assumes nothing.
+-- `height_ranges::order::node_in_order` meets its contract. Assumes nothing.
 use Rattle.height_ranges.specs.Ranges.{nodeInOrder}
 use borrow.Author.Needs.{needs}
 use Rattle.height_ranges.proofs.order.node_in_order.Statement.{statement}

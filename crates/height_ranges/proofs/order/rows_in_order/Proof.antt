@@ -1,4 +1,5 @@
--- `order::rows_in_order` meets its contract. The loop's invariant: the rows that are left give what all of them give. Assumes nothing.
+-- `height_ranges::order::rows_in_order` meets its contract. The loop's invariant: the rows that are left give what all of them give.
+-- Assumes nothing.
 use Prim.Native.Nat.{_+_, _-_}
 use mathlib.Core.Path.{_≡_, refl, sym, _∙_}
 use native.Mathlib.Omega.{arith}

@@ -1,4 +1,4 @@
--- `touching::cell_touches` meets its contract: the four vertices, then the two triangles. Assumes nothing.
+-- `height_ranges::touching::cell_touches` meets its contract: the four vertices, then the two triangles. Assumes nothing.
 use mathlib.Core.Path.{sym}
 use Rattle.height_field.specs.Grid.{cornersAt}
 use Rattle.height_ranges.specs.Ranges.{nearestHeights}

@@ -1,4 +1,5 @@
--- `touching::first_in_row` meets its contract; the loop's invariant: the columns left give what all of them give. Assumes nothing.
+-- `height_ranges::touching::first_in_row` meets its contract; the loop's invariant: the columns left give what all of them give. Assumes
+-- nothing.
 use Prim.Native.Nat.{_+_, _-_, _<_}
 use mathlib.Core.Path.{_≡_, refl, sym, _∙_}
 use mathlib.Core.List.{map}

@@ -1,4 +1,4 @@
--- `touching::nearest_vertex` meets its contract. Assumes nothing.
+-- `height_ranges::touching::nearest_vertex` meets its contract. Assumes nothing.
 use native.Mathlib.Omega.{arith}
 use Rattle.height_ranges.proofs.Places.{Place, place-of, vertex-moved}
 use borrow.Author.Needs.{needs}

@@ -13,13 +13,13 @@ returns c = mesh-invalid _ _ _ _ _ _ (test-failed (c .before .validate .ensures)
 mesh-cast-requires : tie.Need-mesh-cast-requires
 mesh-cast-requires c κs =
     let (s, e) : tie.Start × tie.Else1 = search in
-    (test-passed (e .before .validate .ensures) (e .if1 .left), fits-room _ _ _ _ (nodes-few _ _ _ _ (s .pre .shaped)) (s .pre .room))
+    (test-passed (e .before .validate .ensures) (e .if1 .left), fits-room _ _ _ _ (nodes-few _ _ _ _ (s .pre .shaped)) (s .pre .lent))
 
 -- past it
 returns-2 : tie.Need-returns-2
 returns-2 c =
     let (s, e, l) : tie.Start × tie.Else1 × tie.After-mesh-cast = search in
-    mesh-passed _ _ _ _ _ _ (test-passed (e .before .validate .ensures) (e .if1 .left)) (s .pre .shaped) (s .pre .room) (s .pre .posed) _ _
+    mesh-passed _ _ _ _ _ _ (test-passed (e .before .validate .ensures) (e .if1 .left)) (s .pre .shaped) (s .pre .lent) (s .pre .posed) _ _
     (l .mesh-cast .ensures)
 
 pub cast-ray-spec : {M : Type 1} → statement M

@@ -25,20 +25,20 @@ returns-2 c =
 
 exact-through-requires : tie.Need-exact-through-requires
 exact-through-requires c κs =
-    let (s, e, l, k) : tie.Start × tie.Else1 × tie.After-view-of × tie.After-aim = search in (
+    let (s, e, l, k) : tie.Start × tie.Else1 × tie.After-view-of × tie.After-viewed = search in (
       record {
         valid = test-passed (e .before .validate .ensures) (e .if1 .left);
-        shown = on-line _ _ (l .view-of .ensures) _ (k .aim .given .1);
+        shown = on-line _ _ (l .view-of .ensures) _ (k .viewed .given .1);
       },
-      room-of _ (tree s) (s .args .stack .now) (nodes-few _ _ _ _ (s .pre .shaped)) (s .pre .room),
+      room-of _ (tree s) (s .args .stack .now) (nodes-few _ _ _ _ (s .pre .shaped)) (s .pre .lent),
     )
 
 -- past them
 returns-3 : tie.Need-returns-3
 returns-3 c =
-    let (s, e, l, k, x) : tie.Start × tie.Else1 × tie.After-view-of × tie.After-aim × tie.After-exact-through = search in
+    let (s, e, l, k, x) : tie.Start × tie.Else1 × tie.After-view-of × tie.After-viewed × tie.After-exact-through = search in
     exact-passed _ _ _ _ _ (test-passed (e .before .validate .ensures) (e .if1 .left))
-    (on-line _ _ (l .view-of .ensures) _ (k .aim .given .1) .admitted) (s .pre .shaped) (s .pre .room) (s .pre .posed) _
+    (on-line _ _ (l .view-of .ensures) _ (k .viewed .given .1) .admitted) (s .pre .shaped) (s .pre .lent) (s .pre .posed) _
     (x .exact-through .ensures)
 
 pub cast-ray-spec : {M : Type 1} → statement M
@@ -48,7 +48,7 @@ cast-ray-spec =
     (search needs)  -- validate-requires
     returns
     (search needs)  -- view-of-requires
-    (search needs)  -- enum-known-aim
+    (search needs)  -- enum-known-viewed
     (search needs)  -- enum-told
     returns-2
     exact-through-requires

@@ -34,7 +34,7 @@ on f = record { casts = begun f .pre .0; box = reached-box f .segment-box .ensur
 find-nearest-requires : tie.Need-find-nearest-requires
 find-nearest-requires c κs =
     let s : tie.Start = search in
-    (s .pre .0 .shown .aimed, s .pre .1)
+    (s .pre .0 .shown .viewSized, s .pre .1)
 
 -- the walk met a 5
 returns : tie.Need-returns

@@ -1,7 +1,5 @@
 -- `many_casts::at_mesh::cast_at` meets its contract. Assumes nothing.
-use mathlib.Core.Path.{ap, _∙_}
-use Rattle.nearest_hit.specs.Nearest.{Indexed}
-use Rattle.many_casts.specs.Many.{answerAt}
+use mathlib.Core.Path.{_∙_}
 use borrow.Author.Needs.{needs}
 use Rattle.many_casts.proofs.at_mesh.cast_at.Statement.{statement}
 use Rattle.many_casts.proofs.at_mesh.cast_at.Tie as tie

@@ -1,13 +1,13 @@
 -- `many_casts::at_mesh::cast_each` meets its contract. Assumes nothing.
 use Prim.Native.Nat.{_-_}
-use mathlib.Core.Path.{_≡_, refl, _∙_}
+use mathlib.Core.Path.{_≡_, _∙_}
 use native.Mathlib.Omega.{arith}
 use lib.ListN.{length}
-use Rattle.tree.specs.Layout.{treeOf}
-use Rattle.tree.specs.Mesh.{mesh}
-use Rattle.many_casts.specs.Many.{places, answersOf, meshAnswer}
-use Rattle.many_casts.proofs.Answers.{answers-next, answers-all}
-use Rattle.many_casts.proofs.Progress.{Answered, same-answer, still-ready}
+use Rattle.tree.specs.Layout.{Tree, treeOf}
+use Rattle.tree.specs.Mesh.{thirds, mesh}
+use Rattle.many_casts.specs.Many.{places, meshAnswer}
+use Rattle.many_casts.proofs.Answers.{answers-all}
+use Rattle.many_casts.proofs.Progress.{Answered, none-answered, has-place, next-answered, still-ready, walk-room, same-answer}
 use borrow.Author.Needs.{needs}
 use Rattle.many_casts.proofs.at_mesh.cast_each.Statement.{statement}
 use Rattle.many_casts.proofs.at_mesh.cast_each.Tie as tie
@@ -33,53 +33,31 @@ At = tie.At-loop Inv-loop μ-loop
 abbrev Within : Type 0
 Within = tie.In-loop Inv-loop μ-loop
 
+abbrev tree : Start → Tree
+tree s =
+    let a = s .args in
+    treeOf (a .nodes) (a .node-boxes .now) (a .triangle-boxes .now) (a .node-words .now) (a .order .now)
+
 loop-holds : tie.Need-loop-holds Inv-loop μ-loop
-unfolding answersOf
-loop-holds c = record {
-  returned = refl;
-  most = omega arith;
-  codes = refl;
-  hits = refl;
-  indices = refl;
-  list-long = refl;
-  stack-long =
-      refl;
-}
+loop-holds c = none-answered _ _ _ _ _ _
 
 cast-at-requires : tie.Need-cast-at-requires Inv-loop μ-loop
 cast-at-requires c κs =
     let (s, l, w) : Start × At × Within = search in
-    let inv = l .loop .inv in
-    let less = w .loop-test .taken in (
-      (
-        omega (arith, s .pre .0, less),
-        (
-          omega (arith, s .pre .0, less, inv .codes),
-          (
-            omega (arith, s .pre .0, less, inv .hits),
-            omega
-                (arith, s .pre .0, less, inv .indices),
-          ),
-        ),
-      ),
-      still-ready (inv .list-long) (inv .stack-long) (s .pre .1),
+    let inv = l .loop .inv in (
+      has-place _ _ _ _ _ _ _ _ _ _ (w .loop-test .taken) inv (s .pre .0),
+      still-ready (walk-room (thirds (length (s .args .triangles .now))) (tree s) _ _ _ _ (inv .list-long) (inv .stack-long)) (s .pre .1),
     )
 
 -- one more ray
 loop-again : tie.Need-loop-again Inv-loop μ-loop
 loop-again c =
-    let (s, l, w, k) : Start × At × Within × tie.After-cast-at Inv-loop μ-loop = search in
+    let (l, w, k) : At × Within × tie.After-cast-at Inv-loop μ-loop = search in
     let inv = l .loop .inv in
-    let kept = k .cast-at .kept .1 .1 .1 .1 .1 .1 .1 .1 .1 .1 in record {
-      returned = answers-next _ _ _ _ _ _ (inv .returned)
-          (k .cast-at .ensures ∙ same-answer _ _ _ _ _ _ _ (inv .list-long) (inv .stack-long) _ _ _);
-      most = omega (arith, w .loop-test .taken);
-      codes = omega (arith, kept .1 .1 .0, inv .codes);
-      hits = omega (arith, kept .1 .1 .1 .0, inv .hits);
-      indices = omega (arith, kept .1 .1 .1 .1 .0, inv .indices);
-      list-long = omega (arith, kept .0, inv .list-long);
-      stack-long = omega (arith, kept .1 .0, inv .stack-long);
-    }
+    let kept = k .cast-at .kept .1 .1 .1 .1 .1 .1 .1 .1 .1 .1 in
+    next-answered _ _ _ _ _ _ _ _ _ _ (w .loop-test .taken) inv _ _ _
+    (k .cast-at .ensures ∙ same-answer _ _ _ _ _ _ _ (inv .list-long) (inv .stack-long) _ _ _)
+    (kept .1 .1 .0) (kept .1 .1 .1 .0) (kept .1 .1 .1 .1 .0) (kept .0) (kept .1 .0)
 
 same-length : tie.Need-same-length Inv-loop μ-loop
 same-length c = let l : At = search in l .loop .inv .list-long

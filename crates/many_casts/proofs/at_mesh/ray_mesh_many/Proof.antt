@@ -59,7 +59,7 @@ cast-each-requires c κs =
       (omega arith, fits-inside _ _ _ _ (test-passed (f .before .places-fit .ensures) (f .if4 .left))),
       record {
         shaped = test-passed (b .before .shape-admitted .ensures) (b .if2 .left);
-        room = test-passed (d .before .walk-fits .ensures) (d .if3 .left);
+        lent = test-passed (d .before .walk-fits .ensures) (d .if3 .left);
         posed = g .if5 .left;
       },
     )

@@ -28,7 +28,7 @@ winner-of-requires c κs =
     let (s, a, b, e, k) : tie.Start × tie.After-all-within × tie.After-boxes-hold × tie.Else1 × tie.After-put-codes = search in (
       s .pre .0,
       (
-        s .pre .1 .casts .shown .aimed,
+        s .pre .1 .casts .shown .viewSized,
         (b .boxes-hold .ensures .0 (not-false _ (e .if1 .left)), (a .all-within .ensures, k .put-codes .ensures)),
       ),
     )

@@ -23,15 +23,15 @@ returns-2 c =
     (subst (Viewed (s .args .ray)) (c .enum-told .given .1) (l .view-of .ensures)))
 
 -- the line is the ray's
-shown : (k : tie.After-aim) → let s : tie.Start = search in Shown (s .args .ray) (k .aim .given .0 .0)
+shown : (k : tie.After-viewed) → let s : tie.Start = search in Shown (s .args .ray) (k .viewed .given .0 .0)
 shown k =
     let (s, l) : tie.Start × tie.After-view-of = search in
-    subst (Viewed (s .args .ray)) (k .aim .given .1) (l .view-of .ensures)
+    subst (Viewed (s .args .ray)) (k .viewed .given .1) (l .view-of .ensures)
 
 -- 2
 returns-3 : tie.Need-returns-3
 returns-3 c =
-    let (v, e, k) : tie.After-validate × tie.Else1 × tie.After-aim = search in
+    let (v, e, k) : tie.After-validate × tie.Else1 × tie.After-viewed = search in
     let t = c .before in
     answer-certain _ _ _
     (exact-bad _ _ (test-passed (v .validate .ensures) (e .if1 .left)) (shown k .admitted)
@@ -39,7 +39,7 @@ returns-3 c =
 
 exact-cast-requires : tie.Need-exact-cast-requires
 exact-cast-requires c κs =
-    let (v, e, k, t) : tie.After-validate × tie.Else1 × tie.After-aim × tie.After-lengths-admitted = search in (
+    let (v, e, k, t) : tie.After-validate × tie.Else1 × tie.After-viewed × tie.After-lengths-admitted = search in (
       record { valid = test-passed (v .validate .ensures) (e .if1 .left); shown = shown k },
       test-passed (t .lengths-admitted .ensures) (c .if2 .left),
     )
@@ -47,7 +47,7 @@ exact-cast-requires c κs =
 -- past all refusals of the ray and the lengths
 returns-4 : tie.Need-returns-4
 returns-4 c =
-    let (v, e, k, t, f) : tie.After-validate × tie.Else1 × tie.After-aim × tie.After-lengths-admitted × tie.Else2 = search in
+    let (v, e, k, t, f) : tie.After-validate × tie.Else1 × tie.After-viewed × tie.After-lengths-admitted × tie.Else2 = search in
     answer-certain _ _ _
     (exact-passed _ _ (test-passed (v .validate .ensures) (e .if1 .left)) (shown k .admitted)
     (test-passed (t .lengths-admitted .ensures) (f .if2 .left)) _ (c .exact-cast .ensures))
@@ -59,7 +59,7 @@ ray-mesh-exact-plain-spec =
     (search needs)  -- validate-requires
     returns
     (search needs)  -- sight-of-requires
-    (search needs)  -- enum-known-aim
+    (search needs)  -- enum-known-viewed
     (search needs)  -- enum-told
     returns-2
     (search needs)  -- lengths-admitted-requires

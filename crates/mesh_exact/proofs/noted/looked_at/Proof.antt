@@ -1,5 +1,5 @@
 -- `mesh_exact::noted::looked_at` meets its contract. Assumes nothing.
-use mathlib.Core.Bool.{Bool, not, _||_}
+use mathlib.Core.Bool.{Bool, _||_}
 use mathlib.Core.Path.{sym, ap, _∙_}
 use Rattle.geometry.specs.Box.{cornersBox, touches}
 use Rattle.tree.specs.Mesh.{cornersOf}

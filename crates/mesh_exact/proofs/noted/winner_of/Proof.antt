@@ -1,6 +1,6 @@
 -- `mesh_exact::noted::winner_of` meets its contract. Assumes nothing.
 use Prim.Native.Nat.{ℕ, _+_, _-_}
-use mathlib.Core.Bool.{true, not}
+use mathlib.Core.Bool.{true}
 use mathlib.Core.Path.{sym, ap, subst, _∙_}
 use mathlib.Core.Logic.{⊎-elim}
 use native.Mathlib.Omega.{arith}
@@ -20,12 +20,12 @@ use Rattle.mesh_exact.proofs.noted.winner_of.Statement.{statement}
 use Rattle.mesh_exact.proofs.noted.winner_of.Tie as tie
 
 abbrev Inv-loop : tie.InvT-loop
-Inv-loop line bounds vertices triangles within told codes limit count notes₀ i₀ notes i =
+Inv-loop line bounds vertices triangles within coded codes limit count notes₀ i₀ notes i =
     Fitting (mesh vertices triangles) i
     × ((r : Ray) → Bounded r line bounds → Noting (mesh vertices triangles) (exactAnswer r vertices triangles) (saysNearestSoFar notes) i)
 
 abbrev μ-loop : tie.MeasureT-loop
-μ-loop line bounds vertices triangles within told codes limit count notes₀ i₀ notes i = thirds (length triangles) - i
+μ-loop line bounds vertices triangles within coded codes limit count notes₀ i₀ notes i = thirds (length triangles) - i
 
 -- the places that the answers speak of: the entry, the begin of a turn, its test, and what follows in it
 abbrev Start : Type 0

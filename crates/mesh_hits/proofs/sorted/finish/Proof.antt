@@ -3,7 +3,7 @@ use Prim.Native.Nat.{_*_}
 use mathlib.Core.Path.{sym}
 use native.Mathlib.Omega.{arith}
 use lib.Seq.{length-take-le}
-use Rattle.mesh_hits.proofs.ListedHits.{sorted-struck, sorted-written}
+use Rattle.mesh_hits.proofs.ListedHits.{sorted-in-places, sorted-written}
 use borrow.Author.Needs.{needs}
 use Rattle.mesh_hits.proofs.sorted.finish.Statement.{statement}
 use Rattle.mesh_hits.proofs.sorted.finish.Tie as tie
@@ -29,7 +29,7 @@ sort-requires c κs =
 put-normals-requires : tie.Need-put-normals-requires
 put-normals-requires c κs =
     let (s, o) : tie.Start × tie.After-sort = search in
-    sorted-struck _ _ _ _ _ _ (s .pre) _ _ (o .sort .ensures) (o .sort .kept .0) (o .sort .kept .1 .0)
+    sorted-in-places _ _ _ _ _ _ (s .pre) _ _ (o .sort .ensures) (o .sort .kept .0) (o .sort .kept .1 .0)
 
 -- sorted, and the normals written
 returns : tie.Need-returns

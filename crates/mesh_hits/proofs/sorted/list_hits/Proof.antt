@@ -8,7 +8,7 @@ use lib.ListN.{length}
 use Rattle.tree.proofs.Corners.{answers-are-numbers}
 use Rattle.mesh_hits.specs.HitArea.{HitArea, hitArea}
 use Rattle.mesh_hits.proofs.ListedHits.{refused-alike, places-within, hits-ready, fits-as-listed}
-use Rattle.mesh_hits.proofs.ListedHits.{refusal-lists, nobody-lists, struck-lists}
+use Rattle.mesh_hits.proofs.ListedHits.{refusal-lists, nobody-lists, hit-lists}
 use borrow.Author.Needs.{needs}
 use Rattle.mesh_hits.proofs.sorted.list_hits.Statement.{statement}
 use Rattle.mesh_hits.proofs.sorted.list_hits.Tie as tie
@@ -85,7 +85,7 @@ returns-3 c =
     let kept = g .gather-hits .kept .1 .1 .1 .1 .1 .1 in
     fits-as-listed _ _ _ (pre .0) _ (pre .1) _ _ _ (counted g .places-of .ensures) _ _ _ (kept .0) (kept .1 .0)
     (g .gather-hits .ensures .1) _ (f .fit2 .ensures)
-    ∙ struck-lists _ (answers-are-numbers _ _ _) _ _ (g .gather-hits .ensures .0) _ (w .winner .ensures) _ _ (pre .1) _ _
+    ∙ hit-lists _ (answers-are-numbers _ _ _) _ _ (g .gather-hits .ensures .0) _ (w .winner .ensures) _ _ (pre .1) _ _
     (k .enum-told2 .given .1)
 
 pub list-hits-spec : {M : Type 1} → statement M

@@ -6,7 +6,7 @@ use mathlib.Core.Logic.{⊎-elim}
 use native.Mathlib.Omega.{arith}
 use lib.ListN.{length}
 use Rattle.nearest_hit.specs.Nearest.{nextOf}
-use Rattle.nearest_hit.specs.Deferred.{facedIndexed, saysNear, Held}
+use Rattle.nearest_hit.specs.Deferred.{facedIndexed, saysNear, HitMeasured}
 use Rattle.tree.specs.Mesh.{Mesh, thirds, mesh}
 use Rattle.lists.proofs.JoinedTests.{test-passed, test-failed}
 use Rattle.mesh_plain.proofs.Passing.{Passing, passing-begins, passing-near, passing-far, passing-unfit, passing-ends}
@@ -17,7 +17,7 @@ use Rattle.mesh_plain.proofs.cast.cast_all.Tie as tie
 
 abbrev Inv-loop : tie.InvT-loop
 Inv-loop ray bounds vertices triangles told codes limit count best₀ i₀ best i =
-    Passing ray bounds (mesh vertices triangles) (saysNear best) i × Held best
+    Passing ray bounds (mesh vertices triangles) (saysNear best) i × HitMeasured best
 
 abbrev μ-loop : tie.MeasureT-loop
 μ-loop ray bounds vertices triangles told codes limit count best₀ i₀ best i = thirds (length triangles) - i
@@ -85,12 +85,12 @@ loop-again c =
       passing-near _ _ (own s) _ _ (l .loop .inv .0) (t .loop-test .taken) fit (sym near ∙ w .0 .taken) (saysNear (c .if2 .best))
           (ap (λ x. facedIndexed (s .args .ray) (saysNear x)) (w .3) ∙ w .2 .ensures .0
           ∙ ap (nextOf _ _) (corners-cast (own s) (l .loop .i) inside _ (w .1 .ensures) (s .args .ray) (s .args .bounds))),
-      subst Held (sym (w .3)) (w .2 .ensures .1 (l .loop .inv .1)),
+      subst HitMeasured (sym (w .3)) (w .2 .ensures .1 (l .loop .inv .1)),
     ))
     (λ w. (
       subst (λ x. Passing (s .args .ray) (s .args .bounds) (own s) (saysNear x) (l .loop .i + 1)) (sym (w .1))
           (passing-far _ _ (own s) _ _ (l .loop .inv .0) (t .loop-test .taken) fit (sym near ∙ w .0 .left)),
-      subst Held (sym (w .1)) (l .loop .inv .1),
+      subst HitMeasured (sym (w .1)) (l .loop .inv .1),
     ))
     (c .if2 .came)
 

@@ -1,7 +1,7 @@
 -- `nearest_hit::deferred::nearer` meets its contract. Assumes nothing.
 use mathlib.Core.Path.{refl, subst}
 use Rattle.nearest_hit.specs.Nearest.{nextOf}
-use Rattle.nearest_hit.specs.Deferred.{Held}
+use Rattle.nearest_hit.specs.Deferred.{HitMeasured}
 use borrow.Author.Needs.{needs}
 use Rattle.nearest_hit.proofs.deferred.nearer.Statement.{statement}
 use Rattle.nearest_hit.proofs.deferred.nearer.Tie as tie
@@ -18,7 +18,7 @@ returns-2 : tie.Need-returns-2
 unfolding nextOf
 returns-2 c =
     let b : tie.After-best = search in
-    (simp (b .best .given .1, c .if1 .left), λ h m. subst Held (b .best .given .1) h)
+    (simp (b .best .given .1, c .if1 .left), λ h m. subst HitMeasured (b .best .given .1) h)
 
 -- the first
 returns-3 : tie.Need-returns-3

@@ -1,6 +1,6 @@
 -- `nearest_hit::deferred::with_normal` meets its contract. Assumes nothing.
 use mathlib.Core.Path.{sym, ap, subst}
-use Rattle.nearest_hit.specs.Deferred.{faced, facedIndexed, saysNear, Held}
+use Rattle.nearest_hit.specs.Deferred.{faced, facedIndexed, saysNear, HitMeasured}
 use borrow.Author.Needs.{needs}
 use Rattle.nearest_hit.proofs.deferred.with_normal.Statement.{statement}
 use Rattle.nearest_hit.proofs.deferred.with_normal.Tie as tie
@@ -8,7 +8,7 @@ use Rattle.nearest_hit.proofs.deferred.with_normal.Tie as tie
 unit-of-requires : tie.Need-unit-of-requires
 unit-of-requires c κs =
     let (s, b) : tie.Start × tie.After-best = search in
-    subst Held (b .best .given .1) (s .pre)
+    subst HitMeasured (b .best .given .1) (s .pre)
 
 -- the normal
 returns : tie.Need-returns

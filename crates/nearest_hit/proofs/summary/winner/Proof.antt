@@ -11,7 +11,7 @@ returns c = simp (c .before .refuser .given .1)
 
 returns-2 : tie.Need-returns-2
 unfolding winnerOf
-returns-2 c = simp (c .before .enum-told .given .1, sym (c .struck .ensures))
+returns-2 c = simp (c .before .enum-told .given .1, sym (c .hit-outcome .ensures))
 
 pub winner-spec : {M : Type 1} → statement M
 winner-spec =

@@ -1,6 +1,5 @@
 -- `probe::runs::failed_run` meets its contract. Assumes nothing.
 use mathlib.Core.Path.{refl}
-use borrow.Author.Needs.{needs}
 use Rattle.probe.proofs.runs.failed_run.Statement.{statement}
 use Rattle.probe.proofs.runs.failed_run.Tie as tie
 

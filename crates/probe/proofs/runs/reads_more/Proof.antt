@@ -1,5 +1,4 @@
 -- `probe::runs::reads_more` meets its contract. Assumes nothing.
-use borrow.Author.Needs.{needs}
 use Rattle.probe.specs.Runs.{readsMore}
 use Rattle.probe.proofs.runs.reads_more.Statement.{statement}
 use Rattle.probe.proofs.runs.reads_more.Tie as tie

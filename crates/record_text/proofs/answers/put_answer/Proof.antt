@@ -1,5 +1,4 @@
 -- `record_text::answers::put_answer` meets its contract. Assumes nothing.
-use Rattle.record_text.proofs.Storing.{put-then}
 use Rattle.record_text.proofs.AnswerParts.{put-as, hit-case, none-case, refused-case}
 use Rattle.casts.specs.Answer.{says}
 use mathlib.Core.Path.{ap}
@@ -21,28 +20,24 @@ returns-2 c =
 
 returns-3 : tie.Need-returns-3
 returns-3 c =
-    let (at-cast2, at-put-text2, at-put-decimal) : tie.After-cast2 × tie.After-put-text2 × tie.After-put-decimal = search in
-    put-as _ (refused-case _ _ (ap says (at-cast2 .cast2
-    .given .1))) (put-then _ _ (at-put-text2 .put-text2 .ensures) (at-put-decimal .put-decimal
-    .ensures))
+    let (at-cast2, at-put-refused) : tie.After-cast2 × tie.After-put-refused = search in
+    put-as _ (refused-case _ _ (ap says (at-cast2 .cast2 .given .1)))
+    (at-put-refused .put-refused .ensures)
 
 pub put-answer-spec : {M : Type 1} → statement M
 put-answer-spec =
     tie.close
     (tie.spec
-    (λ c. search needs)  -- enum-known-cast
-    (λ c κs. search needs)  -- put-hit-requires
-    (λ c. search needs)  -- same-length
+    (search needs)  -- enum-known-cast
+    (search needs)  -- put-hit-requires
+    (search needs)  -- same-length
     returns
-    (λ c. search needs)  -- enum-told
-    (λ c. search needs)  -- slice-aggregate-put-text
-    (λ c κs. search needs)  -- put-text-requires
-    (λ c. search needs)  -- same-length-2
+    (search needs)  -- enum-told
+    (search needs)  -- slice-aggregate-put-text
+    (search needs)  -- put-text-requires
+    (search needs)  -- same-length-2
     returns-2
-    (λ c. search needs)  -- enum-known-cast-2
-    (λ c. search needs)  -- slice-aggregate-put-text-2
-    (λ c κs. search needs)  -- put-text-requires-2
-    (λ c. search needs)  -- cast-put-decimal
-    (λ c κs. search needs)  -- put-decimal-requires
-    (λ c. search needs)  -- same-length-3
+    (search needs)  -- enum-known-cast-2
+    (search needs)  -- put-refused-requires
+    (search needs)  -- same-length-3
     returns-3)

@@ -1,5 +1,5 @@
 -- `records::lines::bad_line` meets its contract. Assumes nothing.
-use Rattle.records.proofs.Answers.{line-written}
+use Rattle.records.proofs.Answers.{line-put}
 use Rattle.records.proofs.Lengths.{length-number}
 use Rattle.record_text.proofs.Storing.{put-keeps}
 use native.Mathlib.Omega.{arith}
@@ -9,32 +9,26 @@ use Rattle.records.proofs.lines.bad_line.Tie as tie
 
 put-text-requires : tie.Need-put-text-requires
 put-text-requires c κs =
-    let (start, at-put-number) : tie.Start × tie.After-put-number = search in
-    omega (
-      arith,
-      at-put-number .put-number .ensures .behind,
-      put-keeps (at-put-number .put-number .ensures),
-      length-number (start .args .number),
-    )
+    let (s, n) : tie.Start × tie.After-put-number = search in
+    omega (arith, s .pre, n .put-number .ensures .behind, put-keeps (n .put-number .ensures), length-number (s .args .number))
 
 put-byte-requires : tie.Need-put-byte-requires
 put-byte-requires c κs =
-    let (start, at-put-number) : tie.Start × tie.After-put-number = search in
+    let (s, n, t) : tie.Start × tie.After-put-number × tie.After-put-text = search in
     omega (
       arith,
-      at-put-number .put-number .ensures .behind,
-      put-keeps (at-put-number .put-number .ensures),
-      length-number (start .args
-          .number),
-      c .before .put-text .ensures .behind,
-      put-keeps (c .before .put-text .ensures),
+      s .pre,
+      n .put-number .ensures .behind,
+      put-keeps (n .put-number .ensures),
+      length-number (s .args .number),
+      t .put-text .ensures .behind,
+      put-keeps (t .put-text .ensures),
     )
 
 returns : tie.Need-returns
 returns c =
-    let (at-put-number, at-put-text) : tie.After-put-number × tie.After-put-text = search in
-    line-written _ _ (at-put-number .put-number .ensures) (at-put-text .put-text .ensures)
-    (c .put-byte .ensures) (omega arith) (omega arith)
+    let (n, t, e) : tie.After-put-number × tie.After-put-text × tie.After-put-byte = search in
+    line-put _ _ (n .put-number .ensures) (t .put-text .ensures) (e .put-byte .ensures)
 
 pub bad-line-spec : {M : Type 1} → statement M
 bad-line-spec =
@@ -44,4 +38,5 @@ bad-line-spec =
     (λ c. search needs)  -- slice-aggregate-put-text
     put-text-requires
     put-byte-requires
+    (λ c. search needs)  -- same-length
     returns)

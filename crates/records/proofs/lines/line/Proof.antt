@@ -1,8 +1,8 @@
 -- `records::lines::line` meets its contract. Assumes nothing.
-use Rattle.record_bytes.specs.Parse.{parse}
-use Rattle.records.proofs.Answers.{line-written}
-use Rattle.records.proofs.Lengths.{length-number, length-parsed}
 use Rattle.record_text.proofs.Storing.{put-keeps}
+use Rattle.records.specs.Shapes.{parse}
+use Rattle.records.proofs.Answers.{line-put}
+use Rattle.records.proofs.Lengths.{length-number, length-parsed}
 use native.Mathlib.Omega.{arith}
 use borrow.Author.Needs.{needs}
 use Rattle.records.proofs.lines.line.Statement.{statement}
@@ -11,13 +11,8 @@ use Rattle.records.proofs.lines.line.Tie as tie
 put-record-requires : tie.Need-put-record-requires
 put-record-requires c κs = (
   (
-    (let (start, at-put-number) : tie.Start × tie.After-put-number = search in
-        omega (
-          arith,
-          at-put-number .put-number .ensures .behind,
-          put-keeps (at-put-number .put-number .ensures),
-          length-number (start .args .number),
-        )),
+    (let (s, n) : tie.Start × tie.After-put-number = search in
+        omega (arith, s .pre, n .put-number .ensures .behind, put-keeps (n .put-number .ensures), length-number (s .args .number))),
     (omega arith, omega arith),
   ),
   record {
@@ -32,28 +27,29 @@ put-record-requires c κs = (
 
 put-byte-requires : tie.Need-put-byte-requires
 put-byte-requires c κs =
-    let (start, at-put-number) : tie.Start × tie.After-put-number = search in
+    let (s, n, r) : tie.Start × tie.After-put-number × tie.After-put-record = search in
     omega (
       arith,
-      at-put-number .put-number .ensures .behind,
-      put-keeps (at-put-number .put-number .ensures),
-      length-number (start .args .number),
-      c .before .put-record .ensures .behind,
-      put-keeps (c .before .put-record .ensures),
-      length-parsed (parse (start .args .body .now)),
+      s .pre,
+      n .put-number .ensures .behind,
+      put-keeps (n .put-number .ensures),
+      length-number (s .args .number),
+      r .put-record .ensures .0 .behind,
+      put-keeps (r .put-record .ensures .0),
+      length-parsed (parse (s .args .source .now)),
     )
 
 returns : tie.Need-returns
 returns c =
-    let (start, at-put-number, at-put-record) : tie.Start × tie.After-put-number × tie.After-put-record = search in
-    line-written _ _ (at-put-number .put-number .ensures) (at-put-record .put-record .ensures) (c .put-byte .ensures) (omega arith)
-    (length-parsed (parse (start .args .body .now)))
+    let (n, r, e) : tie.After-put-number × tie.After-put-record × tie.After-put-byte = search in
+    (line-put _ _ (n .put-number .ensures) (r .put-record .ensures .0) (e .put-byte .ensures), r .put-record .ensures .1)
 
 pub line-spec : {M : Type 1} → statement M
 line-spec =
     tie.close
     (tie.spec
-    (λ c κs. search needs)  -- put-number-requires
+    (search needs)  -- put-number-requires
     put-record-requires
     put-byte-requires
+    (search needs)  -- same-length
     returns)

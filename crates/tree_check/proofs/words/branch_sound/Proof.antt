@@ -1,4 +1,4 @@
--- `tree_check::record_bytes::branch_sound` meets its contract. Assumes nothing.
+-- `tree_check::words::branch_sound` meets its contract. Assumes nothing.
 use Rattle.tree_check.specs.Sound.{branchSound}
 use borrow.Author.Tests.{eq-eqb, ne-eqb, le-ltb, lt-ltb}
 use Rattle.tree_check.proofs.words.branch_sound.Statement.{statement}

@@ -1,4 +1,4 @@
--- `tree_check::record_bytes::leaf_sound` meets its contract. Assumes nothing.
+-- `tree_check::words::leaf_sound` meets its contract. Assumes nothing.
 use Rattle.tree_check.specs.Sound.{leafSound}
 use borrow.Author.Tests.{le-ltb, lt-ltb}
 use native.Mathlib.Omega.{arith}

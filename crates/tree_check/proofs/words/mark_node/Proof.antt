@@ -1,4 +1,4 @@
--- `tree_check::record_bytes::mark_node` meets its contract. Assumes nothing.
+-- `tree_check::words::mark_node` meets its contract. Assumes nothing.
 use Rattle.tree_check.proofs.Tally.{marks-other, marks-here}
 use native.Mathlib.Omega.{arith}
 use Prim.Native.Nat.{_+_, _*_, _<_}

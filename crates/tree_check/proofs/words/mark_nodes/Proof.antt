@@ -1,4 +1,4 @@
--- `tree_check::record_bytes::mark_nodes` meets its contract. Assumes nothing.
+-- `tree_check::words::mark_nodes` meets its contract. Assumes nothing.
 use Rattle.tree_check.proofs.Tally.{marks-few, tally-none, tally-more, tally-done}
 use Rattle.tree_check.specs.Marks.{marked}
 use Rattle.lists.specs.Lists.{range, count, flatMap}

@@ -1,4 +1,4 @@
--- `tree_check::record_bytes::mark_pair` meets its contract. Assumes nothing.
+-- `tree_check::words::mark_pair` meets its contract. Assumes nothing.
 use Rattle.tree_check.proofs.Counting.{bump-low, pair-counts}
 use native.Mathlib.Omega.{arith}
 use mathlib.Core.Path.{_∙_}

@@ -1,4 +1,4 @@
--- `tree_check::record_bytes::mark_place` meets its contract. Assumes nothing.
+-- `tree_check::words::mark_place` meets its contract. Assumes nothing.
 use Rattle.tree_check.proofs.Counting.{none-more, apart}
 use native.Mathlib.Omega.{arith}
 use borrow.Author.Needs.{needs}

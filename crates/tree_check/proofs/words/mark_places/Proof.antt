@@ -1,4 +1,4 @@
--- `tree_check::record_bytes::mark_places` meets its contract. Assumes nothing.
+-- `tree_check::words::mark_places` meets its contract. Assumes nothing.
 use Rattle.tree_check.proofs.Tally.{order-more, order-done, order-few}
 use Rattle.lists.specs.Lists.{count}
 use lib.Seq.{slice}

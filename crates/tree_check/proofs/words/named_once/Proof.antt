@@ -1,4 +1,4 @@
--- `tree_check::record_bytes::named_once` meets its contract. Assumes nothing.
+-- `tree_check::words::named_once` meets its contract. Assumes nothing.
 use Rattle.tree_check.proofs.OnceEach.{marked-once-is}
 use Rattle.tree_check.proofs.Sound.{branches-inside}
 use native.Mathlib.Omega.{arith}

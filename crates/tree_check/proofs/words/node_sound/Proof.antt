@@ -1,4 +1,4 @@
--- `tree_check::record_bytes::node_sound` meets its contract. Assumes nothing.
+-- `tree_check::words::node_sound` meets its contract. Assumes nothing.
 use Rattle.tree_check.specs.Sound.{nodeSound}
 use borrow.Author.Tests.{eq-eqb, ne-eqb}
 use native.Mathlib.Omega.{arith}

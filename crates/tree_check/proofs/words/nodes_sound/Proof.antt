@@ -1,4 +1,4 @@
--- `tree_check::record_bytes::nodes_sound` meets its contract. Assumes nothing.
+-- `tree_check::words::nodes_sound` meets its contract. Assumes nothing.
 use Rattle.lists.proofs.EveryLaws.{every-whole, every-fails, every-passes, every-done}
 use Rattle.tree_check.specs.Sound.{nodeSound}
 use Rattle.lists.specs.Lists.{range, every}

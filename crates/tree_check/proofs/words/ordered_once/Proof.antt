@@ -1,4 +1,4 @@
--- `tree_check::record_bytes::ordered_once` meets its contract. Assumes nothing.
+-- `tree_check::words::ordered_once` meets its contract. Assumes nothing.
 use Rattle.tree_check.proofs.OnceEach.{marked-once-is}
 use Rattle.lists.proofs.EveryLaws.{every-whole}
 use native.Mathlib.Omega.{arith}

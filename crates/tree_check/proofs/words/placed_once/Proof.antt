@@ -1,4 +1,4 @@
--- `tree_check::record_bytes::placed_once` meets its contract. Assumes nothing.
+-- `tree_check::words::placed_once` meets its contract. Assumes nothing.
 use Rattle.tree_check.proofs.Balance.{placed-once-is}
 use Rattle.tree_check.proofs.Sound.{leaves-inside}
 use mathlib.Core.Path.{_∙_}
@@ -14,7 +14,7 @@ mark-nodes-requires c κs =
 returns : tie.Need-returns
 returns c =
     let (start, at-mark-nodes) : tie.Start × tie.After-mark-nodes = search in
-    c .all-held-once .ensures ∙ placed-once-is _ _ _ _ (start .pre .1) (at-mark-nodes .mark-nodes .ensures)
+    c .all-in-one-leaf .ensures ∙ placed-once-is _ _ _ _ (start .pre .1) (at-mark-nodes .mark-nodes .ensures)
 
 pub placed-once-spec : {M : Type 1} → statement M
 placed-once-spec =

@@ -1,4 +1,4 @@
--- `tree_check::record_bytes::second_mark` meets its contract. Assumes nothing.
+-- `tree_check::words::second_mark` meets its contract. Assumes nothing.
 use Rattle.tree_check.specs.Marks.{secondMark}
 use borrow.Author.Tests.{eq-eqb, ne-eqb}
 use borrow.Author.Needs.{needs}

@@ -24,7 +24,7 @@ room-of-requires c κs =
 passes-requires : tie.Need-passes-requires
 passes-requires c κs =
     let (s, k) : tie.Start × tie.After-room-of = search in
-    let t = s .pre .turned in
+    let t = s .pre .headingSized in
     (k .room-of .ensures .1, record { heading = t .heading; ahead = sized-bits (t .ahead) (lit≤ tt) })
 
 -- the room decides
@@ -34,7 +34,7 @@ returns-2 c =
     let v = s .args .line in
     λ l limit sees past. read-met v l sees limit (s .args .bounds) (test-passed (a .is-read .ensures) (e .if1 .left))
     (c .passes .ensures) (plain (widen (s .pre .near) (lit≤ tt))) (toZ-ofZ w64 (s .args .past) (s .fits .past) ∙ past)
-    (plain (widen (s .pre .turned .ahead) (lit≤ tt))) (k .room-of .ensures .0)
+    (plain (widen (s .pre .headingSized .ahead) (lit≤ tt))) (k .room-of .ensures .0)
 
 pub line-met-spec : {M : Type 1} → statement M
 line-met-spec =

@@ -28,17 +28,17 @@ unfolding start₁
 valid e = test-passed (e .before .validate .ensures) (e .if1 .left)
 
 -- past the ray's 12
-startₗ : tie.After-aim → tie.Start
+startₗ : tie.After-viewed → tie.Start
 startₗ k = search
 
-abbrev line : tie.After-aim → View
-line k = k .aim .given .0 .0
+abbrev line : tie.After-viewed → View
+line k = k .viewed .given .0 .0
 
-shown : (k : tie.After-aim) → Shown (startₗ k .args .ray) (line k)
+shown : (k : tie.After-viewed) → Shown (startₗ k .args .ray) (line k)
 unfolding startₗ
 shown k =
     let l : tie.After-view-of = search in
-    on-line _ _ (l .view-of .ensures) _ (k .aim .given .1)
+    on-line _ _ (l .view-of .ensures) _ (k .viewed .given .1)
 
 -- past refusal 2
 start₂ : tie.Else2 → tie.Start
@@ -76,8 +76,8 @@ fits e = test-passed (e .before .room-fits .ensures) (e .if3 .left)
 first : tie.Else3 → tie.Else1
 first e = search
 
-aimed : tie.Else3 → tie.After-aim
-aimed e = search
+viewed : tie.Else3 → tie.After-viewed
+viewed e = search
 
 second : tie.Else3 → tie.Else2
 second e = search
@@ -98,7 +98,7 @@ returns-2 c =
 returns-3 : tie.Need-returns-3
 unfolding start₁ startₗ
 returns-3 c =
-    let (s, e, k) : tie.Start × tie.Else1 × tie.After-aim = search in
+    let (s, e, k) : tie.Start × tie.Else1 × tie.After-viewed = search in
     let failed = test-failed {b = admitted s} (c .before .shape-admitted .ensures) (c .if2 .taken) in
     with-agreement _ _ _ _ _ _ _ (exact-bad _ _ _ _ _ (valid e) (shown k .admitted) failed) (λ _. refl)
 
@@ -110,35 +110,35 @@ room-fits-requires c κs = let e : tie.Else2 = search in triangles-few _ _ _ _ (
 returns-4 : tie.Need-returns-4
 unfolding start₁ startₗ start₂
 returns-4 c =
-    let (s, e, k, h) : tie.Start × tie.Else1 × tie.After-aim × tie.Else2 = search in
+    let (s, e, k, h) : tie.Start × tie.Else1 × tie.After-viewed × tie.Else2 = search in
     let failed = test-failed {b = fitting s} (c .before .room-fits .ensures) (c .if3 .taken) in
     with-agreement _ _ _ _ _ _ _ (exact-short _ _ _ (tree s) _ (valid e) (shown k .admitted) (shaped h) failed) (λ _. refl)
 
 -- refusal 4
 returns-5 : tie.Need-returns-5
-unfolding start₁ startₗ start₂ start₃ first aimed second
+unfolding start₁ startₗ start₂ start₃ first viewed second
 returns-5 c =
     let e : tie.Else3 = search in
     with-agreement _ _ _ _ _ _ _
-    (exact-posed _ _ _ _ _ (valid (first e)) (shown (aimed e) .admitted) (shaped (second e)) (fits e) (c .if4 .taken)) (λ _. refl)
+    (exact-posed _ _ _ _ _ (valid (first e)) (shown (viewed e) .admitted) (shaped (second e)) (fits e) (c .if4 .taken)) (λ _. refl)
 
 exact-through-requires : tie.Need-exact-through-requires
-unfolding start₁ startₗ start₂ start₃ first aimed second
+unfolding start₁ startₗ start₂ start₃ first viewed second
 exact-through-requires c κs =
     let e : tie.Else3 = search in (
-      record { valid = valid (first e); shown = shown (aimed e) },
+      record { valid = valid (first e); shown = shown (viewed e) },
       room-of _ (tree (start₃ e)) (start₃ e .args .stack .now) (nodes-few _ _ _ _ (shaped (second e))) (fits e),
     )
 
 -- past them all
 returns-6 : tie.Need-returns-6
-unfolding start₁ startₗ start₂ start₃ first aimed second
+unfolding start₁ startₗ start₂ start₃ first viewed second
 returns-6 c =
     let (e, p, l) : tie.Else3 × tie.Else4 × tie.After-exact-through = search in
     with-agreement _ _ _ _ _ _ _
-    (exact-passed _ _ _ _ _ (valid (first e)) (shown (aimed e) .admitted) (shaped (second e)) (fits e) (p .if4 .left) _
+    (exact-passed _ _ _ _ _ (valid (first e)) (shown (viewed e) .admitted) (shaped (second e)) (fits e) (p .if4 .left) _
     (l .exact-through .ensures))
-    (λ failed. absurd (tests-passed _ _ _ _ _ (valid (first e)) (shown (aimed e) .admitted) (shaped (second e)) (fits e) (p .if4 .left)
+    (λ failed. absurd (tests-passed _ _ _ _ _ (valid (first e)) (shown (viewed e) .admitted) (shaped (second e)) (fits e) (p .if4 .left)
     failed))
 
 pub ray-mesh-exact-spec : {M : Type 1} → statement M
@@ -148,7 +148,7 @@ ray-mesh-exact-spec =
     (search needs)  -- validate-requires
     returns
     (search needs)  -- sight-of-requires
-    (search needs)  -- enum-known-aim
+    (search needs)  -- enum-known-viewed
     (search needs)  -- enum-told
     returns-2
     (search needs)  -- shape-admitted-requires

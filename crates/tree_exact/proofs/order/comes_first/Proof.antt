@@ -10,14 +10,16 @@ use Rattle.tree_exact.proofs.order.comes_first.Tie as tie
 returns : tie.Need-returns
 returns c =
     let (s, e, a, b) : tie.Start × tie.Then1 × tie.After-coordinate-on × tie.After-coordinate-on2 = search in
-    λ l sees. comes-backward (s .args .line) l sees (s .args .a) (s .args .b) (plain (widen (s .pre .turned .heading .depth) (lit≤ tt)))
+    λ l sees. comes-backward (s .args .line) l sees (s .args .a) (s .args .b) (plain (widen (s .pre .headingSized .heading .depth)
+    (lit≤ tt)))
     (e .if1 .taken) (a .coordinate-on .ensures) (b .coordinate-on2 .ensures)
 
 -- along it
 returns-2 : tie.Need-returns-2
 returns-2 c =
     let (s, e, a, b) : tie.Start × tie.Else1 × tie.After-coordinate-on3 × tie.After-coordinate-on4 = search in
-    λ l sees. comes-forward (s .args .line) l sees (s .args .a) (s .args .b) (plain (widen (s .pre .turned .heading .depth) (lit≤ tt)))
+    λ l sees. comes-forward (s .args .line) l sees (s .args .a) (s .args .b) (plain (widen (s .pre .headingSized .heading .depth)
+    (lit≤ tt)))
     (e .if1 .left) (a .coordinate-on3 .ensures) (b .coordinate-on4 .ensures)
 
 pub comes-first-spec : {M : Type 1} → statement M

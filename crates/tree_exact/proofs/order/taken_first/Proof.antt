@@ -1,7 +1,6 @@
 -- `tree_exact::order::taken_first` meets its contract. Assumes nothing.
 use mathlib.Core.Path.{sym, _∙_}
 use Rattle.tree_exact.proofs.BoxSteps.{short-left, long-left}
-use borrow.Author.Needs.{needs}
 use Rattle.tree_exact.proofs.order.taken_first.Statement.{statement}
 use Rattle.tree_exact.proofs.order.taken_first.Tie as tie
 

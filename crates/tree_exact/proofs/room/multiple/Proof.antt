@@ -1,5 +1,5 @@
 -- `tree_exact::room::multiple` meets its contract. Assumes nothing.
-use Rattle.tree_exact.proofs.RoomSteps.{product-fits, product-plain, in-order, turned}
+use Rattle.tree_exact.proofs.RoomSteps.{product-fits, product-plain, in-order, headingSized}
 use Rattle.tree_exact.proofs.room.multiple.Statement.{statement}
 use Rattle.tree_exact.proofs.room.multiple.Tie as tie
 
@@ -17,7 +17,7 @@ returns c =
 returns-2 : tie.Need-returns-2
 returns-2 c =
     let s : tie.Start = search in
-    turned (product-plain (s .pre .0 .low) (s .pre .1)) (product-plain (s .pre .0 .high) (s .pre .1)) (c .if1 .left)
+    headingSized (product-plain (s .pre .0 .low) (s .pre .1)) (product-plain (s .pre .0 .high) (s .pre .1)) (c .if1 .left)
 
 pub multiple-spec : {M : Type 1} → statement M
 multiple-spec = tie.close (tie.spec mul-first mul-last returns returns-2)

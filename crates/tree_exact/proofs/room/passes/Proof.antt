@@ -7,7 +7,7 @@ use mir.Syntax.{w64}
 use mir.ValLaws.{toZ-ofZ}
 use Rattle.wide_integers.specs.Sizes.{Sized}
 use Rattle.wide_integers.proofs.Reading.{bits, plain, widen}
-use Rattle.tree_exact.specs.Room.{multiple, minus, holdsZero, reaches, shearedRoomBy}
+use Rattle.tree_exact.specs.Room.{multiple, difference, holdsZero, reaches, shearedRoomBy}
 use Rattle.tree_exact.specs.declared.room.Room.{Room}
 use Rattle.tree_exact.proofs.RoomSteps.{sized-read, side-plain, depth-plain, first-fails, second-fails, last-decides}
 use Rattle.tree_exact.proofs.room.passes.Statement.{statement}
@@ -40,12 +40,12 @@ depth-met-requires c κs =
     (s .pre .0 .depth, sized-read (toZ-ofZ w64 (s .args .ahead) (s .fits .ahead)) (widen (s .pre .1 .ahead) (lit≤ tt)))
 
 -- what each test says
-across : (s : tie.Start) (b : Bool) → b ≡ holdsZero (minus (multiple (bits (s .args .d .depth)) (s .args .room .across))
+across : (s : tie.Start) (b : Bool) → b ≡ holdsZero (difference (multiple (bits (s .args .d .depth)) (s .args .room .across))
     (multiple (bits (s .args .d .across)) (s .args .room .depth))) → b ≡ holdsZero (seen s .across)
 across s b h =
     side-plain (s .args .room .across) (s .args .room .depth) h (read (s .pre .1 .heading .depth)) (read (s .pre .1 .heading .across))
 
-up : (s : tie.Start) (b : Bool) → b ≡ holdsZero (minus (multiple (bits (s .args .d .depth)) (s .args .room .up))
+up : (s : tie.Start) (b : Bool) → b ≡ holdsZero (difference (multiple (bits (s .args .d .depth)) (s .args .room .up))
     (multiple (bits (s .args .d .up)) (s .args .room .depth))) → b ≡ holdsZero (seen s .up)
 up s b h = side-plain (s .args .room .up) (s .args .room .depth) h (read (s .pre .1 .heading .depth)) (read (s .pre .1 .heading .up))
 

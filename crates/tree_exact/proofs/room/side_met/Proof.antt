@@ -4,7 +4,7 @@ use mir.Syntax.{w64}
 use mir.ValLaws.{toZ-ofZ}
 use Rattle.wide_integers.proofs.Reading.{bits}
 use Rattle.tree_exact.specs.Room.{multiple}
-use Rattle.tree_exact.proofs.RoomSteps.{sized-read, multiple-is, multiple-small, minus-small, side-is}
+use Rattle.tree_exact.proofs.RoomSteps.{sized-read, multiple-is, multiple-small, difference-small, side-is}
 use Rattle.tree_exact.proofs.room.side_met.Statement.{statement}
 use Rattle.tree_exact.proofs.room.side_met.Tie as tie
 
@@ -21,8 +21,8 @@ multiple-requires c κs = let s : tie.Start = search in (s .pre .0 .0, sized-rea
 multiple-requires-2 : tie.Need-multiple-requires-2
 multiple-requires-2 c κs = let s : tie.Start = search in (s .pre .0 .1, sized-read (aside s) (s .pre .1 .1))
 
-minus-requires : tie.Need-minus-requires
-minus-requires c κs =
+difference-requires : tie.Need-difference-requires
+difference-requires c κs =
     let (s, k) : tie.Start × tie.After-multiple = search in
     let h = s .pre in
     let v = s .args in (
@@ -35,14 +35,15 @@ holds-zero-requires c κs =
     let (s, k, l) : tie.Start × tie.After-multiple × tie.After-multiple2 = search in
     let h = s .pre in
     let v = s .args in
-    minus-small _ _ (c .minus .ensures) (multiple-small (v .side) (v .onward) (k .multiple .ensures) (onward s) (h .0 .0) (h .1 .0))
+    difference-small _ _ (c .difference .ensures) (multiple-small (v .side) (v .onward) (k .multiple .ensures) (onward s) (h .0 .0)
+    (h .1 .0))
     (multiple-small (v .depth) (v .aside) (l .multiple2 .ensures) (aside s) (h .0 .1) (h .1 .1))
 
 returns : tie.Need-returns
 returns c =
-    let (s, k, l, m) : tie.Start × tie.After-multiple × tie.After-multiple2 × tie.After-minus = search in
+    let (s, k, l, m) : tie.Start × tie.After-multiple × tie.After-multiple2 × tie.After-difference = search in
     let v = s .args in
-    side-is _ _ _ (v .side) (v .depth) (v .onward) (v .aside) (c .holds-zero .ensures) (m .minus .ensures)
+    side-is _ _ _ (v .side) (v .depth) (v .onward) (v .aside) (c .holds-zero .ensures) (m .difference .ensures)
     (multiple-is (v .side) (v .onward) (k .multiple .ensures) (onward s))
     (multiple-is (v .depth) (v .aside) (l .multiple2 .ensures) (aside s))
 
@@ -52,6 +53,6 @@ side-met-spec =
     (tie.spec
     multiple-requires
     multiple-requires-2
-    minus-requires
+    difference-requires
     holds-zero-requires
     returns)

@@ -7,7 +7,7 @@ use mir.Syntax.{w64}
 use mir.ValLaws.{toZ-ofZ}
 use Rattle.wide_integers.specs.Determinant.{determinant}
 use Rattle.wide_integers.proofs.Reading.{bits, product-size, difference-size}
-use Rattle.wide_integers.specs.Value.{Held}
+use Rattle.wide_integers.specs.Value.{FitsWide}
 use Rattle.wide_integers.proofs.OperationLaws.{held, word-size}
 use Rattle.wide_integers.proofs.number.determinant.Statement.{statement}
 use Rattle.wide_integers.proofs.number.determinant.Tie as tie
@@ -22,7 +22,7 @@ told s e f =
     let d = toZ-ofZ w64 (s .args .d) (s .fits .d) in
     (λ i. e i -ℤ f i) ∙ (λ i. a i *ℤ d i -ℤ b i *ℤ c i)
 
-small : (s : tie.Start) → Held (determinant (s .args .a) (s .args .b) (s .args .c) (s .args .d))
+small : (s : tie.Start) → FitsWide (determinant (s .args .a) (s .args .b) (s .args .c) (s .args .d))
 small s =
     held (difference-size (product-size (word-size (s .fits .a)) (word-size (s .fits .d)))
     (product-size (word-size (s .fits .b)) (word-size (s .fits .c)))) (lit< tt)
@@ -30,7 +30,7 @@ small s =
 difference-requires : tie.Need-difference-requires
 difference-requires c κs =
     let (s, x, y) : tie.Start × tie.After-product × tie.After-product2 = search in
-    subst Held (sym (told s (x .product .ensures) (y .product2 .ensures))) (small s)
+    subst FitsWide (sym (told s (x .product .ensures) (y .product2 .ensures))) (small s)
 
 returns : tie.Need-returns
 returns c =

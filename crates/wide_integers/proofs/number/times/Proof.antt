@@ -27,36 +27,39 @@ low-word k = omega arith
 sub-below : tie.Need-sub-below
 sub-below c = let s : tie.Start = search in middling-most (s .args .a) (middle-word c) (low-word c) (s .pre)
 
-mul-minus : tie.Need-mul-minus
-mul-minus c =
-    let (y, k) : tie.After-parted × tie.After-struct-known = search in
-    record { fits = flag-word (y .parted .ensures .below) (low-word k) }
+mul-subtract : tie.Need-mul-subtract
+mul-subtract c =
+    let (y, k) : tie.After-split-sign × tie.After-struct-known = search in
+    record { fits = flag-word (y .split-sign .ensures .below) (low-word k) }
 
 add-wrapping-add-u64 : tie.Need-add-wrapping-add-u64
 add-wrapping-add-u64 c =
-    let o : tie.After-plus = search in
-    omega (arith, o .plus .ensures .over)
+    let o : tie.After-add-carry = search in
+    omega (arith, o .add-carry .ensures .over)
 
 mul-wrapping-sub-u64 : tie.Need-mul-wrapping-sub-u64
 mul-wrapping-sub-u64 c =
-    let (y, k) : tie.After-parted × tie.After-struct-known = search in
-    record { fits = flag-word (y .parted .ensures .below) (middle-word k) }
+    let (y, k) : tie.After-split-sign × tie.After-struct-known = search in
+    record { fits = flag-word (y .split-sign .ensures .below) (middle-word k) }
 
 mul-wrapping-sub-u64-2 : tie.Need-mul-wrapping-sub-u64-2
 mul-wrapping-sub-u64-2 c =
-    let (s, y, k) : tie.Start × tie.After-parted × tie.After-struct-known = search in
+    let (s, y, k) : tie.Start × tie.After-split-sign × tie.After-struct-known = search in
     record {
-      fits = flag-word (middling-least (s .args .a) (middle-word k) (low-word k) (s .pre)) (y .parted .ensures .word);
+      fits = flag-word (middling-least (s .args .a) (middle-word k) (low-word k) (s .pre)) (y .split-sign .ensures .word);
     }
 
 returns : tie.Need-returns
 returns c =
-    let (s, y, k, lo, up, o, t, w, f, g) : tie.Start × tie.After-parted × tie.After-struct-known × tie.After-times × tie.After-times2
-    × tie.After-plus × tie.After-minus × tie.After-wrapping-add-u64 × tie.After-wrapping-sub-u64 × tie.After-wrapping-sub-u642 = search in
-    times-told (s .args .a) (middle-word k) (low-word k) (s .pre) (y .parted .result) (lo .times .result) (up .times2 .result)
-    (o .plus .result) (t .minus .result) (w .wrapping-add-u64 .result) (f .wrapping-sub-u64 .result) (g .wrapping-sub-u642 .result)
-    (c .wrapping-sub-u643 .result) (y .parted .ensures) (plain-fits (s .fits .k)) (omega arith) (lo .times .ensures) (up .times2 .ensures)
-    (o .plus .ensures) (t .minus .ensures) (w .wrapping-add-u64 .ensures) (f .wrapping-sub-u64 .ensures) (g .wrapping-sub-u642 .ensures)
+    let (s, y, k, lo, up, o, t, w, f, g) : tie.Start × tie.After-split-sign × tie.After-struct-known × tie.After-times × tie.After-times2
+    × tie.After-add-carry × tie.After-subtract × tie.After-wrapping-add-u64 × tie.After-wrapping-sub-u64
+    × tie.After-wrapping-sub-u642 = search in
+    times-told (s .args .a) (middle-word k) (low-word k) (s .pre) (y .split-sign .result) (lo .times .result) (up .times2 .result)
+    (o .add-carry .result) (t .subtract .result) (w .wrapping-add-u64 .result) (f .wrapping-sub-u64 .result) (g .wrapping-sub-u642 .result)
+    (c .wrapping-sub-u643 .result) (y .split-sign .ensures) (plain-fits (s .fits .k)) (omega arith) (lo .times .ensures)
+    (up .times2 .ensures)
+    (o .add-carry .ensures) (t .subtract .ensures) (w .wrapping-add-u64 .ensures) (f .wrapping-sub-u64 .ensures)
+    (g .wrapping-sub-u642 .ensures)
     (c .wrapping-sub-u643 .ensures)
     ∙ ap (λ (x : ℤ). value (s .args .a) *ℤ x) (bits-back (s .fits .k))
 
@@ -64,13 +67,13 @@ pub times-spec : {M : Type 1} → statement M
 times-spec =
     tie.close
     (tie.spec
-    (search needs)  -- parted-requires
+    (search needs)  -- split-sign-requires
     sub-below
     (search needs)  -- times-requires
     (search needs)  -- times-requires-2
-    (search needs)  -- plus-requires
-    mul-minus
-    (search needs)  -- minus-requires
+    (search needs)  -- add-carry-requires
+    mul-subtract
+    (search needs)  -- subtract-requires
     add-wrapping-add-u64
     (search needs)  -- wrapping-add-u64-requires
     (search needs)  -- wrapping-sub-u64-requires

@@ -3,7 +3,7 @@ use mathlib.Core.Path.{sym, ap, _∙_, subst}
 use lib.Dec.{lit<}
 use lib.IntN.{ℤ, _+ℤ_}
 use Rattle.wide_integers.proofs.Reading.{sum-size}
-use Rattle.wide_integers.specs.Value.{value, Held}
+use Rattle.wide_integers.specs.Value.{value, FitsWide}
 use Rattle.wide_integers.proofs.OperationLaws.{held}
 use Rattle.wide_integers.proofs.number.total.Statement.{statement}
 use Rattle.wide_integers.proofs.number.total.Tie as tie
@@ -14,7 +14,7 @@ sum-requires c κs = let s : tie.Start = search in held (sum-size (s .pre .0) (s
 sum-requires-2 : tie.Need-sum-requires-2
 sum-requires-2 c κs =
     let s : tie.Start = search in
-    subst (λ (x : ℤ). Held (x +ℤ value (s .args .c))) (sym (c .sum .ensures))
+    subst (λ (x : ℤ). FitsWide (x +ℤ value (s .args .c))) (sym (c .sum .ensures))
     (held (sum-size (sum-size (s .pre .0) (s .pre .1 .0)) (s .pre .1 .1)) (lit< tt))
 
 returns : tie.Need-returns

@@ -8,7 +8,7 @@ use mir.Val.{SFits}
 use mir.ValLaws.{toZ-ofZ}
 use Rattle.wide_integers.specs.Sizes.{Sized}
 use Rattle.wide_integers.proofs.Reading.{bits, product-size, sum-size}
-use Rattle.wide_integers.specs.Value.{value, half, Held, Middling, Weight}
+use Rattle.wide_integers.specs.Value.{value, half, FitsWide, Middling, Weight}
 use Rattle.wide_integers.proofs.OperationLaws.{held, middling, word-size}
 use Rattle.wide_integers.proofs.number.weighted.Statement.{statement}
 use Rattle.wide_integers.proofs.number.weighted.Tie as tie
@@ -44,7 +44,7 @@ pair-is k =
 sum-requires : tie.Need-sum-requires
 sum-requires c κs =
     let s : tie.Start = search in
-    subst Held (sym (pair-is c))
+    subst FitsWide (sym (pair-is c))
     (held (sum-size (product-held (s .pre .0) (s .fits .x)) (product-held (s .pre .1 .0) (s .fits .y))) (lit< tt))
 
 times-requires-3 : tie.Need-times-requires-3
@@ -68,7 +68,7 @@ all-is k =
 sum-requires-2 : tie.Need-sum-requires-2
 sum-requires-2 c κs =
     let s : tie.Start = search in
-    subst Held (sym (all-is c))
+    subst FitsWide (sym (all-is c))
     (held (sum-size (sum-size (product-held (s .pre .0) (s .fits .x)) (product-held (s .pre .1 .0) (s .fits .y)))
     (product-held (s .pre .1 .1) (s .fits .z))) (lit< tt))
 

@@ -1,4 +1,4 @@
--- `wide_integers::record_bytes::times` meets its contract. Assumes nothing.
+-- `wide_integers::words::times` meets its contract. Assumes nothing.
 use mathlib.Core.Path.{refl}
 use Prim.Native.Nat.{_*_, _/_, _%_, _≤_}
 use native.Mathlib.Omega.{arith}
