@@ -82,4 +82,7 @@ expect 1 "0 passed, 1 failed" "rt breaks"
 fresh
 sed -i 's/echo "7 passed, 0 failed"/:/' "$work/repository/bin/rt"
 expect 1 "0 passed, 1 failed" "rt gives no verdict"
+fresh
+sed -i 's/^esac/  staticlib) exit 1 ;;\nesac/' "$work/repository/bin/rt"
+expect 1 "0 passed, 1 failed" "the library is not written"
 echo "gate: $ran tests passed"
