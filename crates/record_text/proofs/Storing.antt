@@ -1,5 +1,5 @@
 -- Texts stored one behind another are one text. Assumes nothing.
-use Prim.Native.Nat.{ℕ, suc, _+_, _-_, _/_, _%_, _<_, _≤_}
+use Prim.Native.Nat.{ℕ, _+_, _-_, _/_, _%_, _<_, _≤_}
 use mathlib.Core.Path.{_≡_, sym, ap, _∙_}
 use mathlib.Core.List.{List, [], _∷_, _++_}
 use native.Mathlib.Nat.{add-zero}
@@ -7,12 +7,9 @@ use native.Mathlib.Omega.{arith}
 use native.Mathlib.Numerals.{add-one}
 use lib.ListN.{length, set, getD, take, length-append}
 use lib.Seq.{sets, length-sets, length-take-le, take-suc, take-all}
+use Rattle.lists.proofs.Runs.{sets-append}
 use Rattle.record_text.specs.Text.{glyph, digits, Put}
 use Rattle.record_text.proofs.Places.{digits-next}
-
-pub sets-append : (l : List ℕ) (i : ℕ) (xs ys : List ℕ) → sets l i (xs ++ ys) ≡ sets (sets l i xs) (i + length xs) ys
-sets-append l i [] ys = rw add-zero
-sets-append l i (x ∷ xs) ys = let e : i + suc (length xs) ≡ suc i + length xs = omega arith in rw e (sets-append (set l i x) (suc i) xs ys)
 
 -- one text behind another
 pub put-then : {area after last : List ℕ} {at next end : ℕ} (xs ys : List ℕ) → Put area at xs after next → Put after next ys last end → Put
