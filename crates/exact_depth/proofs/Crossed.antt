@@ -48,7 +48,7 @@ module _ (near far : ℤ) (a b c : Projected) (α β γ : ℤ)
     mixed : (x y z : ℤ) → mix (pp α) (pp β) (pp γ) x y z ≡ α *ℤ x +ℤ β *ℤ y +ℤ γ *ℤ z
     mixed x y z = λ s. sym (whole-of α A) s *ℤ x +ℤ sym (whole-of β B) s *ℤ y +ℤ sym (whole-of γ C) s *ℤ z
 
-    own-meets : Meets a b c W T
+    pub own-meets : Meets a b c W T
     own-meets = record {
       i = pp α;
       j = pp β;

@@ -9,3 +9,6 @@ pub mod FirstPoints
 pub mod Standing
 pub mod Laws
 pub mod OneSided
+pub mod Terms
+pub mod LimbLaws
+pub mod IncidenceLaws

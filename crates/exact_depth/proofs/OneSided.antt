@@ -44,7 +44,7 @@ no-mean i j k x y z some (below h g f) e =
 
 -- ---- so no point of the line lies in the triangle
 module _ (near far : ℤ) (a b c : Projected) where
-  unmet : ((D : ℕ) (t : ℤ) → On near far a b c D t → ⊥) → Miss ≡ firstPoint a b c near far
+  pub unmet : ((D : ℕ) (t : ℤ) → On near far a b c D t → ⊥) → Miss ≡ firstPoint a b c near far
   unmet h = go (firstPoint a b c near far) refl
     where
       go : (d : Depth) → firstPoint a b c near far ≡ d → Miss ≡ d

@@ -4,3 +4,5 @@ pub mod Meeting
 pub mod Answer
 pub mod Sizes
 pub mod Sides
+pub mod Orientation
+pub mod Incidence

@@ -1,6 +1,5 @@
 use crate::coplanar_point;
 use crate::projection::Projected;
-use crate::sides;
 use crate::wide_depth;
 use crate::wide_depth::Found;
 use crate::wide_depth::WideDepth;
@@ -65,8 +64,8 @@ fn by_weights(
     coplanar_point::coplanar(a, b, c, near, far)
 }
 
-// The first depth by the corners' turns about the line.
-fn by_determinants(a: Projected, b: Projected, c: Projected, near: i64, far: i64) -> Found
+// The first depth from near to far at which the line is in the triangle, its sides and corners included.
+pub fn first_point(a: Projected, b: Projected, c: Projected, near: i64, far: i64) -> Found
     requires { ⌜ Close a × (Close b × Close c) ⌝ }
     ensures { λ r. ⌜ Finds r (firstPoint a b c near far) ⌝ }
 {
@@ -74,19 +73,4 @@ fn by_determinants(a: Projected, b: Projected, c: Projected, near: i64, far: i64
     let beta = number::determinant(c.across, c.up, a.across, a.up);
     let gamma = number::determinant(a.across, a.up, b.across, b.up);
     by_weights(a, b, c, alpha, beta, gamma, near, far)
-}
-
-// The first depth from near to far at which the line is in the triangle, its sides and corners included. Most triangles lie on one side of
-// the line and are told by that alone.
-pub fn first_point(a: Projected, b: Projected, c: Projected, near: i64, far: i64) -> Found
-    requires { ⌜ Close a × (Close b × Close c) ⌝ }
-    ensures { λ r. ⌜ Finds r (firstPoint a b c near far) ⌝ }
-{
-    if sides::one_side(a.across, b.across, c.across) {
-        return Found::Miss;
-    }
-    if sides::one_side(a.up, b.up, c.up) {
-        return Found::Miss;
-    }
-    by_determinants(a, b, c, near, far)
 }

@@ -11,5 +11,9 @@ pub mod wide_depth;
 mod coplanar_point;
 // Corners on one side of the line.
 mod sides;
+// The sign of a determinant.
+mod orientation;
+// Where a line passes a triangle, by signs alone.
+pub mod incidence;
 // The public call.
 pub mod depth;

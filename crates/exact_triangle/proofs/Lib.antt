@@ -12,8 +12,13 @@ pub mod Directions
 pub mod ClosestLaws
 pub mod RoundedReadings
 pub mod Laws
+pub mod UnitLaws
 pub mod Ratios
-pub mod Quotients
+pub mod Signs
+pub mod EndLaws
+pub mod CrossingLaws
+pub mod AxisPlaneLaws
+pub mod SmallQuotients
 pub mod Normals
 pub mod Certainty
 pub mod Hits

@@ -8,7 +8,6 @@ use lib.IntN.{ℤ, pos, negsuc, _+ℤ_, _-ℤ_, _*ℤ_}
 use lib.Signed.{ltZ}
 use lib.Ieee.{binary64}
 use lib.Ieee.Scale.{round-same}
-use Rattle.exact_depth.specs.declared.projection.Fraction.{Fraction}
 use Rattle.wide_integers.specs.Determinant.{determinant}
 use Rattle.exact_depth.specs.Meeting.{mix}
 use Rattle.wide_integers.proofs.Polynomials.{ring, diff-minus, diff-add, diff-left, diff-right, diff-zero, diff-equal}
@@ -17,9 +16,9 @@ use Rattle.wide_integers.proofs.Order.{rep-same}
 use Rattle.exact_depth.specs.declared.projection.Point.{Point}
 use Rattle.wide_integers.specs.Division.{fractionOf}
 use Rattle.exact_triangle.specs.Line.{parts, Line}
-use Rattle.exact_triangle.specs.Surface.{Lies, FirstSurface}
+use Rattle.exact_triangle.specs.Surface.{Lies}
 use Rattle.exact_triangle.specs.Shear.{from}
-use Rattle.exact_triangle.proofs.Shears.{cancel-left, edge-from}
+use Rattle.exact_triangle.proofs.Shears.{edge-from}
 use Rattle.exact_triangle.specs.Normal.{crossOf, dotOf}
 
 -- ---- a cross is square to its factors
@@ -82,7 +81,7 @@ module _ (o a b c : Point) where
       ∙ square-second (b .x -ℤ a .x) (b .y -ℤ a .y) (b .z -ℤ a .z) (c .x -ℤ a .x) (c .y -ℤ a .y) (c .z -ℤ a .z))
 
 -- ---- so the line's point at t / D has it too
-lies-ratio : (l : Line) (a b c : Point) (D : ℕ) (t : ℤ) → Lies l a b c D t
+pub lies-ratio : (l : Line) (a b c : Point) (D : ℕ) (t : ℤ) → Lies l a b c D t
     → t *ℤ dotOf (crossOf a b c) (l .direction) ≡ pos parts *ℤ (pos D *ℤ dotOf (crossOf a b c) (from (l .origin) a))
 lies-ratio l a b c D t h =
     let m = crossOf a b c in
@@ -105,26 +104,6 @@ lies-ratio l a b c D t h =
 
     gather : (S x y z p q r : ℤ) → x *ℤ (S *ℤ p) +ℤ y *ℤ (S *ℤ q) +ℤ z *ℤ (S *ℤ r) ≡ S *ℤ (x *ℤ p +ℤ y *ℤ q +ℤ z *ℤ r)
     gather S x y z p q r = simp ring
-
-pub first-ratio : (l : Line) (a b c : Point) (f : Fraction) → FirstSurface l a b c f
-    → f .t *ℤ dotOf (crossOf a b c) (l .direction) ≡ pos parts *ℤ dotOf (crossOf a b c) (from (l .origin) a) *ℤ f .w
-first-ratio l a b c f h =
-    let F = dotOf (crossOf a b c) (l .direction) in
-    let E = dotOf (crossOf a b c) (from (l .origin) a) in
-    let r = lies-ratio l a b c (h .D) (h .t) (h .on .lies) in
-    cancel-left (h .D) (f .t *ℤ F) (pos parts *ℤ E *ℤ f .w) (h .on .positive)
-    (swap (pos (h .D)) (f .t) F ∙ ap (λ (z : ℤ). z *ℤ F) (sym (h .same)) ∙ determinant-round (h .t) (pos (h .W)) F
-    ∙ ap (λ (z : ℤ). z *ℤ pos (h .W)) r ∙ last (pos parts) (pos (h .D)) E (pos (h .W))
-    ∙ ap (λ (z : ℤ). pos (h .D) *ℤ (pos parts *ℤ E *ℤ z)) (sym (h .denominator)))
-  where
-    swap : (D t F : ℤ) → D *ℤ (t *ℤ F) ≡ t *ℤ D *ℤ F
-    swap D t F = simp ring
-
-    determinant-round : (t W F : ℤ) → t *ℤ W *ℤ F ≡ t *ℤ F *ℤ W
-    determinant-round t W F = simp ring
-
-    last : (S D E W : ℤ) → S *ℤ (D *ℤ E) *ℤ W ≡ D *ℤ (S *ℤ E *ℤ W)
-    last S D E W = simp ring
 
 -- ---- equal fractions have one float
 pub fraction-same : (t w t' w' : ℤ) → ltZ (pos 0) w ≡ true → ltZ (pos 0) w' ≡ true → t *ℤ w' ≡ t' *ℤ w → fractionOf t w ≡ fractionOf t' w'

@@ -54,14 +54,14 @@ ahead-is (pos n) = refl
 ahead-is (negsuc n) = refl
 
 -- ---- as faced: the line's point at t / D lies in the triangle
-record LiesFaced (d p q r : Projected) (D : ℕ) (t : ℤ) : Type 0 where
-  i : ℕ
-  j : ℕ
-  k : ℕ
-  total : i + j + k ≡ D
-  across : pos parts *ℤ mix i j k (p .across) (q .across) (r .across) ≡ t *ℤ d .across
-  up : pos parts *ℤ mix i j k (p .up) (q .up) (r .up) ≡ t *ℤ d .up
-  depth : pos parts *ℤ mix i j k (p .depth) (q .depth) (r .depth) ≡ t *ℤ d .depth
+pub record LiesFaced (d p q r : Projected) (D : ℕ) (t : ℤ) : Type 0 where
+  pub i : ℕ
+  pub j : ℕ
+  pub k : ℕ
+  pub total : i + j + k ≡ D
+  pub across : pos parts *ℤ mix i j k (p .across) (q .across) (r .across) ≡ t *ℤ d .across
+  pub up : pos parts *ℤ mix i j k (p .up) (q .up) (r .up) ≡ t *ℤ d .up
+  pub depth : pos parts *ℤ mix i j k (p .depth) (q .depth) (r .depth) ≡ t *ℤ d .depth
 
 module _ (l : Line) (a b c : Point) (D : ℕ) (t : ℤ) where
   abbrev at : Main → Point → Projected
@@ -72,7 +72,7 @@ module _ (l : Line) (a b c : Point) (D : ℕ) (t : ℤ) where
   faced alongY s = record { i = s .i; j = s .j; k = s .k; total = s .total; across = s .z; up = s .x; depth = s .y }
   faced alongZ s = record { i = s .i; j = s .j; k = s .k; total = s .total; across = s .x; up = s .y; depth = s .z }
 
-  unfaced : (m : Main) → LiesFaced (facing m (l .direction)) (at m a) (at m b) (at m c) D t → Lies l a b c D t
+  pub unfaced : (m : Main) → LiesFaced (facing m (l .direction)) (at m a) (at m b) (at m c) D t → Lies l a b c D t
   unfaced alongX s = record { i = s .i; j = s .j; k = s .k; total = s .total; x = s .depth; y = s .across; z = s .up }
   unfaced alongY s = record { i = s .i; j = s .j; k = s .k; total = s .total; x = s .up; y = s .depth; z = s .across }
   unfaced alongZ s = record { i = s .i; j = s .j; k = s .k; total = s .total; x = s .across; y = s .up; z = s .depth }
@@ -137,7 +137,7 @@ module _ (d p q r : Projected) where
             ∙ depth-is parts (lit< tt) m m t (d .depth) (d .depth) (s .depth) (s .depth) K G (ahead-is (d .depth));
       }
 
-  back : (D : ℕ) (t : ℤ) → Meets (sheared d p) (sheared d q) (sheared d r) D t → LiesFaced d p q r (D * G) t
+  pub back : (D : ℕ) (t : ℤ) → Meets (sheared d p) (sheared d q) (sheared d r) D t → LiesFaced d p q r (D * G) t
   back D t s =
       let a = A (s .i) (s .j) (s .k) in
       let u = U (s .i) (s .j) (s .k) in

@@ -10,3 +10,4 @@ pub mod Reach
 pub mod Normal
 pub mod Cast
 pub mod Certain
+pub mod CrossingDistance

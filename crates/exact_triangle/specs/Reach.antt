@@ -1,5 +1,4 @@
 -- The distance along a ray at which a triangle is reached, on the grid. Definitions only. Assumes nothing.
-use Prim.Native.Nat.{ℕ}
 use mathlib.Core.Path.{_≡_}
 use mathlib.Core.Bool.{Bool, true, false, _&&_, cond}
 use mathlib.Core.List.{List}
@@ -13,10 +12,7 @@ use Rattle.casts.specs.declared.answer.Reach.the-variants.{At, Miss, Refused}
 use Rattle.exact_depth.specs.declared.projection.Depth.{Depth}
 use Rattle.exact_depth.specs.declared.projection.Depth.the-variants.{At as Met, Miss as Unmet}
 use Rattle.exact_depth.specs.declared.projection.Point.{Point}
-use lib.Ieee.{Float}
-use Rattle.wide_integers.specs.Value.{value}
 use Rattle.wide_integers.specs.Division.{fractionOf}
-use Rattle.exact_depth.specs.declared.wide_depth.WideDepth.{WideDepth}
 use Rattle.exact_triangle.specs.Line.{Line}
 use Rattle.exact_triangle.specs.Grid.{units, allWithin, furthest, gridAdmitted, gridPoint, gridLine}
 use Rattle.exact_triangle.specs.Shear.{depthOf}
@@ -44,10 +40,6 @@ ReadOnGrid vs Off = cornersRead vs ≡ false
 abbrev pub reachAt : Depth → Reach
 reachAt (Met f) = At (fractionOf (f .t) (f .w *ℤ pos units))
 reachAt Unmet = Miss
-
--- the same of a depth of the code
-abbrev pub millimetres : WideDepth → ℕ → Float
-millimetres d g = fractionOf (value (d .t)) (value (d .w) *ℤ pos g *ℤ pos units)
 
 unfoldable pub cornersReach : Line → List Vec3 → Reach
 cornersReach l vs =

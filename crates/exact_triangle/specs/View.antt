@@ -11,6 +11,7 @@ use Rattle.exact_depth.specs.declared.projection.Depth.{Depth}
 use Rattle.exact_depth.specs.FirstPoint.{firstPoint}
 use Rattle.wide_integers.specs.Sizes.{Sized}
 use Rattle.exact_triangle.specs.Line.{Line}
+use Rattle.exact_triangle.specs.Box.{inMillimetres}
 use Rattle.exact_triangle.specs.Grid.{units, nearestTo, gridAdmitted, gridLine}
 use Rattle.exact_triangle.specs.Shear.{Main, alongX, alongY, alongZ, mainOf}
 use Rattle.exact_triangle.specs.Shear.{ahead as aheadOf, heading as headingOf, gain as gainOf, projectedOf}
@@ -53,6 +54,8 @@ pub record Sees (v : View) (l : Line) : Type 0 where
   pub gain : v .gain ≡ pos (gainOf l)
   pub near : v .near ≡ pos (l .near * gainOf l)
   pub far : v .far ≡ pos (l .far * gainOf l)
+  pub start : v .start ≡ inMillimetres (pos (l .near))
+  pub finish : v .finish ≡ inMillimetres (pos (l .far))
 
 -- what the line's own first depth in a triangle is
 abbrev pub firstDepth : Line → Point → Point → Point → Depth

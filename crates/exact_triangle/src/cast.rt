@@ -1,3 +1,5 @@
+use crate::crossing;
+use crate::crossing::CrossingDistance;
 use crate::grid;
 use crate::normal;
 use crate::seen;
@@ -8,6 +10,7 @@ use casts::answer;
 use casts::answer::Cast;
 use casts::answer::Reach;
 use casts::surface;
+use exact_depth::incidence::Incidence;
 use exact_depth::projection::Point;
 use exact_depth::wide_depth::Found;
 use exact_depth::wide_depth::WideDepth;
@@ -24,14 +27,12 @@ ghost use Rattle.casts.specs.Answer.{says};
 ghost use Rattle.wide_integers.specs.Value.{value, Middling};
 ghost use Rattle.wide_integers.specs.Division.{fractionOf};
 ghost use Rattle.wide_integers.specs.Sizes.{Sized};
-ghost use Rattle.exact_depth.specs.declared.projection.Depth.the-variants.{At as Met};
-ghost use Rattle.exact_depth.specs.Answer.{wideDepthOf};
 ghost use Rattle.exact_triangle.specs.Line.{Line};
-ghost use Rattle.exact_triangle.specs.Shear.{gain, inUnits, depthOf};
+ghost use Rattle.exact_triangle.specs.Shear.{gain, depthOf};
 ghost use Rattle.exact_triangle.specs.Grid.{gridLine};
 ghost use Rattle.exact_triangle.specs.Sizes.{Near};
 ghost use Rattle.exact_triangle.specs.View.{Sees, ViewSized};
-ghost use Rattle.exact_triangle.specs.Reach.{cornersRead, ReadOnGrid, millimetres, cornersReach, gridReach};
+ghost use Rattle.exact_triangle.specs.Reach.{cornersRead, ReadOnGrid, reachAt, cornersReach, gridReach};
 ghost use Rattle.exact_triangle.specs.Cast.{gridNormal, gridHit, gridTriangle};
 
 // The three corners on the grid.
@@ -76,24 +77,46 @@ fn distance(at: WideDepth, gain: i64) -> f64
     guess::nearest(t, number::times(w, gain * 32768))
 }
 
-// The same by a smaller fraction, 2^15 n · (a - o) / n · d with n the cross of the edges, where the line crosses the triangle's plane.
-fn distance_on(line: View, a: Point, b: Point, c: Point, at: WideDepth) -> f64
-    requires { ⌜ (ViewSized line × (Near a × (Near b × Near c))) × Middling (value (at .w)) ⌝ }
-    ensures { λ r. ⌜ ((l : Line) → Sees line l → depthOf l a b c ≡ inUnits (gain l) (Met (wideDepthOf at)) → r ≡ millimetres at
-        (gain l)) ⌝ }
+// What the corners are reached at, by numbers of 192 bits.
+fn wide_reach(line: View, a: Point, b: Point, c: Point) -> Reach
+    requires { ⌜ ViewSized line × (Near a × (Near b × Near c)) ⌝ }
+    ensures { λ r. ⌜ ((l : Line) → Sees line l → r ≡ reachAt (depthOf l a b c)) ⌝ }
 {
-    let n = normal::cross_of(a, b, c);
-    let direction = line.direction;
-    let origin = line.origin;
-    let under = normal::dot(n, direction);
-    let over = normal::dot(n, seen::from(origin, a));
-    if number::is_positive(under) {
-        return guess::nearest(number::times(over, 32768), under);
+    let depth = seen::depth_of(line, a, b, c);
+    let Found::At(at) = depth else {
+        return Reach::Miss;
+    };
+    Reach::At(distance(at, line.gain))
+}
+
+// What the corners are reached at.
+fn points_reach(line: View, a: Point, b: Point, c: Point) -> Reach
+    requires { ⌜ ViewSized line × (Near a × (Near b × Near c)) ⌝ }
+    ensures { λ r. ⌜ ((l : Line) → Sees line l → r ≡ reachAt (depthOf l a b c)) ⌝ }
+{
+    let incidence = seen::incidence_at(line, a, b, c);
+    match incidence {
+        Incidence::Outside => {
+            return Reach::Miss;
+        }
+        Incidence::Crossing => {
+            let crossed = crossing::crossing_distance(line, a, b, c);
+            match crossed {
+                CrossingDistance::At(x) => {
+                    return Reach::At(x);
+                }
+                CrossingDistance::Miss => {
+                    return Reach::Miss;
+                }
+                CrossingDistance::Undecided => {
+                    return wide_reach(line, a, b, c);
+                }
+            }
+        }
+        Incidence::Coplanar => {
+            return wide_reach(line, a, b, c);
+        }
     }
-    if number::is_negative(under) {
-        return guess::nearest(number::times(over, -32768), number::negate(under));
-    }
-    distance(at, line.gain)
 }
 
 // What a ray on the line reaches the corners at: the same for every ray on it.
@@ -105,11 +128,7 @@ pub fn reach_on(line: View, corners: [Vec3; 3]) -> Reach
     let GridCorners::At { a, b, c } = placed else {
         return Reach::Refused(answer::OUT_OF_RANGE);
     };
-    let depth = seen::depth_of(line, a, b, c);
-    let Found::At(at) = depth else {
-        return Reach::Miss;
-    };
-    Reach::At(distance_on(line, a, b, c, at))
+    points_reach(line, a, b, c)
 }
 
 // What a ray reaches the corners at, without the normal.

@@ -8,5 +8,9 @@ pub mod view;
 mod seen;
 // The cross of a triangle's edges.
 pub mod normal;
+// The distance of a triangle in a plane at right angles to an axis.
+mod axis_plane;
+// The distance of a triangle that the line crosses.
+mod crossing;
 // The cast.
 pub mod cast;

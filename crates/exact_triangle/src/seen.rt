@@ -1,11 +1,14 @@
 use crate::view;
 use crate::view::View;
 use exact_depth::depth;
+use exact_depth::incidence;
+use exact_depth::incidence::Incidence;
 use exact_depth::projection::Point;
 use exact_depth::projection::Projected;
 use exact_depth::wide_depth::Found;
 ghost use mathlib.Core.Path.{_≡_};
 ghost use Rattle.exact_depth.specs.Answer.{answerOf, Narrow};
+ghost use Rattle.exact_depth.specs.Incidence.{Incident};
 ghost use Rattle.exact_triangle.specs.Line.{Line};
 ghost use Rattle.exact_triangle.specs.Shear.{from, projectedOf};
 ghost use Rattle.exact_triangle.specs.Sizes.{Near, Apart, CornerSized, HeadingSized, ProjectedSize};
@@ -44,6 +47,17 @@ fn projected_of(line: View, p: Point) -> Projected
     let origin = line.origin;
     let heading = line.heading;
     sheared(heading, line.ahead, view::facing(axis, from(origin, p)))
+}
+
+// Where the line passes the triangle.
+pub fn incidence_at(line: View, a: Point, b: Point, c: Point) -> Incidence
+    requires { ⌜ ViewSized line × (Near a × (Near b × Near c)) ⌝ }
+    ensures { λ r. ⌜ ((l : Line) → Sees line l → Incident (projectedOf l a) (projectedOf l b) (projectedOf l c) r) ⌝ }
+{
+    let first = projected_of(line, a);
+    let second = projected_of(line, b);
+    let third = projected_of(line, c);
+    incidence::incidence_of(first, second, third)
 }
 
 // The first depth of the line in the triangle.

@@ -9,8 +9,12 @@ ghost use lib.Signed.{leZ};
 ghost use Rattle.wide_integers.specs.Sizes.{Sized};
 ghost use Rattle.exact_triangle.specs.Shear.{mainOf, facing, ahead};
 ghost use Rattle.exact_triangle.specs.Grid.{units, nearestTo, within, longest, gridAdmitted};
+ghost use Rattle.exact_triangle.specs.Box.{inMillimetres};
 ghost use Rattle.exact_triangle.specs.Sizes.{Near, DirectionSized};
 ghost use Rattle.exact_triangle.specs.View.{mainAs, lineFrom, Sees, ViewSized, Viewed};
+
+// A unit of the grid in millimetres.
+const UNIT: f64 = 0.000030517578125;
 
 // The axis that the depth is measured along.
 pub enum Axis {
@@ -20,7 +24,7 @@ pub enum Axis {
 }
 
 // A line on the grid: its origin, its direction, that with the depth last and 2^30 with the sign of that, how much depth there is to a
-// unit along it, and the depths of its ends.
+// unit along it, and the depths of its ends, and their distances in millimetres.
 pub struct View {
     pub axis: Axis,
     pub origin: Point,
@@ -30,6 +34,8 @@ pub struct View {
     pub gain: i64,
     pub near: i64,
     pub far: i64,
+    pub start: f64,
+    pub finish: f64,
 }
 
 pub enum GridView {
@@ -138,6 +144,14 @@ pub fn depth_at(x: f64, gain: i64) -> i64
     size(grid::distance(x)) * gain
 }
 
+// An end of the line in millimetres: its distance on the grid.
+fn end_at(x: f64) -> f64
+    requires { ⌜ within longest x ≡ true ⌝ }
+    ensures { λ r. ⌜ r ≡ inMillimetres (pos (natAbs (nearestTo units x))) ⌝ }
+{
+    size(grid::distance(x)) as f64 * UNIT
+}
+
 // The line with a direction.
 fn looking(origin: Point, direction: Point, near: f64, far: f64) -> View
     requires { ⌜ (Near origin × DirectionSized direction) × ((within longest near ≡ true) × (within longest far ≡ true)) ⌝ }
@@ -155,6 +169,8 @@ fn looking(origin: Point, direction: Point, near: f64, far: f64) -> View
         gain,
         near: depth_at(near, gain),
         far: depth_at(far, gain),
+        start: end_at(near),
+        finish: end_at(far),
     }
 }
 

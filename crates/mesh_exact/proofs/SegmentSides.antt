@@ -1,47 +1,21 @@
 -- The code's sides of the segment's box are the definition's: the floors of the ends, one unit wider, in millimetres. Assumes nothing.
 use mathlib.Core.Path.{_≡_, refl, sym, ap, _∙_, subst}
 use mathlib.Core.Bool.{Bool, true, false, cond}
-use Prim.Native.Nat.{ℕ, suc, _*_, _≤_}
-use native.Mathlib.Nat.{le-trans, mul-one}
-use lib.Dec.{lit≤, lit<}
-use lib.IntN.{ℤ, pos, negsuc, natAbs, _+ℤ_, _-ℤ_, _*ℤ_}
+use Prim.Native.Nat.{ℕ, _*_, _≤_}
+use lib.Dec.{lit≤}
+use lib.IntN.{ℤ, pos, _+ℤ_, _-ℤ_, _*ℤ_}
 use lib.Signed.{leZ, shrZ}
-use lib.Ieee.{Float, fin, binary64, round, mul, ofInt, ofBits}
-use lib.Ieee.Back.{round-whole}
-use lib.Ieee.Exact.{HasValue}
+use lib.Ieee.{Float}
 use mir.Syntax.{w64}
 use mir.Val.{SFits}
-use Rattle.arithmetic.proofs.ValueOrder.{mul-values}
 use Rattle.wide_integers.specs.Sizes.{Sized}
 use Rattle.wide_integers.proofs.Reading.{bits, plain, widen, product-size, sum-size, difference-size, sub-fits, sub-read, add-fits}
 use Rattle.wide_integers.proofs.Reading.{add-read, sized-bits}
 use Rattle.wide_integers.proofs.Polynomials.{times-comm}
 use Rattle.exact_triangle.specs.Line.{parts}
-use Rattle.exact_triangle.specs.Box.{inMillimetres, lesser, greater}
+use Rattle.exact_triangle.specs.Box.{lesser, greater}
 use Rattle.exact_triangle.proofs.Sides.{floor-size-at}
 use Rattle.exact_triangle.proofs.Laws.{fixed-once, times-read}
-
--- ---- millimetres
-abbrev unitᶠ : Float
-unitᶠ = ofBits binary64 0x3f00_0000_0000_0000
-
-unit-is : unitᶠ ≡ fin false 1 (negsuc 14)
-unfolding ofBits
-unit-is = refl
-
-unit-value : HasValue unitᶠ false 1 32768
-unit-value = subst (λ (x : Float). HasValue x false 1 32768) (sym unit-is) (refl, refl)
-
-pub in-millimetres : (z : ℤ) → natAbs z ≤ 4294967298 → mul binary64 (ofInt binary64 z) unitᶠ ≡ inMillimetres z
-unfolding ofInt
-in-millimetres (pos n) l =
-    mul-values (round binary64 false n 1) unitᶠ false false n 1 1 32768 (lit< tt) (lit< tt)
-    (round-whole binary64 false n (le-trans l (lit≤ tt))) unit-value
-    ∙ ap (λ (k : ℕ). round binary64 false k 32768) (mul-one n)
-in-millimetres (negsuc n) l =
-    mul-values (round binary64 true (suc n) 1) unitᶠ true false (suc n) 1 1 32768 (lit< tt) (lit< tt)
-    (round-whole binary64 true (suc n) (le-trans l (lit≤ tt))) unit-value
-    ∙ ap (λ (k : ℕ). round binary64 true k 32768) (mul-one (suc n))
 
 -- ---- the floor of an end
 module _ {o d s : ℤ} (ho : Sized 268435456 o) (hd : Sized 2147483648 d) (hs : Sized 1073741824 s) where

@@ -25,7 +25,7 @@ fn in_millimetres(z: i64) -> f64
     requires { ⌜ Sized 4294967298 z ⌝ }
     ensures { λ r. ⌜ r ≡ inMillimetres z ⌝ }
 {
-    std::num::nearest_i64_to_f64(z) * UNIT
+    z as f64 * UNIT
 }
 
 // One coordinate of the segment's point at s units, rounded down.

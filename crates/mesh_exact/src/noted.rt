@@ -64,7 +64,10 @@ fn looked_at(
     if !within {
         return true;
     }
-    boxes::triangle_touches(coded, codes, bounds, vertices, triangles, index)
+    if coded {
+        return boxes::codes_touch(codes, bounds, vertices, triangles, index);
+    }
+    boxes::triangle_touches(false, codes, bounds, vertices, triangles, index)
 }
 
 // The winner of all triangles in one pass, without its normal. An index past the vertices ends it with 5, whatever was found before it.

@@ -13,6 +13,8 @@ use Rattle.geometry.specs.declared.aabb.Aabb.{Aabb}
 use Rattle.geometry.specs.declared.ray.Ray.{Ray}
 use Rattle.casts.specs.Reach.{reachOf}
 use Rattle.casts.specs.declared.answer.Reach.{Reach}
+use Rattle.casts.specs.declared.answer.Reach.the-variants.{Miss}
+use Rattle.tree_exact.specs.Culling.{Culled}
 use Rattle.nearest_hit.specs.Summary.{Summary, nothing, noteOf, saysNearestSoFar}
 use Rattle.nearest_hit.specs.declared.summary.NearestSoFar.{NearestSoFar}
 use Rattle.tree.specs.Layout.{Tree, wordAt, boxAt, firstAt, secondAt}
@@ -33,21 +35,21 @@ use Rattle.tree_exact.specs.Opening.{limitOf, boxMet, opensNode}
 use Rattle.tree_exact.specs.Order.{takenFirst, leftFirst}
 use Rattle.mesh_exact.specs.GridCast.{exactAnswer}
 use Rattle.exact_triangle.specs.Box.{certainBox}
-use Rattle.mesh_exact.specs.Noted.{Casts, Bounded}
+use Rattle.mesh_exact.specs.Noted.{Bounded}
 use Rattle.tree_exact.specs.ExactMesh.{exactThrough}
 use Rattle.tree_exact.specs.Walking.{Limited, Stands, Tests, NearestSoFarLeaf, Reads, OpensNode, TakesNode, Walks}
 use Rattle.tree_exact.specs.declared.walk.Best.{Best}
 use Rattle.tree_exact.specs.declared.walk.Noted.{Noted}
 use Rattle.tree_exact.specs.declared.walk.Noted.the-variants.{NearestSoFar as Found, Bad as BadPlace}
 use Rattle.tree_exact.specs.declared.walk.Step.{Step}
-use Rattle.tree_exact.specs.declared.walk.Step.the-variants.{Next, Bad}
+use Rattle.tree_exact.specs.declared.walk.Step.the-variants.{NothingFound, Next, Bad}
 use Rattle.tree_exact.specs.declared.walk.Walked.the-variants.{Ended, Broken}
 
 -- ---- the places of a leaf
-module _ (line : View) (pose : List Float) (triangles order : List ℕ) (start end : ℕ) (notes : NearestSoFar) where
+module _ (line : View) (hull : Aabb) (pose : List Float) (triangles order : List ℕ) (start end : ℕ) (notes : NearestSoFar) where
   -- what is left of the places gives the whole leaf
   pub record LeafSoFar (found : NearestSoFar) (place : ℕ) : Type 0 where
-    pub holds : (r : Ray) → Casts r line → (t : Tree) → t .order ≡ order → (k : ℕ) (stack : List ℕ)
+    pub holds : (r : Ray) → Bounded r line hull → (t : Tree) → t .order ≡ order → (k : ℕ) (stack : List ℕ)
         → Stands r pose triangles t k (range start (end - start)) stack (saysNearestSoFar notes)
         → Stands r pose triangles t k (range place (end - place)) stack (saysNearestSoFar found)
 
@@ -59,7 +61,7 @@ module _ (line : View) (pose : List Float) (triangles order : List ℕ) (start e
       at : (t : Tree) → t .order ≡ order → x ≡ wordAt (t .order) place
       at t o = is ∙ ap (λ (l : List ℕ). wordAt l place) (sym o)
 
-      pub leaf-bad : thirds (length triangles) ≤ x → NearestSoFarLeaf line pose triangles order start end notes BadPlace
+      pub leaf-bad : thirds (length triangles) ≤ x → NearestSoFarLeaf line hull pose triangles order start end notes BadPlace
       unfolding exactThrough
       leaf-bad h = record {
         holds = λ r on t o k stack s.
@@ -68,7 +70,7 @@ module _ (line : View) (pose : List Float) (triangles order : List ℕ) (start e
       }
 
       pub leaf-goes : x < thirds (length triangles) → (reach : Reach)
-          → ((r : Ray) → Casts r line → reach ≡ reachOf (exactAnswer r pose triangles x))
+          → ((r : Ray) → Bounded r line hull → reach ≡ reachOf (exactAnswer r pose triangles x))
           → (after : NearestSoFar) → saysNearestSoFar after ≡ noteOf (saysNearestSoFar found) x reach → LeafSoFar after (place + 1)
       leaf-goes h reach reached after e = record {
         holds = λ r on t o k stack s.
@@ -78,14 +80,19 @@ module _ (line : View) (pose : List Float) (triangles order : List ℕ) (start e
             k stack (saysNearestSoFar found) place end (far .holds r on t o k stack s) more x (at t o) h);
       }
 
-    pub leaf-ends : end ≤ place → NearestSoFarLeaf line pose triangles order start end notes (Found found)
+      -- one that is culled
+      pub leaf-culls : x < thirds (length triangles) → Culled hull pose triangles x → LeafSoFar found (place + 1)
+      unfolding noteOf
+      leaf-culls h out = leaf-goes h Miss (λ r on. out .missed r line on) found refl
+
+    pub leaf-ends : end ≤ place → NearestSoFarLeaf line hull pose triangles order start end notes (Found found)
     leaf-ends h = record {
       holds = λ r on t o k stack s.
           places-done t (thirds (length triangles)) (exactAnswer r pose triangles) (opensNode (gridLine r) t) (leftFirst (gridLine r) t) k
           stack (saysNearestSoFar found) place end (far .holds r on t o k stack s) h;
     }
 
-module _ (line : View) (pose : List Float) (triangles : List ℕ) (nodes : ℕ) (boxes : List Float) (words order : List ℕ) where
+module _ (line : View) (hull : Aabb) (pose : List Float) (triangles : List ℕ) (nodes : ℕ) (boxes : List Float) (words order : List ℕ) where
   abbrev n : ℕ
   n = thirds (length triangles)
 
@@ -99,13 +106,13 @@ module _ (line : View) (pose : List Float) (triangles : List ℕ) (nodes : ℕ) 
       pub leaf-within : n ≤ length order → end ≤ length order
       leaf-within h = le-trans (opened .stands) h
 
-      pub opens-leaf : (result : Noted) → NearestSoFarLeaf line pose triangles order start end (best .notes) result
+      pub opens-leaf : (result : Noted) → NearestSoFarLeaf line hull pose triangles order start end (best .notes) result
           → (notes : NearestSoFar) → result ≡ Found notes → (after : Best) → after .notes ≡ notes → Limited line after
-          → OpensNode line pose triangles nodes boxes words order area node top best (Next top after) area
+          → OpensNode line hull pose triangles nodes boxes words order area node top best (Next top after) area
       opens-leaf result noted notes f after g limited = record {
         holds = λ r on t reads k o tests.
             subst (λ (z : NearestSoFar). Stands r pose triangles t k [] (onStack area top) (saysNearestSoFar z)) (sym g)
-            (subst (NearestSoFarLeaf line pose triangles order start end (best .notes)) f noted .holds r on t (reads .ordered) k
+            (subst (NearestSoFarLeaf line hull pose triangles order start end (best .notes)) f noted .holds r on t (reads .ordered) k
             (onStack area top)
             (record {
               whole = node-opens t n (exactAnswer r pose triangles) (opensNode (gridLine r) t) (leftFirst (gridLine r) t) k node
@@ -115,11 +122,11 @@ module _ (line : View) (pose : List Float) (triangles : List ℕ) (nodes : ℕ) 
         stands = (omega arith, limited);
       }
 
-      pub opens-leaf-bad : (result : Noted) → NearestSoFarLeaf line pose triangles order start end (best .notes) result → result ≡ BadPlace
-          → OpensNode line pose triangles nodes boxes words order area node top best Bad area
+      pub opens-leaf-bad : (result : Noted) → NearestSoFarLeaf line hull pose triangles order start end (best .notes) result
+          → result ≡ BadPlace → OpensNode line hull pose triangles nodes boxes words order area node top best Bad area
       opens-leaf-bad result noted f = record {
         holds = λ r on t reads k o tests.
-            subst (NearestSoFarLeaf line pose triangles order start end (best .notes)) f noted .holds r on t (reads .ordered) k
+            subst (NearestSoFarLeaf line hull pose triangles order start end (best .notes)) f noted .holds r on t (reads .ordered) k
             (onStack area top)
             (record {
               whole = node-opens t n (exactAnswer r pose triangles) (opensNode (gridLine r) t) (leftFirst (gridLine r) t) k node
@@ -135,13 +142,13 @@ module _ (line : View) (pose : List Float) (triangles : List ℕ) (nodes : ℕ) 
       branched = subst (Opens n words node) e is
 
       -- the order that the code found is the tree's
-      order-is : (r : Ray) → Casts r line → (t : Tree) → Reads t nodes boxes words order → b ≡ leftFirst (gridLine r) t node
+      order-is : (r : Ray) → Bounded r line hull → (t : Tree) → Reads t nodes boxes words order → b ≡ leftFirst (gridLine r) t node
       unfolding leftFirst
       order-is r on t reads =
           let l = gridLine r in
           let x = branched .stands .0 ∙ ap (λ (w : List ℕ). firstAt w node) (sym (reads .worded)) in
           let y = branched .stands .1 ∙ ap (λ (w : List ℕ). secondAt w node) (sym (reads .worded)) in
-          first l (on .shown .sees) ∙ (λ i. takenFirst l (sym (reads .counted) i) (sym (reads .boxed) i) (x i) (y i))
+          first l (on .casts .shown .sees) ∙ (λ i. takenFirst l (sym (reads .counted) i) (sym (reads .boxed) i) (x i) (y i))
 
       stack-is : (area' : List ℕ) → onStack area' (top + 2)
           ≡ cond b (firstAt words node ∷ (secondAt words node ∷ onStack area top))
@@ -156,8 +163,8 @@ module _ (line : View) (pose : List Float) (triangles : List ℕ) (nodes : ℕ) 
       pub opens-branch : (area' : List ℕ) → onStack area' (top + 2)
           ≡ cond b (firstAt words node ∷ (secondAt words node ∷ onStack area top))
           (secondAt words node ∷ (firstAt words node ∷ onStack area top))
-          → Limited line best → OpensNode line pose triangles nodes boxes words order area node top best (Next (top + 2) best) area'
-      opens-branch area' p limited = record {
+          → OpensNode line hull pose triangles nodes boxes words order area node top best (NothingFound (top + 2)) area'
+      opens-branch area' p = record {
         holds = λ r on t reads k o tests.
             let lf = leftFirst (gridLine r) t in
             let opens = opensNode (gridLine r) t in
@@ -169,11 +176,11 @@ module _ (line : View) (pose : List Float) (triangles : List ℕ) (nodes : ℕ) 
                   ∙ node-opens t n answer opens lf k node (onStack area top) s tests o words (reads .worded) (Branch left right) branched;
               reached = tests .reached;
             };
-        stands = (omega arith, limited);
+        stands = omega arith;
       }
 
     pub opens-bad : (read : Node) → Opens n words node read → read ≡ BadNode
-        → OpensNode line pose triangles nodes boxes words order area node top best Bad area
+        → OpensNode line hull pose triangles nodes boxes words order area node top best Bad area
     unfolding exactThrough
     opens-bad read opened e = record {
       holds = λ r on t reads k o tests.
@@ -227,19 +234,19 @@ module _ (line : View) (hull : Aabb) (pose : List Float) (triangles : List ℕ) 
           (onStack area (top - 1)) (saysNearestSoFar (best .notes)) (moved r t k (saysNearestSoFar (best .notes)) stands)
           (subst (λ (c : ℕ). node < c) (sym (reads .counted)) below)
 
-      pub takes-past : met ≡ false → TakesNode line hull pose triangles nodes boxes words order area top best (Next (top - 1) best) area
+      pub takes-past : met ≡ false → TakesNode line hull pose triangles nodes boxes words order area top best (NothingFound (top - 1)) area
       takes-past e = record {
         holds = λ r on t reads k stands.
             node-passes t count (exactAnswer r pose triangles) (opensNode (gridLine r) t) (leftFirst (gridLine r) t) k node
             (onStack area (top - 1)) (saysNearestSoFar (best .notes)) (testing r t reads k stands) (sym (tested r on t reads) ∙ e);
-        stands = (omega arith, limited);
+        stands = omega arith;
       }
 
       pub takes-open : met ≡ true → {result : Step} {area' : List ℕ}
-          → OpensNode line pose triangles nodes boxes words order area node (top - 1) best result area'
+          → OpensNode line hull pose triangles nodes boxes words order area node (top - 1) best result area'
           → TakesNode line hull pose triangles nodes boxes words order area top best result area'
       takes-open e o = record {
-        holds = λ r on t reads k stands. o .holds r (on .casts) t reads k (sym (tested r on t reads) ∙ e) (testing r t reads k stands);
+        holds = λ r on t reads k stands. o .holds r on t reads k (sym (tested r on t reads) ∙ e) (testing r t reads k stands);
         stands = o .stands;
       }
 
@@ -331,6 +338,18 @@ module _ (line : View) (hull : Aabb) (pose : List Float) (triangles : List ℕ) 
             subst (λ (w : Step). TakesNode line hull pose triangles nodes boxes words order area top best w area') e taken .holds r on t
             reads (left - 1) (next r on t reads);
       }
+
+      pub walk-finds-nothing : (area' : List ℕ) (result : Step)
+          → TakesNode line hull pose triangles nodes boxes words order area top best result area'
+          → (top' : ℕ) → result ≡ NothingFound top' → length area' ≡ length area → WalkSoFar area₀ area' top' (left - 1) best
+      walk-finds-nothing area' result taken top' e same =
+          let known = subst (λ (w : Step). TakesNode line hull pose triangles nodes boxes words order area top best w area') e taken in
+          record {
+            long = same ∙ far .long;
+            room = omega (arith, known .stands, far .room, same, more, some);
+            limited = far .limited;
+            holds = λ r on t reads. known .holds r on t reads (left - 1) (next r on t reads);
+          }
 
       pub walk-goes : (area' : List ℕ) (result : Step)
           → TakesNode line hull pose triangles nodes boxes words order area top best result area'

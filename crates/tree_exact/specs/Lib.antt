@@ -9,3 +9,4 @@ pub mod Demand
 pub mod Numbers
 pub mod ExactMesh
 pub mod Walking
+pub mod Culling

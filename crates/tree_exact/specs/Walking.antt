@@ -26,13 +26,13 @@ use Rattle.tree_exact.specs.Onward.{Reached, Standing, Testing}
 use Rattle.tree_exact.specs.Opening.{limitOf, opensNode}
 use Rattle.tree_exact.specs.Order.{leftFirst}
 use Rattle.mesh_exact.specs.GridCast.{exactAnswer}
-use Rattle.mesh_exact.specs.Noted.{Casts, Bounded}
+use Rattle.mesh_exact.specs.Noted.{Bounded}
 use Rattle.tree_exact.specs.ExactMesh.{exactThrough}
 use Rattle.tree_exact.specs.declared.walk.Best.{Best}
 use Rattle.tree_exact.specs.declared.walk.Noted.{Noted}
 use Rattle.tree_exact.specs.declared.walk.Noted.the-variants.{NearestSoFar as Found, Bad as BadPlace}
 use Rattle.tree_exact.specs.declared.walk.Step.{Step}
-use Rattle.tree_exact.specs.declared.walk.Step.the-variants.{Next, Bad}
+use Rattle.tree_exact.specs.declared.walk.Step.the-variants.{NothingFound, Next, Bad}
 use Rattle.tree_exact.specs.declared.walk.Walked.{Walked}
 use Rattle.tree_exact.specs.declared.walk.Walked.the-variants.{Ended, Broken}
 
@@ -58,10 +58,11 @@ module _ (r : Ray) (pose : List Float) (triangles : List ℕ) (t : Tree) where
   NotedBy k stack (Found notes) = Stands k [] stack (saysNearestSoFar notes)
   NotedBy k stack BadPlace = Refuses
 
-  -- after a node
-  abbrev pub SteppedBy : ℕ → List ℕ → Step → Type 0
-  SteppedBy k area (Next top best) = Stands k [] (onStack area top) (saysNearestSoFar (best .notes))
-  SteppedBy k area Bad = Refuses
+  -- after a node, with what was found before it
+  abbrev pub SteppedBy : ℕ → List ℕ → NearestSoFar → Step → Type 0
+  SteppedBy k area notes (NothingFound top) = Stands k [] (onStack area top) (saysNearestSoFar notes)
+  SteppedBy k area notes (Next top best) = Stands k [] (onStack area top) (saysNearestSoFar (best .notes))
+  SteppedBy k area notes Bad = Refuses
 
   -- after the walk
   abbrev pub WalkedBy : Walked → Type 0
@@ -72,10 +73,10 @@ module _ (r : Ray) (pose : List Float) (triangles : List ℕ) (t : Tree) where
   WalkedBy Broken = Refuses
 
 -- the places of a leaf, for every ray on the line and every tree of that order
-pub record NearestSoFarLeaf (line : View) (pose : List Float) (triangles order : List ℕ) (start end : ℕ) (notes : NearestSoFar)
-    (result : Noted) : Type 0
+pub record NearestSoFarLeaf (line : View) (reach : Aabb) (pose : List Float) (triangles order : List ℕ) (start end : ℕ)
+    (notes : NearestSoFar) (result : Noted) : Type 0
   where
-    pub holds : (r : Ray) → Casts r line → (t : Tree) → t .order ≡ order → (k : ℕ) (stack : List ℕ)
+    pub holds : (r : Ray) → Bounded r line reach → (t : Tree) → t .order ≡ order → (k : ℕ) (stack : List ℕ)
         → Stands r pose triangles t k (range start (end - start)) stack (saysNearestSoFar notes) → NotedBy r pose triangles t k stack result
 
 -- the areas of a tree that the walk reads
@@ -93,15 +94,17 @@ pub record WalkRoom (n nodes : ℕ) (boxes : List Float) (words order : List ℕ
 
 -- where the walk stands after a node
 abbrev pub StepIn : View → ℕ → Step → Type 0
+StepIn line top (NothingFound top') = top' ≤ top + 2
 StepIn line top (Next top' best) = (top' ≤ top + 2) × Limited line best
 StepIn line top Bad = Unit
 
 -- a node whose box is met
-pub record OpensNode (line : View) (pose : List Float) (triangles : List ℕ) (nodes : ℕ) (boxes : List Float) (words order area : List ℕ)
-    (node top : ℕ) (best : Best) (result : Step) (area' : List ℕ) : Type 0 where
-  pub holds : (r : Ray) → Casts r line → (t : Tree) → Reads t nodes boxes words order → (k : ℕ)
+pub record OpensNode (line : View) (reach : Aabb) (pose : List Float) (triangles : List ℕ) (nodes : ℕ) (boxes : List Float)
+    (words order area : List ℕ) (node top : ℕ) (best : Best) (result : Step) (area' : List ℕ) : Type 0 where
+  pub holds : (r : Ray) → Bounded r line reach → (t : Tree) → Reads t nodes boxes words order → (k : ℕ)
       → opensNode (gridLine r) t node (saysNearestSoFar (best .notes)) ≡ true
-      → Tests r pose triangles t k node (onStack area top) (saysNearestSoFar (best .notes)) → SteppedBy r pose triangles t k area' result
+      → Tests r pose triangles t k node (onStack area top) (saysNearestSoFar (best .notes))
+      → SteppedBy r pose triangles t k area' (best .notes) result
   pub stands : StepIn line top result
 
 -- the next node of the stack
@@ -109,7 +112,7 @@ pub record TakesNode (line : View) (reach : Aabb) (pose : List Float) (triangles
     (words order area : List ℕ) (top : ℕ) (best : Best) (result : Step) (area' : List ℕ) : Type 0 where
   pub holds : (r : Ray) → Bounded r line reach → (t : Tree) → Reads t nodes boxes words order → (k : ℕ)
       → Stands r pose triangles t (suc k) [] (onStack area top) (saysNearestSoFar (best .notes)) → SteppedBy r pose triangles t k area'
-      result
+      (best .notes) result
   pub stands : StepIn line (top - 1) result
 
 -- the whole walk

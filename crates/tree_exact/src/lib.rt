@@ -9,6 +9,8 @@ mod room;
 mod boxes;
 // Which child of a branch is taken first.
 mod order;
+// Whether a triangle's box is apart from the segment's.
+mod apart;
 // The walk.
 pub mod walk;
 // The public call.

@@ -1,3 +1,4 @@
+use crate::apart;
 use crate::boxes;
 use crate::node as nodes_read;
 use crate::node::Node;
@@ -15,6 +16,7 @@ use nearest_hit::summary::NearestSoFar;
 use tree::layout;
 use tree::mesh as triangle_mesh;
 ghost use mathlib.Core.Path.{_≡_};
+ghost use mathlib.Core.Bool.{true};
 ghost use Prim.Native.Nat.{_+_, _*_, _<_, _≤_};
 ghost use lib.IntN.{pos};
 ghost use lib.ListN.{length};
@@ -29,6 +31,7 @@ ghost use Rattle.exact_triangle.specs.View.{Sees, ViewSized};
 ghost use Rattle.tree_exact.specs.Opening.{limitOf};
 ghost use Rattle.mesh_exact.specs.GridCast.{exactAnswer};
 ghost use Rattle.mesh_exact.specs.Noted.{Casts};
+ghost use Rattle.tree_exact.specs.Culling.{Culled};
 ghost use Rattle.tree_exact.specs.Walking.{Limited, NearestSoFarLeaf, WalkRoom, OpensNode, TakesNode, Walks};
 
 // What was found so far, and the depth from which on nothing can take its place.
@@ -43,8 +46,9 @@ pub enum Noted {
     Bad,
 }
 
-// How many nodes stand on the stack after a node, and what was found; or a 5.
+// How many nodes stand on the stack after a node, and what was found so far if the node was a leaf; or a 5.
 pub enum Step {
+    NothingFound(usize),
     Next { top: usize, best: Best },
     Bad,
 }
@@ -81,6 +85,17 @@ fn best_of(line: View, notes: NearestSoFar) -> Best
     }
 }
 
+// Whether a triangle is culled: it is in range and its box is apart from the segment's, reach. What a yes means is the clause.
+fn is_culled(reach: Aabb, pose: &[f64], triangles: &[u32], index: usize) -> bool
+    requires { ⌜ 3 * index + 3 ≤ length (now triangles) ⌝ }
+    ensures { λ r. ⌜ (r ≡ true → Culled reach (now (pose .entry)) (now (triangles .entry)) index) ⌝ }
+{
+    if !triangle_mesh::corners_inside(pose.len() / 3, triangles, index) {
+        return false;
+    }
+    apart::lies_apart(triangle_mesh::corners_of(pose, triangles, index), reach)
+}
+
 // The answer of one triangle without its normal: an index past the vertices is 5.
 fn reach_at(line: View, pose: &[f64], triangles: &[u32], index: usize) -> Reach
     requires { ⌜ ViewSized line × (3 * index + 3 ≤ length (now triangles)) ⌝ }
@@ -96,6 +111,7 @@ fn reach_at(line: View, pose: &[f64], triangles: &[u32], index: usize) -> Reach
 // The triangles of a leaf.
 fn note_leaf(
     line: View,
+    reach: Aabb,
     pose: &[f64],
     triangles: &[u32],
     order: &[u32],
@@ -104,7 +120,7 @@ fn note_leaf(
     notes: NearestSoFar,
 ) -> Noted
     requires { ⌜ ViewSized line × (end ≤ length (now order)) ⌝ }
-    ensures { λ r. ⌜ NearestSoFarLeaf line (now (pose .entry)) (now (triangles .entry)) (now (order .entry)) start end notes r ⌝ }
+    ensures { λ r. ⌜ NearestSoFarLeaf line reach (now (pose .entry)) (now (triangles .entry)) (now (order .entry)) start end notes r ⌝ }
 {
     let count = triangles.len() / 3;
     let mut found = notes;
@@ -114,9 +130,13 @@ fn note_leaf(
         if index as usize >= count {
             return Noted::Bad;
         }
-        let reach = reach_at(line, pose, triangles, index as usize);
-        found = summary::note(found, index, reach);
-        place += 1;
+        if is_culled(reach, pose, triangles, index as usize) {
+            place += 1;
+        } else {
+            let reached = reach_at(line, pose, triangles, index as usize);
+            found = summary::note(found, index, reached);
+            place += 1;
+        }
     }
     Noted::NearestSoFar(found)
 }
@@ -124,6 +144,7 @@ fn note_leaf(
 // A node whose box is met: a leaf's triangles are noted, a branch's children go on the stack.
 fn open_node(
     line: View,
+    reach: Aabb,
     pose: &[f64],
     triangles: &[u32],
     nodes: usize,
@@ -138,14 +159,14 @@ fn open_node(
     requires { ⌜ (ViewSized line × Limited line best)
         × (WalkRoom (thirds (length (now triangles))) nodes (now «node_boxes») (now «node_words») (now order)
         × ((node < nodes) × (top + 2 ≤ length (now stack)))) ⌝ }
-    ensures { λ r. ⌜ OpensNode line (now (pose .entry)) (now (triangles .entry)) nodes (now («node_boxes» .entry))
+    ensures { λ r. ⌜ OpensNode line reach (now (pose .entry)) (now (triangles .entry)) nodes (now («node_boxes» .entry))
         (now («node_words» .entry)) (now (order .entry)) (now (stack .entry)) node top best r (now (stack .exit)) ⌝ }
 {
     let opened = nodes_read::node_at(triangles.len() / 3, node_words, node);
     match opened {
         Node::Leaf { start, end } => {
             let before = best.notes;
-            let leaf = note_leaf(line, pose, triangles, order, start, end, before);
+            let leaf = note_leaf(line, reach, pose, triangles, order, start, end, before);
             let Noted::NearestSoFar(notes) = leaf else {
                 return Step::Bad;
             };
@@ -157,10 +178,7 @@ fn open_node(
         Node::Branch { left, right } => {
             let left_first = children::taken_first(line, nodes, node_boxes, left, right);
             nodes_read::push(node_words, stack, node, top, left_first);
-            return Step::Next {
-                top: top + 2,
-                best: best,
-            };
+            return Step::NothingFound(top + 2);
         }
         Node::Bad => {
             return Step::Bad;
@@ -194,13 +212,11 @@ fn take_node(
         return Step::Bad;
     }
     if !boxes::box_met(line, reach, best.past, layout::box_at(node_boxes, node)) {
-        return Step::Next {
-            top: below,
-            best: best,
-        };
+        return Step::NothingFound(below);
     }
     open_node(
         line,
+        reach,
         pose,
         triangles,
         nodes,
@@ -256,16 +272,23 @@ pub fn find_nearest(
             top,
             best,
         );
-        let Step::Next {
-            top: higher,
-            best: nearer,
-        } = step
-        else {
-            return Walked::Broken;
-        };
-        top = higher;
-        best = nearer;
-        left -= 1;
+        match step {
+            Step::NothingFound(higher) => {
+                top = higher;
+                left -= 1;
+            }
+            Step::Next {
+                top: higher,
+                best: nearer,
+            } => {
+                top = higher;
+                best = nearer;
+                left -= 1;
+            }
+            Step::Bad => {
+                return Walked::Broken;
+            }
+        }
     }
     if top == 0 {
         let notes = best.notes;

@@ -1,48 +1,67 @@
 -- `exact_depth::depth::first_point` meets its contract. Assumes nothing.
-use Rattle.exact_depth.specs.FirstPoint.{firstPoint}
-use Rattle.wide_integers.proofs.Reading.{plain, held-fit, bits-back}
-use Rattle.exact_depth.proofs.Laws.{finds-as, missed}
-use Rattle.exact_depth.proofs.OneSided.{side-read, across-missed, up-missed}
+use mathlib.Core.Path.{_≡_, sym, subst}
+use lib.IntN.{ℤ}
+use Rattle.exact_depth.specs.declared.projection.Projected.{Projected}
+use Rattle.wide_integers.specs.Determinant.{determinant}
+use Rattle.exact_depth.specs.FirstPoint.{seenDeterminant, byWeights, firstPoint}
+use Rattle.wide_integers.proofs.Reading.{bits, fits, held-fit, bits-back}
+use Rattle.wide_integers.specs.Value.{Weight}
+use Rattle.exact_depth.specs.Sizes.{Close}
+use Rattle.exact_depth.proofs.Laws.{finds-as, determinant-back, seen-weight}
 use borrow.Author.Needs.{needs}
 use Rattle.exact_depth.proofs.depth.first_point.Statement.{statement}
 use Rattle.exact_depth.proofs.depth.first_point.Tie as tie
 
--- on one side across
+-- one determinant, and its size
+module _ {p q : Projected} (h : Close p) (g : Close q) {x : ℤ}
+    (e : x ≡ determinant (bits (p .across)) (bits (p .up)) (bits (q .across)) (bits (q .up))) where
+  read : x ≡ seenDeterminant p q
+  read =
+      determinant-back (fits (held-fit (h .across))) (fits (held-fit (h .up))) (fits (held-fit (g .across))) (fits (held-fit (g .up))) e
+
+  small : Weight x
+  small = subst Weight (sym read) (seen-weight h g)
+
+-- the three determinants
+abbrev begun : tie.After-determinant3 → tie.Start
+begun z = search
+
+abbrev first-of : tie.After-determinant3 → tie.After-determinant
+first-of z = search
+
+abbrev second-of : tie.After-determinant3 → tie.After-determinant2
+second-of z = search
+
+by-weights-requires : tie.Need-by-weights-requires
+by-weights-requires c κs =
+    let z : tie.After-determinant3 = search in
+    let h = begun z .pre in (
+      h,
+      (
+        small (h .1 .0) (h .1 .1) (first-of z .determinant .ensures),
+        (small (h .1 .1) (h .0) (second-of z .determinant2 .ensures), small (h .0) (h .1 .0) (z .determinant3 .ensures)),
+      ),
+    )
+
 returns : tie.Need-returns
+unfolding firstPoint
 returns c =
-    let (s, a) : tie.Start × tie.After-one-side = search in
+    let z : tie.After-determinant3 = search in
+    let s = begun z in
     let v = s .args in
     let h = s .pre in
-    missed (across-missed (v .near) (v .far) (v .a) (v .b) (v .c)
-    (side-read (plain (held-fit (h .0 .across))) (plain (held-fit (h .1 .0 .across))) (plain (held-fit (h .1 .1 .across)))
-    (a .one-side .ensures (c .if1 .taken))))
-
--- .. or up
-returns-2 : tie.Need-returns-2
-returns-2 c =
-    let (s, a) : tie.Start × tie.After-one-side2 = search in
-    let v = s .args in
-    let h = s .pre in
-    missed (up-missed (v .near) (v .far) (v .a) (v .b) (v .c)
-    (side-read (plain (held-fit (h .0 .up))) (plain (held-fit (h .1 .0 .up))) (plain (held-fit (h .1 .1 .up)))
-    (a .one-side2 .ensures (c .if2 .taken))))
-
-by-determinants-requires : tie.Need-by-determinants-requires
-by-determinants-requires c κs = let s : tie.Start = search in s .pre
-
-returns-3 : tie.Need-returns-3
-returns-3 c =
-    let s : tie.Start = search in
-    let v = s .args in
-    finds-as (c .by-determinants .ensures) (λ i. firstPoint (v .a) (v .b) (v .c) (bits-back (s .fits .near) i) (bits-back (s .fits .far) i))
+    finds-as (c .by-weights .ensures)
+    (λ i. byWeights (v .a) (v .b) (v .c) (read (h .1 .0) (h .1 .1) (first-of z .determinant .ensures) i)
+    (read (h .1 .1) (h .0) (second-of z .determinant2 .ensures) i) (read (h .0) (h .1 .0) (z .determinant3 .ensures) i)
+    (bits-back (s .fits .near) i)
+    (bits-back (s .fits .far) i))
 
 pub first-point-spec : {M : Type 1} → statement M
 first-point-spec =
     tie.close
     (tie.spec
-    (search needs)  -- one-side-requires
-    returns
-    (search needs)  -- one-side-requires-2
-    returns-2
-    by-determinants-requires
-    returns-3)
+    (search needs)  -- determinant-requires
+    (search needs)  -- determinant-requires-2
+    (search needs)  -- determinant-requires-3
+    by-weights-requires
+    returns)

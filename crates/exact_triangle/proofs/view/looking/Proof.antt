@@ -64,8 +64,8 @@ ahead-sized a = let s : tie.Start = search in subst (Sized 1073741824) (sym (ahe
 
 returns : tie.Need-returns
 returns c =
-    let (s, m, f, g, a, n, k) : tie.Start × tie.After-main-of × tie.After-facing × tie.After-size × tie.After-ahead
-    × tie.After-depth-at × tie.After-depth-at2 = search in (
+    let (s, m, f, g, a, n, k, e) : tie.Start × tie.After-main-of × tie.After-facing × tie.After-size × tie.After-ahead
+    × tie.After-depth-at × tie.After-depth-at2 × tie.After-end-at = search in (
       record {
         axis = m .main-of .ensures;
         origin = refl;
@@ -77,6 +77,8 @@ returns c =
             (n .depth-at .ensures .1) (lit≤ tt);
         far = told-read (k .depth-at2 .ensures .0 ∙ ap (λ (z : ℤ). pos (natAbs (nearestTo units (s .args .far))) *ℤ z) (gain-plain g))
             (k .depth-at2 .ensures .1) (lit≤ tt);
+        start = e .end-at .ensures;
+        finish = c .end-at2 .ensures;
       },
       record {
         origin = s .pre .0 .0;
@@ -98,4 +100,6 @@ looking-spec =
     (search needs)  -- ahead-requires
     depth-at-requires
     depth-at-requires-2
+    (λ c κs. let s : tie.Start = search in s .pre .1 .0)  -- end-at-requires
+    (λ c κs. let s : tie.Start = search in s .pre .1 .1)  -- end-at-requires-2
     returns)

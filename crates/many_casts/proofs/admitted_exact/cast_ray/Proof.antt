@@ -33,10 +33,15 @@ exact-through-requires c κs =
       room-of _ (tree s) (s .args .stack .now) (nodes-few _ _ _ _ (s .pre .shaped)) (s .pre .lent),
     )
 
+before : tie.After-viewed → tie.Start × tie.Else1 × tie.After-view-of
+before k = search
+
 -- past them
 returns-3 : tie.Need-returns-3
+unfolding before
 returns-3 c =
-    let (s, e, l, k, x) : tie.Start × tie.Else1 × tie.After-view-of × tie.After-viewed × tie.After-exact-through = search in
+    let (k, x) : tie.After-viewed × tie.After-exact-through = search in
+    let (s, e, l) = before k in
     exact-passed _ _ _ _ _ (test-passed (e .before .validate .ensures) (e .if1 .left))
     (on-line _ _ (l .view-of .ensures) _ (k .viewed .given .1) .admitted) (s .pre .shaped) (s .pre .lent) (s .pre .posed) _
     (x .exact-through .ensures)

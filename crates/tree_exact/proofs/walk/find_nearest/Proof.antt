@@ -3,7 +3,8 @@ use mathlib.Core.Path.{refl, _∙_}
 use native.Mathlib.Omega.{arith}
 use lib.ListN.{length-set}
 use Prim.Native.Nat.{ℕ}
-use Rattle.tree_exact.proofs.WalkSteps.{WalkSoFar, walks-empty, walk-begins, walk-ended, walk-used-up, walk-broken, walk-goes}
+use Rattle.tree_exact.proofs.WalkSteps.{WalkSoFar, walks-empty, walk-begins, walk-ended, walk-used-up, walk-broken}
+use Rattle.tree_exact.proofs.WalkSteps.{walk-finds-nothing, walk-goes}
 use borrow.Author.Needs.{needs}
 use Rattle.tree_exact.proofs.walk.find_nearest.Statement.{statement}
 use Rattle.tree_exact.proofs.walk.find_nearest.Tie as tie
@@ -80,14 +81,24 @@ returns-3 c =
     walk-broken (v .line) (v .reach) (v .pose .now) (v .triangles .now) (v .nodes) (v .node-boxes .now) (v .node-words .now) (v .order .now)
     _ _ _ _ _ (l .loop .inv) (i .loop-test .taken) (omega (arith, e .if2 .left)) _ _ (k .take-node .ensures) (z .enum-told .given .1)
 
--- the next node
+-- the next node, with nothing more found
 loop-again : tie.Need-loop-again Inv-loop μ-loop
 loop-again c =
     let (s, l, i, e, k) : Start × At × Within × tie.Else2 Inv-loop μ-loop × Taken = search in
     let n : tie.After-step Inv-loop μ-loop = search in
     let v = s .args in
+    walk-finds-nothing (v .line) (v .reach) (v .pose .now) (v .triangles .now) (v .nodes) (v .node-boxes .now) (v .node-words .now)
+    (v .order .now) _ _ _ _ _ (l .loop .inv) (i .loop-test .taken) (omega (arith, e .if2 .left)) _ _ (k .take-node .ensures) _
+    (n .step .given .1) (k .take-node .kept .1 .1 .1 .1 .1 .1 .1 .1 .0)
+
+-- .. or with more
+loop-again-2 : tie.Need-loop-again-2 Inv-loop μ-loop
+loop-again-2 c =
+    let (s, l, i, e, k) : Start × At × Within × tie.Else2 Inv-loop μ-loop × Taken = search in
+    let n : tie.After-step2 Inv-loop μ-loop = search in
+    let v = s .args in
     walk-goes (v .line) (v .reach) (v .pose .now) (v .triangles .now) (v .nodes) (v .node-boxes .now) (v .node-words .now) (v .order .now)
-    _ _ _ _ _ (l .loop .inv) (i .loop-test .taken) (omega (arith, e .if2 .left)) _ _ (k .take-node .ensures) _ _ (n .step .given .1)
+    _ _ _ _ _ (l .loop .inv) (i .loop-test .taken) (omega (arith, e .if2 .left)) _ _ (k .take-node .ensures) _ _ (n .step2 .given .1)
     (k .take-node .kept .1 .1 .1 .1 .1 .1 .1 .1 .0)
 
 same-length-3 : tie.Need-same-length-3 Inv-loop μ-loop
@@ -132,12 +143,16 @@ find-nearest-spec =
     returns-2
     take-node-requires
     (search needs)  -- enum-known-step
-    (search needs)  -- enum-told
-    same-length-2
-    returns-3
     (search needs)  -- sub-left
     (search needs)  -- loop-less
     loop-again
+    (search needs)  -- enum-known-step-2
+    (search needs)  -- sub-left-2
+    (search needs)  -- loop-less-2
+    loop-again-2
+    (search needs)  -- enum-told
+    same-length-2
+    returns-3
     same-length-3
     returns-4
     same-length-4

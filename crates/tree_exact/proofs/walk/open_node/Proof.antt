@@ -10,8 +10,9 @@ note-leaf-requires c κs =
     let (s, a, k) : tie.Start × tie.After-node-at × tie.After-opened = search in
     let v = s .args in (
       s .pre .0 .0,
-      leaf-within (v .line) (v .pose .now) (v .triangles .now) (v .nodes) (v .node-boxes .now) (v .node-words .now) (v .order .now)
-          (v .stack .now) (v .node) (v .top) (v .best) _ (a .node-at .ensures) _ _ (k .opened .given .1) (s .pre .1 .0 .ordered),
+      leaf-within (v .line) (v .reach) (v .pose .now) (v .triangles .now) (v .nodes) (v .node-boxes .now) (v .node-words .now)
+          (v .order .now) (v .stack .now) (v .node) (v .top) (v .best) _ (a .node-at .ensures) _ _ (k .opened .given .1)
+          (s .pre .1 .0 .ordered),
     )
 
 -- a place of the leaf is none
@@ -19,8 +20,8 @@ returns : tie.Need-returns
 returns c =
     let (s, a, k, l, z) : tie.Start × tie.After-node-at × tie.After-opened × tie.After-note-leaf × tie.After-enum-told = search in
     let v = s .args in
-    opens-leaf-bad (v .line) (v .pose .now) (v .triangles .now) (v .nodes) (v .node-boxes .now) (v .node-words .now) (v .order .now)
-    (v .stack .now) (v .node) (v .top) (v .best) _ (a .node-at .ensures) _ _ (k .opened .given .1) _ (l .note-leaf .ensures)
+    opens-leaf-bad (v .line) (v .reach) (v .pose .now) (v .triangles .now) (v .nodes) (v .node-boxes .now) (v .node-words .now)
+    (v .order .now) (v .stack .now) (v .node) (v .top) (v .best) _ (a .node-at .ensures) _ _ (k .opened .given .1) _ (l .note-leaf .ensures)
     (z .enum-told .given .1)
 
 -- a leaf
@@ -29,8 +30,8 @@ returns-2 c =
     let (s, a, k, l, z, b) : tie.Start × tie.After-node-at × tie.After-opened × tie.After-note-leaf × tie.After-leaf
     × tie.After-best-of = search in
     let v = s .args in
-    opens-leaf (v .line) (v .pose .now) (v .triangles .now) (v .nodes) (v .node-boxes .now) (v .node-words .now) (v .order .now)
-    (v .stack .now) (v .node) (v .top) (v .best) _ (a .node-at .ensures) _ _ (k .opened .given .1) _ (l .note-leaf .ensures)
+    opens-leaf (v .line) (v .reach) (v .pose .now) (v .triangles .now) (v .nodes) (v .node-boxes .now) (v .node-words .now)
+    (v .order .now) (v .stack .now) (v .node) (v .top) (v .best) _ (a .node-at .ensures) _ _ (k .opened .given .1) _ (l .note-leaf .ensures)
     _ (z .leaf .given .1) _ (b .best-of .ensures .0) (b .best-of .ensures .1)
 
 best-of-requires : tie.Need-best-of-requires
@@ -46,8 +47,8 @@ push-requires c κs =
     let s : tie.Start = search in
     (omega (arith, s .pre .1 .0 .worded, s .pre .1 .1 .0), s .pre .1 .1 .1)
 
-add-t27 : tie.Need-add-t27
-add-t27 c =
+add-t28 : tie.Need-add-t28
+add-t28 c =
     let s : tie.Start = search in
     omega (arith, s .pre .1 .1 .1, s .good)
 
@@ -56,17 +57,17 @@ returns-3 : tie.Need-returns-3
 returns-3 c =
     let (s, a, k, f, p) : tie.Start × tie.After-node-at × tie.After-opened2 × tie.After-taken-first × tie.After-push = search in
     let v = s .args in
-    opens-branch (v .line) (v .pose .now) (v .triangles .now) (v .nodes) (v .node-boxes .now) (v .node-words .now) (v .order .now)
-    (v .stack .now) (v .node) (v .top) (v .best) _ (a .node-at .ensures) _ _ (k .opened2 .given .1) _ (f .taken-first .ensures)
-    _ (p .push .ensures) (s .pre .0 .1)
+    opens-branch (v .line) (v .reach) (v .pose .now) (v .triangles .now) (v .nodes) (v .node-boxes .now) (v .node-words .now)
+    (v .order .now) (v .stack .now) (v .node) (v .top) (v .best) _ (a .node-at .ensures) _ _ (k .opened2 .given .1) _
+    (f .taken-first .ensures) _ (p .push .ensures)
 
 -- a node that is none
 returns-4 : tie.Need-returns-4
 returns-4 c =
     let (s, a, z) : tie.Start × tie.After-node-at × tie.After-enum-told2 = search in
     let v = s .args in
-    opens-bad (v .line) (v .pose .now) (v .triangles .now) (v .nodes) (v .node-boxes .now) (v .node-words .now) (v .order .now)
-    (v .stack .now) (v .node) (v .top) (v .best) _ (a .node-at .ensures) (z .enum-told2 .given .1)
+    opens-bad (v .line) (v .reach) (v .pose .now) (v .triangles .now) (v .nodes) (v .node-boxes .now) (v .node-words .now)
+    (v .order .now) (v .stack .now) (v .node) (v .top) (v .best) _ (a .node-at .ensures) (z .enum-told2 .given .1)
 
 pub open-node-spec : {M : Type 1} → statement M
 open-node-spec =
@@ -83,7 +84,7 @@ open-node-spec =
     (search needs)  -- enum-known-opened-2
     taken-first-requires
     push-requires
-    add-t27
+    add-t28
     (search needs)  -- same-length
     returns-3
     (search needs)  -- enum-told-2
