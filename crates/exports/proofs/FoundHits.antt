@@ -1,7 +1,7 @@
 -- What the listing's call tells says its answer back, so that the promises hold of it. Assumes nothing.
 use Prim.Native.Nat.{ℕ, _<_, _≤_}
 use mathlib.Core.Path.{_≡_, refl, sym, ap, subst, _∙_}
-use mathlib.Core.List.{List, []}
+use mathlib.Core.List.{List}
 use native.Mathlib.Omega.{arith}
 use borrow.Author.Tests.{le-leb, lt-leb, ne-eqb}
 use lib.Ieee.{Float}
@@ -43,8 +43,9 @@ module _ (r : Ray) (m : Mesh) (pose : List Float) (t : Tree) (list stack : ℕ) 
         let small = refusals-below-codes .listing r m pose t list stack area number (sym (ap (λ (z : Outcome). z .answer) is) ∙ h) in
         simp (ne-eqb number doneCode (λ same. omega arith))
 
-    pub returned-promises : KeepsPromises r m pose t list stack o
-        → KeepsPromises r m pose t list stack (record { answer = foundReturned (returned .number) (returned .count); area = o .area })
-    returned-promises p =
-        subst (λ (a : Listing). KeepsPromises r m pose t list stack (record { answer = a; area = o .area }))
+    pub returned-promises : (places : ℕ) → KeepsPromises r m pose t list stack places o
+        → KeepsPromises r m pose t list stack places
+        (record { answer = foundReturned (returned .number) (returned .count); area = o .area })
+    returned-promises places p =
+        subst (λ (a : Listing). KeepsPromises r m pose t list stack places (record { answer = a; area = o .area }))
         (sym (ap (λ (c : Counted). foundReturned (c .number) (c .count)) e ∙ returned-back (o .answer) refl)) p

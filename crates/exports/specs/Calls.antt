@@ -16,7 +16,7 @@ use Rattle.tree_build.specs.Build.{testsPass as buildTestsPass}
 use Rattle.tree_query.specs.Query.{testsPass as queryTestsPass}
 use Rattle.tree_check.specs.Verdict.{checkOf, marksAfter}
 use Rattle.mesh.specs.MeshCast.{testsPass}
-use Rattle.mesh_hits.specs.HitArea.{HitArea}
+use Rattle.mesh_hits.specs.HitArea.{HitArea, placesIn}
 use Rattle.mesh_hits.specs.Promise.{KeepsPromises}
 use Rattle.tree_exact.specs.ExactMesh.{testsPass as exactTestsPass}
 use Rattle.results.specs.Results.{ReturnedIndexed, BuildReturned, QueryReturned, resultsFit}
@@ -57,7 +57,7 @@ ListingCall r m pose t list list' stack stack' area found returned =
     (returned ≡ allReturned r m pose t (length list) (length stack) area found)
     × (((leb 1 (length found) && testsPass r m pose t (length list) (length stack)) ≡ false → (list' ≡ list) × (stack' ≡ stack))
     × (1 ≤ length found
-    → KeepsPromises r m pose t (length list) (length stack)
+    → KeepsPromises r m pose t (length list) (length stack) (placesIn area)
     (record { answer = foundReturned (returned .returned .number) (returned .returned .count); area = returned .area })))
 
 -- a listing's number, count and hit area, put together

@@ -1,9 +1,10 @@
 -- Listings through a tree that no builder of ours would write, computed, and a promise at one of them. Assumes nothing.
-use mathlib.Core.Path.{_≡_, refl, ap}
+use mathlib.Core.Path.{_≡_, refl, sym, ap, _∙_}
 use mathlib.Core.List.{List, [], _∷_}
 use native.Mathlib.Omega.{arith}
 use lib.Ieee.{Float, binary64, span, climb, size, odd, units, round, neg, sum, add, sub, mul, div, lt, eq, le, ne, isNan}
 use lib.Ieee.{ofFields, ofBits}
+use lib.ListN.{length}
 use Rattle.arithmetic.specs.Basic.{isFinite, absolute}
 use Rattle.arithmetic.specs.Extremes.{minimumOf, maximumOf}
 use Rattle.arithmetic.specs.Scaling.{unit, digitsOf, scaledBy}
@@ -30,10 +31,10 @@ use Rattle.known_answers.proofs.QueryExamples.{o, i, quarter, ten, elev
 use Rattle.mesh.specs.MeshCast.{shapeAdmitted, treeFits, roomFor, rayMesh}
 use Rattle.mesh.specs.Demand3.{Admitted}
 use Rattle.depth_sort.specs.Order.{notFarther, keyedAhead}
-use Rattle.mesh_hits.specs.HitArea.{HitArea, hitArea, Outcome, isHit, depthOf, placeOf, numbersOf, placesOf as placesHeld}
+use Rattle.mesh_hits.specs.HitArea.{HitArea, hitArea, Outcome, isHit, depthOf, placeOf, numbersOf, placesIn, placesOf as placesHeld}
 use Rattle.mesh_hits.specs.HitListing.{written, fitted, afterRefusals, listingOf}
 use Rattle.mesh_hits.specs.Listing.{overWalk, meshListing, rayMeshAll}
-use Rattle.mesh_hits.specs.Promise.{ListsHits, firstOf}
+use Rattle.mesh_hits.specs.Promise.{ListsHits, firstOf, hitsOfWalk, hitCount, hitTriangles, CountsHits}
 use Rattle.mesh_hits.proofs.Promises.{promised}
 
 -- the three triangles of that tree: one at height 0, one beside it, one at height -1 below the first
@@ -120,3 +121,32 @@ hits-found =
 -- and the mesh cast's own hit is its first row
 pub first-found : rayMesh (upward o) mesh vertices oddTree 3 4 ≡ firstOf (list o marked .area)
 first-found = promised (upward o) mesh vertices oddTree 3 4 marked .first 2 (ap firstAnswer listings-answered) (omega arith)
+
+-- two hits, as the promise counts them: with two places the answer is their count, with one it is 3
+pub hits-are-two : hitCount (upward o) mesh vertices oddTree ≡ 2
+unfolding hitsOfWalk isHit keep walkOf ended start takeNode atNode atBranch childFits atLeaf takePlaces takePlace times triangleAnswer
+    cornerAt cornersInside boxAt vectorAt sortBy insertBy range triangleOf triangleAt triangleAbove
+    triangleNormal flat facing offSegment segmentBox segmentEnd touches touchSide
+    normalizable zeroVec dotTells scaledToOne overLength tryNormalize digitsOf scaledBy unit lengthOf crossOf checkedDot dotOf
+    maxElement absOf maxOf minOf scaleOf negOf subOf addOf finiteVec component rootOf
+    rootRound wholeRoot rootDigits maximumOf minimumOf absolute isFinite ofBits ofFields isNan ne le eq lt div mul sub add sum neg
+    round units odd size climb span
+hits-are-two = refl
+
+abbrev hitCounts : HitArea → Type 0
+hitCounts area = CountsHits (hitCount (upward o) mesh vertices oddTree) (placesIn area) (list o area .answer)
+
+counts : (area : HitArea) → hitCounts area
+counts area = promised (upward o) mesh vertices oddTree 3 4 area .counts _ _ _ first-found
+
+pub two-counted : list o marked .answer ≡ countOf 2
+unfolding placesHeld
+two-counted = counts marked .counted (omega (arith, hits-are-two)) ∙ ap countOf hits-are-two
+
+pub one-place-refused : list o oneRow .answer ≡ refused 3
+unfolding placesHeld
+one-place-refused = counts oneRow .too-many (omega (arith, hits-are-two))
+
+-- and they are the triangles of the mesh that are hit
+pub hits-of-mesh : length (hitTriangles (upward o) mesh) ≡ 2
+hits-of-mesh = sym (promised (upward o) mesh vertices oddTree 3 4 marked .all-counted refl tree-admitted) ∙ hits-are-two

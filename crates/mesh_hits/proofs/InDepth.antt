@@ -99,7 +99,7 @@ module _ (answer : ℕ → Answer) (area : HitArea) (l : List ℕ) (k : ℕ) (c 
       member = subst (List·Memᴰ i) (sym (f .split)) (Memᴰ·append-right (f .before) (List·Memᴰ·head refl))
 
       p : Place i ts
-      p = placed answer area l k c i member (hit-is answer area l k c i normal distance (f .answers))
+      p = placed answer area l k c i member (hit-is (answer i) normal distance (f .answers))
 
       forth : ahead depth (wordAt ts 0) i ≡ true
       forth =

@@ -3,6 +3,7 @@ pub mod Listings
 pub mod CountedHits
 pub mod CastAmong
 pub mod InDepth
+pub mod OneList
 pub mod Promises
 pub mod RefusalNumbers
 pub mod Storing

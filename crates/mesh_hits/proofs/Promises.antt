@@ -1,7 +1,7 @@
 -- What a user finds in a listing: each hit once for a checked tree, and how it fits the mesh cast for any. Assumes nothing.
 use Prim.Native.Nat.{ℕ, _+_, _*_, _<_}
 use mathlib.Core.Path.{_≡_, refl, sym, ap, subst, _∙_}
-use mathlib.Core.Bool.{Bool, true, false, cond}
+use mathlib.Core.Bool.{Bool, true, false}
 use mathlib.Core.List.{List}
 use native.Mathlib.Omega.{arith}
 use borrow.Author.Tests.{eq-eqb}
@@ -15,31 +15,30 @@ use Rattle.vectors.specs.declared.vec3.Vec3.{Vec3}
 use Rattle.geometry.specs.declared.ray.Ray.{Ray}
 use Rattle.geometry.proofs.BoxLaws.{segment-box-valid}
 use Rattle.casts.specs.Answer.{Answer, invalidInput, badShape, noRoom, wrongPose, outOfBounds, overflow}
-use Rattle.nearest_hit.specs.Nearest.{Indexed, noHit, stopped, nearestOf}
-use Rattle.lists.proofs.Members.{Rising}
+use Rattle.nearest_hit.specs.Nearest.{Indexed, hitAt, noHit, stopped, nearestOf}
 use Rattle.nearest_hit.proofs.IndexedCases.{same-number, stopped-not-none}
 use Rattle.lists.specs.Lists.{count}
 use Rattle.tree.specs.Layout.{Tree, wordAt, numberAt, vectorAt}
 use Rattle.tree.specs.Mesh.{Mesh, thirds, triangleAnswer, candidates}
-use Rattle.lists.proofs.CountLaws.{member-of-count, count-range-inside}
+use Rattle.lists.proofs.CountLaws.{member-of-count, count-range-inside, keep-alike}
 use Rattle.tree.proofs.Corners.{answers-are-numbers}
 use Rattle.tree_walk.specs.Walk.{Walking, walking, broken, walkOf}
 use Rattle.tree_query.specs.Query.{Listing, count as countOf, refused as refusedWith}
 use Rattle.mesh.specs.MeshCast.{shapeAdmitted, roomFor, overWalk as castOverWalk, meshCast, rayMesh}
-use Rattle.mesh.specs.Demand3.{Admitted, Candidate, IsHit}
+use Rattle.mesh.specs.Demand3.{Admitted, Candidate, IsHit, answerOf}
 use Rattle.mesh.proofs.Demand3.{candidates-count, listed-candidate, passes, shape-admitted, answers-same}
 use Rattle.mesh.proofs.WalkLists.{walk-lists-candidates}
-use Rattle.mesh_hits.specs.HitArea.{HitArea, Outcome, isHit, refusedAt}
-use Rattle.mesh_hits.specs.Listing.{unchanged}
+use Rattle.mesh_hits.specs.HitArea.{HitArea, Outcome, isHit, hitsOf, placesIn}
 use Rattle.mesh_hits.specs.HitListing.{listingOf}
 use Rattle.mesh_hits.specs.Listing.{overWalk, meshListing, rayMeshAll}
 use Rattle.mesh_hits.specs.Promise.{ListsHits, FitsCast, Ascends, firstOf, KeepsPromises, Promised}
+use Rattle.mesh_hits.specs.Promise.{hitsOfWalk, hitCount, hitTriangles, CountsHits}
 use Rattle.mesh_hits.proofs.PlaceLaws.{at-counted}
-use Rattle.mesh_hits.proofs.Listings.{ended-rises}
-use Rattle.mesh_hits.proofs.CountedHits.{refused-not-count, listing-stops, listing-empty, places, Counted, counted}
+use Rattle.mesh_hits.proofs.CountedHits.{listing-stops, listing-empty, places, Counted, counted}
 use Rattle.mesh_hits.proofs.CountedHits.{listed-of-hit, all-hit, first-are, index-at, place-at, hit-at}
-use Rattle.mesh_hits.proofs.CastAmong.{fits-cast}
+use Rattle.mesh_hits.proofs.CastAmong.{hit-is, fits-cast, counts-hits}
 use Rattle.mesh_hits.proofs.InDepth.{in-order, first-is-the-cast}
+use Rattle.mesh_hits.proofs.OneList.{cast, listing, OneList, list-of-count, list-of-hit}
 
 -- ---- a checked tree
 module _ (r : Ray) (m : Mesh) (t : Tree) (list stack : ℕ) (area : HitArea) (k : ℕ) (a : Admitted r m t list stack) where
@@ -70,8 +69,7 @@ module _ (r : Ray) (m : Mesh) (t : Tree) (list stack : ℕ) (area : HitArea) (k 
 
   module _ (c : Counted answer area those k) where
     is-hit-is : (i : ℕ) (normal : Vec3) (distance : Float) → IsHit r m i normal distance → isHit (answer i) ≡ true
-    unfolding isHit
-    is-hit-is i normal distance h = ap isHit (answers-same r m t list stack a i (h .candidate) ∙ h .answers)
+    is-hit-is i normal distance h = hit-is (answer i) normal distance (answers-same r m t list stack a i (h .candidate) ∙ h .answers)
 
     hits-listed : ListsHits r m k (listingOf answer area those .area)
     hits-listed = record {
@@ -103,25 +101,20 @@ module _ (r : Ray) (m : Mesh) (t : Tree) (list stack : ℕ) (area : HitArea) (k 
       let e = listing-is in
       rw e (hits-listed (counted answer area those k (sym (ap (λ (o : Outcome). o .answer) e) ∙ h)))
 
--- ---- any tree: past the tests, one list serves the cast and the listing
+  hits-of-mesh : hitCount r m (m .vertices) t ≡ length (hitTriangles r m)
+  unfolding hitsOfWalk
+  hits-of-mesh =
+      ap (hitsOfWalk answer) (walk-lists-candidates m t (segmentBox r) (passes r m t list stack a))
+      ∙ ap length (keep-alike (λ (i : ℕ). isHit (answer i)) (λ (i : ℕ). isHit (answerOf r m i)) those
+      (λ (i : ℕ) (h : 0 < count i those).
+      ap isHit (answers-same r m t list stack a i (listed-candidate r m i (member-of-count i those h)))))
+
+-- ---- any tree
 module _ (area : HitArea) where
-  -- what the tests let pass, of the cast and of the listing
-  abbrev cast : Bool → Bool → Bool → Bool → Bool → Bool → Indexed → Indexed
-  cast b₁ b₂ b₃ b₄ b₅ b₆ z =
-      cond b₁ (cond b₂ (cond b₃ (cond b₄ (cond b₅ (cond b₆ z (stopped outOfBounds)) (stopped overflow)) (stopped wrongPose))
-      (stopped noRoom)) (stopped badShape)) (stopped invalidInput)
-
-  abbrev pub listing : Bool → Bool → Bool → Bool → Bool → Bool → Outcome → Outcome
-  listing b₁ b₂ b₃ b₄ b₅ b₆ o =
-      cond b₁
-      (cond b₂ (cond b₃ (cond b₄ (cond b₅ (cond b₆ o (refusedAt outOfBounds area)) (refusedAt overflow area))
-      (unchanged wrongPose area)) (unchanged noRoom area)) (unchanged badShape area))
-      (unchanged invalidInput area)
-
   -- where the cast is w the listing's answer is v, if it is so at every refusal and past the tests
   module _ (w : Indexed) (v : Listing) (stops : (number : ℕ) → stopped number ≡ w → refusedWith number ≡ v) where
     answers-alike : (b₁ b₂ b₃ b₄ b₅ b₆ : Bool) (z : Indexed) (o : Outcome) → (z ≡ w → o .answer ≡ v)
-        → cast b₁ b₂ b₃ b₄ b₅ b₆ z ≡ w → listing b₁ b₂ b₃ b₄ b₅ b₆ o .answer ≡ v
+        → cast b₁ b₂ b₃ b₄ b₅ b₆ z ≡ w → listing area b₁ b₂ b₃ b₄ b₅ b₆ o .answer ≡ v
     answers-alike false b₂ b₃ b₄ b₅ b₆ z o h e = stops invalidInput e
     answers-alike true false b₃ b₄ b₅ b₆ z o h e = stops badShape e
     answers-alike true true false b₄ b₅ b₆ z o h e = stops noRoom e
@@ -149,20 +142,6 @@ module _ (area : HitArea) where
           (overWalk (triangleAnswer r pose (m .triangles)) area (walkOf t (thirds (length (m .triangles))) (segmentBox r)))
           (over-walk (walkOf t (thirds (length (m .triangles))) (segmentBox r)))
 
-  record Passed (b₁ b₂ b₃ b₄ b₅ b₆ : Bool) (z : Indexed) (o : Outcome) : Type 0 where
-    cast-is : cast b₁ b₂ b₃ b₄ b₅ b₆ z ≡ z
-    listing-is : listing b₁ b₂ b₃ b₄ b₅ b₆ o ≡ o
-
-  counts-pass : (b₁ b₂ b₃ b₄ b₅ b₆ : Bool) (z : Indexed) (o : Outcome) (k : ℕ) → listing b₁ b₂ b₃ b₄ b₅ b₆ o .answer ≡ countOf k
-      → Passed b₁ b₂ b₃ b₄ b₅ b₆ z o
-  counts-pass false b₂ b₃ b₄ b₅ b₆ z o k h = absurd (refused-not-count k invalidInput h)
-  counts-pass true false b₃ b₄ b₅ b₆ z o k h = absurd (refused-not-count k badShape h)
-  counts-pass true true false b₄ b₅ b₆ z o k h = absurd (refused-not-count k noRoom h)
-  counts-pass true true true false b₅ b₆ z o k h = absurd (refused-not-count k wrongPose h)
-  counts-pass true true true true false b₆ z o k h = absurd (refused-not-count k overflow h)
-  counts-pass true true true true true false z o k h = absurd (refused-not-count k outOfBounds h)
-  counts-pass true true true true true true z o k h = record { cast-is = refl; listing-is = refl }
-
 refuses-as-the-cast : (r : Ray) (m : Mesh) (pose : List Float) (t : Tree) (list stack : ℕ) (area : HitArea) (number : ℕ)
     → rayMesh r m pose t list stack ≡ stopped number → rayMeshAll r m pose t list stack area .answer ≡ refusedWith number
 refuses-as-the-cast r m pose t list stack area number =
@@ -176,45 +155,13 @@ empty-as-the-cast r m pose t list stack area =
     (listing-empty (triangleAnswer r pose (m .triangles)) area)
 
 module _ (r : Ray) (m : Mesh) (pose : List Float) (t : Tree) (list stack : ℕ) (area : HitArea) where
-  abbrev pub answers : ℕ → Answer
+  abbrev answers : ℕ → Answer
   answers = triangleAnswer r pose (m .triangles)
-
-  abbrev walked : Walking
-  walked = walkOf t (thirds (length (m .triangles))) (segmentBox r)
-
-  pub record OneList (k : ℕ) : Type 0 where
-    pub list' : List ℕ
-    pub rises : Rising list'
-    pub cast-is : rayMesh r m pose t list stack ≡ nearestOf answers list'
-    pub listing-is : rayMeshAll r m pose t list stack area ≡ listingOf answers area list'
-
-  pub one-list : (k : ℕ) → rayMeshAll r m pose t list stack area .answer ≡ countOf k → OneList k
-  unfolding rayMesh meshCast rayMeshAll meshListing walkOf
-  one-list k h = go walked refl
-    where
-      p : Passed area (rayAdmitted r) (shapeAdmitted m pose t) (roomFor m t list stack) (eqb (length pose) (length (m .vertices)))
-          (finiteVec (segmentEnd r)) (validBox (segmentBox r))
-          (castOverWalk r pose (m .triangles) walked) (overWalk answers area walked)
-      p =
-          counts-pass area (rayAdmitted r) (shapeAdmitted m pose t) (roomFor m t list stack) (eqb (length pose) (length (m .vertices)))
-          (finiteVec (segmentEnd r)) (validBox (segmentBox r))
-          (castOverWalk r pose (m .triangles) walked) (overWalk answers area walked) k h
-
-      go : (w : Walking) → walked ≡ w → OneList k
-      go broken e = absurd (refused-not-count k outOfBounds
-          (unfold overWalk in ap (λ (w : Walking). overWalk answers area w .answer) (sym e)
-          ∙ ap (λ (o : Outcome). o .answer) (sym (p .listing-is)) ∙ h))
-      go (walking s l) e = record {
-        list' = l;
-        rises = ended-rises t (thirds (length (m .triangles))) (segmentBox r) _ s l e;
-        cast-is = p .cast-is ∙ ap (castOverWalk r pose (m .triangles)) e ∙ unfold castOverWalk in refl;
-        listing-is = p .listing-is ∙ ap (overWalk answers area) e ∙ unfold overWalk in refl;
-      }
 
   lists-as-the-cast : (k : ℕ) → rayMeshAll r m pose t list stack area .answer ≡ countOf k
       → FitsCast (rayMesh r m pose t list stack) k (rayMeshAll r m pose t list stack area .area)
   lists-as-the-cast k h =
-      let o = one-list k h in
+      let o = list-of-count r m pose t list stack area k h in
       let e = o .listing-is in
       let c = counted answers area (o .list') k (sym (ap (λ (z : Outcome). z .answer) e) ∙ h) in
       rw (o .cast-is, e) (fits-cast answers area (o .list') k c)
@@ -222,18 +169,30 @@ module _ (r : Ray) (m : Mesh) (pose : List Float) (t : Tree) (list stack : ℕ) 
   rows-in-order : (k : ℕ) → rayMeshAll r m pose t list stack area .answer ≡ countOf k
       → Ascends k (rayMeshAll r m pose t list stack area .area)
   rows-in-order k h =
-      let o = one-list k h in
+      let o = list-of-count r m pose t list stack area k h in
       let e = o .listing-is in
       rw e (in-order answers area (o .list') k (counted answers area (o .list') k (sym (ap (λ (z : Outcome). z .answer) e) ∙ h)))
 
   first-of-rows : (k : ℕ) → rayMeshAll r m pose t list stack area .answer ≡ countOf k → 0 < k
       → rayMesh r m pose t list stack ≡ firstOf (rayMeshAll r m pose t list stack area .area)
   first-of-rows k h some =
-      let o = one-list k h in
+      let o = list-of-count r m pose t list stack area k h in
       let e = o .listing-is in
       let c = counted answers area (o .list') k (sym (ap (λ (z : Outcome). z .answer) e) ∙ h) in
       rw (o .cast-is, e)
       (first-is-the-cast answers area (o .list') k c (o .rises) (answers-are-numbers r pose (m .triangles)) some)
+
+  -- the walk's list has as many hits as the definition counts
+  hits-of-list : (o : OneList r m pose t list stack area) → length (hitsOf answers (o .list')) ≡ hitCount r m pose t
+  unfolding hitsOfWalk
+  hits-of-list o = sym (ap (hitsOfWalk answers) (o .walk-is))
+
+  hits-counted : (normal : Vec3) (distance : Float) (i : ℕ) → rayMesh r m pose t list stack ≡ hitAt normal distance i
+      → CountsHits (hitCount r m pose t) (placesIn area) (rayMeshAll r m pose t list stack area .answer)
+  hits-counted normal distance i h =
+      let o = list-of-hit r m pose t list stack area normal distance i h in
+      rw (sym (hits-of-list o), o .listing-is)
+      (counts-hits answers area (o .list') normal distance i (sym (o .cast-is) ∙ h))
 
 pub promised : Promised
 promised r m pose t list stack area = record {
@@ -242,16 +201,20 @@ promised r m pose t list stack area = record {
       (a : Admitted r m t list stack).
       subst (λ (vs : List Float). ListsHits r m k (rayMeshAll r m vs t list stack area .area)) (sym own)
       (each-hit-once r m t list stack area k a (ap (λ (vs : List Float). rayMeshAll r m vs t list stack area .answer) (sym own) ∙ h));
+  all-counted =
+      λ (own : pose ≡ m .vertices) (a : Admitted r m t list stack).
+      ap (λ (vs : List Float). hitCount r m vs t) own ∙ hits-of-mesh r m t list stack area 0 a;
   fits-cast = lists-as-the-cast r m pose t list stack area;
   in-order = rows-in-order r m pose t list stack area;
   first = first-of-rows r m pose t list stack area;
   empty-if = empty-as-the-cast r m pose t list stack area;
   refuses = refuses-as-the-cast r m pose t list stack area;
+  counts = hits-counted r m pose t list stack area;
 }
 
 -- the contract's three clauses: the equation, what is kept, and the promises
 pub with-promises : (r : Ray) (m : Mesh) (pose : List Float) (t : Tree) (list stack : ℕ) (area : HitArea) (o : Outcome) (Kept : Type 0)
     → o ≡ rayMeshAll r m pose t list stack area → Kept
-    → (o ≡ rayMeshAll r m pose t list stack area) × (Kept × KeepsPromises r m pose t list stack o)
+    → (o ≡ rayMeshAll r m pose t list stack area) × (Kept × KeepsPromises r m pose t list stack (placesIn area) o)
 with-promises r m pose t list stack area o Kept e k =
-    (e, (k, subst (KeepsPromises r m pose t list stack) (sym e) (promised r m pose t list stack area)))
+    (e, (k, subst (KeepsPromises r m pose t list stack (placesIn area)) (sym e) (promised r m pose t list stack area)))

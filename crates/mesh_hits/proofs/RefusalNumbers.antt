@@ -35,7 +35,7 @@ use Rattle.mesh_hits.specs.HitListing.{written, fitted}
 use Rattle.mesh_hits.specs.HitListing.{afterRefusals, listingOf}
 use Rattle.mesh_hits.specs.Listing.{overWalk, meshListing, rayMeshAll}
 use Rattle.mesh_hits.proofs.CountedHits.{refused-not-count, written-counts}
-use Rattle.mesh_hits.proofs.Promises.{listing}
+use Rattle.mesh_hits.proofs.OneList.{listing}
 
 -- ---- one triangle
 pub record Small (a : Answer) : Type 0 where

@@ -28,6 +28,9 @@ pub record Outcome : Type 0 where
 unfoldable pub placesOf : ℕ → ℕ → ℕ
 placesOf indices numbers = cond (leb indices (numbers / 4)) indices (numbers / 4)
 
+abbrev pub placesIn : HitArea → ℕ
+placesIn area = placesOf (length (area .indices)) (length (area .numbers))
+
 -- ---- one triangle
 unfoldable pub isHit : Answer → Bool
 isHit (hit normal distance) = true

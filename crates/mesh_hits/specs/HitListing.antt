@@ -7,7 +7,7 @@ use lib.ListN.{length, drop}
 use Rattle.casts.specs.Answer.{Answer, noRoom}
 use Rattle.nearest_hit.specs.Nearest.{Indexed, hitAt, noHit, stopped, nearestOf}
 use Rattle.tree_query.specs.Query.{count}
-use Rattle.mesh_hits.specs.HitArea.{HitArea, Outcome, placesOf, hitsOf, inOrder, numbersOf, refusedAt}
+use Rattle.mesh_hits.specs.HitArea.{HitArea, Outcome, placesIn, hitsOf, inOrder, numbersOf, refusedAt}
 
 -- "index, distance and normal of every hit .. and their count; places beyond the hits are unchanged"
 unfoldable pub written : (ℕ → Answer) → HitArea → List ℕ → Outcome
@@ -22,7 +22,7 @@ written answer area hits = record {
 -- "3 exactly when there are more hits than places"
 unfoldable pub fitted : (ℕ → Answer) → HitArea → List ℕ → Outcome
 fitted answer area hits =
-    cond (leb (length hits) (placesOf (length (area .indices)) (length (area .numbers))))
+    cond (leb (length hits) (placesIn area))
     (written answer area hits)
     (refusedAt noRoom area)
 

@@ -26,7 +26,7 @@ returns-2 c =
       all-returned _ _ _ _ _ _ _ _ (e .if1 .left) _ (returned .0) _ (p .put-found .ensures),
       (
         (λ failed. returned .1 .0 (second-failed _ _ (le-leb _ _ (e .if1 .left)) failed)),
-        λ there. returned-promises _ _ _ _ _ _ _ _ there _ (returned .0) _ (p .put-found .ensures) (returned .1 .1),
+        λ there. returned-promises _ _ _ _ _ _ _ _ there _ (returned .0) _ (p .put-found .ensures) _ (returned .1 .1),
       ),
     )
 
