@@ -1,5 +1,6 @@
--- What the calls of the exact cast tell, without a tree and through one; that what is read back from the one without a tree is certain; and
--- that with every tree that passes the check the call through a tree promises the same. Assumes nothing.
+-- What the calls of the exact cast tell, without a tree and through one; that what is read back from the one without a tree is certain;
+-- that a hit through any tree is a true one; and that with every tree that passes the check the call through a tree promises the same as
+-- the one without. Assumes nothing.
 use Prim.Native.Nat.{ℕ, _*_}
 use mathlib.Core.Path.{_≡_, sym, ap, subst, _∙_}
 use mathlib.Core.Bool.{Bool, true, false, _&&_, cond}
@@ -25,10 +26,11 @@ use Rattle.mesh_exact.proofs.Certainty.{certain}
 use Rattle.tree_exact.specs.Numbers.{NoNaN, hasNumbers}
 use Rattle.tree_exact.specs.ExactMesh.{roomFor, rayMeshExact}
 use Rattle.tree_exact.proofs.Agreement.{shape-admitted, agrees}
+use Rattle.tree_exact.proofs.AnyTree.{hit-anywhere}
 use Rattle.results.specs.Results.{ReturnedIndexed, returnedIndexed, resultsFit, withRoom, yesCode, noCode}
 use Rattle.exports.specs.Plain.{returnedNumber}
-use Rattle.exports.specs.Reading.{answerRead}
-use Rattle.exports.specs.ExactResults.{exactReturned, treeReturned, shortExact, ExactPlainCall, ReturnedAsPlain, NumbersCall}
+use Rattle.exports.specs.Reading.{answerRead, TrueHitRead}
+use Rattle.exports.specs.ExactResults.{exactReturned, treeReturned, shortExact, ExactPlainCall, ExactRead, NumbersCall}
 use Rattle.exports.proofs.Kept.{room-there}
 use Rattle.exports.proofs.Codes.{refusals-below-codes}
 use Rattle.exports.proofs.Reading.{answer-read}
@@ -124,18 +126,29 @@ module _ (hit : List Float) (index : List ℕ) where
       let shape = shape-admitted r m t (yes-passes m t (p .marks) (p .says-yes)) lengths in
       simp (shape, lengths, agrees r m t stack p numbers room)
 
-  -- the three clauses of the call's contract: what is told, what is kept, and the agreement
+  -- a hit that is read back is the definition's, and that is a true one
+  true-hit-read : (r : Ray) (m : Mesh) (pose : List Float) (t : Tree) (stack : ℕ) (returned : ReturnedIndexed)
+      → returned ≡ treeReturned r m pose t stack hit index → TrueHitRead r m pose hit index returned
+  unfolding treeReturned
+  true-hit-read r m pose t stack returned e fits normal distance i h =
+      let told = room-there (rayAdmitted r && (gridAdmitted r && shapeAdmitted m pose t)) (resultsFit hit index) _ _ fits in
+      let read = answer-read hit index fits (rayMeshExact r m pose t stack) (refusals-below-codes .exact r m pose t stack) in
+      hit-anywhere r m pose t stack normal distance i (sym (ap answerRead (e ∙ told) ∙ read) ∙ h)
+
+  -- the clauses of the call's contract: what is told, what is kept, that a hit is true, and the agreement
   pub with-agreement : (r : Ray) (m : Mesh) (pose : List Float) (t : Tree) (stack : ℕ) (returned : ReturnedIndexed) (Kept : Type 0)
       → returned ≡ treeReturned r m pose t stack hit index → Kept
-      → (returned ≡ treeReturned r m pose t stack hit index)
-      × (Kept × (pose ≡ m .vertices → ReturnedAsPlain r m t stack hit index returned))
+      → (returned ≡ treeReturned r m pose t stack hit index) × (Kept × ExactRead r m pose t stack hit index returned)
   with-agreement r m pose t stack returned Kept e k = (
     e,
     (
       k,
-      λ own p numbers room.
-          exact-certain r m returned
-          (e ∙ ap (λ (vs : List Float). treeReturned r m vs t stack hit index) own ∙ tree-as-plain r m t stack p numbers room),
+      (
+        true-hit-read r m pose t stack returned e,
+        λ own p numbers room.
+            exact-certain r m returned
+            (e ∙ ap (λ (vs : List Float). treeReturned r m vs t stack hit index) own ∙ tree-as-plain r m t stack p numbers room),
+      ),
     ),
   )
 

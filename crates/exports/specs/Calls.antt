@@ -23,7 +23,7 @@ use Rattle.results.specs.Results.{ReturnedIndexed, BuildReturned, QueryReturned
 use Rattle.results.specs.Results.{answeredMesh, buildReturned, queryReturned, returnedVerdict}
 use Rattle.exports.specs.Reading.{DemandRead, YesRead, BuiltRead}
 use Rattle.exports.specs.AllHits.{ListingReturned, allReturned, foundReturned}
-use Rattle.exports.specs.ExactResults.{treeReturned, ReturnedAsPlain}
+use Rattle.exports.specs.ExactResults.{treeReturned, ExactRead}
 
 -- the mesh cast; an area with a stroke is the area afterwards
 abbrev pub MeshCall : Ray → Mesh → List Float → Tree → List ℕ → List ℕ → List ℕ → List ℕ → List Float → List ℕ → ReturnedIndexed → Type 0
@@ -64,9 +64,10 @@ ListingCall r m pose t list list' stack stack' area found returned =
 abbrev pub listedReturned : ℕ → List ℕ → HitArea → ListingReturned
 listedReturned number count area = record { returned = record { number = number; count = count }; area = area }
 
--- the exact cast; at the mesh's own vertices with a tree that passes the check it promises what the one without a tree does
+-- the exact cast; a hit is a true one, and at the mesh's own vertices with a tree that passes the check it promises what the one without a
+-- tree does
 abbrev pub ExactCall : Ray → Mesh → List Float → Tree → List ℕ → List ℕ → List Float → List ℕ → ReturnedIndexed → Type 0
 ExactCall r m pose t stack stack' hit index returned =
     (returned ≡ treeReturned r m pose t (length stack) hit index)
     × (((resultsFit hit index && exactTestsPass r m pose t (length stack)) ≡ false → stack' ≡ stack)
-    × (pose ≡ m .vertices → ReturnedAsPlain r m t (length stack) hit index returned))
+    × ExactRead r m pose t (length stack) hit index returned)

@@ -18,7 +18,7 @@ use Rattle.tree_exact.specs.Numbers.{NoNaN, hasNumbers}
 use Rattle.tree_exact.specs.ExactMesh.{roomFor, rayMeshExact}
 use Rattle.results.specs.Results.{ReturnedIndexed, returnedIndexed, resultsFit, withRoom, yesCode, noCode}
 use Rattle.exports.specs.Plain.{returnedNumber}
-use Rattle.exports.specs.Reading.{CertainRead}
+use Rattle.exports.specs.Reading.{CertainRead, TrueHitRead}
 
 -- the result slices' 3 comes after 1, 12 of the ray and 2
 unfoldable pub exactReturned : Ray → Mesh → List Float → List ℕ → ReturnedIndexed
@@ -46,6 +46,11 @@ ExactPlainCall r m hit index returned = (returned ≡ exactReturned r m hit inde
 abbrev pub ReturnedAsPlain : Ray → Mesh → Tree → ℕ → List Float → List ℕ → ReturnedIndexed → Type 0
 ReturnedAsPlain r m t stack hit index returned = PassesCheck m t → NoNaN m → roomFor m t stack ≡ true → ExactPlainCall r m hit index
     returned
+
+-- what is read back from the call through a tree: any hit is a true one, and at the mesh's own vertices the same holds as without a tree
+abbrev pub ExactRead : Ray → Mesh → List Float → Tree → ℕ → List Float → List ℕ → ReturnedIndexed → Type 0
+ExactRead r m pose t stack hit index returned =
+    TrueHitRead r m pose hit index returned × (pose ≡ m .vertices → ReturnedAsPlain r m t stack hit index returned)
 
 -- whether a mesh is without a NaN: a yes says so
 abbrev pub NumbersCall : Mesh → ℕ → Type 0

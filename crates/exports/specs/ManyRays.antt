@@ -11,7 +11,7 @@ use Rattle.tree.specs.Mesh.{Mesh}
 use Rattle.many_casts.specs.Many.{rayAt, rayCount, hitOf, readAt, Places, ReturnedMany, ManyCall, ManyExactCall}
 use Rattle.results.specs.Results.{ReturnedIndexed, doneCode, answeredMesh}
 use Rattle.exports.specs.Reading.{DemandRead}
-use Rattle.exports.specs.ExactResults.{treeReturned, ReturnedAsPlain}
+use Rattle.exports.specs.ExactResults.{treeReturned, ExactRead}
 
 -- where the call is done, this holds of each ray, of the four numbers and the index that stood at its places, and of what is read there
 abbrev pub EachRay : List Float → Places → ReturnedMany → (Ray → List Float → List ℕ → ReturnedIndexed → Type 0) → Type 0
@@ -30,10 +30,10 @@ MeshManyCall rays m pose t list list' stack stack' p returned =
     ManyCall rays m pose t list list' stack stack' p returned
     × EachRay rays p returned (MeshAnswered m pose t (length list) (length stack))
 
--- the exact cast's number and slices; at the mesh's own vertices, with a tree that passes the check, what the one without a tree promises
+-- the exact cast's number and slices, and what is read back from them
 abbrev pub ExactAnswered : Mesh → List Float → Tree → ℕ → Ray → List Float → List ℕ → ReturnedIndexed → Type 0
 ExactAnswered m pose t stack r hit index returned =
-    (returned ≡ treeReturned r m pose t stack hit index) × (pose ≡ m .vertices → ReturnedAsPlain r m t stack hit index returned)
+    (returned ≡ treeReturned r m pose t stack hit index) × ExactRead r m pose t stack hit index returned
 
 abbrev pub ExactManyCall : List Float → Mesh → List Float → Tree → List ℕ → List ℕ → Places → ReturnedMany → Type 0
 ExactManyCall rays m pose t stack stack' p returned =

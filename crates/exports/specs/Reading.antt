@@ -1,5 +1,5 @@
 -- What a caller reads back from the number and the slices of a call, and what holds of it: demand 3, the builder's sentence, and that the
--- exact cast's answer is certain. Definitions only. Assumes nothing.
+-- exact cast's answer is certain and its hits are true. Definitions only. Assumes nothing.
 use Prim.Native.Nat.{ℕ, _*_, _≤_}
 use mathlib.Core.Path.{_≡_}
 use mathlib.Core.Bool.{true, cond}
@@ -7,13 +7,14 @@ use mathlib.Core.List.{List}
 use lib.Dec.{eqb}
 use lib.Ieee.{Float}
 use lib.ListN.{length}
+use Rattle.vectors.specs.declared.vec3.Vec3.{Vec3}
 use Rattle.geometry.specs.declared.ray.Ray.{Ray}
 use Rattle.nearest_hit.specs.Nearest.{Indexed, hitAt, noHit, stopped}
 use Rattle.tree.specs.Layout.{Tree, treeIn, wordAt, numberAt, vectorAt}
-use Rattle.tree.specs.Mesh.{Mesh, thirds}
+use Rattle.tree.specs.Mesh.{Mesh, mesh, thirds}
 use Rattle.tree_check.specs.Verdict.{yes, checkOf}
 use Rattle.mesh.specs.Demand3.{PassesCheck, Admitted, MeetsDemand}
-use Rattle.mesh_exact.specs.Certain.{CertainMesh}
+use Rattle.mesh_exact.specs.Certain.{TrueHit, CertainMesh}
 use Rattle.results.specs.Results.{ReturnedIndexed, BuildReturned, resultsFit, hitCode, noneCode, yesCode, doneCode}
 
 -- a cast's answer: what the number and the slices of the hit and of the index say together
@@ -30,6 +31,12 @@ DemandRead r m pose t list stack hit index returned =
 -- the exact cast without a tree, or with one that passes the check at the mesh's own vertices: a none is certain, and a hit is the first
 abbrev pub CertainRead : Ray → Mesh → List Float → List ℕ → ReturnedIndexed → Type 0
 CertainRead r m hit index returned = resultsFit hit index ≡ true → CertainMesh r m (answerRead returned)
+
+-- the exact cast through any tree, at any vertices: a hit is a true hit of its triangle there
+abbrev pub TrueHitRead : Ray → Mesh → List Float → List Float → List ℕ → ReturnedIndexed → Type 0
+TrueHitRead r m pose hit index returned =
+    resultsFit hit index ≡ true → (normal : Vec3) (distance : Float) (i : ℕ) → answerRead returned ≡ hitAt normal distance i
+    → TrueHit r (mesh pose (m .triangles)) normal distance i
 
 -- where the check's number says yes, the tree passes
 abbrev pub YesRead : Mesh → Tree → ℕ → Type 0

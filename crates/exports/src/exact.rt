@@ -85,8 +85,8 @@ pub extern "C" fn probe_ray_mesh_exact_plain(
 // The same through a tree, by a walk that passes over what the line cannot meet.
 // The stack is a work area: unchanged until the result slices and refusals 1, 12 of the ray and 2 to 4 have let the call pass, and then it
 // may hold anything.
-// The third clause: at the mesh's own vertices, with any tree that passes the check and no NaN at a corner of the mesh, the call promises
-// what the one without a tree promises.
+// The third clause: a hit, through any tree and at any vertices, is a true hit of its triangle there; and at the mesh's own vertices, with
+// any tree that passes the check and no NaN at a corner of the mesh, the call promises what the one without a tree promises.
 #[no_mangle]
 pub extern "C" fn probe_ray_mesh_exact(
     origin_x: f64,

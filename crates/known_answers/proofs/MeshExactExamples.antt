@@ -34,7 +34,7 @@ use Rattle.exact_triangle.specs.Shear.{mainOf, depthOf}
 use Rattle.exact_triangle.specs.Reach.{cornersRead, cornersReach, gridReach}
 use Rattle.exact_triangle.specs.Cast.{gridNormal, gridTriangle}
 use Rattle.mesh_exact.specs.GridCast.{exactAnswer, overTriangles, rayMeshExactPlain}
-use Rattle.mesh_exact.specs.Certain.{Met, LeastDepth}
+use Rattle.mesh_exact.specs.Certain.{Met, LeastDepth, HitNormal}
 use Rattle.mesh_exact.proofs.Certainty.{certain}
 
 -- 0, 1, -1, 2, 4, -5, 6, 6 + 2^-15 and 4 + 2^-17
@@ -220,3 +220,8 @@ beside-clear = certain diagonal (slanted aboveSix) .none (ap (λ (xs : List Inde
 -- the same of the bore's wall
 pub wall-least : LeastDepth (gridLine inBore) boreWall fromAxis
 wall-least = certain inBore boreWall .least inward fromAxis 0 (ap (λ (xs : List Indexed). getD xs 6 noHit) casts-answered)
+
+-- and the hit there is the wall's: its normal is the cross of the edges of triangle 0 on the grid, normalised, and faces the ray
+pub wall-normal : HitNormal inBore boreWall 0 inward
+wall-normal =
+    certain inBore boreWall .hitTriangle inward fromAxis 0 (ap (λ (xs : List Indexed). getD xs 6 noHit) casts-answered) .normal-is

@@ -1,27 +1,30 @@
--- Casts through a tree that no builder of ours would write, computed from the definitions alone, and the agreement at that tree. Assumes
--- nothing.
+-- Casts through trees that no builder of ours would write, computed from the definitions alone; the agreement at one that passes the
+-- check, and a true hit through one that does not. Assumes nothing.
 use Prim.Native.Nat.{ℕ}
 use mathlib.Core.Path.{_≡_, refl}
-use mathlib.Core.Bool.{true}
+use mathlib.Core.Bool.{true, false}
 use mathlib.Core.List.{List, [], _∷_}
 use lib.Ieee.{Float, binary64, span, climb, size, odd, units, round, neg, sum, add, sub, mul, div, lt, eq, le, ne, isNan, ofFields, ofBits}
 use lib.Ieee.{ofInt, toSigned}
+use lib.ListN.{drop, replicate}
 use Rattle.arithmetic.specs.Basic.{isFinite, absolute}
 use Rattle.arithmetic.specs.Extremes.{minimumOf, maximumOf}
 use Rattle.arithmetic.specs.Scaling.{unit, digitsOf, scaledBy}
 use Rattle.arithmetic.specs.Root.{rootDigits, wholeRoot, rootRound, rootOf}
 use Rattle.vectors.specs.Vector.{component, finiteVec, negOf, minOf, maxOf, absOf, maxElement, dotOf, checkedDot, lengthOf, normalizable}
 use Rattle.vectors.specs.Vector.{zeroVec, dotTells, scaledToOne, overLength, tryNormalize}
-use Rattle.geometry.specs.Box.{touchSide, touches}
+use Rattle.geometry.specs.Box.{touchSide, touches, sameSide, sameBox}
 use Rattle.geometry.specs.Segment.{unitLength, rayAdmitted}
 use Rattle.geometry.specs.declared.ray.Ray.{Ray}
 use Rattle.casts.specs.Surface.{facing}
 use Rattle.casts.specs.Reach.{reachOf}
 use Rattle.nearest_hit.specs.Nearest.{Indexed, hitAt, noHit, stopped, nextOf}
 use Rattle.nearest_hit.specs.Summary.{keepOf, nearer, noteOf, winnerOf, answerAt}
-use Rattle.lists.specs.Lists.{range}
+use Rattle.lists.specs.Lists.{range, count, flatMap, every}
 use Rattle.tree.specs.Layout.{Tree, vectorAt, boxAt}
-use Rattle.tree.specs.Mesh.{Mesh, lengthsAdmitted, cornersInside, cornerAt, cornersOf}
+use Rattle.tree.specs.Mesh.{Mesh, lengthsAdmitted, cornersInside, cornerAt, cornersOf, triangleBox}
+use Rattle.tree_check.specs.Check.{childrenOf, placesOf, kindsKnown, childrenAbove, leavesInside, namedOnce, placedOnce, orderedOnce}
+use Rattle.tree_check.specs.Check.{leavesFilled, cornersKnown, boxesSame, clausesHold, treePasses}
 use Rattle.tree_query.specs.Query.{treeFits}
 use Rattle.known_answers.proofs.QueryExamples.{o, i, quarter, ten, eleven, lower, oddTree}
 use Rattle.mesh.specs.MeshCast.{shapeAdmitted}
@@ -34,6 +37,7 @@ use Rattle.exact_triangle.specs.Box.{lowSide, highSide, certainBox}
 use Rattle.exact_triangle.specs.Reach.{cornersRead, cornersReach, gridReach}
 use Rattle.exact_triangle.specs.Cast.{gridNormal, gridTriangle}
 use Rattle.mesh_exact.specs.GridCast.{exactAnswer, rayMeshExactPlain}
+use Rattle.mesh_exact.specs.Certain.{TrueHit}
 use Rattle.tree_exact.specs.FirstWalk.{times, takePlace, takePlaces, atLeaf, atBranch, atNode, takeNode, start, ended, firstOf}
 use Rattle.tree_exact.specs.Room.{roomOf, roomMet}
 use Rattle.tree_exact.specs.Opening.{lineMet, shortSegment, boxMet, opensNode}
@@ -42,7 +46,7 @@ use Rattle.tree_exact.specs.Numbers.{NoNaN, cornersNumbered, hasNumbers}
 use Rattle.tree_exact.specs.ExactMesh.{exactThrough, roomFor, rayMeshExact}
 use Rattle.tree_exact.proofs.NumberTests.{yes-numbers}
 use Rattle.tree_exact.proofs.Agreement.{agrees}
-use Rattle.lists.specs.Lists.{every}
+use Rattle.tree_exact.proofs.AnyTree.{hit-anywhere}
 
 -- the three triangles of that tree: one at height 0, one apart from it, one below it
 abbrev vertices : List Float
@@ -140,3 +144,42 @@ odd-numbers = yes-numbers mesh asked
 
 pub odd-agrees : (r : Ray) → cast r ≡ rayMeshExactPlain r mesh
 odd-agrees r = agrees r mesh oddTree 4 (record { marks = 9; says-yes = odd-passes }) odd-numbers odd-room
+
+-- ---- a tree that does not pass the check, at vertices that are not the mesh's
+-- the boxes of its triangles are all at 0
+abbrev unboxed : Tree
+unboxed = record {
+  nodeCount = 3;
+  nodeBoxes = oddTree .nodeBoxes;
+  triangleBoxes = replicate 18 o;
+  nodeWords = oddTree .nodeWords;
+  order = oddTree .order;
+}
+
+pub unboxed-fails : treePasses mesh unboxed ≡ false
+unfolding treePasses clausesHold kindsKnown childrenAbove leavesInside namedOnce placedOnce orderedOnce leavesFilled cornersKnown boxesSame
+    childrenOf placesOf count every flatMap range triangleBox cornerAt cornersInside boxAt vectorAt sameSide sameBox
+    minOf maxOf minimumOf maximumOf ofBits ofFields isNan ne le eq lt
+unboxed-fails = refl
+
+-- the first triangle a quarter higher
+abbrev raised : List Float
+raised = o ∷ o ∷ quarter ∷ i ∷ o ∷ quarter ∷ o ∷ i ∷ quarter ∷ drop 9 vertices
+
+abbrev threeQuarters : Float
+threeQuarters = ofBits binary64 0x3fe8_0000_0000_0000
+
+pub raised-hit : rayMeshExact above mesh raised unboxed 4 ≡ hitAt (record { x = o; y = o; z = i }) threeQuarters 0
+unfolding rayMeshExact exactThrough roomFor treeFits shapeAdmitted lengthsAdmitted firstOf ended start takeNode atNode atBranch atLeaf
+    takePlaces takePlace times range opensNode boxMet lineMet shortSegment touches touchSide certainBox lowSide highSide roomMet
+    roomOf leftFirst takenFirst nearerFirst boxAt vectorAt answerAt winnerOf noteOf keepOf
+    nearer reachOf nextOf exactAnswer cornerAt cornersOf cornersInside facing gridTriangle gridNormal gridReach cornersReach cornersRead
+    gridAdmitted gridLine nearestTo depthOf mainOf firstPoint byWeights crossing kept coplanar inPlane area alongPlane entry inside entering
+    sideOf rayAdmitted unitLength normalizable zeroVec dotTells scaledToOne overLength tryNormalize digitsOf scaledBy unit lengthOf
+    checkedDot dotOf maxElement absOf maxOf minOf negOf finiteVec component rootOf rootRound wholeRoot rootDigits maximumOf minimumOf
+    absolute isFinite ofInt toSigned ofBits ofFields isNan ne le eq lt div mul sub add sum neg round units odd size climb span
+raised-hit = refl
+
+-- yet the hit is a true hit of the triangle as it stands there
+pub raised-true : TrueHit above (record { vertices = raised; triangles = mesh .triangles }) (record { x = o; y = o; z = i }) threeQuarters 0
+raised-true = hit-anywhere above mesh raised unboxed 4 _ _ _ raised-hit

@@ -37,9 +37,10 @@ use Rattle.wide_integers.proofs.Integers.{pp}
 use Rattle.exact_triangle.specs.Line.{Line}
 use Rattle.exact_triangle.specs.Grid.{units, gridAdmitted, gridLine}
 use Rattle.mesh_exact.specs.GridCast.{exactAnswer, overTriangles, rayMeshExactPlain}
-use Rattle.mesh_exact.specs.Certain.{cornerOn, Met, InRange, LeastDepth, HitTriangle, OutOfRange, Reason, CertainMesh}
+use Rattle.mesh_exact.specs.Certain.{cornerOn, Met, InRange, LeastDepth, TrueHit, LowestIndex, OutOfRange, Reason, CertainMesh}
 use Rattle.mesh_exact.specs.Certain.{ray, lengths, triangles, range as byRange}
 use Rattle.mesh_exact.proofs.OneTriangle.{WideDepth, depth-whole, is-read, none-unmet, hit-deep}
+use Rattle.mesh_exact.proofs.TrueHits.{true-hit}
 use Rattle.mesh_exact.proofs.Leasts.{Least, least-of}
 use Rattle.mesh_exact.proofs.Refusals.{below, corner-in, reason}
 
@@ -194,17 +195,14 @@ module _ (r : Ray) (m : Mesh) (admitted : rayAdmitted r ≡ true) (ranged : grid
         le-transitive distance (b .distance') (rounded n D)
         (lowest .nearest j (listed-of j (q .triangle)) (b .normal') (b .distance') (b .hits)) (b .at-most)
 
-    hit-triangle : HitTriangle l m distance index
-    hit-triangle = record {
-      D = own .D;
-      t = own .n;
-      met = own .met;
-      nearest = own .nearest;
-      lowest = λ j D n q before.
-          let b = behind j D n q in
-          lt-of-lt-le distance (b .distance') (rounded n D)
-          (lowest .farther-below j (listed-of j (q .triangle)) before (b .normal') (b .distance') (b .hits)) (b .at-most);
-    }
+    hit-triangle : TrueHit r m normal distance index
+    hit-triangle = true-hit r m index normal distance (lowest .answers) admitted ranged (inner index (lowest .member))
+
+    lowest-index : LowestIndex l m distance index
+    lowest-index j D n q before =
+        let b = behind j D n q in
+        lt-of-lt-le distance (b .distance') (rounded n D)
+        (lowest .farther-below j (listed-of j (q .triangle)) before (b .normal') (b .distance') (b .hits)) (b .at-most)
 
     least-listed : Least r m admitted ranged listed
     least-listed = elim (least-of r m admitted ranged listed fine inner) [
@@ -247,6 +245,9 @@ certain r m = record {
   hitTriangle = λ n d i is.
       let f = folded r m (hitAt n d i) refl is in
       hit-triangle r m (f .admitted) (f .ranged) n d i (f .fold);
+  lowest = λ n d i is.
+      let f = folded r m (hitAt n d i) refl is in
+      lowest-index r m (f .admitted) (f .ranged) n d i (f .fold);
   least = λ n d i is.
       let f = folded r m (hitAt n d i) refl is in
       hit-least r m (f .admitted) (f .ranged) n d i (f .fold);

@@ -6,6 +6,7 @@ pub mod Looking
 pub mod Noting
 pub mod Casting
 pub mod OneTriangle
+pub mod TrueHits
 pub mod Leasts
 pub mod Refusals
 pub mod Certainty

@@ -7,16 +7,20 @@ use lib.IntN.{ℤ, pos, _*ℤ_}
 use lib.ListN.{length}
 use lib.Signed.{leZ}
 use lib.Ieee.{Float, binary64, round, lt}
+use Rattle.vectors.specs.Vector.{dotOf}
 use Rattle.vectors.specs.declared.vec3.Vec3.{Vec3}
+use Rattle.vectors.specs.declared.vec3.Normalized.the-variants.{Unit as UnitOf}
 use Rattle.geometry.specs.Segment.{rayAdmitted}
 use Rattle.geometry.specs.declared.ray.Ray.{Ray}
 use Rattle.casts.specs.Answer.{invalidInput, badShape, outOfBounds, outOfRange}
+use Rattle.casts.specs.Surface.{facing}
 use Rattle.nearest_hit.specs.Nearest.{Indexed, hitAt, noHit, stopped}
 use Rattle.tree.specs.Mesh.{Mesh, cornerAt, triangleCount, lengthsAdmitted, trianglesFit}
 use Rattle.exact_depth.specs.declared.projection.Point.{Point}
 use Rattle.exact_triangle.specs.Line.{Line}
 use Rattle.exact_triangle.specs.Grid.{units, allWithin, furthest, longest, gridAdmitted, gridPoint, gridLine}
 use Rattle.exact_triangle.specs.Surface.{Surface, Apart}
+use Rattle.exact_triangle.specs.Normal.{crossOf, normalOf}
 
 -- a corner of a triangle, on the grid
 abbrev pub cornerOn : Mesh → ℕ → ℕ → Point
@@ -57,14 +61,26 @@ pub record LeastDepth (l : Line) (m : Mesh) (distance : Float) : Type 0 where
   pub least : (j D' : ℕ) (t' : ℤ) → Met l m j D' t' → leZ (pos t *ℤ pos D') (t' *ℤ pos D) ≡ true
   pub nearest : distance ≡ round binary64 false t (D * units)
 
--- the triangle of a hit has such a point, whose depth is rounded to the same float; where the lowest index decides, each such point of a
--- triangle below it has a depth that is rounded to more
-pub record HitTriangle (l : Line) (m : Mesh) (distance : Float) (index : ℕ) : Type 0 where
+-- the normal of a hit: the cross of the triangle's edges on the grid, normalised, and facing the ray
+pub record HitNormal (r : Ray) (m : Mesh) (index : ℕ) (normal : Vec3) : Type 0 where
+  pub unit : Vec3
+  pub normalised : normalOf (crossOf (cornerOn m index 0) (cornerOn m index 1) (cornerOn m index 2)) ≡ UnitOf unit
+  pub faces : normal ≡ facing unit (dotOf (r .direction) unit)
+
+-- a hit of one triangle: t / D is the least depth of such a point of it, the distance is the float nearest to it in millimetres, and the
+-- normal is the triangle's
+pub record TrueHit (r : Ray) (m : Mesh) (normal : Vec3) (distance : Float) (index : ℕ) : Type 0 where
   pub D : ℕ
   pub t : ℕ
-  pub met : Met l m index D (pos t)
+  pub met : Met (gridLine r) m index D (pos t)
+  pub first : (D' : ℕ) (t' : ℤ) → Met (gridLine r) m index D' t' → leZ (pos t *ℤ pos D') (t' *ℤ pos D) ≡ true
   pub nearest : distance ≡ round binary64 false t (D * units)
-  pub lowest : (j D' t' : ℕ) → Met l m j D' (pos t') → j < index → lt distance (round binary64 false t' (D' * units)) ≡ true
+  pub normal-is : HitNormal r m index normal
+
+-- where the lowest index decides, each such point of a triangle below it has a depth that is rounded to more
+abbrev pub LowestIndex : Line → Mesh → Float → ℕ → Type 0
+LowestIndex l m distance index =
+    (j D t : ℕ) → Met l m j D (pos t) → j < index → lt distance (round binary64 false t (D * units)) ≡ true
 
 pub record CertainMesh (r : Ray) (m : Mesh) (answer : Indexed) : Type 0 where
   -- an answer that is no refusal is about the whole mesh
@@ -72,7 +88,9 @@ pub record CertainMesh (r : Ray) (m : Mesh) (answer : Indexed) : Type 0 where
   -- 'none exactly where no point of the segment lies in such a triangle of the mesh': a none has none, and a hit has one
   pub none : answer ≡ noHit → (i D : ℕ) (t : ℤ) → Met (gridLine r) m i D t → ⊥
   pub hitTriangle : (normal : Vec3) (distance : Float) (index : ℕ) → answer ≡ hitAt normal distance index
-      → HitTriangle (gridLine r) m distance index
+      → TrueHit r m normal distance index
+  pub lowest : (normal : Vec3) (distance : Float) (index : ℕ) → answer ≡ hitAt normal distance index
+      → LowestIndex (gridLine r) m distance index
   -- 'at the least depth of such a point over all triangles, its distance the f64 nearest to that depth'
   pub least : (normal : Vec3) (distance : Float) (index : ℕ) → answer ≡ hitAt normal distance index
       → LeastDepth (gridLine r) m distance

@@ -58,7 +58,7 @@ hitDistance other (Refused number) = other
 hitDistance other (NearestHit index distance) = distance
 
 module _ (t : Tree) (n : ℕ) (answer : ℕ → Answer) (opens : ℕ → Summary → Bool) (leftFirst : ℕ → Bool) where
-  winner-reached : (r : Kept (Found ℕ)) (l : Kept (Found Float)) → Reached t n answer opens leftFirst l
+  pub winner-reached : (r : Kept (Found ℕ)) (l : Kept (Found Float)) → Reached t n answer opens leftFirst l
       → (index : ℕ) (distance : Float) → winnerOf r l ≡ NearestHit index distance → (index < n) × (reachOf (answer index) ≡ At distance)
   unfolding winnerOf
   winner-reached (kept r) l h index distance e = let z = ap kind e in absurd (omega (arith, z))

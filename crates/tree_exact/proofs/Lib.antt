@@ -20,3 +20,4 @@ pub mod LimitSteps
 pub mod WalkSteps
 pub mod NumberTests
 pub mod Casting
+pub mod AnyTree

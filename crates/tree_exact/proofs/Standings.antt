@@ -63,7 +63,7 @@ module _ (t : Tree) (n : ℕ) (answer : ℕ → Answer) (opens : ℕ → Summary
       go true = (h, e)
       go false = r
 
-  note-reached : (x : ℕ) → x < n → (s : Summary) → Reached t n answer opens leftFirst (s .least)
+  pub note-reached : (x : ℕ) → x < n → (s : Summary) → Reached t n answer opens leftFirst (s .least)
       → Reached t n answer opens leftFirst (noteOf s x (reachOf (answer x)) .least)
   unfolding noteOf
   note-reached x h s r = go (reachOf (answer x)) refl
