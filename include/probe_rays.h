@@ -782,8 +782,12 @@ uint32_t probe_build(
     size_t nodes_length
 );
 
-/* Lists the triangles whose boxes touch a given box, in ascending order, and writes their number to found[0]. Places of
- * list past them are unchanged. `triangles` is the number n of triangles, `nodes` the tree's node count.
+/* Lists the triangles that the tree has for a given box, in ascending order, and writes their number to found[0]. Places
+ * of list past them are unchanged. `triangles` is the number n of triangles, `nodes` the tree's node count.
+ *
+ * Through a tree for which probe_tree_check returns PROBE_YES with the mesh, and with the mesh's n, the list has each
+ * triangle of the mesh whose box touches the given box, once, and no other; the call does not refuse with 5. Another tree
+ * may lack some of them, or have one more than once.
  *
  * Returns PROBE_DONE, or refuses with 1, 2, 3 or 5 (the tree is broken where the traversal meets it). After 5 the list is
  * zeros.

@@ -163,8 +163,9 @@ pub fn build(
     done(answer).map(|()| nodes[0])
 }
 
-/// Lists the triangles, of n, whose boxes touch the box from `min` to `max`, in ascending order, and returns their number.
-/// Places of the list past them are unchanged.
+/// Lists the triangles, of n, that the tree has for the box from `min` to `max`, in ascending order, and returns their
+/// number. Through a tree that passes [`tree_check`] these are the triangles of the mesh whose boxes touch the box, each
+/// once. Places of the list past them are unchanged.
 ///
 /// Refuses with 1, 2, 3 or 5 (the tree is broken where the traversal meets it). After 5 the list is zeros.
 pub fn query(

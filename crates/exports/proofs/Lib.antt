@@ -9,6 +9,7 @@ pub mod Codes
 pub mod Reading
 pub mod RangeCalls
 pub mod Counts
+pub mod QueryCalls
 pub mod PlainCalls
 pub mod MeshReturned
 pub mod CabinetAnswers

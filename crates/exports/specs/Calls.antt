@@ -11,17 +11,18 @@ use lib.ListN.{length}
 use Rattle.geometry.specs.declared.aabb.Aabb.{Aabb}
 use Rattle.geometry.specs.declared.ray.Ray.{Ray}
 use Rattle.tree.specs.Layout.{Tree, Areas}
-use Rattle.tree.specs.Mesh.{Mesh}
+use Rattle.tree.specs.Mesh.{Mesh, triangleCount}
 use Rattle.tree_build.specs.Build.{testsPass as buildTestsPass}
 use Rattle.tree_query.specs.Query.{testsPass as queryTestsPass}
 use Rattle.tree_check.specs.Verdict.{checkOf, marksAfter}
 use Rattle.mesh.specs.MeshCast.{testsPass}
+use Rattle.mesh.specs.Demand3.{PassesCheck}
 use Rattle.mesh_hits.specs.HitArea.{HitArea, placesIn}
 use Rattle.mesh_hits.specs.Promise.{KeepsPromises}
 use Rattle.tree_exact.specs.ExactMesh.{testsPass as exactTestsPass}
 use Rattle.results.specs.Results.{ReturnedIndexed, BuildReturned, QueryReturned, resultsFit}
 use Rattle.results.specs.Results.{answeredMesh, buildReturned, queryReturned, returnedVerdict}
-use Rattle.exports.specs.Reading.{DemandRead, YesRead, BuiltRead}
+use Rattle.exports.specs.Reading.{DemandRead, YesRead, BuiltRead, QueryRead}
 use Rattle.exports.specs.AllHits.{ListingReturned, allReturned, foundReturned}
 use Rattle.exports.specs.ExactResults.{treeReturned, ExactRead}
 
@@ -41,10 +42,12 @@ BuildCall m a work work' nodes returned =
 abbrev pub builtReturned : ℕ → List ℕ → Areas → BuildReturned
 builtReturned number count after = record { returned = record { number = number; count = count }; after = after }
 
+-- the query; for a mesh of so many triangles and a tree that passes the check its list is complete
 abbrev pub QueryCall : Aabb → ℕ → Tree → List ℕ → List ℕ → List ℕ → List ℕ → QueryReturned → Type 0
 QueryCall box n t list stack stack' found returned =
     (returned ≡ queryReturned box n t list (length stack) found)
-    × ((leb 1 (length found) && queryTestsPass box n t (length list) (length stack)) ≡ false → stack' ≡ stack)
+    × (((leb 1 (length found) && queryTestsPass box n t (length list) (length stack)) ≡ false → stack' ≡ stack)
+    × ((m : Mesh) → triangleCount m ≡ n → PassesCheck m t → QueryRead box m t (length list) (length stack) found returned))
 
 abbrev pub CheckCall : Mesh → Tree → List ℕ → List ℕ → ℕ → Type 0
 CheckCall m t marks marks' number =

@@ -244,6 +244,7 @@ fn short_query(bounds: Aabb, triangles: usize, nodes: usize) -> u32
 
 // Lists the triangles of a tree whose boxes touch a box, ascending, and writes how many.
 // The stack is a work area: unchanged after refusals 1 to 3, and past their tests nothing is promised of it.
+// The third clause: for a mesh of so many triangles and a tree that passes the check, the list is each triangle whose box touches, once.
 #[no_mangle]
 pub extern "C" fn probe_query(
     min_x: f64,

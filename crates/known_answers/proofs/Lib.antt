@@ -15,6 +15,7 @@ pub mod MeshExamples
 pub mod BuilderInstance
 pub mod PlainExamples
 pub mod QueryExamples
+pub mod QueryInstances
 pub mod GlueExamples
 pub mod MergeTestExamples
 pub mod BuildExamples

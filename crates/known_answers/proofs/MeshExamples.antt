@@ -33,7 +33,7 @@ vertices =
     o ∷ (o ∷ (o ∷ (i ∷ (o ∷ (o ∷ (o ∷ (i ∷ (o ∷ (ten ∷ (o ∷ (o ∷ (eleven ∷ (o ∷ (o ∷ (ten ∷ (i ∷ (o ∷ (o ∷ (o ∷ (lower ∷ (i ∷ (o ∷ (lower ∷
     (o ∷ (i ∷ (lower ∷ []))))))))))))))))))))))))))
 
-abbrev mesh : Mesh
+abbrev pub mesh : Mesh
 mesh = record { vertices = vertices; triangles = 0 ∷ (1 ∷ (2 ∷ (3 ∷ (4 ∷ (5 ∷ (6 ∷ (7 ∷ (8 ∷ [])))))))) }
 
 abbrev two : Float

@@ -50,10 +50,10 @@ oddTree = record {
 abbrev boxFrom : Float → Float → Float → Float → Float → Float → Aabb
 boxFrom a b c d e f = record { min = record { x = a; y = b; z = c }; max = record { x = d; y = e; z = f } }
 
-abbrev area : List ℕ
+abbrev pub area : List ℕ
 area = 7 ∷ (7 ∷ (7 ∷ (7 ∷ [])))
 
-abbrev column : Aabb
+abbrev pub column : Aabb
 column = boxFrom quarter quarter lower quarter quarter i
 
 -- a tree whose root names one child twice, so that the walk takes more nodes than there are

@@ -3,6 +3,7 @@ use borrow.Author.Tests.{le-leb}
 use mathlib.Core.Path.{refl}
 use Rattle.exports.proofs.Counts.{query-returned, query-short}
 use Rattle.exports.proofs.Kept.{second-failed}
+use Rattle.exports.proofs.QueryCalls.{query-complete}
 use borrow.Author.Needs.{needs}
 use Rattle.exports.proofs.meshes.probe_query.Statement.{statement}
 use Rattle.exports.proofs.meshes.probe_query.Tie as tie
@@ -11,14 +12,19 @@ use Rattle.exports.proofs.meshes.probe_query.Tie as tie
 returns : tie.Need-returns
 returns c =
     let e : tie.Then1 = search in
-    (query-short _ _ _ _ _ _ _ (e .if1 .taken) (c .short-query .ensures), λ _. refl)
+    let returned = query-short _ _ _ _ _ _ _ (e .if1 .taken) (c .short-query .ensures) in
+    (returned, (λ _. refl, query-complete _ _ _ _ _ _ _ returned))
 
 -- the query's answer
 returns-2 : tie.Need-returns-2
 returns-2 c =
-    let (e, q, p) : tie.Else1 × tie.After-query × tie.After-put-found = search in (
-      query-returned _ _ _ _ _ _ _ _ _ (e .if1 .left) (q .query .ensures .0) (p .put-found .ensures),
-      λ failed. q .query .ensures .1 (second-failed _ _ (le-leb _ _ (e .if1 .left)) failed),
+    let (e, q, p) : tie.Else1 × tie.After-query × tie.After-put-found = search in
+    let returned = query-returned _ _ _ _ _ _ _ _ _ (e .if1 .left) (q .query .ensures .0) (p .put-found .ensures) in (
+      returned,
+      (
+        λ failed. q .query .ensures .1 (second-failed _ _ (le-leb _ _ (e .if1 .left)) failed),
+        query-complete _ _ _ _ _ _ _ returned,
+      ),
     )
 
 pub probe-query-spec : {M : Type 1} → statement M
