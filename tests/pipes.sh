@@ -1,7 +1,7 @@
 #!/usr/bin/env bash
 # `probe` at its ends: a full device, a pipe that closes, one that refuses for a while, a read that fails, a slow pipe and one of single
-# bytes, reads that end in a record, and many reads and records. A write or a read that fails ends the run, standard error says so, and
-# what was written is the front of the whole output.
+# bytes, a malformed record before others, reads that end in a record, and many reads and records. A write or a read that fails ends the
+# run, standard error says so, and what was written is the front of the whole output.
 # usage: tests/pipes.sh   (PROBE: the program; default target/bin/probe)
 set -euo pipefail
 cd "$(dirname "$0")/.."
@@ -11,6 +11,7 @@ import signal
 import socket
 import subprocess
 import sys
+import tempfile
 import time
 
 probe = sys.argv[1]
@@ -135,6 +136,15 @@ def failing(data):
     os.close(into)
     return found
 
+
+# a malformed record is the last: what follows it, past the input area too, is neither answered nor read as a stream of its own
+stream = bytes.fromhex("00000002 0901").ljust(65536, b"\0") + record
+run = subprocess.run([probe], input=stream, capture_output=True)
+same("bad, zeros and a record, in a pipe", (run.stdout, run.stderr), (b"1 bad\n", b""))
+with tempfile.TemporaryFile() as file:
+    file.write(stream)
+    file.seek(0)
+    same("bad, zeros and a record, in a file", started(file, subprocess.PIPE).communicate(), (b"1 bad\n", b""))
 
 # what is read before a read that fails is neither answered as if the input had ended nor read as a malformed record
 same("a record, 40 bytes and a failure", failing(record + record[:40]), (b"", UNREAD))

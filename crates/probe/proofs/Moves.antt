@@ -73,11 +73,11 @@ pub step-moves : (run : Run) (input : List ℕ) (after : Run) (last bytes lines 
     → run .held ≤ length input → run .failed ≡ false → readsMore run ≡ false → after .over ≡ false → after .held < run .held
 step-moves run input after last bytes lines (unread (idle h e a) t b l) fits f r o =
     absurd (false≢true (sym (ap (λ (s : Run). s .failed) e ∙ f) ∙ t))
-step-moves run input after last bytes lines (unread (asked failed count h c e k) t b l) fits f r o =
+step-moves run input after last bytes lines (unread (asked got h e k) t b l) fits f r o =
     absurd (false≢true (sym r ∙ h))
 step-moves run input after last bytes lines (stepped ready answered area (idle h e i) g b a w) fits f r o =
     let is : after ≡ answered = kept answered after w o in
     let from : Answers run input answered last lines = rw (e, i) at a in
     rw is (answer-moves run input fits (enough run r) answered last lines from (sym (ap (λ (s : Run). s .over) is) ∙ o))
-step-moves run input after last bytes lines (stepped ready answered area (asked failed count h c e k) g b a w) fits f r o =
+step-moves run input after last bytes lines (stepped ready answered area (asked got h e k) g b a w) fits f r o =
     absurd (false≢true (sym r ∙ h))

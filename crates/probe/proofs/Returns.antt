@@ -1,22 +1,41 @@
 -- What the functions over a run return, as their contracts say it. Assumes nothing.
 use Prim.Native.Nat.{ℕ, _+_, _-_, _<_, _≤_}
 use mathlib.Core.Path.{_≡_, refl, sym, ap, _∙_}
-use mathlib.Core.Bool.{Bool, true, false}
+use mathlib.Core.Bool.{Bool, true, false, true≢false}
 use mathlib.Core.List.{List, _++_}
+use native.Mathlib.Nat.{min-le-right}
 use native.Mathlib.Omega.{arith}
+use borrow.Author.Tests.{ltb-true}
+use lib.Dec.{eqb}
+use lib.IntN.{ℤ, pos, negsuc}
 use lib.ListN.{length, take, drop, length-drop}
+use lib.Signed.{ltZ}
 use lib.Seq.{take-add, take-at, drop-at, length-take-le}
+use Rattle.io.specs.Counts.{clamped}
 use Rattle.record_stream.specs.declared.answers.Progress.{Progress}
 use Rattle.record_stream.specs.Progress.{Answered, goesOn}
 use Rattle.probe.specs.declared.runs.Run.{Run}
-use Rattle.probe.specs.Runs.{lastNumber, afterRead, nextRun, afterWrite, heldOf}
+use Rattle.probe.specs.Runs.{lastNumber, failedRun, afterRead, nextRun, afterWrite, heldOf}
 use Rattle.probe.specs.Runs.{Answers, made, AfterWrite}
 
-pub read-held : (run ready : Run) (failed : Bool) (count most : ℕ) → ready ≡ afterRead run failed count → run .held + count ≤ most
+-- by the sign of what a read answered
+pub read-failed : (run : Run) (got : ℤ) (room : ℕ) → ltZ got (pos 0) ≡ true → failedRun run ≡ afterRead run got room
+unfolding afterRead
+read-failed run (pos k) room h = absurd (omega (arith, ltb-true k 0 h))
+read-failed run (negsuc k) room h = refl
+
+pub read-gave : (run : Run) (got : ℤ) (room more : ℕ) → ltZ got (pos 0) ≡ false → more ≡ clamped got room
+    → record { held = run .held + more; next = run .next; filled = 0; ended = eqb more 0; over = false; failed = false }
+    ≡ afterRead run got room
+unfolding afterRead
+read-gave run (pos k) room more h e = simp e
+read-gave run (negsuc k) room more h e = absurd (true≢false h)
+
+pub read-held : (run ready : Run) (got : ℤ) (room most : ℕ) → ready ≡ afterRead run got room → run .held + room ≤ most
     → ready .held ≤ most
 unfolding afterRead
-read-held run ready true count most e h = omega (arith, ap (λ (r : Run). r .held) e)
-read-held run ready false count most e h = omega (arith, ap (λ (r : Run). r .held) e)
+read-held run ready (negsuc k) room most e h = omega (arith, ap (λ (r : Run). r .held) e)
+read-held run ready (pos k) room most e h = omega (arith, ap (λ (r : Run). r .held) e, min-le-right k room)
 
 pub rest-length : (area input : List ℕ) (held : ℕ) → length area ≡ length input
     → length (take (length area - held) (drop held area)) ≡ length input - held

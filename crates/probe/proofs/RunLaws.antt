@@ -6,8 +6,10 @@ use mathlib.Core.List.{List, [], _++_, append-assoc, append-nil}
 use native.Mathlib.Omega.{arith}
 use native.Mathlib.Numerals.{add-one}
 use lib.Dec.{ltb}
-use lib.ListN.{take, drop}
+use lib.IntN.{ℤ, pos, negsuc}
+use lib.ListN.{length, take, drop}
 use lib.Seq.{take-add}
+use Rattle.io.specs.Counts.{clamped}
 use Rattle.records.specs.Output.{outputOf}
 use Rattle.record_stream.specs.declared.answers.Progress.{Progress}
 use Rattle.record_stream.specs.Progress.{outputFrom, outputAfter, MayCome, Answered}
@@ -68,19 +70,19 @@ pub record Given (run ready : Run) (count : ℕ) : Type 0 where
   pub same : ready .next ≡ run .next
   pub untouched : ready .over ≡ false
 
-given : (run ready : Run) (failed : Bool) (count : ℕ) → ready ≡ afterRead run failed count → ready .failed ≡ false
-    → Given run ready count
+given : (run ready : Run) (got : ℤ) (room : ℕ) → ready ≡ afterRead run got room → ready .failed ≡ false
+    → Given run ready (clamped got room)
 unfolding afterRead
-given run ready true count e f = absurd (true≢false (sym (ap (λ (r : Run). r .failed) e) ∙ f))
-given run ready false count e f =
+given run ready (negsuc k) room e f = absurd (true≢false (sym (ap (λ (r : Run). r .failed) e) ∙ f))
+given run ready (pos k) room e f =
     record { grown = ap (λ (r : Run). r .held) e; same = ap (λ (r : Run). r .next) e; untouched = ap (λ (r : Run). r .over) e }
 
 -- and one that did
-not-given : (run ready : Run) (failed : Bool) (count : ℕ) → ready ≡ afterRead run failed count → ready .failed ≡ true
+not-given : (run ready : Run) (got : ℤ) (room : ℕ) → ready ≡ afterRead run got room → ready .failed ≡ true
     → ready ≡ failedRun run
 unfolding afterRead
-not-given run ready true count e f = e
-not-given run ready false count e f = absurd (false≢true (sym (ap (λ (r : Run). r .failed) e) ∙ f))
+not-given run ready (negsuc k) room e f = e
+not-given run ready (pos k) room e f = absurd (false≢true (sym (ap (λ (r : Run). r .failed) e) ∙ f))
 
 module _ (bytes lines : List ℕ) (run : Run) (input : List ℕ) (x : Exact bytes lines run (heldOf run input)) (o : run .over ≡ false) where
   read-none : Exact (bytes ++ readBytes run run input) lines run (heldOf run input)
@@ -112,12 +114,12 @@ module _ (bytes lines : List ℕ) (run : Run) (input : List ℕ) (x : Exact byte
   read-step : {ready : Run} {area : List ℕ} → ReadOn run input ready area → ready .failed ≡ false
       → Exact (bytes ++ readBytes run ready area) lines ready (heldOf ready area)
   read-step (idle h e a) f = rw (e, a) read-none
-  read-step {ready} {area} (asked failed count h c e k) f =
-      read-some area ready count (not-ended run h) (given run ready failed count e f) k
+  read-step {ready} {area} (asked got h e k) f =
+      read-some area ready _ (not-ended run h) (given run ready got (length input - run .held) e f) k
 
   read-untouched : {ready : Run} {area : List ℕ} → ReadOn run input ready area → ready .failed ≡ false → ready .over ≡ false
   read-untouched (idle h e a) f = ap (λ (r : Run). r .over) e ∙ o
-  read-untouched {ready} (asked failed count h c e k) f = given run ready failed count e f .untouched
+  read-untouched {ready} (asked got h e k) f = given run ready got (length input - run .held) e f .untouched
 
 -- ---- answering
 
@@ -156,7 +158,7 @@ write-step bytes lines last run after p w = go (w .written) (w .is)
 unread-is : (run : Run) (input : List ℕ) (after : Run) (last : List ℕ) → ReadOn run input after last → run .failed ≡ false
     → after .failed ≡ true → after ≡ failedRun run
 unread-is run input after last (idle h e a) f t = absurd (false≢true (sym (ap (λ (r : Run). r .failed) e ∙ f) ∙ t))
-unread-is run input after last (asked failed count h c e k) f t = not-given run after failed count e t
+unread-is run input after last (asked got h e k) f t = not-given run after got (length input - run .held) e t
 
 step-progress : (bytes lines : List ℕ) (run : Run) (input : List ℕ) (after : Run) (last new text : List ℕ)
     → Sound bytes lines run (heldOf run input) → run .over ≡ false → Stepped run input after last new text
@@ -226,3 +228,7 @@ looped-more {count} l o s = rw (add-one count) record {
 pub looped-finished : {count : ℕ} {run : Run} {input : List ℕ} → Looped count run input → (run .over ≡ false → mostSteps ≤ count)
     → Finished run
 looped-finished l e = finished (l .steps) e
+
+-- a run that is not over has made 2^64 - 1 steps, more than any that a machine makes
+pub never-cut-short : (run : Run) (f : Finished run) → run .over ≡ false → 18446744073709551615 ≤ f .count
+never-cut-short run f = f .ends

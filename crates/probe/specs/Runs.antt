@@ -1,9 +1,10 @@
 -- What `probe` does between its reads and its writes: the run, one step, and all steps. Definitions only. Assumes nothing.
-use Prim.Native.Nat.{ℕ, suc, _+_, _-_, _<_, _≤_}
+use Prim.Native.Nat.{ℕ, suc, _+_, _-_, _<_, _≤_, min}
 use mathlib.Core.Path.{_≡_}
 use mathlib.Core.Bool.{Bool, true, false, not, _&&_}
 use mathlib.Core.List.{List, [], _++_}
 use lib.Dec.{ltb, eqb}
+use lib.IntN.{ℤ, pos, negsuc}
 use lib.ListN.{length, take, drop}
 use Rattle.records.specs.Output.{outputOf}
 use Rattle.record_stream.specs.declared.answers.Progress.{Progress}
@@ -34,11 +35,18 @@ readsMore run = not (run .ended) && ltb (run .held) longestRecord
 abbrev pub failedRun : Run → Run
 failedRun run = record { held = run .held; next = run .next; filled = 0; ended = run .ended; over = true; failed = true }
 
--- a read that gives no byte is the end of the input, and one that fails is not
-unfoldable pub afterRead : Run → Bool → ℕ → Run
-afterRead run true more = failedRun run
-afterRead run false more =
-    record { held = run .held + more; next = run .next; filled = 0; ended = eqb more 0; over = false; failed = false }
+-- By what a read into so many places answered: a negative number where it failed, else how many bytes it gave. One that gives no byte is
+-- the end of the input, and one that fails is not.
+unfoldable pub afterRead : Run → ℤ → ℕ → Run
+afterRead run (negsuc k) room = failedRun run
+afterRead run (pos k) room = record {
+  held = run .held + min k room;
+  next = run .next;
+  filled = 0;
+  ended = eqb (min k room) 0;
+  over = false;
+  failed = false;
+}
 
 abbrev pub nextRun : Run → Progress → Run
 nextRun run done = record {
@@ -60,11 +68,11 @@ afterWrite run false = failedRun run
 abbrev pub heldOf : Run → List ℕ → List ℕ
 heldOf run input = take (run .held) input
 
--- What reading does: nothing where enough is held or the input has ended. Else a read fails, or gives so many bytes, which stand behind
--- what was held.
+-- What reading does: nothing where enough is held or the input has ended. Else a read into the places behind what is held answers, and the
+-- run goes by its answer.
 pub data ReadOn (run : Run) (input : List ℕ) (ready : Run) (area : List ℕ) : Type 0 where
   idle : readsMore run ≡ false → ready ≡ run → area ≡ input → ReadOn run input ready area
-  asked : (failed : Bool) (more : ℕ) → readsMore run ≡ true → more ≤ length input - run .held → ready ≡ afterRead run failed more
+  asked : (got : ℤ) → readsMore run ≡ true → ready ≡ afterRead run got (length input - run .held)
       → heldOf run area ≡ heldOf run input → ReadOn run input ready area
 
 -- the bytes that it read
@@ -79,6 +87,13 @@ pub data Answers (run : Run) (input : List ℕ) (answered : Run) (last lines : L
       → length lines ≡ done .filled → goesOn done (run .ended) (length (heldOf run input)) areaLength ≡ false
       → answered ≡ nextRun run done → heldOf answered last ≡ drop (done .used) (heldOf run input)
       → Answers run input answered last lines
+
+-- what the function that writes is called with: the lines that an answer made, all of them
+pub record LinesOf (run : Run) (lines : List ℕ) : Type 0 where
+  pub before : Run
+  pub input : List ℕ
+  pub last : List ℕ
+  pub answers : Answers before input run last lines
 
 pub record AfterWrite (run after : Run) : Type 0 where
   pub written : Bool

@@ -1,9 +1,10 @@
 // Records in, lines out (document 01, 'Printed result'): reads standard input, answers what is held and writes the lines, up to the
 // end, to the first malformed record, or to a read or a write that fails.
 //
-// Proved is everything between the reads and the writes: `Finished`, the contract of `all_steps`, says that what is handed to the writes is
-// the output for what the reads gave, or its front. No contract can say that a read gives the next bytes of standard input, that a write
-// puts its bytes on standard output, or which of them failed: tests/pipes.sh runs that.
+// Everything between the reads and the writes is proved: `Finished`, the contract of `all_steps`, says that the lines of a run are the
+// output for what its reads gave, or its front, and `write_lines` requires the lines that an answer made. No contract can say that a read
+// gives the next bytes of standard input, that a write puts its bytes on standard output, which of them failed, or that `main` makes one
+// run: tests/pipes.sh runs that.
 
 // A run, and what each call's result makes of it.
 mod runs;
@@ -16,7 +17,7 @@ use record_stream::answers;
 ghost use mathlib.Core.Path.{_≡_};
 ghost use Prim.Native.Nat.{_≤_};
 ghost use lib.ListN.{length, take};
-ghost use Rattle.probe.specs.Runs.{ReadOn, Answers, AfterWrite, Step, Finished};
+ghost use Rattle.probe.specs.Runs.{ReadOn, Answers, LinesOf, AfterWrite, Step, Finished};
 
 // Reads on where what is held may be less than a record. A read that fails is no end of the input: it ends the run, and standard error says
 // so.
@@ -30,8 +31,7 @@ fn read_on(run: Run, input: &mut [u8]) -> Run
     }
     let held = run.held;
     let got = libc::read(STDIN_FILENO, &mut input[held..]);
-    let more = io::count(got, &input[held..]);
-    let given = runs::after_read(run, got < 0, more);
+    let given = runs::after_read(run, got, &input[held..]);
     if given.failed {
         io::write_all(STDERR_FILENO, b"probe: standard input cannot be read\n");
         return given;
@@ -80,13 +80,12 @@ fn answer(
     runs::next_run(run, done)
 }
 
-// Writes the lines. A write that fails ends the run, and standard error says so.
-fn write_lines(run: Run, output: &[u8]) -> Run
-    requires { ⌜ run .filled ≤ length (now output) ⌝ }
+// Writes the lines of a run: all that it answered, and nothing else. A write that fails ends the run, and standard error says so.
+fn write_lines(run: Run, lines: &[u8]) -> Run
+    requires { ⌜ LinesOf run (now lines) ⌝ }
     ensures { λ r. ⌜ AfterWrite run r ⌝ }
 {
-    let filled = run.filled;
-    let written = io::write_all(STDOUT_FILENO, &output[..filled]);
+    let written = io::write_all(STDOUT_FILENO, lines);
     if !written {
         io::write_all(STDERR_FILENO, b"probe: standard output cannot be written\n");
         return runs::after_write(run, written);
@@ -129,7 +128,8 @@ fn step(
         stack,
         output,
     );
-    write_lines(answered, output)
+    let filled = answered.filled;
+    write_lines(answered, &output[..filled])
 }
 
 // Steps until the run is over. A proved loop ends: no run makes so many steps as the counter counts.

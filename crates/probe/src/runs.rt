@@ -58,14 +58,15 @@ pub fn failed_run(run: Run) -> Run
     }
 }
 
-// After a read that failed or gave so many bytes.
-pub fn after_read(run: Run, failed: bool, more: usize) -> Run
-    requires { ⌜ run .held + more < 18446744073709551616 ⌝ }
-    ensures { λ r. ⌜ r ≡ afterRead run failed more ⌝ }
+// After a read, by what it answered: a negative number where it failed, else how many bytes of `rest` it gave.
+pub fn after_read(run: Run, got: isize, rest: &[u8]) -> Run
+    requires { ⌜ run .held + length (now rest) < 18446744073709551616 ⌝ }
+    ensures { λ r. ⌜ r ≡ afterRead run got (length (now (rest .entry))) ⌝ }
 {
-    if failed {
+    if got < 0 {
         return failed_run(run);
     }
+    let more = io::count(got, rest);
     Run {
         held: run.held + more,
         next: run.next,

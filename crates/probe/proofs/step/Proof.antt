@@ -1,9 +1,10 @@
 -- `probe::step` meets its contract: it reads, answers and writes, and after a read that failed it does nothing. Assumes nothing.
-use mathlib.Core.Path.{refl}
+use mathlib.Core.Path.{refl, sym}
 use mathlib.Core.List.{List, []}
-use Prim.Native.Nat.{ℕ}
+use Prim.Native.Nat.{ℕ, _≤_}
 use native.Mathlib.Omega.{arith}
-use lib.ListN.{take}
+use lib.ListN.{length, take}
+use lib.Seq.{length-take-le}
 use borrow.Author.Needs.{needs}
 use Rattle.probe.specs.Runs.{readBytes, unread, stepped}
 use Rattle.probe.proofs.Returns.{write-held}
@@ -23,10 +24,27 @@ returns c =
     let k : tie.After-read-on = search in
     (record { bytes = []; lines = []; stepped = unread (k .read-on .ensures .0) (c .if1 .taken) refl refl }, k .read-on .ensures .1)
 
+-- the lines fit the output area
+lines-fit : (a : tie.After-answer) → a .answer .result .filled ≤ length (output a)
+lines-fit a =
+    let s : tie.Start = search in
+    omega (arith, s .pre .1 .1, a .answer .ensures .1 .1, a .answer .kept .1 .1 .1 .1 .1 .1 .1 .1 .1 .1 .0)
+
+slice-reshare-prefix-write-lines : tie.Need-slice-reshare-prefix-write-lines
+slice-reshare-prefix-write-lines c =
+    let a : tie.After-answer = search in
+    omega (arith, lines-fit a)
+
+slice-aggregate-write-lines : tie.Need-slice-aggregate-write-lines
+slice-aggregate-write-lines c =
+    let a : tie.After-answer = search in
+    sym (length-take-le _ (output a) (omega (arith, lines-fit a)))
+
+-- what is written are the lines of the answer, all of them
 write-lines-requires : tie.Need-write-lines-requires
 write-lines-requires c κs =
-    let (s, a) : tie.Start × tie.After-answer = search in
-    omega (arith, s .pre .1 .1, a .answer .ensures .1 .1, a .answer .kept .1 .1 .1 .1 .1 .1 .1 .1 .1 .1 .0)
+    let (k, a) : tie.After-read-on × tie.After-answer = search in
+    record { before = k .read-on .result; input = area k; last = _; answers = a .answer .ensures .0 }
 
 -- where the answer was made
 places : tie.After-answer → tie.Start × tie.After-read-on × tie.Else1
@@ -57,6 +75,8 @@ step-spec =
     (search needs)  -- same-length
     returns
     (search needs)  -- answer-requires
+    slice-reshare-prefix-write-lines
+    slice-aggregate-write-lines
     write-lines-requires
     (search needs)  -- same-length-2
     (search needs)  -- same-length-3

@@ -1,14 +1,7 @@
 -- `probe::write_lines` meets its contract. Assumes nothing.
-use mathlib.Core.Path.{sym}
-use lib.Seq.{length-take-le}
 use borrow.Author.Needs.{needs}
 use Rattle.probe.proofs.write_lines.Statement.{statement}
 use Rattle.probe.proofs.write_lines.Tie as tie
-
-slice-aggregate-write-all : tie.Need-slice-aggregate-write-all
-slice-aggregate-write-all c =
-    let s : tie.Start = search in
-    sym (length-take-le _ _ (s .pre))
 
 -- whatever the write answered is what the run goes by
 returns : tie.Need-returns
@@ -25,9 +18,8 @@ pub write-lines-spec : {M : Type 1} → statement M
 write-lines-spec =
     tie.close
     (tie.spec
-    slice-aggregate-write-all
     (search needs)  -- write-all-requires
-    (search needs)  -- slice-aggregate-write-all-2
+    (search needs)  -- slice-aggregate-write-all
     (search needs)  -- write-all-requires-2
     (search needs)  -- after-write-requires
     returns
