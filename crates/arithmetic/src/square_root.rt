@@ -84,7 +84,7 @@ fn careful_root(b: u64) -> f64
 }
 
 // a + b * x + c * x²
-#[derive(Drop)]
+#[derive(Clone, Copy)]
 struct Parabola(f64, f64, f64);
 
 // Near 1/(2 * sqrt(x)) on a piece, of 32 from 1 to 2 and 32 from 2 to 4. A match is compiled to a table. An array would be copied at each

@@ -4,7 +4,7 @@ use vectors::vec3::Vec3;
 
 // A range of an area, in elements. Laid out as C does, as Part is.
 #[repr(C)]
-#[derive(Drop)]
+#[derive(Clone, Copy)]
 pub struct Span {
     pub start: usize,
     pub length: usize,
@@ -12,7 +12,7 @@ pub struct Span {
 
 // A part: its origin, its node count, and where its mesh and its tree stand in the lent areas. The header's `probe_part`, 128 bytes.
 #[repr(C)]
-#[derive(Drop)]
+#[derive(Clone, Copy)]
 pub struct Part {
     pub origin: Vec3,
     pub nodes: usize,
@@ -25,14 +25,14 @@ pub struct Part {
 }
 
 // A part's answer with the nodes spent on it.
-#[derive(Drop)]
+#[derive(Clone, Copy)]
 pub struct CastCost {
     pub spent: usize,
     pub cast: IndexedCast,
 }
 
 // The nearest hit so far, or the first refusal.
-#[derive(Drop)]
+#[derive(Clone, Copy)]
 pub enum Found {
     Nothing,
     Hit {
@@ -45,7 +45,7 @@ pub enum Found {
 }
 
 // The number of the next part, the nodes spent and what was found in the parts before it.
-#[derive(Drop)]
+#[derive(Clone, Copy)]
 pub struct Progress {
     pub part: usize,
     pub spent: usize,
@@ -53,7 +53,7 @@ pub struct Progress {
 }
 
 // With what every part is cast at, and what is known before the next; nothing is cast at unless `casting`.
-#[derive(Drop)]
+#[derive(Clone, Copy)]
 pub struct State {
     pub ray: Ray,
     pub limit: usize,
@@ -63,7 +63,7 @@ pub struct State {
 
 // What the first pass goes by: the lengths of the lent areas, and the lowest refusal so far, 0 where there is none.
 // Numbers alone, so that they stay in registers.
-#[derive(Drop)]
+#[derive(Clone, Copy)]
 pub struct Look {
     pub vertices: usize,
     pub triangles: usize,

@@ -1,7 +1,7 @@
 use vectors::vec3::Vec3;
 
 // A hit with a unit normal and a distance, none, or a refusal with its number in document 01's table.
-#[derive(Drop)]
+#[derive(Clone, Copy)]
 pub enum Cast {
     Hit { normal: Vec3, distance: f64 },
     None,
@@ -9,7 +9,7 @@ pub enum Cast {
 }
 
 // The same without the normal: a hit at a distance, a miss, or a refusal with its number.
-#[derive(Drop)]
+#[derive(Clone, Copy)]
 pub enum Reach {
     At(f64),
     Miss,

@@ -10,7 +10,7 @@ use geometry::ray::Ray;
 use vectors::vec3::{Checked, Vec3};
 
 // All points whose dot with the normal is the distance.
-#[derive(Drop)]
+#[derive(Clone, Copy)]
 pub struct Plane {
     pub normal: Vec3,
     pub distance: f64,

@@ -6,7 +6,7 @@ use crate::polynomial::Cubic;
 use arithmetic::basic;
 
 // The interval after a halving, with the value at its low end, or a point within the tolerance.
-#[derive(Drop)]
+#[derive(Clone, Copy)]
 pub enum Halving {
     Open { low: f64, high: f64, low_value: f64 },
     Found(f64),

@@ -5,7 +5,7 @@ use arithmetic::{basic, extremes};
 use vectors::numbers;
 
 // a·u³ + b·u² + c·u + d
-#[derive(Drop)]
+#[derive(Clone, Copy)]
 pub struct Cubic {
     pub a: f64,
     pub b: f64,

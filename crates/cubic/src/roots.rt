@@ -9,7 +9,7 @@ use crate::{halving, polynomial, turns};
 use arithmetic::{basic, ordering};
 
 // Where between 0 and 1 a root lies.
-#[derive(Drop)]
+#[derive(Clone, Copy)]
 pub enum Root {
     At(f64),
     None,

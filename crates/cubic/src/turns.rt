@@ -6,7 +6,7 @@ use arithmetic::{basic, extremes, square_root};
 use vectors::numbers;
 
 // The points strictly between 0 and 1 where a cubic may turn.
-#[derive(Drop)]
+#[derive(Clone, Copy)]
 pub enum Turns {
     None,
     One(f64),

@@ -5,7 +5,7 @@ ghost use Rattle.distance_grid.specs.Faces.{value_at, face_at, low_x, high_x, lo
 use crate::grid::Grid;
 
 // The four values at the corners of a cell's face: by the first axis, then by the second.
-#[derive(Drop)]
+#[derive(Clone, Copy)]
 pub struct Face {
     pub a00: f64,
     pub a10: f64,

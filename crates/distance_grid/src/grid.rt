@@ -7,7 +7,7 @@ use geometry::spacing;
 use vectors::vec3::Vec3;
 
 // How many nodes stand along each axis.
-#[derive(Drop)]
+#[derive(Clone, Copy)]
 pub struct Sides {
     pub x: u32,
     pub y: u32,
@@ -15,7 +15,7 @@ pub struct Sides {
 }
 
 // Nodes from the origin on, apart by the spacing on each axis. The values at the nodes go along as a slice, x fastest.
-#[derive(Drop)]
+#[derive(Clone, Copy)]
 pub struct Grid {
     pub sides: Sides,
     pub origin: Vec3,

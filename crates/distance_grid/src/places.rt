@@ -10,7 +10,7 @@ use casts::answer;
 use vectors::vec3::Vec3;
 
 // A cell of one axis and where in it a point lies, or that the coordinate is not finite.
-#[derive(Drop)]
+#[derive(Clone, Copy)]
 pub enum Place {
     At { cell: u32, fraction: f64 },
     Overflow,
@@ -19,7 +19,7 @@ pub enum Place {
 // A cell of the grid and where in it a point lies on each axis, or a refusal's number.
 // Each fraction stands beside its cell: two fractions side by side are read as one pair right after they were stored one by one, and the
 // processor waits for that.
-#[derive(Drop)]
+#[derive(Clone, Copy)]
 pub enum Located {
     At {
         x: u32,
@@ -33,7 +33,7 @@ pub enum Located {
 }
 
 // The cell where a point is looked for first, on each axis. Any will do: the answer does not depend on it.
-#[derive(Drop)]
+#[derive(Clone, Copy)]
 pub struct Near {
     pub x: u32,
     pub y: u32,

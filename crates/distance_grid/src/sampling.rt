@@ -10,7 +10,7 @@ use casts::answer;
 use vectors::vec3::{Checked, Vec3};
 
 // A value and its gradient, or a refusal's number.
-#[derive(Drop)]
+#[derive(Clone, Copy)]
 pub enum Sampled {
     At { value: f64, gradient: Vec3 },
     Refused(u32),

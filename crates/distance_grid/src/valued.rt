@@ -12,7 +12,7 @@ use crate::{faces, places, sampling, steps};
 use vectors::vec3::Vec3;
 
 // The value of a sample, or a refusal's number.
-#[derive(Drop)]
+#[derive(Clone, Copy)]
 pub enum Valued {
     At(f64),
     Refused(u32),

@@ -15,7 +15,7 @@ use wide_integers::number::Wide;
 
 // A drill: the origin and the direction of its axis, the square of the direction's length, near and far times that, near and far, the
 // radius' square times that, the radius' square, and a number that is no less than the radius times the direction's length.
-#[derive(Drop)]
+#[derive(Clone, Copy)]
 pub struct Drill {
     pub origin: Point,
     pub direction: Point,
@@ -31,7 +31,7 @@ pub struct Drill {
 
 // A corner from the axis: where it is from the origin; its cross and its dot with the direction; how far it is above near and
 // below far.
-#[derive(Drop)]
+#[derive(Clone, Copy)]
 pub struct Corner {
     pub at: Point,
     pub moment: Point,

@@ -94,7 +94,7 @@ pub fn squares(x: Wide, y: Wide, z: Wide) -> Long
 }
 
 // A vector of three words each.
-#[derive(Drop)]
+#[derive(Clone, Copy)]
 pub struct Across {
     pub x: Wide,
     pub y: Wide,

@@ -18,7 +18,7 @@ use wide_integers::triples::Long;
 use wide_integers::{long, number};
 
 // A direction.
-#[derive(Drop)]
+#[derive(Clone, Copy)]
 pub struct Way {
     pub x: Wide,
     pub y: Wide,
@@ -120,7 +120,7 @@ fn cap_near(area: i64, length: Wide, k: Wide, whole: Wide) -> bool
 }
 
 // How far the corners are along a direction.
-#[derive(Drop)]
+#[derive(Clone, Copy)]
 pub struct Steps {
     pub a: Wide,
     pub b: Wide,

@@ -56,7 +56,7 @@ fn crossing_in(reach: Wide, side: i64, v: Point, w: Point, f: Wide, g: Wide) -> 
 }
 
 // The weights of two corners.
-#[derive(Drop)]
+#[derive(Clone, Copy)]
 pub struct Weights {
     pub first: Wide,
     pub second: Wide,

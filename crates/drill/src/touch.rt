@@ -18,7 +18,7 @@ use wide_integers::number;
 use wide_integers::number::Wide;
 
 // Where the axis' line crosses a triangle's plane: the weights of that point, their sum, and how far it is past near and before far.
-#[derive(Drop)]
+#[derive(Clone, Copy)]
 pub struct Pierce {
     pub i: Wide,
     pub j: Wide,
@@ -111,7 +111,7 @@ fn highs(a: Corner, b: Corner, c: Corner) -> Steps
 }
 
 // The line in which a triangle's plane crosses the caps' planes: the square of its direction, and how far the corners are along it.
-#[derive(Drop)]
+#[derive(Clone, Copy)]
 pub struct Frame {
     pub whole: Wide,
     pub steps: Steps,

@@ -12,21 +12,21 @@ use wide_integers::number;
 use wide_integers::number::Wide;
 
 // A corner in a plane that the line lies in: the line is u = 0.
-#[derive(Drop)]
+#[derive(Clone, Copy)]
 pub struct Corner {
     pub u: i64,
     pub depth: i64,
 }
 
 // A side's own test of a depth t / w: level · w - fall · t is not below 0 on the triangle's side of it.
-#[derive(Drop)]
+#[derive(Clone, Copy)]
 pub struct Edge {
     pub level: Wide,
     pub fall: i64,
 }
 
 // The depth t / w, with w above 0.
-#[derive(Drop)]
+#[derive(Clone, Copy)]
 pub struct PlaneDepth {
     pub t: Wide,
     pub w: i64,

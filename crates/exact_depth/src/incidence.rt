@@ -6,7 +6,7 @@ use crate::projection::Projected;
 use crate::{orientation, sides};
 
 // Where a line passes a triangle: outside of it, through it at one point, or in its plane.
-#[derive(Drop)]
+#[derive(Clone, Copy)]
 pub enum Incidence {
     Outside,
     Crossing,

@@ -4,7 +4,7 @@ ghost use Rattle.wide_integers.specs.Determinant.{determinant};
 ghost use Rattle.exact_depth.specs.Orientation.{LimbsOf, LimbsSized, SignOf, high_part, middle_part, low_part};
 
 // A number as high · 2^31 + low, with low from 0 to below 2^31.
-#[derive(Drop)]
+#[derive(Clone, Copy)]
 pub struct Limbs {
     pub high: i64,
     pub low: i64,

@@ -1,5 +1,5 @@
 // A point of the grid.
-#[derive(Drop)]
+#[derive(Clone, Copy)]
 pub struct Point {
     pub x: i64,
     pub y: i64,
@@ -7,7 +7,7 @@ pub struct Point {
 }
 
 // A corner as the line sees it: how far to the side, how far up, and how deep, from the ray's origin.
-#[derive(Drop)]
+#[derive(Clone, Copy)]
 pub struct Projected {
     pub across: i64,
     pub up: i64,
@@ -15,13 +15,13 @@ pub struct Projected {
 }
 
 // The depth t / w, with w above 0.
-#[derive(Drop)]
+#[derive(Clone, Copy)]
 pub struct Fraction {
     pub t: i64,
     pub w: i64,
 }
 
-#[derive(Drop)]
+#[derive(Clone, Copy)]
 pub enum Depth {
     At(Fraction),
     Miss,

@@ -6,13 +6,13 @@ use wide_integers::number;
 use wide_integers::number::Wide;
 
 // The depth t / w, with w above 0.
-#[derive(Drop)]
+#[derive(Clone, Copy)]
 pub struct WideDepth {
     pub t: Wide,
     pub w: Wide,
 }
 
-#[derive(Drop)]
+#[derive(Clone, Copy)]
 pub enum Found {
     At(WideDepth),
     Miss,

@@ -25,7 +25,7 @@ use vectors::vec3::{Normalized, Vec3};
 use wide_integers::{guess, number};
 
 // The three corners on the grid.
-#[derive(Drop)]
+#[derive(Clone, Copy)]
 pub enum GridCorners {
     At { a: Point, b: Point, c: Point },
     Off,

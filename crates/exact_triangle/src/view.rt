@@ -14,7 +14,7 @@ use geometry::ray::Ray;
 const UNIT: f64 = 0.000030517578125;
 
 // The axis that the depth is measured along.
-#[derive(Drop)]
+#[derive(Clone, Copy)]
 pub enum Axis {
     X,
     Y,
@@ -23,7 +23,7 @@ pub enum Axis {
 
 // A line on the grid: its origin, its direction, that with the depth last and 2^30 with the sign of that, how much depth there is to a
 // unit along it, and the depths of its ends, and their distances in millimetres.
-#[derive(Drop)]
+#[derive(Clone, Copy)]
 pub struct View {
     pub axis: Axis,
     pub origin: Point,
@@ -37,7 +37,7 @@ pub struct View {
     pub finish: f64,
 }
 
-#[derive(Drop)]
+#[derive(Clone, Copy)]
 pub enum GridView {
     On(View),
     Off,

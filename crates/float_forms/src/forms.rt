@@ -2,7 +2,7 @@ ghost use Rattle.std.specs.Prelude.{◌≡◌};
 ghost use Rattle.float_forms.specs.Forms.{size_of, version_of, rays_of, form_of, long_form};
 
 // How a record writes its floats, by its version: 1 and 2 in 8 bytes, 3 in 4. A ray of version 1 has no near distance.
-#[derive(Drop)]
+#[derive(Clone, Copy)]
 pub enum Form {
     First,
     Long,
@@ -10,7 +10,7 @@ pub enum Form {
 }
 
 // A converter's answer.
-#[derive(Drop)]
+#[derive(Clone, Copy)]
 pub enum Converted {
     // The whole record written is so many bytes long, the four of its length among them.
     Written(usize),

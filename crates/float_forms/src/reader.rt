@@ -2,7 +2,7 @@ ghost use Rattle.std.specs.Prelude.{◌≡◌, ◌<◌, length};
 ghost use Rattle.float_forms.specs.Words.{says, byte_at, word_at};
 
 // A word, or nothing where fewer than eight bytes are left.
-#[derive(Drop)]
+#[derive(Clone, Copy)]
 pub enum Word {
     Bits(u64),
     Nothing,

@@ -9,7 +9,7 @@ use crate::forms::Form;
 use crate::{forms, short};
 
 // The pattern that stands for a float exactly, if the form has one.
-#[derive(Drop)]
+#[derive(Clone, Copy)]
 pub enum Pattern {
     Bits(u64),
     Unrepresentable,

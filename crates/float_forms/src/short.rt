@@ -5,7 +5,7 @@ ghost use Rattle.std.specs.Float.{binary32};
 ghost use Rattle.float_forms.specs.Short.{guess, short_of};
 
 // The pattern of 4 bytes that stands for a float, or that there is none.
-#[derive(Drop)]
+#[derive(Clone, Copy)]
 pub enum Short {
     Pattern(u32),
     Unrepresentable,

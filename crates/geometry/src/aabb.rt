@@ -6,7 +6,7 @@ use arithmetic::basic;
 use vectors::vec3::Vec3;
 
 // The box of all points from min to max on every axis.
-#[derive(Drop)]
+#[derive(Clone, Copy)]
 pub struct Aabb {
     pub min: Vec3,
     pub max: Vec3,

@@ -6,7 +6,7 @@ use crate::aabb::Aabb;
 use arithmetic::basic;
 use vectors::vec3::Vec3;
 
-#[derive(Drop)]
+#[derive(Clone, Copy)]
 pub struct Ray {
     pub origin: Vec3,
     pub direction: Vec3,

@@ -10,21 +10,21 @@ use vectors::numbers;
 use vectors::vec3::Vec3;
 
 // The cell of one axis, or that the coordinate is not finite.
-#[derive(Drop)]
+#[derive(Clone, Copy)]
 pub enum Cell {
     At(u32),
     Overflow,
 }
 
 // The cell at a point, by its lowest node on each axis.
-#[derive(Drop)]
+#[derive(Clone, Copy)]
 pub enum Cells {
     At { x: u32, y: u32, z: u32 },
     Overflow,
 }
 
 // The distance at which a cell ends, or that one of an axis is not finite.
-#[derive(Drop)]
+#[derive(Clone, Copy)]
 pub enum Boundary {
     At(f64),
     Overflow,

@@ -6,7 +6,7 @@ use geometry::aabb::Aabb;
 use geometry::ray::Ray;
 
 // The distances of the ray that lie in the box, or none.
-#[derive(Drop)]
+#[derive(Clone, Copy)]
 pub enum Interval {
     Within { entry: f64, exit: f64 },
     Miss,

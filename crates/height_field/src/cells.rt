@@ -5,7 +5,7 @@ use crate::field;
 use arithmetic::{basic, rounding};
 
 // The cells of one axis that a box covers: from the first to the last, or none where it lies outside the grid.
-#[derive(Drop)]
+#[derive(Clone, Copy)]
 pub enum CellRange {
     Outside,
     Cells { first: usize, last: usize },

@@ -5,7 +5,7 @@ use geometry::spacing;
 use vectors::vec3::Vec3;
 
 // A grid of heights in row order, which stand in a slice beside it: x runs along the columns, y along the rows.
-#[derive(Drop)]
+#[derive(Clone, Copy)]
 pub struct Field {
     pub rows: usize,
     pub columns: usize,

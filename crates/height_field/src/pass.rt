@@ -19,7 +19,7 @@ use vectors::vec3::Vec3;
 
 // What the cells so far came to: the nearest hit, none or a triangle's refusal, which later cells may still override;
 // or the refusal of the listing, which ends the cast.
-#[derive(Drop)]
+#[derive(Clone, Copy)]
 pub enum Pass {
     Going(IndexedCast),
     Ended(u32),

@@ -8,7 +8,7 @@ use crate::field::Field;
 use geometry::aabb::Aabb;
 
 // The cells that a box visits: the rows from the first to the last, each from column left to right; or none.
-#[derive(Drop)]
+#[derive(Clone, Copy)]
 pub enum Visited {
     None,
     Cells {

@@ -15,14 +15,14 @@ use geometry::ray::Ray;
 use vectors::vec3::{Normalized, Vec3};
 
 // The values at 0, 1/3, 2/3 and 1 of the way through a cell, or a refusal's number.
-#[derive(Drop)]
+#[derive(Clone, Copy)]
 pub enum Samples {
     All { y0: f64, y1: f64, y2: f64, y3: f64 },
     Refused(u32),
 }
 
 // The value that was taken at a distance. The distance is NaN where none was.
-#[derive(Drop)]
+#[derive(Clone, Copy)]
 pub struct Known {
     pub distance: f64,
     pub value: f64,

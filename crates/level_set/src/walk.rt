@@ -21,7 +21,7 @@ use grid_steps::interval::Interval;
 use grid_steps::{cells, interval};
 
 // What a cell gives: the answer, or the distance from which the walk goes on and the value that was taken there.
-#[derive(Drop)]
+#[derive(Clone, Copy)]
 pub enum Step {
     Done(Cast),
     On { next: f64, known: Known },

@@ -1,5 +1,5 @@
 // Clear, the lowest index of a triangle that is touched, or a refusal with its number.
-#[derive(Drop)]
+#[derive(Clone, Copy)]
 pub enum DrillCast {
     Clear,
     Touched(u32),

@@ -23,7 +23,7 @@ const WIDEST: f64 = 128.0;
 const UNIT: f64 = 0.000030517578125;
 
 // A drill on the grid: the origin and the direction of its axis, where it begins and ends on it, and its radius.
-#[derive(Drop)]
+#[derive(Clone, Copy)]
 pub struct Cylinder {
     pub origin: Point,
     pub direction: Point,

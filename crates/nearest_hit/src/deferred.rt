@@ -17,7 +17,7 @@ use vectors::vec3;
 use vectors::vec3::{Normalized, Vec3};
 
 // What was found so far, with the edges' cross and its dot with itself in place of the normal: the root is left for the hit that wins.
-#[derive(Drop)]
+#[derive(Clone, Copy)]
 pub enum Near {
     Hit {
         cross: Vec3,

@@ -12,7 +12,7 @@ use triangle_cast::triangle;
 use vectors::vec3::Vec3;
 
 // The answer of a cast at many triangles: the hit adds the triangle's index.
-#[derive(Drop)]
+#[derive(Clone, Copy)]
 pub enum IndexedCast {
     Hit {
         normal: Vec3,

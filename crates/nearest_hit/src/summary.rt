@@ -5,21 +5,21 @@ ghost use Rattle.nearest_hit.specs.Summary.{says_chosen_hit, says_nearest_so_far
 use casts::answer::Reach;
 
 // An index with the number of its refusal, or nobody yet.
-#[derive(Drop)]
+#[derive(Clone, Copy)]
 pub enum ChosenRefusal {
     Nobody,
     At { index: u32, number: u32 },
 }
 
 // An index with its distance, or nobody yet.
-#[derive(Drop)]
+#[derive(Clone, Copy)]
 pub enum ChosenHit {
     Nobody,
     At { index: u32, distance: f64 },
 }
 
 // The answer of all, without a normal: nobody's, a refusal with its number, or that of a triangle hit at a distance.
-#[derive(Drop)]
+#[derive(Clone, Copy)]
 pub enum Outcome {
     Nobody,
     Refused(u32),
@@ -27,7 +27,7 @@ pub enum Outcome {
 }
 
 // What of many triangles decides the nearest hit, in whatever order they come: the lowest that refuses, and the nearest that is hit.
-#[derive(Drop)]
+#[derive(Clone, Copy)]
 pub struct NearestSoFar {
     pub refuser: ChosenRefusal,
     pub least: ChosenHit,

@@ -5,7 +5,7 @@ ghost use Rattle.probe.specs.Runs.{start_run, reads_more, failed_run, after_read
 use record_stream::answers::Progress;
 
 // input[..held] was read and is not used yet; output[..filled] are the lines that are written next.
-#[derive(Drop)]
+#[derive(Clone, Copy)]
 pub struct Run {
     pub held: usize,
     // The next record's number.

@@ -10,7 +10,7 @@ use float_forms::{bytes, forms};
 pub const LONGEST: usize = 8192;
 
 // How many u32, floats and u32 follow the ray's floats, in a well-formed record of a kind.
-#[derive(Drop)]
+#[derive(Clone, Copy)]
 pub struct Plan {
     pub kind: u8,
     pub counts: usize,
@@ -18,7 +18,7 @@ pub struct Plan {
     pub indices: usize,
 }
 
-#[derive(Drop)]
+#[derive(Clone, Copy)]
 pub enum Planned {
     Is(Plan),
     Malformed,

@@ -5,7 +5,7 @@ use crate::shape;
 use float_forms::bytes;
 
 // What stands at the front of a stream.
-#[derive(Drop)]
+#[derive(Clone, Copy)]
 pub enum Found {
     // A record of that many bytes, the four of its length among them.
     Record(usize),

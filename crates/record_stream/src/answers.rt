@@ -7,7 +7,7 @@ use record_bytes::stream::Found;
 use records::lines;
 
 // How far the input is answered.
-#[derive(Drop)]
+#[derive(Clone, Copy)]
 pub struct Progress {
     // How many bytes of the input are used.
     pub used: usize,

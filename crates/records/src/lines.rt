@@ -20,7 +20,7 @@ use record_text::{answers, text};
 // digits are set aside for each whole number.
 
 // What was printed for a record: the place behind it, and whether the record is malformed.
-#[derive(Drop)]
+#[derive(Clone, Copy)]
 pub struct Printed {
     pub end: usize,
     pub malformed: bool,

@@ -10,7 +10,7 @@ use lists::fill;
 use tree::{layout, mesh, writing};
 
 // The node count, or a refusal with its number in document 01's table.
-#[derive(Drop)]
+#[derive(Clone, Copy)]
 pub enum Built {
     Nodes(usize),
     Refused(u32),

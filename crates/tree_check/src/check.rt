@@ -10,7 +10,7 @@ use casts::answer;
 use tree::{layout, mesh};
 
 // Yes, no, or a refusal with its number in document 01's table.
-#[derive(Drop)]
+#[derive(Clone, Copy)]
 pub enum Verdict {
     Yes,
     No,

@@ -7,14 +7,14 @@ ghost use Rattle.tree_exact.specs.Room.{SideSized, MultipleSized, DifferenceSize
 use exact_depth::projection::Projected;
 
 // The whole numbers from low to high.
-#[derive(Drop)]
+#[derive(Clone, Copy)]
 pub struct Span {
     pub low: i64,
     pub high: i64,
 }
 
 // A box as a line faces it.
-#[derive(Drop)]
+#[derive(Clone, Copy)]
 pub struct Room {
     pub across: Span,
     pub up: Span,

@@ -31,21 +31,21 @@ use nearest_hit::summary::{ChosenHit, NearestSoFar};
 use tree::{layout, mesh as triangle_mesh};
 
 // What was found so far, and the depth from which on nothing can take its place.
-#[derive(Drop)]
+#[derive(Clone, Copy)]
 pub struct Best {
     pub notes: NearestSoFar,
     pub past: i64,
 }
 
 // What was found with a leaf's triangles, or that a place of it is none, a 5.
-#[derive(Drop)]
+#[derive(Clone, Copy)]
 pub enum Noted {
     NearestSoFar(NearestSoFar),
     Bad,
 }
 
 // How many nodes stand on the stack after a node, and what was found so far if the node was a leaf; or a 5.
-#[derive(Drop)]
+#[derive(Clone, Copy)]
 pub enum Step {
     NothingFound(usize),
     Next { top: usize, best: Best },
@@ -53,7 +53,7 @@ pub enum Step {
 }
 
 // What the whole walk found, or a 5.
-#[derive(Drop)]
+#[derive(Clone, Copy)]
 pub enum Walked {
     Ended(NearestSoFar),
     Broken,

@@ -10,7 +10,7 @@ use tree::layout;
 use tree_walk::step::Filled;
 
 // How many triangles are listed, or a refusal with its number in document 01's table.
-#[derive(Drop)]
+#[derive(Clone, Copy)]
 pub enum Listed {
     Count(usize),
     Refused(u32),

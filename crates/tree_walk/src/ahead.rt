@@ -11,7 +11,7 @@ use tree::layout;
 
 // The node that is opened next, how many stand on the stack below it, how many triangles in the list and how many nodes are counted; or how
 // many triangles the whole walk has listed, or that it met a 5.
-#[derive(Drop)]
+#[derive(Clone, Copy)]
 pub enum Opened {
     Next {
         node: usize,

@@ -8,7 +8,7 @@ use geometry::aabb::Aabb;
 use tree::layout;
 
 // How many places of an area are filled, or that the walk met a 5.
-#[derive(Drop)]
+#[derive(Clone, Copy)]
 pub enum Filled {
     Count(usize),
     Broken,
@@ -16,7 +16,7 @@ pub enum Filled {
 
 // The node that is taken next, how many stand on the stack below it and how many triangles in the list; or how many triangles the whole
 // walk has listed, or that it met a 5.
-#[derive(Drop)]
+#[derive(Clone, Copy)]
 pub enum Stepped {
     Next {
         node: usize,

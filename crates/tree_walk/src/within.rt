@@ -10,7 +10,7 @@ use geometry::aabb::Aabb;
 
 // How many triangles are listed, that the walk met a 5, or that the limit was used up when a node was to be taken; each with the nodes
 // spent.
-#[derive(Drop)]
+#[derive(Clone, Copy)]
 pub enum Limited {
     Count { found: usize, spent: usize },
     Broken(usize),

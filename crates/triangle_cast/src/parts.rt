@@ -1,7 +1,7 @@
 use vectors::vec3::Vec3;
 
 // What the tests of v, of the sum and of the range leave of a triangle: a distance, which may be NaN, or a miss.
-#[derive(Drop)]
+#[derive(Clone, Copy)]
 pub enum Distance {
     At(f64),
     Miss,
@@ -9,7 +9,7 @@ pub enum Distance {
 
 // What is known of a triangle after the first of its tests: u is in range, with what the others need, or a miss, or a refusal with its
 // number.
-#[derive(Drop)]
+#[derive(Clone, Copy)]
 pub enum Crossing {
     Within {
         offset: Vec3,

@@ -8,7 +8,7 @@ use arithmetic::{basic, extremes, scaling, square_root};
 
 // Laid out as C does: a part of a cabinet (crates/cabinet) has its origin in it.
 #[repr(C)]
-#[derive(Drop)]
+#[derive(Clone, Copy)]
 pub struct Vec3 {
     pub x: f64,
     pub y: f64,
@@ -16,14 +16,14 @@ pub struct Vec3 {
 }
 
 // A number, or that it is not finite.
-#[derive(Drop)]
+#[derive(Clone, Copy)]
 pub enum Checked {
     Value(f64),
     Overflow,
 }
 
 // A vector divided by its length, or that it has no direction that can be told.
-#[derive(Drop)]
+#[derive(Clone, Copy)]
 pub enum Normalized {
     Unit(Vec3),
     Degenerate,

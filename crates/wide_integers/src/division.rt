@@ -7,14 +7,14 @@ use crate::number;
 use crate::number::Wide;
 
 // A number, doubled some times.
-#[derive(Drop)]
+#[derive(Clone, Copy)]
 pub struct Grown {
     pub whole: Wide,
     pub power: u64,
 }
 
 // The digits of a quotient so far, and what is left.
-#[derive(Drop)]
+#[derive(Clone, Copy)]
 pub struct Quotient {
     pub word: u64,
     pub rest: Wide,

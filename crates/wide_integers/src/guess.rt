@@ -8,21 +8,21 @@ use crate::number::Wide;
 use crate::{division, number};
 
 // A number, where three words held it.
-#[derive(Drop)]
+#[derive(Clone, Copy)]
 pub enum Fit {
     Is(Wide),
     Not,
 }
 
 // A quotient's digits, where the guess at them was right.
-#[derive(Drop)]
+#[derive(Clone, Copy)]
 pub enum Settled {
     Is(Quotient),
     Not,
 }
 
 // The float that was sought, where the guess at it was right.
-#[derive(Drop)]
+#[derive(Clone, Copy)]
 pub enum Sought {
     At(f64),
     Not,

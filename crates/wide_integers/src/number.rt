@@ -5,7 +5,7 @@ ghost use Rattle.wide_integers.specs.Value.{value, FitsWide, Middling, Weight};
 use crate::words;
 
 // A whole number from -2^191 to below 2^191: high · 2^128 + middle · 2^64 + low - 2^191. So numbers are in order as their words are.
-#[derive(Drop)]
+#[derive(Clone, Copy)]
 pub struct Wide {
     pub high: u64,
     pub middle: u64,

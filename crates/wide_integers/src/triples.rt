@@ -7,14 +7,14 @@ use crate::words;
 use crate::words::Double;
 
 // Three words, high · 2^128 + middle · 2^64 + low, and what passes them.
-#[derive(Drop)]
+#[derive(Clone, Copy)]
 pub struct Carried {
     pub words: Wide,
     pub over: u64,
 }
 
 // Six words, high · 2^192 + low, three of them each.
-#[derive(Drop)]
+#[derive(Clone, Copy)]
 pub struct Long {
     pub high: Wide,
     pub low: Wide,
@@ -153,7 +153,7 @@ pub fn chosen(s: u64, a: Wide) -> Wide
 }
 
 // Four words.
-#[derive(Drop)]
+#[derive(Clone, Copy)]
 pub struct Quad {
     pub w3: u64,
     pub w2: u64,
@@ -178,7 +178,7 @@ pub fn multiply_pairs(a1: u64, a0: u64, b1: u64, b0: u64) -> Quad
 }
 
 // Two words, and what passes them.
-#[derive(Drop)]
+#[derive(Clone, Copy)]
 pub struct Short {
     pub high: u64,
     pub low: u64,

@@ -2,21 +2,21 @@ ghost use Rattle.std.specs.Prelude.{◌+◌, ◌*◌, ◌≤◌};
 ghost use Rattle.wide_integers.specs.Steps.{Added, Subtracted, Multiplied, SplitSign};
 
 // The lowest 64 digits of a sum or a difference, and what passes them: 1 or 0.
-#[derive(Drop)]
+#[derive(Clone, Copy)]
 pub struct Digit {
     pub word: u64,
     pub over: u64,
 }
 
 // A product, high · 2^64 + low.
-#[derive(Drop)]
+#[derive(Clone, Copy)]
 pub struct Double {
     pub high: u64,
     pub low: u64,
 }
 
 // A number with a sign, word - below · 2^64. Below is 1 or 0.
-#[derive(Drop)]
+#[derive(Clone, Copy)]
 pub struct Part {
     pub word: u64,
     pub below: u64,
