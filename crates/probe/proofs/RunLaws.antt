@@ -1,5 +1,5 @@
 -- What the steps of `probe` hand to its writes is the output for what its reads gave. Assumes nothing.
-use Prim.Native.Nat.{ℕ, ◌+◌, ◌-◌, ◌≤◌}
+use Prim.Native.Nat.{ℕ, min, ◌+◌, ◌-◌, ◌≤◌}
 use mathlib.Core.Path.{◌≡◌, refl, sym, ap, subst, ◌∙◌}
 use mathlib.Core.Bool.{Bool, true, false, not, ◌&&◌, false≢true, true≢false}
 use mathlib.Core.List.{List, [], ◌++◌, append_assoc, append-nil}
@@ -9,7 +9,6 @@ use lib.Dec.{ltb}
 use lib.IntN.{ℤ, pos, negsuc}
 use lib.ListN.{length, take, drop}
 use lib.Seq.{take-add}
-use Rattle.io.specs.Counts.{clamp_len}
 use Rattle.records.specs.Output.{output_of}
 use Rattle.record_stream.specs.declared.answers.Progress.{Progress}
 use Rattle.record_stream.specs.Progress.{output_from, output_after, MayCome, Answered}
@@ -70,9 +69,14 @@ pub record Given (run ready : Run) (count : ℕ) : Type 0 where
   pub same : ready.next ≡ run.next
   pub untouched : ready.over ≡ false
 
+-- how many bytes it gave
+read_count : ℤ → ℕ → ℕ
+read_count (pos k) room = min k room
+read_count (negsuc k) room = 0
+
 given : (run ready : Run) (got : ℤ) (room : ℕ) → ready ≡ after_read run got room → ready.failed ≡ false
-    → Given run ready (clamp_len got room)
-unfolding after_read
+    → Given run ready (read_count got room)
+unfolding after_read read_count
 given run ready (negsuc k) room e f = absurd (true≢false (sym (ap (λ (r : Run). r.failed) e) ∙ f))
 given run ready (pos k) room e f =
     record { grown = ap (λ (r : Run). r.held) e; same = ap (λ (r : Run). r.next) e; untouched = ap (λ (r : Run). r.over) e }

@@ -6,6 +6,8 @@
 // gives the next bytes of standard input, that a write puts its bytes on standard output, which of them failed, or that `main` makes one
 // run: tests/pipes.sh runs that.
 
+#![tactic(auto)]
+
 // A run, and what each call's result makes of it.
 mod runs;
 
@@ -13,12 +15,12 @@ ghost use Rattle.std.specs.Prelude.{◌≡◌, ◌≤◌, length, take};
 ghost use Rattle.probe.specs.Runs.{ReadOn, Answers, LinesOf, AfterWrite, Step, Finished};
 
 use crate::runs::Run;
-use libc::{STDERR_FILENO, STDIN_FILENO, STDOUT_FILENO};
 use record_stream::answers;
+use std::io::{Eprint, Print, Read};
 
 // Reads on where what is held may be less than a record. A read that fails is no end of the input: it ends the run, and standard error says
 // so.
-fn read_on(run: Run, input: &mut [u8]) -> Run
+fn read_on(rt: &HostRuntime, run: Run, input: &mut [u8]) -> Run
     requires { (run.held ≤ 65536) × (length input.old ≡ 65536) }
     ensures read_on { ReadOn run input.old result input.new }
     ensures held_bound { result.held ≤ 65536 }
@@ -27,11 +29,13 @@ fn read_on(run: Run, input: &mut [u8]) -> Run
         return run;
     }
     let held = run.held;
-    let got = libc::read(STDIN_FILENO, &mut input[held..]);
+    let got = match rt.stdin().read(&mut input[held..]) {
+        Ok(count) => count as isize,
+        Err(_) => -1,
+    };
     let given = runs::after_read(run, got, &input[held..]);
     if given.failed {
-        io::write_all(STDERR_FILENO, b"probe: standard input cannot be read\n");
-        return given;
+        let _ = eprintln!(rt; "probe: standard input cannot be read");
     }
     given
 }
@@ -78,20 +82,20 @@ fn answer(
 }
 
 // Writes the lines of a run: all that it answered, and nothing else. A write that fails ends the run, and standard error says so.
-fn write_lines(run: Run, lines: &[u8]) -> Run
+fn write_lines(rt: &HostRuntime, run: Run, lines: &[u8]) -> Run
     requires { LinesOf run lines.now }
     ensures { AfterWrite run result }
 {
-    let written = io::write_all(STDOUT_FILENO, lines);
+    let written = rt.write_all(lines).is_ok();
     if !written {
-        io::write_all(STDERR_FILENO, b"probe: standard output cannot be written\n");
-        return runs::after_write(run, written);
+        let _ = eprintln!(rt; "probe: standard output cannot be written");
     }
     runs::after_write(run, written)
 }
 
 // Reads, answers, writes; after a read that failed nothing is answered.
 fn step(
+    rt: &HostRuntime,
     run: Run,
     input: &mut [u8],
     work: &mut [f64; 1024],
@@ -108,7 +112,7 @@ fn step(
     ensures step { Step run input.old result input.new }
     ensures held_bound { result.held ≤ 65536 }
 {
-    let ready = read_on(run, input);
+    let ready = read_on(rt, run, input);
     if ready.failed {
         return ready;
     }
@@ -126,14 +130,14 @@ fn step(
         output,
     );
     let filled = answered.filled;
-    write_lines(answered, &output[..filled])
+    write_lines(rt, answered, &output[..filled])
 }
 
 // Steps until the run is over. A proved loop ends: no run makes so many steps as the counter counts.
-fn all_steps() -> Run
+fn all_steps(rt: &HostRuntime) -> Run
     ensures { Finished result }
 {
-    let mut input = io::large_buffer();
+    let mut input = [0u8; 65536];
     let mut work = [0.0; 1024];
     let mut triangles = [0u32; 2031];
     let mut node_boxes = [0.0; 8124];
@@ -142,11 +146,12 @@ fn all_steps() -> Run
     let mut order = [0u32; 677];
     let mut list = [0u32; 677];
     let mut stack = [0u32; 1355];
-    let mut output = io::large_buffer();
+    let mut output = [0u8; 65536];
     let mut run = runs::start();
     let mut steps: u64 = 0;
     while steps < u64::MAX && !run.over {
         run = step(
+            rt,
             run,
             &mut input,
             &mut work,
@@ -164,6 +169,6 @@ fn all_steps() -> Run
     run
 }
 
-fn main() {
-    all_steps();
+fn main(rt: HostRuntime) {
+    all_steps(&rt);
 }

@@ -65,7 +65,7 @@ pub fn after_read(run: Run, got: isize, rest: &[u8]) -> Run
     if got < 0 {
         return failed_run(run);
     }
-    let more = io::count(got, rest);
+    let more = rest.len().min(got as usize);
     Run {
         held: run.held + more,
         next: run.next,

@@ -1,0 +1,17 @@
+use Rattle.std.proofs.Common.{◌≡◌, ◌-◌, ◌≤◌, length}
+use Rattle.probe.specs.Runs.{most_steps}
+use Rattle.probe.proofs.RunLaws.{Looped}
+use Rattle.probe.proofs.all_steps.Given as goal
+
+-- the areas keep their lengths, and so many steps were made
+abbrev pub invariant-loop-steps : goal.invariant-loop-steps
+invariant-loop-steps l = record {
+  input_length : length l.input ≡ 65536;
+  output_length : length l.output ≡ 65536;
+  held_bound : l.run.held ≤ 65536;
+  looped : Looped l.steps l.run l.input;
+}
+
+-- what is left of the steps that it may make
+abbrev pub decreases-loop-steps : goal.decreases-loop-steps
+decreases-loop-steps l = most_steps - l.steps
