@@ -101,8 +101,7 @@ fn value_known(
     distance: f64,
     known: Known,
 ) -> Valued
-    requires fact_1 { Stands grid values.now }
-    requires fact_2 { Remembered ray grid values.now known }
+    requires { (Stands grid values.now) × (Remembered ray grid values.now known) }
     ensures { result ≡ value_along ray grid values.now distance }
 {
     if is_same(known.distance, distance) {
@@ -137,8 +136,7 @@ pub fn samples_along(
     end: f64,
     known: Known,
 ) -> Samples
-    requires fact_1 { Stands grid values.now }
-    requires fact_2 { Remembered ray grid values.now known }
+    requires { (Stands grid values.now) × (Remembered ray grid values.now known) }
     ensures { result ≡ samples_along ray grid values.now current end }
 {
     let mut y0 = 0.0;

@@ -52,8 +52,7 @@ fn cell_by(
     samples: [f64; 4],
     known: Known,
 ) -> Step
-    requires fact_1 { Stands grid values.now }
-    requires fact_2 { Remembered ray grid values.now known }
+    requires { (Stands grid values.now) × (Remembered ray grid values.now known) }
     ensures fact_1 { tells result ≡ cell_by ray grid values.now current end exit samples }
     ensures fact_2 { Kept ray grid values.now result }
 {
@@ -81,8 +80,7 @@ fn cell_cast(
     exit: f64,
     known: Known,
 ) -> Step
-    requires fact_1 { Stands grid values.now }
-    requires fact_2 { Remembered ray grid values.now known }
+    requires { (Stands grid values.now) × (Remembered ray grid values.now known) }
     ensures fact_1 { tells result ≡ cell_cast ray grid values.now current end exit }
     ensures fact_2 { Kept ray grid values.now result }
 {
@@ -119,8 +117,7 @@ fn goes_to(
     next: f64,
     known: Known,
 ) -> Step
-    requires fact_1 { Stands grid values.now }
-    requires fact_2 { Remembered ray grid values.now known }
+    requires { (Stands grid values.now) × (Remembered ray grid values.now known) }
     ensures fact_1 { tells result ≡ goes_to ray grid values.now current exit next }
     ensures fact_2 { Kept ray grid values.now result }
 {
@@ -141,8 +138,7 @@ fn goes_to(
 
 // One cell of the walk.
 fn walk_step(ray: Ray, grid: Grid, values: &[f64], current: f64, exit: f64, known: Known) -> Step
-    requires fact_1 { Stands grid values.now }
-    requires fact_2 { Remembered ray grid values.now known }
+    requires { (Stands grid values.now) × (Remembered ray grid values.now known) }
     ensures fact_1 { tells result ≡ walk_step ray grid values.now current exit }
     ensures fact_2 { Kept ray grid values.now result }
 {
