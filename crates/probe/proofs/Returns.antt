@@ -49,7 +49,7 @@ area_after run input rest = put_mid run.held (length input - run.held) input res
 module _ (run ready : Run) (input rest : List ℕ) (got : ℤ) (held_in : run.held ≤ length input)
     (same : length rest ≡ length (mid_of run.held (length input - run.held) input))
     (is : ready ≡ after_read run got (length (take (length (area_after run input rest) - run.held)
-        (drop run.held (area_after run input rest))))) where
+    (drop run.held (area_after run input rest))))) where
   goes : ready ≡ after_read run got (length input - run.held)
   goes = is ∙ ap (after_read run got) (rest_length (area_after run input rest) input run.held
       (same_len_mid {X = ℕ} run.held (length input - run.held) input rest same))

@@ -18,5 +18,5 @@ returns-clause-step c =
       lines = take answered.filled c.answer-answered.new.output;
       stepped =
           stepped ready answered area c.read_on-ready.ensures.read_on c.if-ready.false refl c.answer-answered.ensures.answers
-              c.write_lines.ensures;
+          c.write_lines.ensures;
     }
