@@ -62,7 +62,8 @@ pub fn after_read(run: Run, got: isize, rest: &[u8]) -> Run
     requires { run.held + length rest.now < 18446744073709551616 }
     ensures { result ≡ after_read run got (length rest.now) }
 {
-    if got < 0 {
+    let failed = got < 0;
+    if failed {
         return failed_run(run);
     }
     let more = rest.len().min(got as usize);
