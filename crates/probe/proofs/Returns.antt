@@ -42,7 +42,7 @@ rest_length : (area input : List ℕ) (held : ℕ) → length area ≡ length in
 rest_length area input held e = length-take-le _ _ (omega (arith, length-drop held area)) ∙ ap (λ (n : ℕ). n - held) e
 
 -- the input area, with what a read left in its rest
-abbrev area_after : Run → List ℕ → List ℕ → List ℕ
+abbrev pub area_after : Run → List ℕ → List ℕ → List ℕ
 area_after run input rest = put_mid run.held (length input - run.held) input rest
 
 -- A read was made, whatever it answered: what was held stays, and the run goes by the answer.
@@ -50,7 +50,7 @@ module _ (run ready : Run) (input rest : List ℕ) (got : ℤ) (held_in : run.he
     (same : length rest ≡ length (mid_of run.held (length input - run.held) input))
     (is : ready ≡ after_read run got (length (take (length (area_after run input rest) - run.held)
     (drop run.held (area_after run input rest))))) where
-  goes : ready ≡ after_read run got (length input - run.held)
+  pub goes : ready ≡ after_read run got (length input - run.held)
   goes = is ∙ ap (after_read run got) (rest_length (area_after run input rest) input run.held
       (same_len_mid {X = ℕ} run.held (length input - run.held) input rest same))
 

@@ -1,4 +1,3 @@
-use Rattle.std.proofs.Common.{rules, ◌≡◌}
 use Rattle.probe.specs.Runs.{reads_more}
 use Rattle.probe.proofs.runs.reads_more.Goals as goal
 
