@@ -68,7 +68,8 @@ fn each_read(vertices: &[f64], triangles: &[u32]) -> bool
 
 // The same; where all vertices are in range, it is.
 pub fn all_read(within: bool, vertices: &[f64], triangles: &[u32]) -> bool
-    requires { (length triangles.now ≤ 196608) × (((within ≡ true → AllWithin vertices.now)) × (triangles_fit (mesh vertices.now triangles.now) ≡ true)) }
+    requires { (length triangles.now ≤ 196608) × (((within ≡ true → AllWithin vertices.now))
+        × (triangles_fit (mesh vertices.now triangles.now) ≡ true)) }
     ensures { result ≡ mesh_read (mesh vertices.now triangles.now) }
 {
     if within {

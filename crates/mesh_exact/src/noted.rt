@@ -76,7 +76,8 @@ pub fn winner_of(
     coded: bool,
     codes: &[u64],
 ) -> Outcome
-    requires { (length triangles.now ≤ 196608) × ((ViewSized line) × ((BoxesHold (mesh vertices.now triangles.now)) × (((within ≡ true → AllWithin vertices.now)) × ((coded ≡ true → Coded bounds vertices.now codes.now))))) }
+    requires { (length triangles.now ≤ 196608) × ((ViewSized line) × ((BoxesHold (mesh vertices.now triangles.now))
+        × (((within ≡ true → AllWithin vertices.now)) × ((coded ≡ true → Coded bounds vertices.now codes.now))))) }
     ensures { (ray : AnyRay) → Bounded ray line bounds → Won ray (mesh vertices.now triangles.now) result }
 {
     let limit = vertices.len() / 3;
