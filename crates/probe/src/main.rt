@@ -6,6 +6,8 @@
 // gives the next bytes of standard input, that a write puts its bytes on standard output, which of them failed, or that `main` makes one
 // run: tests/pipes.sh runs that.
 
+#![tactic(auto)]
+
 // A run, and what each call's result makes of it.
 mod runs;
 
