@@ -49,10 +49,10 @@ in_box_stays g p h =
     let on_x = stays p.x g.origin.x (last_node g.origin.x g.spacing.x g.sides.x) in
     let on_y = stays p.y g.origin.y (last_node g.origin.y g.spacing.y g.sides.y) in
     let on_z = stays p.z g.origin.z (last_node g.origin.z g.spacing.z g.sides.z) in
-    let rest = and_second on_x_lem (on_y_lem && on_z_lem) h in
-    let x = stays_there p.x g.origin.x g.spacing.x g.sides.x (and_first on_x_lem (on_y_lem && on_z_lem) h) in
-    let y = stays_there p.y g.origin.y g.spacing.y g.sides.y (and_first on_y_lem on_z_lem rest) in
-    let z = stays_there p.z g.origin.z g.spacing.z g.sides.z (and_second on_y_lem on_z_lem rest) in
+    let rest = and_second on_x (on_y && on_z) h in
+    let x = stays_there p.x g.origin.x g.spacing.x g.sides.x (and_first on_x (on_y && on_z) h) in
+    let y = stays_there p.y g.origin.y g.spacing.y g.sides.y (and_first on_y on_z rest) in
+    let z = stays_there p.z g.origin.z g.spacing.z g.sides.z (and_second on_y on_z rest) in
     same x y z
   where
     same : {a b c : Float} → p.x ≡ a → p.y ≡ b → p.z ≡ c → p ≡ record { x = a; y = b; z = c }

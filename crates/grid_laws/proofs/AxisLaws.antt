@@ -113,10 +113,10 @@ axes_stand g values o s a v =
     let b = box_sides g v in
     record {
       on_x = axis_stands g.origin.x g.spacing.x g.sides.x p.first o.fits_x ax s.fits_x sides.on_x b.first;
-      on_y_lem =
+      on_y =
           axis_stands g.origin.y g.spacing.y g.sides.y p.second o.fits_y both.first s.fits_y sides.on_y
           b.second;
-      on_z_lem =
+      on_z =
           axis_stands g.origin.z g.spacing.z g.sides.z p.third o.fits_z both.second s.fits_z sides.on_z
           b.third;
     }
