@@ -64,7 +64,8 @@ pub fn put_floats(
     out: &mut [u8],
     at: usize,
 )
-    requires { (place + size_of p * count ≤ length source.now) × ((at + size_of q * count ≤ length out.old) × (every (fits_in q) (numbers_of p count (drop place source.now)) ≡ true)) }
+    requires { (place + size_of p * count ≤ length source.now) × ((at + size_of q * count ≤ length out.old)
+        × (every (fits_in q) (numbers_of p count (drop place source.now)) ≡ true)) }
     ensures { out.new ≡ sets out.old at
         (numbers_bytes q (numbers_of p count (drop place source.now))) }
 {

@@ -121,7 +121,8 @@ fn pass_cell(
     column: usize,
     best: IndexedCast,
 ) -> IndexedCast
-    requires { (Sized field heights.now) × ((row + 1 < field.rows) × ((column + 1 < field.columns) × ((cell_finite field heights.now row column ≡ true) × (cell_touches field heights.now bounds row column ≡ true)))) }
+    requires { (Sized field heights.now) × ((row + 1 < field.rows) × ((column + 1 < field.columns)
+        × ((cell_finite field heights.now row column ≡ true) × (cell_touches field heights.now bounds row column ≡ true)))) }
     ensures { going (says_indexed result) ≡ pass_from (answer_of ray field heights.now) (says_indexed best)
         (list_cell field heights.now bounds (cell_at field row column)) }
 {

@@ -83,8 +83,8 @@ fn value_along(ray: Ray, grid: Grid, values: &[f64], near: Near, distance: f64) 
 
 // Whether two numbers are the same: `==` excludes NaN, and equal bits exclude zeros of two signs. A no says nothing.
 fn is_same(x: f64, y: f64) -> bool
-    ensures fact_1 { (result ≡ true → is_nan x ≡ false) }
-    ensures fact_2 { (result ≡ true → x ≡ y) }
+    ensures number { result ≡ true → is_nan x ≡ false }
+    ensures same { result ≡ true → x ≡ y }
 {
     if x == y {
         return f64::to_bits(x) == f64::to_bits(y);

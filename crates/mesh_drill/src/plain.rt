@@ -17,7 +17,8 @@ use tree::mesh as triangle_mesh;
 
 // The drill at a mesh whose triangles all have valid boxes within the range.
 fn over_triangles(ray: Ray, radius: f64, vertices: &[f64], triangles: &[u32]) -> DrillCast
-    requires { (DrillAdmitted ray radius) × ((lengths_admitted (length vertices.now) (length triangles.now) ≡ true) × ((triangles_fit (mesh vertices.now triangles.now) ≡ true) × (mesh_read (mesh vertices.now triangles.now) ≡ true))) }
+    requires { (DrillAdmitted ray radius) × ((lengths_admitted (length vertices.now) (length triangles.now) ≡ true)
+        × ((triangles_fit (mesh vertices.now triangles.now) ≡ true) × (mesh_read (mesh vertices.now triangles.now) ≡ true))) }
     ensures { says_drill result ≡ drill_all (grid_line ray) (radius_on radius)
         (mesh vertices.now triangles.now) }
 {

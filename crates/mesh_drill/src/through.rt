@@ -95,7 +95,8 @@ fn over_list(
     list: &[u32],
     found: usize,
 ) -> DrillCast
-    requires { ((found ≤ length list.now) × (all_below (thirds (length triangles.now)) (take found list.now) ≡ true)) × (CylinderSized body) }
+    requires { ((found ≤ length list.now) × (all_below (thirds (length triangles.now)) (take found list.now) ≡ true))
+        × (CylinderSized body) }
     ensures { (l : Line) (ρ : ℕ) → IsCylinder body l ρ → Runs l
         → says_drill result ≡ first_answer (drilled_at l ρ (mesh vertices.now triangles.now))
         (take found list.now) }
@@ -161,7 +162,8 @@ fn over_tree(
     list: &mut [u32],
     stack: &mut [u32],
 ) -> DrillCast
-    requires { (DrillAdmitted ray radius) × ((lengths_admitted (length vertices.now) (length triangles.now) ≡ true) × (WalkRoom (thirds (length triangles.now))
+    requires { (DrillAdmitted ray radius) × ((lengths_admitted (length vertices.now) (length triangles.now) ≡ true)
+        × (WalkRoom (thirds (length triangles.now))
         (tree_of nodes node_boxes.now triangle_boxes.now node_words.now order.now) list.old stack.old)) }
     ensures { says_drill result ≡ over_tree ray radius (mesh vertices.now triangles.now)
         (tree_of nodes node_boxes.now triangle_boxes.now node_words.now order.now) }

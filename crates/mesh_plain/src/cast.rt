@@ -23,7 +23,8 @@ fn cast_all(
     told: bool,
     codes: &[u64],
 ) -> IndexedCast
-    requires { (length triangles.now ≤ 196608) × ((BoxesHold (mesh vertices.now triangles.now)) × (told ≡ true → Coded bounds vertices.now codes.now)) }
+    requires { (length triangles.now ≤ 196608) × ((BoxesHold (mesh vertices.now triangles.now))
+        × (told ≡ true → Coded bounds vertices.now codes.now)) }
     ensures { says_indexed result ≡ over_triangles ray bounds (mesh vertices.now triangles.now) }
 {
     let limit = vertices.len() / 3;

@@ -80,7 +80,8 @@ fn second_mark(kind: usize, n: usize, first: usize, second: usize) -> usize
 
 // One more of each of two numbers.
 fn mark_pair(first: usize, second: usize, marks: &mut [u32])
-    requires { ((first < length marks.old) × (second < length marks.old)) × ((get_or marks.old first 0 < 4294967290) × (get_or marks.old second 0 < 4294967290)) }
+    requires { ((first < length marks.old) × (second < length marks.old)) × ((get_or marks.old first 0 < 4294967290)
+        × (get_or marks.old second 0 < 4294967290)) }
     ensures { (x : ℕ) → get_or marks.new x 0 ≡ count x (first ∷ (second ∷ [])) + get_or marks.old x 0 }
 {
     marks::bump(marks, first);
@@ -89,7 +90,8 @@ fn mark_pair(first: usize, second: usize, marks: &mut [u32])
 
 // One more of each number that a node marks, if it is of the kind.
 fn mark_node(kind: usize, n: usize, words: &[u32], node: usize, marks: &mut [u32])
-    requires { ((3 * node + 3 ≤ length words.now) × ((n < 4294967296) × (3 * n ≤ length marks.old))) × ((Inside kind n words.now node) × ((x : ℕ) → x < 3 * n → get_or marks.old x 0 < 4294967290)) }
+    requires { ((3 * node + 3 ≤ length words.now) × ((n < 4294967296) × (3 * n ≤ length marks.old)))
+        × ((Inside kind n words.now node) × ((x : ℕ) → x < 3 * n → get_or marks.old x 0 < 4294967290)) }
     ensures { (x : ℕ) → get_or marks.new x 0 ≡ count x (marked kind n words.now node) + get_or marks.old
         x 0 }
 {
@@ -103,7 +105,8 @@ fn mark_node(kind: usize, n: usize, words: &[u32], node: usize, marks: &mut [u32
 
 // Counts what all nodes of the kind mark.
 fn mark_nodes(kind: usize, n: usize, nodes: usize, words: &[u32], marks: &mut [u32])
-    requires { ((3 * nodes ≤ length words.now) × ((n ≤ 65536) × ((nodes ≤ 2 * n) × (3 * n ≤ length marks.old)))) × ((i : ℕ) → i < nodes → Inside kind n words.now i) }
+    requires { ((3 * nodes ≤ length words.now) × ((n ≤ 65536) × ((nodes ≤ 2 * n) × (3 * n ≤ length marks.old))))
+        × ((i : ℕ) → i < nodes → Inside kind n words.now i) }
     ensures { (x : ℕ) → x < 3 * n → get_or marks.new x 0 ≡ count x
         (flat_map (marked kind n words.now) (range 0 nodes)) }
 {
@@ -117,7 +120,8 @@ fn mark_nodes(kind: usize, n: usize, nodes: usize, words: &[u32], marks: &mut [u
 
 // Whether each node but the first is named once.
 pub fn named_once(n: usize, nodes: usize, words: &[u32], marks: &mut [u32]) -> bool
-    requires { ((3 * nodes ≤ length words.now) × ((n ≤ 65536) × ((nodes ≤ 2 * n) × (3 * n ≤ length marks.old)))) × (every (node_sound n nodes words.now) (range 0 nodes) ≡ true) }
+    requires { ((3 * nodes ≤ length words.now) × ((n ≤ 65536) × ((nodes ≤ 2 * n) × (3 * n ≤ length marks.old))))
+        × (every (node_sound n nodes words.now) (range 0 nodes) ≡ true) }
     ensures { result ≡ every (once (flat_map (marked 1 n words.now) (range 0 nodes))) (range 1 (nodes - 1)) }
 {
     mark_nodes(1, n, nodes, words, marks);
@@ -126,7 +130,8 @@ pub fn named_once(n: usize, nodes: usize, words: &[u32], marks: &mut [u32]) -> b
 
 // Whether each order place lies in one leaf, with no leaf's places walked.
 pub fn placed_once(n: usize, nodes: usize, words: &[u32], marks: &mut [u32]) -> bool
-    requires { ((3 * nodes ≤ length words.now) × ((n ≤ 65536) × ((nodes ≤ 2 * n) × (3 * n ≤ length marks.old)))) × (every (node_sound n nodes words.now) (range 0 nodes) ≡ true) }
+    requires { ((3 * nodes ≤ length words.now) × ((n ≤ 65536) × ((nodes ≤ 2 * n) × (3 * n ≤ length marks.old))))
+        × (every (node_sound n nodes words.now) (range 0 nodes) ≡ true) }
     ensures { result ≡ every (once (flat_map (places words.now) (range 0 nodes))) (range 0 n) }
 {
     mark_nodes(0, n, nodes, words, marks);

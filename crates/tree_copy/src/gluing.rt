@@ -55,7 +55,8 @@ pub fn glue_boxes(
     boxes: &mut [f64],
     around: &mut [f64],
 )
-    requires { (((n ≤ 65536) × (m ≤ 65536)) × ((nodes ≤ 131072) × (others ≤ 131072))) × ((((6 * nodes ≤ length first_boxes.now) × (6 * others ≤ length second_boxes.now))
+    requires { (((n ≤ 65536) × (m ≤ 65536)) × ((nodes ≤ 131072) × (others ≤ 131072))) × ((((6 * nodes ≤ length first_boxes.now)
+        × (6 * others ≤ length second_boxes.now))
         × ((6 * n ≤ length first_around.now) × (6 * m ≤ length second_around.now))) × (((6 * (cond empty 0 1 + (nodes + others)) ≤ length boxes.old) × (6 * n + 6 * m ≤ length around.old))
         × (empty ≡ false → (1 ≤ nodes) × (1 ≤ others)))) }
     ensures { (boxes.new ≡ over (cond empty []

@@ -39,7 +39,7 @@ returns-3 c =
     tie.After-is-finite × tie.Else1 × tie.After-segment-box × tie.After-gather-within × tie.After-walked = search in
     let e = at-is-finite in
     within_nearest _ _ _ _ (end_is _ _ _ e.is_finite.ensures e.before.segment-end.ensures _
-    (not-false e.is_finite.result else1.if1.left)) _ at-segment-box.segment-box.ensures _ _ at-gather-within.gather-within.ensures.0 _ _ _ at-walked.walked.given.1 c.nearest_of_lem.ensures
+    (not-false e.is_finite.result else1.if1.left)) _ at-segment-box.segment-box.ensures _ _ at-gather-within.gather-within.ensures.0 _ _ _ at-walked.walked.given.1 c.nearest_of.ensures
 
 returns-4 : tie.Need-returns-4
 returns-4 c =

@@ -19,7 +19,7 @@ unfolding look_shape
 returns-2 c =
     let (a, e) : tie.After-ranges-inside × tie.Else1 = search in
     let f = a.ranges-inside in
-    rw (sym f.ensures, not-false f.result e.if1.left) c.shape_admitted_lem.ensures
+    rw (sym f.ensures, not-false f.result e.if1.left) c.shape_admitted.ensures
 
 pub shape-fits-spec : {M : Type 1} → statement M
 shape-fits-spec = tie.close (tie.spec (search rules) returns (search rules) returns-2)

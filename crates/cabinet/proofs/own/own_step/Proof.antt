@@ -14,7 +14,7 @@ use Rattle.cabinet.proofs.own.own_step.Tie as tie
 returns : tie.Need-returns
 returns c =
     let t : tie.Then1 = search in (
-      step_bad _ _ _ _ _ _ (test_failed t.before.shape_admitted_lem.ensures t.if1.taken) _ c.refuse-with.ensures,
+      step_bad _ _ _ _ _ _ (test_failed t.before.shape_admitted.ensures t.if1.taken) _ c.refuse-with.ensures,
       λ _.
           (refl, refl),
     )
@@ -22,13 +22,13 @@ returns c =
 walk-fits-requires : tie.Need-walk-fits-requires
 walk-fits-requires c κs =
     let e : tie.Else1 = search in
-    triangles_few _ _ _ (test_passed e.before.shape_admitted_lem.ensures e.if1.left)
+    triangles_few _ _ _ (test_passed e.before.shape_admitted.ensures e.if1.left)
 
 -- an area that is too short: 3
 returns-2 : tie.Need-returns-2
 returns-2 c =
     let (e, t) : tie.Else1 × tie.Then2 = search in (
-      step_short _ _ _ _ _ _ (test_passed e.before.shape_admitted_lem.ensures e.if1.left)
+      step_short _ _ _ _ _ _ (test_passed e.before.shape_admitted.ensures e.if1.left)
           (test_failed t.before.walk-fits.ensures t.if2.taken) _ c.refuse-with2.ensures,
       λ _. (refl, refl),
     )
@@ -37,7 +37,7 @@ returns-2 c =
 returns-3 : tie.Need-returns-3
 returns-3 c =
     let (e, f) : tie.Else1 × tie.Else2 = search in (
-      step_looks _ _ _ _ _ _ (test_passed e.before.shape_admitted_lem.ensures e.if1.left)
+      step_looks _ _ _ _ _ _ (test_passed e.before.shape_admitted.ensures e.if1.left)
           (test_passed f.before.walk-fits.ensures f.if2.left) (not-true _ c.if3.true),
       λ _. (refl, refl),
     )
@@ -45,7 +45,7 @@ returns-3 c =
 cast-moved-requires : tie.Need-cast-moved-requires
 cast-moved-requires c κs =
     let (e, f) : tie.Else1 × tie.Else2 = search in
-    fits_room _ _ _ _ (nodes_few _ _ _ (test_passed e.before.shape_admitted_lem.ensures e.if1.left))
+    fits_room _ _ _ _ (nodes_few _ _ _ (test_passed e.before.shape_admitted.ensures e.if1.left))
     (test_passed f.before.walk-fits.ensures f.if2.left)
 
 -- past the third test: the places of the call and of the first two
@@ -69,7 +69,7 @@ returns-4 c =
     let (x, l, m) : tie.Else3 × tie.After-left-of × tie.After-cast-moved = search in
     let (s, e, f) = places x in
     let casts : s.args.s.casting ≡ true = not-false s.args.s.casting x.if3.left in (
-      step_casts _ _ _ _ _ s.args.s (test_passed e.before.shape_admitted_lem.ensures e.if1.left)
+      step_casts _ _ _ _ _ s.args.s (test_passed e.before.shape_admitted.ensures e.if1.left)
           (test_passed f.before.walk-fits.ensures f.if2.left) casts _ _ l.left-of.ensures m.cast-moved.result
           m.cast-moved.ensures c.after-part.ensures,
       λ h. absurd (true≢false (sym casts ∙ h)),

@@ -31,7 +31,7 @@ places : tie.Else2 → tie.Start × tie.Else1
 places f = search
 
 passed : (e : tie.Else2) → let a = (places e).0.args in ranges_inside a.p (length a.vertices.now) (length a.triangles.now)
-    (length a.node_boxes_lem.now) (length a.triangle_boxes_lem.now) (length a.node_words_lem.now) (length a.order.now) ≡ true
+    (length a.node_boxes.now) (length a.triangle_boxes.now) (length a.node_words.now) (length a.order.now) ≡ true
 unfolding places
 passed e = test_passed e.before.ranges-inside.ensures e.if2.false
 

@@ -15,7 +15,7 @@ returns-2 c =
     let e1 : tie.Else1 = search in
     simp (
       test_passed e1.before.sides-admitted.ensures e1.if1.left,
-      test_failed c.before.spacing_admitted_lem.ensures c.if2.true,
+      test_failed c.before.spacing_admitted.ensures c.if2.true,
     )
 
 returns-3 : tie.Need-returns-3
@@ -24,7 +24,7 @@ returns-3 c =
     let (e1, e2) : tie.Else1 × tie.Else2 = search in
     simp (
       test_passed e1.before.sides-admitted.ensures e1.if1.left,
-      test_passed e2.before.spacing_admitted_lem.ensures e2.if2.left,
+      test_passed e2.before.spacing_admitted.ensures e2.if2.left,
       test_failed c.before.spacing-admitted2.ensures c.if3.true,
     )
 
@@ -34,7 +34,7 @@ returns-4 c =
     let (e1, e2, e3) : tie.Else1 × tie.Else2 × tie.Else3 = search in
     simp (
       test_passed e1.before.sides-admitted.ensures e1.if1.left,
-      test_passed e2.before.spacing_admitted_lem.ensures e2.if2.left,
+      test_passed e2.before.spacing_admitted.ensures e2.if2.left,
       test_passed e3.before.spacing-admitted2.ensures e3.if3.left,
       test_failed c.before.spacing-admitted3.ensures c.if4.true,
     )
@@ -46,7 +46,7 @@ returns-5 c =
     let (e1, e2, e3, e4) : tie.Else1 × tie.Else2 × tie.Else3 × tie.Else4 = search in
     simp (
       test_passed e1.before.sides-admitted.ensures e1.if1.left,
-      test_passed e2.before.spacing_admitted_lem.ensures e2.if2.left,
+      test_passed e2.before.spacing_admitted.ensures e2.if2.left,
       test_passed e3.before.spacing-admitted2.ensures e3.if3.left,
       test_passed e4.before.spacing-admitted3.ensures e4.if4.left,
       sym c.is_finite.ensures,

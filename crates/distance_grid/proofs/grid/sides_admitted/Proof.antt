@@ -33,9 +33,9 @@ node-count-requires : tie.Need-node-count-requires
 node-count-requires c κs =
     let (e1, e2) : tie.Else1 × tie.Else2 = search in
     record {
-      on_x_lem = side_stands _ (test_passed e1.before.side-admitted.ensures e1.if1.left);
-      on_y_lem = side_stands _ (test_passed e2.before.side-admitted2.ensures e2.if2.left);
-      on_z_lem = side_stands _ (test_passed c.before.side-admitted3.ensures c.if3.false);
+      on_x = side_stands _ (test_passed e1.before.side-admitted.ensures e1.if1.left);
+      on_y = side_stands _ (test_passed e2.before.side-admitted2.ensures e2.if2.left);
+      on_z = side_stands _ (test_passed c.before.side-admitted3.ensures c.if3.false);
     }
 
 -- they all pass
@@ -47,7 +47,7 @@ returns-4 c =
       test_passed e1.before.side-admitted.ensures e1.if1.left,
       test_passed e2.before.side-admitted2.ensures e2.if2.left,
       test_passed e3.before.side-admitted3.ensures e3.if3.left,
-      sym c.node_count_lem.ensures,
+      sym c.node_count.ensures,
     )
 
 pub sides-admitted-spec : {M : Type 1} → statement M

@@ -20,13 +20,13 @@ returns-3 : tie.Need-returns-3
 unfolding gathered
 returns-3 c =
     let (at_value, at-on-x) : tie.After-value × tie.After-on-x = search in
-    simp (at_value.value.given.1, at-on-x.on_x_lem.given.1, c.enum-told3.given.1)
+    simp (at_value.value.given.1, at-on-x.on_x.given.1, c.enum-told3.given.1)
 
 returns-4 : tie.Need-returns-4
 unfolding gathered
 returns-4 c =
     let (at_value, at-on-x, at-on-y) : tie.After-value × tie.After-on-x × tie.After-on-y = search in
-    simp (at_value.value.given.1, at-on-x.on_x_lem.given.1, at-on-y.on_y_lem.given.1, c.enum-told4.given.1)
+    simp (at_value.value.given.1, at-on-x.on_x.given.1, at-on-y.on_y.given.1, c.enum-told4.given.1)
 
 is-finite-requires : tie.Need-is-finite-requires
 is-finite-requires c κs = tt
@@ -37,9 +37,9 @@ returns-5 c =
     let (at_value, at-on-x, at-on-y, at-on-z) : tie.After-value × tie.After-on-x × tie.After-on-y × tie.After-on-z = search in
     simp (
       at_value.value.given.1,
-      at-on-x.on_x_lem.given.1,
-      at-on-y.on_y_lem.given.1,
-      at-on-z.on_z_lem.given.1,
+      at-on-x.on_x.given.1,
+      at-on-y.on_y.given.1,
+      at-on-z.on_z.given.1,
       sym c.before.is_finite.ensures,
       not-true c.before.is_finite.result c.if1.true,
     )
@@ -50,9 +50,9 @@ returns-6 c =
     let (at_value, at-on-x, at-on-y, at-on-z) : tie.After-value × tie.After-on-x × tie.After-on-y × tie.After-on-z = search in
     simp (
       at_value.value.given.1,
-      at-on-x.on_x_lem.given.1,
-      at-on-y.on_y_lem.given.1,
-      at-on-z.on_z_lem.given.1,
+      at-on-x.on_x.given.1,
+      at-on-y.on_y.given.1,
+      at-on-z.on_z.given.1,
       sym c.before.is_finite.ensures,
       not-false c.before.is_finite.result c.if1.false,
     )

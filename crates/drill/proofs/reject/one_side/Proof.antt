@@ -41,7 +41,7 @@ returns-2 c =
     let (s, k, t) : tie.Start × tie.After-all-above × tie.Else1 = search in
     let m = ap (λ (z : ℤ). bits z) (opposite s) ∙ bits_back (opposite-fits s) in
     or_miss (sym (above-is k) ∙ t.if1.left)
-    (c.all_below_lem.ensures
+    (c.all_below.ensures
     ∙ (λ i. all_below (m i) (bits_back s.fits.x i) (bits_back s.fits.y i) (bits_back s.fits.z i)))
 
 pub one-side-spec : {M : Type 1} → statement M

@@ -34,7 +34,7 @@ returns-3 c =
     let v = s.args in
     λ ρ e h. side_is ρ v.d (value v.reach) (from_axis_of v.p) (from_axis_of v.q)
     (sym (a.crossing-in.ensures (back s h)) ∙ t.if1.left)
-    (sym (b.crossing-in2.ensures (back s h)) ∙ u.if2.left) (f.foot_in_lem.ensures ρ (bits_back s.fits.area ∙ e))
+    (sym (b.crossing-in2.ensures (back s h)) ∙ u.if2.left) (f.foot_in.ensures ρ (bits_back s.fits.area ∙ e))
 
 pub side-in-spec : {M : Type 1} → statement M
 side-in-spec =

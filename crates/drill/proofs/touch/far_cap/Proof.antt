@@ -40,7 +40,7 @@ returns c =
     let g = level (neg_ℤ a.height) (neg_ℤ b.height) (neg_ℤ d.height) a.at b.at d.at in
     let e = f.steps.is in
     λ l ρ o high.
-    c.cap_in_lem.ensures ρ l.direction g a.at b.at d.at (area s ∙ o.area) o.length
+    c.cap_in.ensures ρ l.direction g a.at b.at d.at (area s ∙ o.area) o.length
     (f.whole ∙ sym (reversed_square a.height b.height d.height a.at b.at d.at))
     (r.reversed.ensures.is ∙ (λ i. record {
       x = (ap (λ (z : Point). neg_ℤ z.x) e ∙ sym (reversed_dot a.height b.height d.height a.at b.at d.at a.at)) i;

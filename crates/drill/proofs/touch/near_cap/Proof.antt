@@ -33,7 +33,7 @@ returns c =
     let m = n.lows.ensures.0 in
     let g = level_of (A s) (B s) (C s) in
     λ l ρ o low.
-    c.cap_in_lem.ensures ρ l.direction g (A s).at (B s).at (C s).at (area s ∙ o.area) o.length f.whole f.steps.is
+    c.cap_in.ensures ρ l.direction g (A s).at (B s).at (C s).at (area s ∙ o.area) o.length f.whole f.steps.is
     ∙ (λ i. cap_in ρ l.direction g (low i) (A s).at (B s).at (C s).at (m i).x (m i).y (m i).z)
 
 pub near-cap-spec : {M : Type 1} → statement M

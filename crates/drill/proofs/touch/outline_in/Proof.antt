@@ -40,8 +40,8 @@ side-as : (ρ : ℕ) (p q : FromAxis) {r : Bool} {d : Point} {x : ℤ} (d' : Poi
 side-as ρ p q d' y e f h = sym (h ∙ (λ i. side_in ρ (e i) (f i) p q))
 
 module _ (l : Line) (ρ : ℕ) where
-  one-as : (k : tie.After-corner-in) → let s : tie.Start = search in Of s l ρ → corner_in (limit_of l ρ) (A s) ≡ k.corner_in_lem.result
-  one-as k o = let s : tie.Start = search in corner-as (A s) (limit_of l ρ) o.reach k.corner_in_lem.ensures
+  one-as : (k : tie.After-corner-in) → let s : tie.Start = search in Of s l ρ → corner_in (limit_of l ρ) (A s) ≡ k.corner_in.result
+  one-as k o = let s : tie.Start = search in corner-as (A s) (limit_of l ρ) o.reach k.corner_in.ensures
 
   two-as : (k : tie.After-corner-in2) → let s : tie.Start = search in Of s l ρ → corner_in (limit_of l ρ) (B s) ≡ k.corner-in2.result
   two-as k o = let s : tie.Start = search in corner-as (B s) (limit_of l ρ) o.reach k.corner-in2.ensures

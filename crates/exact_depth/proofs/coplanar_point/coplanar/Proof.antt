@@ -42,7 +42,7 @@ in-plane-requires-2 c κs =
           flat-across s.args.c s.pre.1.1 z.across-point3.ensures,
         ),
       ),
-      k.in_plane_lem.ensures.narrow,
+      k.in_plane.ensures.narrow,
     )
 
 returns : tie.Need-returns
@@ -54,7 +54,7 @@ returns c =
     let f = bits_back s.fits.far in
     finds_as c.in-plane2.ensures
     ((λ i. in_plane (u.across-point.ensures i) (v.across-point2.ensures i) (w.across-point3.ensures i) (n i) (f i)
-    (k.in_plane_lem.ensures.is i))
+    (k.in_plane.ensures.is i))
     ∙ (λ i. in_plane (across_point s.args.a) (across_point s.args.b) (across_point s.args.c) s.args.near s.args.far
     (in_plane (x.up-point.ensures i) (y.up-point2.ensures i) (z.up-point3.ensures i) (n i) (f i) Miss)))
 

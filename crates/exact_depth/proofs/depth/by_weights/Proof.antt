@@ -120,14 +120,14 @@ unfolding by_weights
 returns-3 c =
     let (s, d, z) : tie.Start × tie.Else2 × tie.After-is-zero = search in
     missed (past d (left (level s)
-    (and_not_first _ _ (sym z.is_zero_lem.ensures ∙ not-true _ c.if3.true)) refl))
+    (and_not_first _ _ (sym z.is_zero.ensures ∙ not-true _ c.if3.true)) refl))
 
 returns-4 : tie.Need-returns-4
 unfolding by_weights
 returns-4 c =
     let (s, d, z, g, y) : tie.Start × tie.Else2 × tie.After-is-zero × tie.Else3 × tie.After-is-zero2 = search in
     missed (past d (left (level s)
-    (second-not _ _ (sym z.is_zero_lem.ensures ∙ not-false _ g.if3.left) (sym y.is-zero2.ensures ∙ not-true _ c.if4.true))
+    (second-not _ _ (sym z.is_zero.ensures ∙ not-false _ g.if3.left) (sym y.is-zero2.ensures ∙ not-true _ c.if4.true))
     refl))
 
 returns-5 : tie.Need-returns-5
@@ -138,7 +138,7 @@ returns-5 c =
     finds_as c.coplanar.ensures
     (past d
     (taken Miss
-    (both_yes (sym z.is_zero_lem.ensures ∙ not-false _ g.if3.left) (sym y.is-zero2.ensures ∙ not-false _ l.if4.left))
+    (both_yes (sym z.is_zero.ensures ∙ not-false _ g.if3.left) (sym y.is-zero2.ensures ∙ not-false _ l.if4.left))
     (λ i. coplanar v.a v.b v.c (bits_back s.fits.near i) (bits_back s.fits.far i))))
 
 pub by-weights-spec : {M : Type 1} → statement M

@@ -15,12 +15,12 @@ below k b h =
     (λ i. any_negative (sym (bits_back s.fits.x) i) (sym (bits_back s.fits.y) i) (sym (bits_back s.fits.z) i))
     ∙ sym k.any-negative.ensures ∙ h
 
-above : (k : tie.After-any-positive) (b : Bool) → k.any_positive_lem.result ≡ b → let s : tie.Start = search in
+above : (k : tie.After-any-positive) (b : Bool) → k.any_positive.result ≡ b → let s : tie.Start = search in
     any_positive s.args.x s.args.y s.args.z ≡ b
 above k b h =
     let s : tie.Start = search in
     (λ i. any_positive (sym (bits_back s.fits.x) i) (sym (bits_back s.fits.y) i) (sym (bits_back s.fits.z) i))
-    ∙ sym k.any_positive_lem.ensures ∙ h
+    ∙ sym k.any_positive.ensures ∙ h
 
 above-2 : (k : tie.After-any-positive2) (b : Bool) → k.any-positive2.result ≡ b → let s : tie.Start = search in
     any_positive s.args.x s.args.y s.args.z ≡ b

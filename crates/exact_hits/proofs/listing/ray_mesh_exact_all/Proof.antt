@@ -54,7 +54,7 @@ admitted s =
 
 shaped : (e : tie.Else2) → admitted (start₂ e) ≡ true
 unfolding start₂
-shaped e = test_passed e.before.shape_admitted_lem.ensures e.if2.false
+shaped e = test_passed e.before.shape_admitted.ensures e.if2.false
 
 first₂ : tie.Else2 → tie.Else1
 first₂ e = search
@@ -78,7 +78,7 @@ viewed e = viewed₂ (second e)
 abbrev tree : tie.Start → Tree
 tree s =
     let a = s.args in
-    tree_of a.nodes a.node_boxes_lem.now a.triangle_boxes_lem.now a.node_words_lem.now a.order.now
+    tree_of a.nodes a.node_boxes.now a.triangle_boxes.now a.node_words.now a.order.now
 
 abbrev fitting : tie.Start → Bool
 fitting s =
@@ -108,7 +108,7 @@ returns-3 : tie.Need-returns-3
 unfolding start₁ startₗ
 returns-3 c =
     let (s, e, k) : tie.Start × tie.Else1 × tie.After-viewed = search in
-    let failed = test_failed {b = admitted s} c.before.shape_admitted_lem.ensures c.if2.true in
+    let failed = test_failed {b = admitted s} c.before.shape_admitted.ensures c.if2.true in
     with_promises _ _ _ _ _ _ _ _ _ (all_bad _ _ _ _ _ _ _ (valid e) (shown k).admitted failed) (λ _. (refl, refl))
 
 walk-fits-requires : tie.Need-walk-fits-requires
@@ -150,7 +150,7 @@ returns-6 c =
     let (e, p, l) : tie.Else3 × tie.Else4 × tie.After-exact-listing = search in
     with_promises _ _ _ _ _ _ _ _ _
     (all_passed _ _ _ _ _ _ _ (valid (first e)) (shown (viewed e)).admitted (shaped (second e)) (fits e) p.if4.left _
-    l.exact_listing_lem.ensures)
+    l.exact_listing.ensures)
     (λ failed. absurd (tests_passed _ _ _ _ _ _ (valid (first e)) (shown (viewed e)).admitted (shaped (second e)) (fits e)
     p.if4.left failed))
 

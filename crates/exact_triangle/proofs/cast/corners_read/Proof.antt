@@ -22,21 +22,21 @@ returns : tie.Need-returns
 unfolding corners_read
 returns c =
     let (s, w) : tie.Start × tie.After-all-within = search in
-    first_off (one s) (two s) (three s) (test_failed w.all_within_lem.ensures c.if1.true)
+    first_off (one s) (two s) (three s) (test_failed w.all_within.ensures c.if1.true)
 
 returns-2 : tie.Need-returns-2
 unfolding corners_read
 returns-2 c =
     let (s, w, e, u) : tie.Start × tie.After-all-within × tie.Else1 × tie.After-all-within2 = search in
     second_off (one s) (two s) (three s)
-    (test_passed w.all_within_lem.ensures e.if1.left) (test_failed u.all-within2.ensures c.if2.true)
+    (test_passed w.all_within.ensures e.if1.left) (test_failed u.all-within2.ensures c.if2.true)
 
 returns-3 : tie.Need-returns-3
 unfolding corners_read
 returns-3 c =
     let (s, w, e, u, d) : tie.Start × tie.After-all-within × tie.Else1 × tie.After-all-within2 × tie.Else2 = search in
     third_tells (one s) (two s) (three s)
-    (test_passed w.all_within_lem.ensures e.if1.left) (test_passed u.all-within2.ensures d.if2.left)
+    (test_passed w.all_within.ensures e.if1.left) (test_passed u.all-within2.ensures d.if2.left)
     c.all-within3.ensures
 
 pub corners-read-spec : {M : Type 1} → statement M

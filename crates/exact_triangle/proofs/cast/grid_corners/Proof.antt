@@ -8,10 +8,10 @@ use Rattle.exact_triangle.proofs.cast.grid_corners.Tie as tie
 
 -- a corner is out of range
 returns : tie.Need-returns
-returns c = let k : tie.After-corners-read = search in test_failed k.corners_read_lem.ensures c.if1.true
+returns c = let k : tie.After-corners-read = search in test_failed k.corners_read.ensures c.if1.true
 
 passed : (e : tie.Else1) → let s : tie.Start = search in corners_read s.args.t1 ≡ true
-passed e = let k : tie.After-corners-read = search in test_passed k.corners_read_lem.ensures e.if1.false
+passed e = let k : tie.After-corners-read = search in test_passed k.corners_read.ensures e.if1.false
 
 grid-point-requires : tie.Need-grid-point-requires
 grid-point-requires c κs = let (s, e) : tie.Start × tie.Else1 = search in first_read s.args.t1 (passed e)

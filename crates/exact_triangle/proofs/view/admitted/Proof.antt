@@ -24,21 +24,21 @@ unfolding grid_admitted
 returns c =
     let (s, w) : tie.Start × tie.After-all-within = search in
     first_fails (first s) (second s) (third s) (fourth s)
-    (test_failed w.all_within_lem.ensures c.if1.true)
+    (test_failed w.all_within.ensures c.if1.true)
 
 returns-2 : tie.Need-returns-2
 unfolding grid_admitted
 returns-2 c =
     let (s, w, e, u) : tie.Start × tie.After-all-within × tie.Else1 × tie.After-all-within2 = search in
     second_fails (first s) (second s) (third s) (fourth s)
-    (test_passed w.all_within_lem.ensures e.if1.left) (test_failed u.all-within2.ensures c.if2.true)
+    (test_passed w.all_within.ensures e.if1.left) (test_failed u.all-within2.ensures c.if2.true)
 
 returns-3 : tie.Need-returns-3
 unfolding grid_admitted
 returns-3 c =
     let (s, w, e, u, d, n) : tie.Start × tie.After-all-within × tie.Else1 × tie.After-all-within2 × tie.Else2 × tie.After-within = search in
     third_fails (first s) (second s) (third s) (fourth s)
-    (test_passed w.all_within_lem.ensures e.if1.left) (test_passed u.all-within2.ensures d.if2.left)
+    (test_passed w.all_within.ensures e.if1.left) (test_passed u.all-within2.ensures d.if2.left)
     (test_failed n.within.ensures c.if3.true)
 
 returns-4 : tie.Need-returns-4
@@ -47,7 +47,7 @@ returns-4 c =
     let (s, w, e, u, d, n, g) : tie.Start × tie.After-all-within × tie.Else1 × tie.After-all-within2 × tie.Else2 × tie.After-within
     × tie.Else3 = search in
     four_tells (first s) (second s) (third s) (fourth s)
-    (test_passed w.all_within_lem.ensures e.if1.left) (test_passed u.all-within2.ensures d.if2.left)
+    (test_passed w.all_within.ensures e.if1.left) (test_passed u.all-within2.ensures d.if2.left)
     (test_passed n.within.ensures g.if3.left) c.within2.ensures
 
 pub admitted-spec : {M : Type 1} → statement M

@@ -70,8 +70,8 @@ returns c =
         heading = heading-is f;
         ahead = told_read (ahead-is a) (ahead-sized a) (lit≤ tt);
         gain = gain-plain g;
-        near = told_read (n.depth_at_lem.ensures.0 ∙ ap (λ (z : ℤ). pos (nat_abs (nearest_to units s.args.near)) *ℤ z) (gain-plain g))
-            n.depth_at_lem.ensures.1 (lit≤ tt);
+        near = told_read (n.depth_at.ensures.0 ∙ ap (λ (z : ℤ). pos (nat_abs (nearest_to units s.args.near)) *ℤ z) (gain-plain g))
+            n.depth_at.ensures.1 (lit≤ tt);
         far = told_read (k.depth-at2.ensures.0 ∙ ap (λ (z : ℤ). pos (nat_abs (nearest_to units s.args.far)) *ℤ z) (gain-plain g))
             k.depth-at2.ensures.1 (lit≤ tt);
         start = e.end_at.ensures;
@@ -82,7 +82,7 @@ returns c =
         direction = s.pre.0.1;
         heading_sized = record { heading = heading-sized f; ahead = told_sized (ahead-sized a) (lit≤ tt) };
         gain = told_sized (gain-sized g) (lit≤ tt);
-        near = told_sized n.depth_at_lem.ensures.1 (lit≤ tt);
+        near = told_sized n.depth_at.ensures.1 (lit≤ tt);
         far = told_sized k.depth-at2.ensures.1 (lit≤ tt);
       },
     )

@@ -12,18 +12,18 @@ abbrev one : tie.Start → Board
 one s =
     let p = s.args in
     board_of p.first-vertices.now p.first-triangles.now p.first_nodes p.first-node-boxes.now
-    p.first-triangle-boxes.now p.first-node-words.now p.first_order_lem.now
+    p.first-triangle-boxes.now p.first-node-words.now p.first_order.now
 
 abbrev other : tie.Start → Board
 other s =
     let p = s.args in
     board_of p.second-vertices.now p.second-triangles.now p.second_nodes p.second-node-boxes.now
-    p.second-triangle-boxes.now p.second-node-words.now p.second_order_lem.now
+    p.second-triangle-boxes.now p.second-node-words.now p.second_order.now
 
 abbrev old : tie.Start → Areas
 old s =
     let p = s.args in
-    areas_of p.vertices.now p.triangles.now p.node_boxes_lem.now p.triangle_boxes_lem.now p.node_words_lem.now p.order.now
+    areas_of p.vertices.now p.triangles.now p.node_boxes.now p.triangle_boxes.now p.node_words.now p.order.now
 
 -- from each place to the one before it that the answers speak of
 start_of : tie.Else1 → tie.Start

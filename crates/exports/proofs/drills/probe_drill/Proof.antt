@@ -11,7 +11,7 @@ use Rattle.exports.proofs.drills.probe_drill.Tie as tie
 abbrev tree : tie.Start → Tree
 tree s =
     let a = s.args in
-    tree_of a.nodes a.node_boxes_lem.now a.triangle_boxes_lem.now a.node_words_lem.now a.order.now
+    tree_of a.nodes a.node_boxes.now a.triangle_boxes.now a.node_words.now a.order.now
 
 abbrev own : tie.Start → Mesh
 own s = mesh s.args.vertices.now s.args.triangles.now
@@ -23,7 +23,7 @@ returns c =
     let a = s.args in
     with_reading a.index.now _ _ (own s) (tree s) _ _ _ _
     (tree_short a.index.now _ _ (own s) (tree s) _ _ _ _
-    (index_missing a.index.now e.if1.taken) c.before.shape_admitted_lem.ensures c.short-drill.ensures)
+    (index_missing a.index.now e.if1.taken) c.before.shape_admitted.ensures c.short-drill.ensures)
     (λ _. (refl, refl))
 
 -- the drill's answer

@@ -23,7 +23,7 @@ returns-2 c =
     let (s, e, k, p) : tie.Start × tie.Else1 × tie.After-drill-plain × tie.After-put-drill = search in
     let a = s.args in
     drill_plain_certain a.index.now _ _ (own s) _
-    (plain_returned_lem a.index.now _ _ (own s) _ _ (index_there a.index.now e.if1.left) k.drill_plain_lem.ensures.0
+    (plain_returned_lem a.index.now _ _ (own s) _ _ (index_there a.index.now e.if1.left) k.drill_plain.ensures.0
     p.put-drill.ensures)
 
 pub probe-drill-plain-spec : {M : Type 1} → statement M

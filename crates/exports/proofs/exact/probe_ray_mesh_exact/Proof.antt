@@ -11,7 +11,7 @@ use Rattle.exports.proofs.exact.probe_ray_mesh_exact.Tie as tie
 abbrev tree : tie.Start → Tree
 tree s =
     let a = s.args in
-    tree_of a.nodes a.node_boxes_lem.now a.triangle_boxes_lem.now a.node_words_lem.now a.order.now
+    tree_of a.nodes a.node_boxes.now a.triangle_boxes.now a.node_words.now a.order.now
 
 abbrev own : tie.Start → Mesh
 own s = mesh s.args.vertices.now s.args.triangles.now
@@ -23,7 +23,7 @@ returns c =
     let a = s.args in
     with_agreement a.hit.now a.index.now _ (own s) a.pose.now (tree s) _ _ _
     (tree_short a.hit.now a.index.now _ (own s) a.pose.now (tree s) _ _ _
-    (hit_short a.hit.now a.index.now e.if1.taken) c.before.shape_admitted_lem.ensures c.short-exact.ensures)
+    (hit_short a.hit.now a.index.now e.if1.taken) c.before.shape_admitted.ensures c.short-exact.ensures)
     (λ _. refl)
 
 -- the index slice is

@@ -17,7 +17,7 @@ returns : tie.Need-returns
 unfolding shape_admitted
 returns c =
     let (t, k, w) : tie.Then1 × tie.After-shape-admitted × tie.After-short-exact = search in (
-      short_returned _ _ _ _ _ t.if1.taken (w.short-exact.ensures ∙ ap (short_exact _) k.shape_admitted_lem.ensures),
+      short_returned _ _ _ _ _ t.if1.taken (w.short-exact.ensures ∙ ap (short_exact _) k.shape_admitted.ensures),
       ((λ _. (refl, refl)), λ there. absurd (omega (arith, there, t.if1.taken))),
     )
 
@@ -30,7 +30,7 @@ returns-2 c =
       (
         (λ failed. returned.1.0 (second_failed _ _ (le-leb _ _ e.if1.left) failed)),
         λ there.
-            returned_promises _ (refusals_below_codes.exact_listing_lem _ _ _ _ _ _ _) _ there _ returned.0 _ p.put-found.ensures
+            returned_promises _ (refusals_below_codes.exact_listing _ _ _ _ _ _ _) _ there _ returned.0 _ p.put-found.ensures
             (KeepsPromises _ _ _ _ _ _ _) returned.1.1,
       ),
     )

@@ -20,7 +20,7 @@ use Rattle.exports.proofs.meshes.answer_mesh.Tie as tie
 abbrev tree : tie.Start → Tree
 tree s =
     let a = s.args in
-    tree_of a.nodes a.node_boxes_lem.now a.triangle_boxes_lem.now a.node_words_lem.now a.order.now
+    tree_of a.nodes a.node_boxes.now a.triangle_boxes.now a.node_words.now a.order.now
 
 abbrev own : tie.Start → Mesh
 own s = mesh s.args.vertices.now s.args.triangles.now
@@ -95,9 +95,9 @@ returns-3 c =
       whole-floats a.vertices.now,
       whole_words a.triangles.now,
       whole-floats a.pose.now,
-      whole-floats a.node_boxes_lem.now,
-      whole-floats a.triangle_boxes_lem.now,
-      whole_words a.node_words_lem.now,
+      whole-floats a.node_boxes.now,
+      whole-floats a.triangle_boxes.now,
+      whole_words a.node_words.now,
       whole_words a.order.now,
     ) at k.ray-mesh.ensures.0 in
     let kept = rw (
@@ -105,9 +105,9 @@ returns-3 c =
       whole-floats a.vertices.now,
       whole_words a.triangles.now,
       whole-floats a.pose.now,
-      whole-floats a.node_boxes_lem.now,
-      whole-floats a.triangle_boxes_lem.now,
-      whole_words a.node_words_lem.now,
+      whole-floats a.node_boxes.now,
+      whole-floats a.triangle_boxes.now,
+      whole_words a.node_words.now,
       whole_words a.order.now,
     ) at k.ray-mesh.ensures.1.0 in
     with_demand a.hit.now a.index.now _ (own s) a.pose.now (tree s) _ _ _ _

@@ -15,12 +15,12 @@ use Rattle.float_forms.proofs.bytes.number_at.Tie as tie
 short-at-requires : tie.Need-short-at-requires
 short-at-requires c κs =
     let (s, z) : tie.Start × tie.After-size-of = search in
-    omega (arith, s.pre, z.size_of_lem.ensures, c.if1.true)
+    omega (arith, s.pre, z.size_of.ensures, c.if1.true)
 
 returns : tie.Need-returns
 returns c =
     let (s, z, t) : tie.Start × tie.After-size-of × tie.Then1 = search in
-    let short : s.args.form ≡ Short = is_short s.args.form (sym z.size_of_lem.ensures ∙ t.if1.taken) in
+    let short : s.args.form ≡ Short = is_short s.args.form (sym z.size_of.ensures ∙ t.if1.taken) in
     c.short-at.ensures ∙ ap (λ (f : Form). number_of f (drop s.args.place s.args.bytes.now)) (sym short)
 
 -- eight bytes
@@ -29,7 +29,7 @@ start e = search
 
 not-four : (e : tie.Else1) → size_of (start e).args.form ≡ 4 → ⊥
 unfolding start
-not-four e h = e.if1.false (e.before.size_of_lem.ensures ∙ h)
+not-four e h = e.if1.false (e.before.size_of.ensures ∙ h)
 
 long-at-requires : tie.Need-long-at-requires
 unfolding start

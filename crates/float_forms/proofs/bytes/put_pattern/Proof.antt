@@ -23,14 +23,14 @@ put-word-requires : tie.Need-put-word-requires
 put-word-requires c κs =
     let (s, t) : tie.Start × tie.Then1 = search in
     let a = s.args in
-    let short : a.form ≡ Short = four s _ t.before.size_of_lem.ensures t.if1.taken in
+    let short : a.form ≡ Short = four s _ t.before.size_of.ensures t.if1.taken in
     subst (λ (f : Form). (a.place + size_of f ≤ length a.out.now) × (a.bits < 2 * top (format_of f))) short s.pre
 
 returns : tie.Need-returns
 returns c =
     let (s, t, w) : tie.Start × tie.Then1 × tie.After-put-word = search in
     let a = s.args in
-    let short : a.form ≡ Short = four s _ t.before.size_of_lem.ensures t.if1.taken in
+    let short : a.form ≡ Short = four s _ t.before.size_of.ensures t.if1.taken in
     put_short _ _ _ _ w.put_word.ensures ∙ ap (λ (f : Form). sets a.out.now a.place (pattern_bytes f a.bits)) (sym short)
 
 -- eight bytes
@@ -39,7 +39,7 @@ start e = search
 
 not-four : (e : tie.Else1) → size_of (start e).args.form ≡ 4 → ⊥
 unfolding start
-not-four e h = e.if1.false (e.before.size_of_lem.ensures ∙ h)
+not-four e h = e.if1.false (e.before.size_of.ensures ∙ h)
 
 put-long-requires : tie.Need-put-long-requires
 unfolding start

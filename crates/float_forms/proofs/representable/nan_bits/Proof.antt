@@ -12,13 +12,13 @@ returns : tie.Need-returns
 unfolding to_bits
 returns c =
     let (s, z) : tie.Start × tie.After-size-of = search in
-    ap (λ (f : Form). to_bits (format_of f) nan) (sym (is_short s.args.form (sym z.size_of_lem.ensures ∙ c.if1.true)))
+    ap (λ (f : Form). to_bits (format_of f) nan) (sym (is_short s.args.form (sym z.size_of.ensures ∙ c.if1.true)))
 
 returns-2 : tie.Need-returns-2
 unfolding to_bits
 returns-2 c =
     let (s, z) : tie.Start × tie.After-size-of = search in
-    ap (λ (f : Format). to_bits f nan) (sym (long_format s.args.form (λ h. c.if1.false (z.size_of_lem.ensures ∙ h))))
+    ap (λ (f : Format). to_bits f nan) (sym (long_format s.args.form (λ h. c.if1.false (z.size_of.ensures ∙ h))))
 
 pub nan-bits-spec : {M : Type 1} → statement M
 nan-bits-spec = tie.close (tie.spec (search rules) returns returns-2)

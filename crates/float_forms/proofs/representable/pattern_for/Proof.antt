@@ -12,13 +12,13 @@ use Rattle.float_forms.proofs.representable.pattern_for.Tie as tie
 returns : tie.Need-returns
 returns c =
     let (s, z, t) : tie.Start × tie.After-size-of × tie.Then1 = search in
-    let short : s.args.form ≡ Short = is_short s.args.form (sym z.size_of_lem.ensures ∙ t.if1.taken) in
+    let short : s.args.form ≡ Short = is_short s.args.form (sym z.size_of.ensures ∙ t.if1.taken) in
     c.short-for.ensures ∙ ap (λ (f : Form). pattern_for f s.args.x) (sym short)
 
 returns-2 : tie.Need-returns-2
 returns-2 c =
     let (s, z, e) : tie.Start × tie.After-size-of × tie.Else1 = search in
-    c.long-for.ensures ∙ long_pattern s.args.form s.args.x (λ h. e.if1.left (z.size_of_lem.ensures ∙ h))
+    c.long-for.ensures ∙ long_pattern s.args.form s.args.x (λ h. e.if1.left (z.size_of.ensures ∙ h))
 
 pub pattern-for-spec : {M : Type 1} → statement M
 pattern-for-spec =

@@ -50,7 +50,7 @@ add-from c =
       arith,
       next_inside (size_of start.args.p) at-loop.loop.from at-loop.loop.left (length start.args.source.now)
           in-loop.loop-test.taken at-loop.loop.inv.enough,
-      at-size-of.size_of_lem.ensures,
+      at-size-of.size_of.ensures,
     )
 
 loop-again : tie.Need-loop-preserved invariant-loop decreases-loop
@@ -58,7 +58,7 @@ loop-again c =
     let (start, at-size-of, at-loop, in-loop, at-number-at) :
     (tie.Start invariant-loop decreases-loop) × (tie.After-size-of invariant-loop decreases-loop) × (tie.At-loop invariant-loop decreases-loop) × (tie.In-loop invariant-loop decreases-loop) ×
     (tie.After-number-at invariant-loop decreases-loop) = search in
-    rw at-size-of.size_of_lem.ensures
+    rw at-size-of.size_of.ensures
     (scan_next start.args.p start.args.q start.args.source.now
     (every (representable start.args.q) (numbers_of start.args.p start.args.count (drop start.args.place start.args.source.now))) at-loop.loop.from at-loop.loop.left in-loop.loop-test.taken at-loop.loop.inv
     (sym (c.before.is-representable.ensures ∙ ap (representable start.args.q) at-number-at.number_at.ensures) ∙ not-false

@@ -73,7 +73,7 @@ add-from c =
     let (s, z, l, t) : Start × tie.After-size-of invariant-loop decreases-loop × At-loop × In-loop = search in
     let inside = next_inside (size_of s.args.p) l.loop.from l.loop.left (length s.args.source.now) t.loop-test.taken
     l.loop.inv.enough in
-    omega (arith, inside, z.size_of_lem.ensures)
+    omega (arith, inside, z.size_of.ensures)
 
 add-to : tie.Need-overflow-add-to invariant-loop decreases-loop
 add-to c =
@@ -89,7 +89,7 @@ loop-again c =
     let (l, t, r, f, w) : At-loop × In-loop × Read × Found × tie.After-put-pattern invariant-loop decreases-loop = search in
     let a = s.args in
     let bits = f.bits-for.ensures.0 ∙ ap (to_bits (format_of a.q)) r.number_at.ensures in
-    rw (z.size_of_lem.ensures, y.size-of2.ensures)
+    rw (z.size_of.ensures, y.size-of2.ensures)
     (write_next a.p a.q a.source.now (whole s) (length a.out.now) l.loop.out w.put-pattern.last.1.0
     l.loop.from l.loop.to l.loop.left f.bits-for.result t.loop-test.taken l.loop.inv bits w.put-pattern.ensures)
 

@@ -56,14 +56,14 @@ add-from c =
     let f = s.args.form in
     let inside = read_inside (number_of f) (size_of f) (numbers_of f) (numbers_run f) s.args.source.now _ _ _ _ _ _ l.loop.inv
     t.loop-test.taken in
-    omega (arith, inside, z.size_of_lem.ensures)
+    omega (arith, inside, z.size_of.ensures)
 
 -- one float more
 loop-again : tie.Need-loop-preserved invariant-loop decreases-loop
 loop-again c =
     let (s, z, l, t, r) : Start × tie.After-size-of invariant-loop decreases-loop × At-loop × In-loop × tie.After-number-at invariant-loop decreases-loop = search in
     let f = s.args.form in
-    rw z.size_of_lem.ensures
+    rw z.size_of.ensures
     (read_next (number_of f) (size_of f) (numbers_of f) (numbers_run f) s.args.source.now _ _ _ _ _ _ l.loop.inv _
     t.loop-test.taken r.number_at.ensures)
 

@@ -33,8 +33,8 @@ returns-3 c =
       not-false at-side-admitted.side-admitted.result else1.if1.left,
       sym at-side-admitted2.side-admitted2.ensures,
       not-false at-side-admitted2.side-admitted2.result else2.if2.left,
-      sym c.before.spacing_admitted_lem.ensures,
-      not-true c.before.spacing_admitted_lem.result c.if3.true,
+      sym c.before.spacing_admitted.ensures,
+      not-true c.before.spacing_admitted.result c.if3.true,
     )
 
 returns-4 : tie.Need-returns-4
@@ -47,8 +47,8 @@ returns-4 c =
       not-false at-side-admitted.side-admitted.result else1.if1.left,
       sym at-side-admitted2.side-admitted2.ensures,
       not-false at-side-admitted2.side-admitted2.result else2.if2.left,
-      sym at-spacing-admitted.spacing_admitted_lem.ensures,
-      not-false at-spacing-admitted.spacing_admitted_lem.result else3.if3.left,
+      sym at-spacing-admitted.spacing_admitted.ensures,
+      not-false at-spacing-admitted.spacing_admitted.result else3.if3.left,
       sym c.before.spacing-admitted2.ensures,
       not-true c.before.spacing-admitted2.result c.if4.true,
     )
@@ -75,8 +75,8 @@ returns-5 c =
       not-false at-side-admitted.side-admitted.result else1.if1.left,
       sym at-side-admitted2.side-admitted2.ensures,
       not-false at-side-admitted2.side-admitted2.result else2.if2.left,
-      sym at-spacing-admitted.spacing_admitted_lem.ensures,
-      not-false at-spacing-admitted.spacing_admitted_lem.result else3.if3.left,
+      sym at-spacing-admitted.spacing_admitted.ensures,
+      not-false at-spacing-admitted.spacing_admitted.result else3.if3.left,
       sym at-spacing-admitted2.spacing-admitted2.ensures,
       not-false at-spacing-admitted2.spacing-admitted2.result
           c.before.if4.false,

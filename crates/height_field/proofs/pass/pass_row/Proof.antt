@@ -51,19 +51,19 @@ returns c =
     turn.loop-test.taken in
     sym (pass_ends (answer_of a.ray a.field a.heights.now) (says_indexed at.best) _ _ _ (ended overflow) split
     (pass_of_infinite a.field a.heights.now a.row at.column inside a.ray a.bounds (says_indexed at.best)
-    (sym k.cell_finite_lem.ensures ∙ not-true k.cell_finite_lem.result c.if1.true)) _ refl) ∙ at.inv
+    (sym k.cell_finite.ensures ∙ not-true k.cell_finite.result c.if1.true)) _ refl) ∙ at.inv
 
 cell-touches-requires : tie.Need-cell-touches-requires invariant-loop decreases-loop
 cell-touches-requires c κs =
     let (s, k) : (tie.Start invariant-loop decreases-loop) × (tie.After-cell-finite invariant-loop decreases-loop) = search in
-    let finite = sym k.cell_finite_lem.ensures ∙ not-false k.cell_finite_lem.result c.if1.false in
+    let finite = sym k.cell_finite.ensures ∙ not-false k.cell_finite.result c.if1.false in
     (s.pre.0, (omega (arith, s.pre), (omega (arith, s.pre), finite)))
 
 pass-cell-requires : tie.Need-pass-cell-requires invariant-loop decreases-loop
 pass-cell-requires c κs =
     let (s, k, else1, t) : (tie.Start invariant-loop decreases-loop) × (tie.After-cell-finite invariant-loop decreases-loop) × (tie.Else1 invariant-loop decreases-loop) ×
     (tie.After-cell-touches invariant-loop decreases-loop) = search in
-    let finite = sym k.cell_finite_lem.ensures ∙ not-false k.cell_finite_lem.result else1.if1.left in
+    let finite = sym k.cell_finite.ensures ∙ not-false k.cell_finite.result else1.if1.left in
     (s.pre.0, (omega (arith, s.pre), (omega (arith, s.pre), (finite, sym t.cell-touches.ensures ∙ c.if2.true))))
 
 add-column : tie.Need-overflow-add-column invariant-loop decreases-loop
@@ -84,7 +84,7 @@ loop-again c =
     let onward = pass_goes answer best _ _ _ in
     let list = list_cell a.field a.heights.now a.bounds in
     let split = row_cons list a.field a.row at.column a.last turn.loop-test.taken in
-    let finite = sym k.cell_finite_lem.ensures ∙ not-false k.cell_finite_lem.result else1.if1.left in
+    let finite = sym k.cell_finite.ensures ∙ not-false k.cell_finite.result else1.if1.left in
     let inside : at.column + 1 < a.field.columns = omega (arith, s.pre, turn.loop-test.taken) in
     let says : (r q : IndexedCast) → r ≡ q → going (says_indexed q) ≡ going (says_indexed r) = λ r q e. ap (λ (x : IndexedCast). going
     (says_indexed x)) (sym e) in

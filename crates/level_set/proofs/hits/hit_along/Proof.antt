@@ -21,7 +21,7 @@ returns-2 : tie.Need-returns-2
 unfolding hit_along
 returns-2 c =
     let (at-point-at, at-sample, at-found2) : tie.After-point-at × tie.After-sample × tie.After-found2 = search in
-    simp (sym at-point-at.point_at.ensures, sym at-sample.sample.ensures, at-found2.found2.given.1, sym c.hit_with_lem.ensures)
+    simp (sym at-point-at.point_at.ensures, sym at-sample.sample.ensures, at-found2.found2.given.1, sym c.hit_with.ensures)
 
 pub hit-along-spec : {M : Type 1} → statement M
 hit-along-spec =

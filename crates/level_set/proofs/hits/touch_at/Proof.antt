@@ -20,7 +20,7 @@ returns c =
       sym at-sample.sample.ensures,
       at-found2.found2.given.1,
       c.before.if1.true,
-      sym c.hit_with_lem.ensures,
+      sym c.hit_with.ensures,
     )
 
 returns-2 : tie.Need-returns-2

@@ -37,7 +37,7 @@ returns-3 c =
         sym at-first-cubic-root.first-cubic-root.ensures,
         at-root.root.given.1,
         sym c.before.along.ensures,
-        sym c.hit_along_lem.ensures,
+        sym c.hit_along.ensures,
       ),
       ended,
     )

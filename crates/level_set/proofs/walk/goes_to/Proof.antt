@@ -7,7 +7,7 @@ use Rattle.level_set.proofs.walk.goes_to.Tie as tie
 
 returns : tie.Need-returns
 unfolding goes_to
-returns c = (simp (c.before.if1.true, sym c.touch_at_lem.ensures), ended)
+returns c = (simp (c.before.if1.true, sym c.touch_at.ensures), ended)
 
 minimum-requires : tie.Need-minimum-requires
 minimum-requires c κs = tt

@@ -10,7 +10,7 @@ use Rattle.many_casts.proofs.admitted_exact.cast_ray.Tie as tie
 abbrev tree : tie.Start → Tree
 tree s =
     let a = s.args in
-    tree_of a.nodes a.node_boxes_lem.now a.triangle_boxes_lem.now a.node_words_lem.now a.order.now
+    tree_of a.nodes a.node_boxes.now a.triangle_boxes.now a.node_words.now a.order.now
 
 -- refusal 1
 returns : tie.Need-returns

@@ -12,9 +12,9 @@ use Rattle.many_casts.proofs.admitted_exact.exact_through.Tie as tie
 abbrev tree : tie.Start → Tree
 tree s =
     let a = s.args in
-    tree_of a.nodes a.node_boxes_lem.now a.triangle_boxes_lem.now a.node_words_lem.now a.order.now
+    tree_of a.nodes a.node_boxes.now a.triangle_boxes.now a.node_words.now a.order.now
 
-own : (s : tie.Start) → Reads (tree s) s.args.nodes s.args.node_boxes_lem.now s.args.node_words_lem.now s.args.order.now
+own : (s : tie.Start) → Reads (tree s) s.args.nodes s.args.node_boxes.now s.args.node_words.now s.args.order.now
 own s = record { counted = refl; boxed = refl; worded = refl; ordered = refl }
 
 segment-box-requires : tie.Need-segment-box-requires

@@ -36,7 +36,7 @@ Within = tie.In-loop invariant-loop decreases-loop
 abbrev tree : Start → Tree
 tree s =
     let a = s.args in
-    tree_of a.nodes a.node_boxes_lem.now a.triangle_boxes_lem.now a.node_words_lem.now a.order.now
+    tree_of a.nodes a.node_boxes.now a.triangle_boxes.now a.node_words.now a.order.now
 
 loop-holds : tie.Need-loop-init invariant-loop decreases-loop
 loop-holds c = none_answered _ _ _ _ _ _

@@ -21,19 +21,19 @@ returns-2 : tie.Need-returns-2
 unfolding shape_admitted
 returns-2 c =
     let (a, t) : tie.Else1 × tie.Then2 = search in
-    many_bad _ _ _ _ _ _ _ _ (refl, refl) a.if1.left (test_failed t.before.shape_admitted_lem.ensures t.if2.taken)
+    many_bad _ _ _ _ _ _ _ _ (refl, refl) a.if1.left (test_failed t.before.shape_admitted.ensures t.if2.taken)
 
 walk-fits-requires : tie.Need-walk-fits-requires
 walk-fits-requires c κs =
     let b : tie.Else2 = search in
-    triangles_few _ _ _ _ (test_passed b.before.shape_admitted_lem.ensures b.if2.left)
+    triangles_few _ _ _ _ (test_passed b.before.shape_admitted.ensures b.if2.left)
 
 -- refusal 3 of the tree's areas and the work areas
 returns-3 : tie.Need-returns-3
 unfolding shape_admitted room_for walk_fits
 returns-3 c =
     let (a, b, t) : tie.Else1 × tie.Else2 × tie.Then3 = search in
-    many_short _ _ _ _ _ _ _ _ (refl, refl) a.if1.left (test_passed b.before.shape_admitted_lem.ensures b.if2.left)
+    many_short _ _ _ _ _ _ _ _ (refl, refl) a.if1.left (test_passed b.before.shape_admitted.ensures b.if2.left)
     (test_failed t.before.walk-fits.ensures t.if3.taken)
 
 -- and of the result slices
@@ -41,7 +41,7 @@ returns-4 : tie.Need-returns-4
 unfolding shape_admitted room_for walk_fits places_fit
 returns-4 c =
     let (a, b, d, t) : tie.Else1 × tie.Else2 × tie.Else3 × tie.Then4 = search in
-    many_narrow _ _ _ _ _ _ _ _ (refl, refl) a.if1.left (test_passed b.before.shape_admitted_lem.ensures b.if2.left)
+    many_narrow _ _ _ _ _ _ _ _ (refl, refl) a.if1.left (test_passed b.before.shape_admitted.ensures b.if2.left)
     (test_passed d.before.walk-fits.ensures d.if3.left) (test_failed t.before.places-fit.ensures t.if4.taken)
 
 -- refusal 4
@@ -49,7 +49,7 @@ returns-5 : tie.Need-returns-5
 unfolding shape_admitted room_for walk_fits places_fit
 returns-5 c =
     let (a, b, d, f, t) : tie.Else1 × tie.Else2 × tie.Else3 × tie.Else4 × tie.Then5 = search in
-    many_posed _ _ _ _ _ _ _ _ (refl, refl) a.if1.left (test_passed b.before.shape_admitted_lem.ensures b.if2.left)
+    many_posed _ _ _ _ _ _ _ _ (refl, refl) a.if1.left (test_passed b.before.shape_admitted.ensures b.if2.left)
     (test_passed d.before.walk-fits.ensures d.if3.left) (test_passed f.before.places-fit.ensures f.if4.left)
     t.if5.taken
 
@@ -58,7 +58,7 @@ cast-each-requires c κs =
     let (b, d, f, g) : tie.Else2 × tie.Else3 × tie.Else4 × tie.Else5 = search in (
       (omega arith, fits_inside _ _ _ _ (test_passed f.before.places-fit.ensures f.if4.left)),
       record {
-        shaped = test_passed b.before.shape_admitted_lem.ensures b.if2.left;
+        shaped = test_passed b.before.shape_admitted.ensures b.if2.left;
         lent = test_passed d.before.walk-fits.ensures d.if3.left;
         posed = g.if5.left;
       },
@@ -69,7 +69,7 @@ returns-6 : tie.Need-returns-6
 unfolding shape_admitted room_for walk_fits places_fit
 returns-6 c =
     let (a, b, d, f, g, k) : tie.Else1 × tie.Else2 × tie.Else3 × tie.Else4 × tie.Else5 × tie.After-cast-each = search in
-    many_done _ _ _ _ _ _ _ _ a.if1.left (test_passed b.before.shape_admitted_lem.ensures b.if2.left)
+    many_done _ _ _ _ _ _ _ _ a.if1.left (test_passed b.before.shape_admitted.ensures b.if2.left)
     (test_passed d.before.walk-fits.ensures d.if3.left) (test_passed f.before.places-fit.ensures f.if4.left)
     g.if5.left _ k.cast-each.ensures
 

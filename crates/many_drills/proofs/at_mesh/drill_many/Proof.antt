@@ -20,19 +20,19 @@ returns-2 : tie.Need-returns-2
 unfolding shape_admitted
 returns-2 c =
     let (a, t) : tie.Else1 × tie.Then2 = search in
-    many_bad _ _ _ _ _ _ _ (refl, refl) a.if1.left (test_failed t.before.shape_admitted_lem.ensures t.if2.taken)
+    many_bad _ _ _ _ _ _ _ (refl, refl) a.if1.left (test_failed t.before.shape_admitted.ensures t.if2.taken)
 
 walk-fits-requires : tie.Need-walk-fits-requires
 walk-fits-requires c κs =
     let b : tie.Else2 = search in
-    triangles_few _ _ _ _ (test_passed b.before.shape_admitted_lem.ensures b.if2.left)
+    triangles_few _ _ _ _ (test_passed b.before.shape_admitted.ensures b.if2.left)
 
 -- refusal 3 of the tree's areas and the work areas
 returns-3 : tie.Need-returns-3
 unfolding shape_admitted
 returns-3 c =
     let (a, b, t) : tie.Else1 × tie.Else2 × tie.Then3 = search in
-    many_short _ _ _ _ _ _ _ (refl, refl) a.if1.left (test_passed b.before.shape_admitted_lem.ensures b.if2.left)
+    many_short _ _ _ _ _ _ _ (refl, refl) a.if1.left (test_passed b.before.shape_admitted.ensures b.if2.left)
     (test_failed t.before.walk-fits.ensures t.if3.taken)
 
 -- and of the result slices
@@ -40,7 +40,7 @@ returns-4 : tie.Need-returns-4
 unfolding shape_admitted places_fit
 returns-4 c =
     let (a, b, d, t) : tie.Else1 × tie.Else2 × tie.Else3 × tie.Then4 = search in
-    many_narrow _ _ _ _ _ _ _ (refl, refl) a.if1.left (test_passed b.before.shape_admitted_lem.ensures b.if2.left)
+    many_narrow _ _ _ _ _ _ _ (refl, refl) a.if1.left (test_passed b.before.shape_admitted.ensures b.if2.left)
     (test_passed d.before.walk-fits.ensures d.if3.left) (test_failed t.before.places-fit.ensures t.if4.taken)
 
 drill-each-requires : tie.Need-drill-each-requires
@@ -53,7 +53,7 @@ returns-5 : tie.Need-returns-5
 unfolding shape_admitted places_fit
 returns-5 c =
     let (a, b, d, f, k) : tie.Else1 × tie.Else2 × tie.Else3 × tie.Else4 × tie.After-drill-each = search in
-    many_done _ _ _ _ _ _ _ a.if1.left (test_passed b.before.shape_admitted_lem.ensures b.if2.left)
+    many_done _ _ _ _ _ _ _ a.if1.left (test_passed b.before.shape_admitted.ensures b.if2.left)
     (test_passed d.before.walk-fits.ensures d.if3.left) (test_passed f.before.places-fit.ensures f.if4.left)
     _ k.drill-each.ensures
 

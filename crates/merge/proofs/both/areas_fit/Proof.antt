@@ -11,20 +11,20 @@ use Rattle.merge.proofs.both.areas_fit.Tie as tie
 abbrev first-board : tie.Start → Board
 first-board s =
     let p = s.args in
-    board_of p.first-vertices.now p.first-triangles.now p.nodes p.first_boxes_lem.now p.first_around_lem.now
-    p.first_words_lem.now p.first_order_lem.now
+    board_of p.first-vertices.now p.first-triangles.now p.nodes p.first_boxes.now p.first_around.now
+    p.first_words.now p.first_order.now
 
 abbrev second-board : tie.Start → Board
 second-board s =
     let p = s.args in
-    board_of p.second-vertices.now p.second-triangles.now p.others p.second_boxes_lem.now p.second_around_lem.now
-    p.second_words_lem.now p.second_order_lem.now
+    board_of p.second-vertices.now p.second-triangles.now p.others p.second_boxes.now p.second_around.now
+    p.second_words.now p.second_order.now
 
 -- the result areas as they were
 abbrev areas-before : tie.Start → Areas
 areas-before s =
     let p = s.args in
-    areas_of p.vertices.now p.triangles.now p.node_boxes_lem.now p.triangle_boxes_lem.now p.node_words_lem.now p.order.now
+    areas_of p.vertices.now p.triangles.now p.node_boxes.now p.triangle_boxes.now p.node_words.now p.order.now
 
 tree-fits-requires : tie.Need-tree-fits-requires
 tree-fits-requires c κs =

@@ -33,7 +33,7 @@ glue-boxes-requires c κs =
         ((p.first.boxes, p.second.boxes), (p.first.around, p.second.around)),
         (
           (
-            subst (λ (z : Bool). 6 * (cond z 0 1 + (start.args.nodes + start.args.others)) ≤ length start.args.node_boxes_lem.now)
+            subst (λ (z : Bool). 6 * (cond z 0 1 + (start.args.nodes + start.args.others)) ≤ length start.args.node_boxes.now)
                 (sym e)
                 p.boxes,
             p.around,
@@ -51,15 +51,15 @@ glue-words-requires c κs =
       ((p.first.few_nodes, p.second.few_nodes), ((p.first.words, p.second.words), (p.first.order, p.second.order))),
       (
         (
-          subst (λ (z : Bool). 3 * (cond z 0 1 + (start.args.nodes + start.args.others)) ≤ length start.args.node_words_lem.now)
+          subst (λ (z : Bool). 3 * (cond z 0 1 + (start.args.nodes + start.args.others)) ≤ length start.args.node_words.now)
               (sym e)
               p.words,
           p.order,
         ),
         (
           (
-            subst (λ (z : Bool). SmallNodes start.args.first_words_lem.now (cond z 0 1) 0 start.args.nodes) (sym e) p.first_small,
-            subst (λ (z : Bool). SmallNodes start.args.second_words_lem.now (cond z 0 1 + start.args.nodes)
+            subst (λ (z : Bool). SmallNodes start.args.first_words.now (cond z 0 1) 0 start.args.nodes) (sym e) p.first_small,
+            subst (λ (z : Bool). SmallNodes start.args.second_words.now (cond z 0 1 + start.args.nodes)
                 (length start.args.first-triangles.now / 3) start.args.others) (sym e) p.second_small,
           ),
           p.order_small,
@@ -83,12 +83,12 @@ returns c =
     let at-one-empty = emptied at-glue-mesh in
     let start = start_of at-one-empty in
     let a = start.args in
-    let x = board_of a.first-vertices.now a.first-triangles.now a.nodes a.first_boxes_lem.now a.first_around_lem.now
-    a.first_words_lem.now a.first_order_lem.now in
-    let y = board_of a.second-vertices.now a.second-triangles.now a.others a.second_boxes_lem.now a.second_around_lem.now
-    a.second_words_lem.now a.second_order_lem.now in
+    let x = board_of a.first-vertices.now a.first-triangles.now a.nodes a.first_boxes.now a.first_around.now
+    a.first_words.now a.first_order.now in
+    let y = board_of a.second-vertices.now a.second-triangles.now a.others a.second_boxes.now a.second_around.now
+    a.second_words.now a.second_order.now in
     let old =
-    areas_of a.vertices.now a.triangles.now a.node_boxes_lem.now a.triangle_boxes_lem.now a.node_words_lem.now a.order.now in
+    areas_of a.vertices.now a.triangles.now a.node_boxes.now a.triangle_boxes.now a.node_words.now a.order.now in
     let o = at-one-empty.one-empty in
     let g = at-glue-mesh.glue-mesh in
     let h = at-glue-boxes.glue-boxes in

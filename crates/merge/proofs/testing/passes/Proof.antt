@@ -12,9 +12,9 @@ returns : tie.Need-returns
 returns c =
     let (start, at-check) : tie.Start × tie.After-check = search in
     let b =
-    board_of start.args.vertices.now start.args.triangles.now start.args.nodes start.args.node_boxes_lem.now
-    start.args.triangle_boxes_lem.now
-    start.args.node_words_lem.now start.args.order.now in
+    board_of start.args.vertices.now start.args.triangles.now start.args.nodes start.args.node_boxes.now
+    start.args.triangle_boxes.now
+    start.args.node_words.now start.args.order.now in
     let v = at-check.check in
     told_yes b.mesh b.tree (length start.args.marks.now) start.pre.0 start.pre.1 (says v.result) v.ensures.0
     (ap says c.enum_told.given.1)
@@ -23,9 +23,9 @@ returns-2 : tie.Need-returns-2
 returns-2 c =
     let (start, at-check) : tie.Start × tie.After-check = search in
     let b =
-    board_of start.args.vertices.now start.args.triangles.now start.args.nodes start.args.node_boxes_lem.now
-    start.args.triangle_boxes_lem.now
-    start.args.node_words_lem.now start.args.order.now in
+    board_of start.args.vertices.now start.args.triangles.now start.args.nodes start.args.node_boxes.now
+    start.args.triangle_boxes.now
+    start.args.node_words.now start.args.order.now in
     let v = at-check.check in
     told_no b.mesh b.tree (length start.args.marks.now) start.pre.0 start.pre.1 (says v.result) v.ensures.0
     (ap says c.enum-told2.given.1)
@@ -34,9 +34,9 @@ returns-3 : tie.Need-returns-3
 returns-3 c =
     let (start, at-check) : tie.Start × tie.After-check = search in
     let b =
-    board_of start.args.vertices.now start.args.triangles.now start.args.nodes start.args.node_boxes_lem.now
-    start.args.triangle_boxes_lem.now
-    start.args.node_words_lem.now start.args.order.now in
+    board_of start.args.vertices.now start.args.triangles.now start.args.nodes start.args.node_boxes.now
+    start.args.triangle_boxes.now
+    start.args.node_words.now start.args.order.now in
     let v = at-check.check in
     absurd (not_refused b.mesh b.tree (length start.args.marks.now) start.pre.0 start.pre.1 (says v.result)
     v.ensures.0

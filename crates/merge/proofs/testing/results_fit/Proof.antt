@@ -30,7 +30,7 @@ returns-3 c =
           else1.if1.left,
       le-leb start.args.t (length start.args.triangles.now)
           c.before.if2.false,
-      lt-leb (12 * start.args.n) (length start.args.node_boxes_lem.now)
+      lt-leb (12 * start.args.n) (length start.args.node_boxes.now)
           c.if3.true,
     )
 
@@ -44,10 +44,10 @@ returns-4 c =
       le-leb start.args.t
           (length start.args.triangles.now) else2.if2.left,
       le-leb
-          (12 * start.args.n) (length start.args.node_boxes_lem.now)
+          (12 * start.args.n) (length start.args.node_boxes.now)
           c.before.if3.false,
       lt-leb (6 * start.args.n)
-          (length start.args.triangle_boxes_lem.now) c.if4.true,
+          (length start.args.triangle_boxes.now) c.if4.true,
     )
 
 returns-5 : tie.Need-returns-5
@@ -61,12 +61,12 @@ returns-5 c =
           start.args.t (length start.args.triangles.now)
           else2.if2.left,
       le-leb (12 * start.args.n)
-          (length start.args.node_boxes_lem.now) else3.if3.left,
+          (length start.args.node_boxes.now) else3.if3.left,
       le-leb
           (6 * start.args.n)
-          (length start.args.triangle_boxes_lem.now) c.before.if4.false,
+          (length start.args.triangle_boxes.now) c.before.if4.false,
       lt-leb
-          (6 * start.args.n) (length start.args.node_words_lem.now)
+          (6 * start.args.n) (length start.args.node_words.now)
           c.if5.true,
     )
 
@@ -81,13 +81,13 @@ returns-6 c =
       le-leb start.args.t
           (length start.args.triangles.now) else2.if2.left,
       le-leb (12 * start.args.n)
-          (length start.args.node_boxes_lem.now) else3.if3.left,
+          (length start.args.node_boxes.now) else3.if3.left,
       le-leb
           (6 * start.args.n)
-          (length start.args.triangle_boxes_lem.now) else4.if4.left,
+          (length start.args.triangle_boxes.now) else4.if4.left,
       le-leb
           (6 * start.args.n)
-          (length start.args.node_words_lem.now) c.before.if5.false,
+          (length start.args.node_words.now) c.before.if5.false,
       lt-leb
           start.args.n
           (length start.args.order.now) c.if6.true,
@@ -104,13 +104,13 @@ returns-7 c =
       le-leb start.args.t
           (length start.args.triangles.now) else2.if2.left,
       le-leb (12 * start.args.n)
-          (length start.args.node_boxes_lem.now) else3.if3.left,
+          (length start.args.node_boxes.now) else3.if3.left,
       le-leb
           (6 * start.args.n)
-          (length start.args.triangle_boxes_lem.now) else4.if4.left,
+          (length start.args.triangle_boxes.now) else4.if4.left,
       le-leb
           (6 * start.args.n)
-          (length start.args.node_words_lem.now) c.before.if5.false,
+          (length start.args.node_words.now) c.before.if5.false,
       le-leb
           start.args.n
           (length start.args.order.now) c.if6.false,

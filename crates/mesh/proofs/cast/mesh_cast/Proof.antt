@@ -64,7 +64,7 @@ unfolding start
 returns-4 c =
     let (e, b, g, k) : tie.Else1 × tie.After-segment-box × tie.After-gather × tie.After-walked = search in
     cast_nearest _ _ _ _ (start e).pre.0 (finite e) _ b.segment-box.ensures _ _ g.gather.ensures.0 _ _ k.walked.given.1
-    c.nearest_of_lem.ensures
+    c.nearest_of.ensures
 
 pub mesh-cast-spec : {M : Type 1} → statement M
 mesh-cast-spec =

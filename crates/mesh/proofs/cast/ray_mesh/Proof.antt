@@ -35,7 +35,7 @@ shaped : (e : tie.Else2)
     → let a = (start₂ e).args in
     lengths (length a.vertices.now) (length a.triangles.now) (length a.pose.now) a.nodes ≡ true
 unfolding start₂
-shaped e = sym e.before.shape_admitted_lem.ensures ∙ not-false e.before.shape_admitted_lem.result e.if2.false
+shaped e = sym e.before.shape_admitted.ensures ∙ not-false e.before.shape_admitted.result e.if2.false
 
 -- past refusal 3
 start₃ : tie.Else3 → tie.Start
@@ -44,7 +44,7 @@ start₃ e = search
 abbrev tree : tie.Start → Tree
 tree s =
     let a = s.args in
-    tree_of a.nodes a.node_boxes_lem.now a.triangle_boxes_lem.now a.node_words_lem.now a.order.now
+    tree_of a.nodes a.node_boxes.now a.triangle_boxes.now a.node_words.now a.order.now
 
 fits : (e : tie.Else3)
     → let a = (start₃ e).args in
@@ -72,7 +72,7 @@ unfolding start₁
 returns-2 c =
     let (e, h, t) : tie.Else1 × tie.After-shape-admitted × tie.Then2 = search in
     with_demand _ _ _ _ _ _ _ _
-    (mesh_bad _ _ _ _ _ _ (valid e) (sym h.shape_admitted_lem.ensures ∙ not-true h.shape_admitted_lem.result t.if2.taken))
+    (mesh_bad _ _ _ _ _ _ (valid e) (sym h.shape_admitted.ensures ∙ not-true h.shape_admitted.result t.if2.taken))
     (λ _. (refl, refl))
 
 walk-fits-requires : tie.Need-walk-fits-requires

@@ -12,7 +12,7 @@ use Rattle.mesh_drill.proofs.through.over_tree.Tie as tie
 abbrev tree : tie.Start → Tree
 tree s =
     let a = s.args in
-    tree_of a.nodes a.node_boxes_lem.now a.triangle_boxes_lem.now a.node_words_lem.now a.order.now
+    tree_of a.nodes a.node_boxes.now a.triangle_boxes.now a.node_words.now a.order.now
 
 abbrev own : tie.Start → Mesh
 own s = mesh s.args.vertices.now s.args.triangles.now
@@ -35,7 +35,7 @@ returns-2 c =
     let (s, k, e, b, w) : tie.Start × tie.After-root-read × tie.Else1 × tie.After-cylinder-of × tie.After-over-walk = search in
     root_in s.args.ray s.args.radius (own s) (tree s)
     (test_passed (k.root-read.ensures (tree s) refl refl) e.if1.left) _
-    (w.over_walk_lem.ensures _ _ b.cylinder-of.ensures.0 (runs s.args.ray s.args.radius s.pre.0))
+    (w.over_walk.ensures _ _ b.cylinder-of.ensures.0 (runs s.args.ray s.args.radius s.pre.0))
 
 pub over-tree-spec : {M : Type 1} → statement M
 over-tree-spec =

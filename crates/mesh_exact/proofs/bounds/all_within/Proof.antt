@@ -30,7 +30,7 @@ returns c h = absurd (false≢true h)
 loop-again : tie.Need-loop-preserved invariant-loop decreases-loop
 loop-again c =
     let (l, v, w) : tie.At-loop invariant-loop decreases-loop × tie.After-vector-at invariant-loop decreases-loop × tie.After-all-within invariant-loop decreases-loop = search in
-    passed_goes _ _ l.loop.inv _ v.vector-at.ensures (test_passed w.all_within_lem.ensures c.if1.false)
+    passed_goes _ _ l.loop.inv _ v.vector-at.ensures (test_passed w.all_within.ensures c.if1.false)
 
 -- all of them
 returns-2 : tie.Need-returns-2 invariant-loop decreases-loop

@@ -15,7 +15,7 @@ own s = mesh s.args.vertices.now s.args.triangles.now
 boxes-hold-requires : tie.Need-boxes-hold-requires
 boxes-hold-requires c κs =
     let s : tie.Start = search in
-    (s.pre.0, c.all_within_lem.ensures)
+    (s.pre.0, c.all_within.ensures)
 
 -- a triangle without a valid box
 returns : tie.Need-returns
@@ -29,7 +29,7 @@ winner-of-requires c κs =
       s.pre.0,
       (
         s.pre.1.casts.shown.view_sized,
-        (b.boxes-hold.ensures.0 (not-false _ e.if1.left), (a.all_within_lem.ensures, k.put-codes.ensures)),
+        (b.boxes-hold.ensures.0 (not-false _ e.if1.left), (a.all_within.ensures, k.put-codes.ensures)),
       ),
     )
 
@@ -37,27 +37,27 @@ winner-of-requires c κs =
 returns-2 : tie.Need-returns-2
 returns-2 c =
     let (s, w) : tie.Start × tie.After-winner-of = search in
-    nobody_won s.args.ray (own s) _ (w.winner_of_lem.ensures _ s.pre.1) c.enum_told.given.1
+    nobody_won s.args.ray (own s) _ (w.winner_of.ensures _ s.pre.1) c.enum_told.given.1
 
 -- a refusal
 returns-3 : tie.Need-returns-3
 returns-3 c =
     let (s, w) : tie.Start × tie.After-winner-of = search in
-    refusal_won s.args.ray (own s) _ (w.winner_of_lem.ensures _ s.pre.1) _ c.before.winner.given.1
+    refusal_won s.args.ray (own s) _ (w.winner_of.ensures _ s.pre.1) _ c.before.winner.given.1
 
 -- a hit: its triangle is one of the mesh's
 corners-of-requires : tie.Need-corners-of-requires
 corners-of-requires c κs =
     let (s, w) : tie.Start × tie.After-winner-of = search in
     let h = s.pre.1.casts in
-    let reached = (w.winner_of_lem.ensures _ s.pre.1).reached _ _ c.before.winner2.given.1 in
+    let reached = (w.winner_of.ensures _ s.pre.1).reached _ _ c.before.winner2.given.1 in
     (omega (arith, reached.0), hit_inside s.args.ray _ _ _ h.valid h.shown.admitted _ reached.1)
 
 returns-4 : tie.Need-returns-4
 returns-4 c =
     let (s, w, h, k) : tie.Start × tie.After-winner-of × tie.After-winner2 × tie.After-corners-of = search in
     let g = s.pre.1.casts in
-    let won = w.winner_of_lem.ensures _ s.pre.1 in
+    let won = w.winner_of.ensures _ s.pre.1 in
     let reached = won.reached _ _ h.winner2.given.1 in
     hit_won s.args.ray (own s) _ won _ _ h.winner2.given.1 _
     (c.before.hit-on.ensures

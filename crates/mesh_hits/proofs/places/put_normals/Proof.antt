@@ -63,7 +63,7 @@ loop-again c =
     let below = in-loop.loop-test.taken in
     let reached = s.pre.reached l.i below ∙ ap At (sym (distance_stands _ _ _ _ _ s.pre _ _ l.inv below)) in
     putting_goes _ _ _ _ _ s.pre _ _ l.inv below _
-    (at-hit-at.hit_at_lem.ensures
+    (at-hit-at.hit_at.ensures
     ∙ hit_answer _ _ _ _ _ reached _ at-corners-of.corners-of.ensures) _
     at-put-place.put-place.kept.1.1.0 at-put-place.put-place.ensures
 

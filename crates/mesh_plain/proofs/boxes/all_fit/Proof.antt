@@ -65,7 +65,7 @@ returns-2 c =
     let (s, l, t) : Start × Turn × Tested = search in
     let (k, e, b) : Looked × Inside × Boxed = search in
     let inside = test_passed k.corners-inside.ensures e.if1.left in
-    let invalid = sym (ap valid_box b.triangle_box_lem.ensures) ∙ test_failed c.before.is-valid.ensures c.if2.true in
+    let invalid = sym (ap valid_box b.triangle_box.ensures) ∙ test_failed c.before.is-valid.ensures c.if2.true in
     fitting_fails (own s) _ l.loop.inv t.loop-test.taken (box_tells (own s) l.loop.i inside false invalid)
 
 -- one that has a valid box
@@ -75,7 +75,7 @@ loop-again c =
     let (k, e, b) : Looked × Inside × Boxed = search in
     let (v, f) : tie.After-is-valid invariant-loop decreases-loop × tie.Else2 invariant-loop decreases-loop = search in
     let inside = test_passed k.corners-inside.ensures e.if1.left in
-    let valid = sym (ap valid_box b.triangle_box_lem.ensures) ∙ test_passed v.is-valid.ensures f.if2.left in
+    let valid = sym (ap valid_box b.triangle_box.ensures) ∙ test_passed v.is-valid.ensures f.if2.left in
     fitting_goes (own s) _ l.loop.inv t.loop-test.taken (box_tells (own s) l.loop.i inside true valid)
 
 returns-3 : tie.Need-returns-3 invariant-loop decreases-loop

@@ -30,7 +30,7 @@ loop-again c =
     let (l, t, v) : tie.At-loop invariant-loop decreases-loop × tie.In-loop invariant-loop decreases-loop × tie.After-vector-at invariant-loop decreases-loop = search in
     let e : tie.Else1 invariant-loop decreases-loop = search in
     coding_goes _ _ _ _ _ l.loop.inv t.loop-test.taken (omega (arith, t.loop-test.taken, e.if1.left, l.loop.inv.long)) _
-    v.vector-at.ensures _ c.code_of_lem.ensures
+    v.vector-at.ensures _ c.code_of.ensures
 
 same_length : tie.Need-same-length invariant-loop decreases-loop
 same_length c = c.before.loop.invariant.long

@@ -26,7 +26,7 @@ put-indexed-requires c κs = let s : tie.Start = search in s.pre.0.1
 returns-2 : tie.Need-returns-2
 returns-2 c =
     let (s, e, m, p) : tie.Start × tie.Else1 × tie.After-mesh-answer × tie.After-put-indexed = search in
-    put_as _ (mesh_answer_lem s.args.ray _ s.args.counts.now _ _ _ e.if1.left m.mesh_answer_lem.ensures) p.put-indexed.ensures
+    put_as _ (mesh_answer_lem s.args.ray _ s.args.counts.now _ _ _ e.if1.left m.mesh_answer.ensures) p.put-indexed.ensures
 
 pub put-shape-spec : {M : Type 1} → statement M
 put-shape-spec =

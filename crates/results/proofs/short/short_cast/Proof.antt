@@ -15,7 +15,7 @@ returns-2 c =
     let e : tie.Else1 = search in
     simp (
       sym e.before.validate.ensures ∙ not-false e.before.validate.result e.if1.left,
-      sym c.before.shape_admitted_lem.ensures ∙ not-true c.before.shape_admitted_lem.result c.if2.true,
+      sym c.before.shape_admitted.ensures ∙ not-true c.before.shape_admitted.result c.if2.true,
     )
 
 -- 3
@@ -24,7 +24,7 @@ returns-3 c =
     let e : tie.Else1 = search in
     simp (
       sym e.before.validate.ensures ∙ not-false e.before.validate.result e.if1.left,
-      sym c.before.shape_admitted_lem.ensures ∙ not-false c.before.shape_admitted_lem.result c.if2.false,
+      sym c.before.shape_admitted.ensures ∙ not-false c.before.shape_admitted.result c.if2.false,
     )
 
 pub short-cast-spec : {M : Type 1} → statement M

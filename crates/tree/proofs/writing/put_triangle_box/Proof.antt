@@ -42,7 +42,7 @@ returns-2 c =
     let a = start.args in (
       sym (and_not_second (corners_inside (length a.vertices.now / 3) a.triangles.now a.index)
           (valid_box (triangle_box a.vertices.now a.triangles.now a.index))
-          (ap valid_box (sym at-triangle-box.triangle_box_lem.ensures) ∙ sym c.before.is-valid.ensures ∙ not-true
+          (ap valid_box (sym at-triangle-box.triangle_box.ensures) ∙ sym c.before.is-valid.ensures ∙ not-true
           c.before.is-valid.result c.if2.true)),
       λ e. absurd (false≢true e),
     )
@@ -62,10 +62,10 @@ returns-3 c =
       sym (and_both (corners_inside (length a.vertices.now / 3) a.triangles.now a.index)
           (valid_box (triangle_box a.vertices.now a.triangles.now a.index))
           (sym at-corners-inside.corners-inside.ensures ∙ not-false at-corners-inside.corners-inside.result else1.if1.left)
-          (ap valid_box (sym at-triangle-box.triangle_box_lem.ensures) ∙ sym at-is-valid.is-valid.ensures ∙ not-false
+          (ap valid_box (sym at-triangle-box.triangle_box.ensures) ∙ sym at-is-valid.is-valid.ensures ∙ not-false
           at-is-valid.is-valid.result else2.if2.left)),
       λ _. at-put-box.put-box.ensures ∙ ap (λ (z : Aabb). sets a.area.now (6 * a.index) (box_numbers z))
-          at-triangle-box.triangle_box_lem.ensures,
+          at-triangle-box.triangle_box.ensures,
     )
 
 pub put-triangle-box-spec : {M : Type 1} → statement M

@@ -19,7 +19,7 @@ abbrev given : tie.Start → Mesh
 given s = mesh s.args.vertices.now s.args.triangles.now
 
 abbrev lent : tie.Start → Areas
-lent s = areas s.args.node_boxes_lem.now s.args.triangle_boxes_lem.now s.args.node_words_lem.now s.args.order.now
+lent s = areas s.args.node_boxes.now s.args.triangle_boxes.now s.args.node_words.now s.args.order.now
 
 abbrev worked : tie.After-grow → Areas
 worked g = let l = g.grow.last.1.1 in areas l.0 l.1.0 l.1.1.0 l.1.1.1.0

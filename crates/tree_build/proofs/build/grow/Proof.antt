@@ -25,7 +25,7 @@ abbrev count : tie.Start → ℕ
 count s = length s.args.triangles.now / 3
 
 abbrev lent : tie.Start → Areas
-lent s = areas s.args.node_boxes_lem.now s.args.triangle_boxes_lem.now s.args.node_words_lem.now s.args.order.now
+lent s = areas s.args.node_boxes.now s.args.triangle_boxes.now s.args.node_words.now s.args.order.now
 
 -- the order when its front is numbered
 abbrev numbers : tie.After-number → List ℕ
@@ -34,8 +34,8 @@ numbers k = k.number.new.0
 abbrev ordered : tie.Start → tie.After-number → List ℕ
 ordered s k = numbers k ++ drop (count s) s.args.order.now
 
-roomy : (s : tie.Start) → Room (count s) (length s.args.node_boxes_lem.now) (length s.args.triangle_boxes_lem.now)
-    (length s.args.node_words_lem.now) (length s.args.order.now) (length s.args.work.now)
+roomy : (s : tie.Start) → Room (count s) (length s.args.node_boxes.now) (length s.args.triangle_boxes.now)
+    (length s.args.node_words.now) (length s.args.order.now) (length s.args.work.now)
 roomy s = room_left (count s) (lent s) (length s.args.work.now) s.requires.1
 
 few : (s : tie.Start) → count s ≤ 65536
@@ -115,7 +115,7 @@ build-node-requires c κs =
     let room = roomy s in
     let is = numbered (count s) a.order.now (numbers k) room.for_order k.number.ensures in
     let long : length (take (count s) (ordered s k)) ≡ count s = ap length is ∙ length_range 0 (count s) in (
-      first_room (count s) (length (take (count s) (ordered s k))) (length a.node_boxes_lem.now) (length a.node_words_lem.now)
+      first_room (count s) (length (take (count s) (ordered s k))) (length a.node_boxes.now) (length a.node_words.now)
           (length a.work.now) long (pos_of_ne-zero some.if1.left) (few s) room.for_node_boxes room.for_node_words
           room.for_work,
       u.order-unseen.ensures,

@@ -11,7 +11,7 @@ unfolding room_for
 returns c =
     let (start, fit) : tie.Start × tie.After-lengths-fit = search in
     let a = start.args in
-    room_failed a.count (length a.node_boxes_lem.now) (length a.triangle_boxes_lem.now) (length a.node_words_lem.now)
+    room_failed a.count (length a.node_boxes.now) (length a.triangle_boxes.now) (length a.node_words.now)
     (length a.order.now) a.count (length a.work.now) fit.lengths-fit.ensures c.if1.true
 
 returns-2 : tie.Need-returns-2
@@ -19,7 +19,7 @@ unfolding room_for
 returns-2 c =
     let (start, fit) : tie.Start × tie.After-lengths-fit = search in
     let a = start.args in
-    room_passed a.count (length a.node_boxes_lem.now) (length a.triangle_boxes_lem.now) (length a.node_words_lem.now)
+    room_passed a.count (length a.node_boxes.now) (length a.triangle_boxes.now) (length a.node_words.now)
     (length a.order.now) a.count (length a.work.now) fit.lengths-fit.ensures c.if1.false
 
 pub has-room-spec : {M : Type 1} → statement M

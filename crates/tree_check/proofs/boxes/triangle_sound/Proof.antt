@@ -29,7 +29,7 @@ returns-2 c =
       not-false at-corners-inside.corners-inside.result else1.if1.left,
       sym
           at-box-at.box-at.ensures,
-      sym at-triangle-box.triangle_box_lem.ensures,
+      sym at-triangle-box.triangle_box.ensures,
       sym c.before.same.ensures,
       not-true
           c.before.same.result c.if2.true,
@@ -45,7 +45,7 @@ returns-3 c =
       not-false at-corners-inside.corners-inside.result else1.if1.left,
       sym
           at-box-at.box-at.ensures,
-      sym at-triangle-box.triangle_box_lem.ensures,
+      sym at-triangle-box.triangle_box.ensures,
       sym at_same.same.ensures,
       not-false
           at_same.same.result c.before.if2.false,

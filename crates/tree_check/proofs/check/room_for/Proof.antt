@@ -11,7 +11,7 @@ unfolding room_for
 returns c =
     let (start, fit) : tie.Start × tie.After-lengths-fit = search in
     let a = start.args in
-    room_failed a.n a.node_boxes_lem a.triangle_boxes_lem a.node_words_lem a.order (3 * a.n) a.marks fit.lengths-fit.ensures
+    room_failed a.n a.node_boxes a.triangle_boxes a.node_words a.order (3 * a.n) a.marks fit.lengths-fit.ensures
     c.if1.true
 
 returns-2 : tie.Need-returns-2
@@ -19,7 +19,7 @@ unfolding room_for
 returns-2 c =
     let (start, fit, else1) : tie.Start × tie.After-lengths-fit × tie.Else1 = search in
     let a = start.args in
-    room_passed a.n a.node_boxes_lem a.triangle_boxes_lem a.node_words_lem a.order (3 * a.n) a.marks fit.lengths-fit.ensures
+    room_passed a.n a.node_boxes a.triangle_boxes a.node_words a.order (3 * a.n) a.marks fit.lengths-fit.ensures
     else1.if1.left
 
 pub room-for-spec : {M : Type 1} → statement M

@@ -22,7 +22,7 @@ named-once-requires c κs =
 same_length : tie.Need-same-length
 same_length c =
     let at-named-once : tie.After-named-once = search in
-    at-named-once.named_once_lem.kept.1.1.1.0
+    at-named-once.named_once.kept.1.1.1.0
 
 returns-2 : tie.Need-returns-2
 unfolding words_pass
@@ -32,14 +32,14 @@ returns-2 c =
       sym at-nodes-sound.nodes_sound.ensures,
       not-false at-nodes-sound.nodes_sound.result else1.if1.left,
       sym
-          at-named-once.named_once_lem.ensures,
-      not-true at-named-once.named_once_lem.result c.if2.true,
+          at-named-once.named_once.ensures,
+      not-true at-named-once.named_once.result c.if2.true,
     )
 
 placed-once-requires : tie.Need-placed-once-requires
 placed-once-requires c κs =
     let (start, at-nodes-sound, else1, at-named-once) : tie.Start × tie.After-nodes-sound × tie.Else1 × tie.After-named-once = search in (
-      (start.pre.1.1.0, (start.pre.0, (start.pre.1.0, omega (arith, start.pre, at-named-once.named_once_lem.kept.1.1.1.0)))),
+      (start.pre.1.1.0, (start.pre.0, (start.pre.1.0, omega (arith, start.pre, at-named-once.named_once.kept.1.1.1.0)))),
       sym
           at-nodes-sound.nodes_sound.ensures ∙ not-false at-nodes-sound.nodes_sound.result else1.if1.left,
     )
@@ -47,7 +47,7 @@ placed-once-requires c κs =
 same-length-2 : tie.Need-same-length-2
 same-length-2 c =
     let (at-named-once, at-placed-once) : tie.After-named-once × tie.After-placed-once = search in
-    at-placed-once.placed_once_lem.kept.1.1.1.0 ∙ at-named-once.named_once_lem.kept.1.1.1.0
+    at-placed-once.placed_once.kept.1.1.1.0 ∙ at-named-once.named_once.kept.1.1.1.0
 
 returns-3 : tie.Need-returns-3
 unfolding words_pass
@@ -58,11 +58,11 @@ returns-3 c =
       sym at-nodes-sound.nodes_sound.ensures,
       not-false at-nodes-sound.nodes_sound.result else1.if1.left,
       sym
-          at-named-once.named_once_lem.ensures,
-      not-false at-named-once.named_once_lem.result else2.if2.left,
+          at-named-once.named_once.ensures,
+      not-false at-named-once.named_once.result else2.if2.left,
       sym
-          at-placed-once.placed_once_lem.ensures,
-      not-true at-placed-once.placed_once_lem.result c.if3.true,
+          at-placed-once.placed_once.ensures,
+      not-true at-placed-once.placed_once.result c.if3.true,
     )
 
 ordered-once-requires : tie.Need-ordered-once-requires
@@ -74,8 +74,8 @@ ordered-once-requires c κs =
         omega (
           arith,
           start.pre,
-          at-named-once.named_once_lem.kept.1.1.1.0,
-          at-placed-once.placed_once_lem.kept.1.1.1.0,
+          at-named-once.named_once.kept.1.1.1.0,
+          at-placed-once.placed_once.kept.1.1.1.0,
         ),
       ),
     )
@@ -83,7 +83,7 @@ ordered-once-requires c κs =
 same-length-3 : tie.Need-same-length-3
 same-length-3 c =
     let (at-named-once, at-placed-once, at-ordered-once) : tie.After-named-once × tie.After-placed-once × tie.After-ordered-once = search in
-    at-ordered-once.ordered_once_lem.kept.1.1.0 ∙ at-placed-once.placed_once_lem.kept.1.1.1.0 ∙ at-named-once.named_once_lem.kept.1.1.1.0
+    at-ordered-once.ordered_once.kept.1.1.0 ∙ at-placed-once.placed_once.kept.1.1.1.0 ∙ at-named-once.named_once.kept.1.1.1.0
 
 returns-4 : tie.Need-returns-4
 unfolding words_pass
@@ -95,13 +95,13 @@ returns-4 c =
       sym at-nodes-sound.nodes_sound.ensures,
       not-false at-nodes-sound.nodes_sound.result else1.if1.left,
       sym
-          at-named-once.named_once_lem.ensures,
-      not-false at-named-once.named_once_lem.result else2.if2.left,
+          at-named-once.named_once.ensures,
+      not-false at-named-once.named_once.result else2.if2.left,
       sym
-          at-placed-once.placed_once_lem.ensures,
-      not-false at-placed-once.placed_once_lem.result else3.if3.left,
+          at-placed-once.placed_once.ensures,
+      not-false at-placed-once.placed_once.result else3.if3.left,
       sym
-          at-ordered-once.ordered_once_lem.ensures,
+          at-ordered-once.ordered_once.ensures,
     )
 
 pub words-pass-spec : {M : Type 1} → statement M

@@ -9,13 +9,13 @@ use Rattle.tree_exact.proofs.apart.corners_touch.Tie as tie
 -- apart on x
 returns : tie.Need-returns
 returns c =
-    apart_on_x _ _ (test_failed c.before.side_touches_lem.ensures c.if1.true)
+    apart_on_x _ _ (test_failed c.before.side_touches.ensures c.if1.true)
 
 -- apart on y
 returns-2 : tie.Need-returns-2
 returns-2 c =
     let (x, e) : tie.After-side-touches × tie.Else1 = search in
-    apart_on_y _ _ (test_passed x.side_touches_lem.ensures e.if1.left)
+    apart_on_y _ _ (test_passed x.side_touches.ensures e.if1.left)
     (test_failed c.before.side-touches2.ensures c.if2.true)
 
 -- and else z decides
@@ -24,7 +24,7 @@ returns-3 c =
     let (x, e) : tie.After-side-touches × tie.Else1 = search in
     let (y, f) : tie.After-side-touches2 × tie.Else2 = search in
     c.side-touches3.ensures
-    ∙ by_z _ _ (test_passed x.side_touches_lem.ensures e.if1.left)
+    ∙ by_z _ _ (test_passed x.side_touches.ensures e.if1.left)
     (test_passed y.side-touches2.ensures f.if2.left)
 
 pub corners-touch-spec : {M : Type 1} → statement M

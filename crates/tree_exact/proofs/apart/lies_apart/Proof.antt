@@ -11,7 +11,7 @@ returns c = λ e. absurd (false≢true e)
 returns-2 : tie.Need-returns-2
 returns-2 c =
     let (t, e) : tie.After-corners-touch × tie.Else1 = search in
-    λ y. record { read = sym c.corners_read_lem.ensures ∙ y; apart = sym t.corners-touch.ensures ∙ e.if1.left }
+    λ y. record { read = sym c.corners_read.ensures ∙ y; apart = sym t.corners-touch.ensures ∙ e.if1.left }
 
 pub lies-apart-spec : {M : Type 1} → statement M
 lies-apart-spec =

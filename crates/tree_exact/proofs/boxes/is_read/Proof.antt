@@ -11,14 +11,14 @@ use Rattle.tree_exact.proofs.boxes.is_read.Tie as tie
 returns : tie.Need-returns
 returns c =
     let (s, a) : tie.Start × tie.After-all-within = search in
-    sym (ap (λ (k : Bool). k && all_within furthest s.args.bounds.max) (test_failed a.all_within_lem.ensures c.if1.true))
+    sym (ap (λ (k : Bool). k && all_within furthest s.args.bounds.max) (test_failed a.all_within.ensures c.if1.true))
 
 -- the upper one decides
 returns-2 : tie.Need-returns-2
 returns-2 c =
     let (s, a, e) : tie.Start × tie.After-all-within × tie.Else1 = search in
     c.all-within2.ensures
-    ∙ sym (ap (λ (k : Bool). k && all_within furthest s.args.bounds.max) (test_passed a.all_within_lem.ensures e.if1.left))
+    ∙ sym (ap (λ (k : Bool). k && all_within furthest s.args.bounds.max) (test_passed a.all_within.ensures e.if1.left))
 
 pub is-read-spec : {M : Type 1} → statement M
 is-read-spec =

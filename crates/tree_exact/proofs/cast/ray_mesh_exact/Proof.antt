@@ -47,7 +47,7 @@ admitted s =
 
 shaped : (e : tie.Else3) → admitted (start₃ e) ≡ true
 unfolding start₃
-shaped e = test_passed e.before.shape_admitted_lem.ensures e.if3.false
+shaped e = test_passed e.before.shape_admitted.ensures e.if3.false
 
 -- past refusal 3
 start₄ : tie.Else4 → tie.Start
@@ -56,7 +56,7 @@ start₄ e = search
 abbrev tree : tie.Start → Tree
 tree s =
     let a = s.args in
-    tree_of a.nodes a.node_boxes_lem.now a.triangle_boxes_lem.now a.node_words_lem.now a.order.now
+    tree_of a.nodes a.node_boxes.now a.triangle_boxes.now a.node_words.now a.order.now
 
 abbrev fitting : tie.Start → Bool
 fitting s =
@@ -93,7 +93,7 @@ returns-3 : tie.Need-returns-3
 unfolding start₁ start₂
 returns-3 c =
     let (s, e, k) : tie.Start × tie.Else1 × tie.Else2 = search in
-    let failed = test_failed {b = admitted s} c.before.shape_admitted_lem.ensures c.if3.true in
+    let failed = test_failed {b = admitted s} c.before.shape_admitted.ensures c.if3.true in
     with_agreement _ _ _ _ _ _ _ (exact_bad _ _ _ _ _ (valid e) (read k) failed) (λ _. refl)
 
 room-fits-requires : tie.Need-room-fits-requires

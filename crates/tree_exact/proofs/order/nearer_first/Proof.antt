@@ -10,14 +10,14 @@ returns : tie.Need-returns
 returns c =
     let s : tie.Start = search in
     let v = s.args in
-    λ l sees. left_missing l v.nodes v.node_boxes_lem.now v.left v.right (omega arith)
+    λ l sees. left_missing l v.nodes v.node_boxes.now v.left v.right (omega arith)
 
 -- no right child
 returns-2 : tie.Need-returns-2
 returns-2 c =
     let s : tie.Start = search in
     let v = s.args in
-    λ l sees. right_missing l v.nodes v.node_boxes_lem.now v.left v.right (omega arith) (omega arith)
+    λ l sees. right_missing l v.nodes v.node_boxes.now v.left v.right (omega arith) (omega arith)
 
 comes-first-requires : tie.Need-comes-first-requires
 comes-first-requires c κs = let s : tie.Start = search in s.pre.0
@@ -28,7 +28,7 @@ returns-3 c =
     let (s, a, b) : tie.Start × tie.After-box-at × tie.After-box-at2 = search in
     let v = s.args in
     let (e, f) : tie.Else1 × tie.Else2 = search in
-    λ l sees. both_there l v.nodes v.node_boxes_lem.now v.left v.right (omega (arith, e.if1.left)) (omega (arith, f.if2.left))
+    λ l sees. both_there l v.nodes v.node_boxes.now v.left v.right (omega (arith, e.if1.left)) (omega (arith, f.if2.left))
     (c.comes-first.ensures l sees) a.box-at.ensures b.box-at2.ensures
 
 pub nearer-first-spec : {M : Type 1} → statement M

@@ -18,7 +18,7 @@ returns-2 c = λ e. absurd (false≢true e)
 returns-3 : tie.Need-returns-3
 returns-3 c =
     let (s, n, b, t, e) : tie.Start × tie.Else1 × tie.After-box-at × tie.After-touches × tie.Else2 = search in
-    λ y. apart_misses s.args.reach s.args.nodes s.args.node_boxes_lem.now (omega (arith, n.if1.left)) b.box-at.result
+    λ y. apart_misses s.args.reach s.args.nodes s.args.node_boxes.now (omega (arith, n.if1.left)) b.box-at.result
     b.box-at.ensures (sym t.touches.ensures ∙ e.if2.left) (sym c.is_read.ensures ∙ y)
 
 pub misses-root-spec : {M : Type 1} → statement M

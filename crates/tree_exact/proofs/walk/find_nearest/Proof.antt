@@ -34,7 +34,7 @@ returns : tie.Need-returns invariant-loop decreases-loop
 returns c =
     let (s, t, e) : Start × tie.Then1 invariant-loop decreases-loop × tie.After-empty invariant-loop decreases-loop = search in
     let v = s.args in
-    walks_empty v.line v.reach v.pose.now v.triangles.now v.nodes v.node_boxes_lem.now v.node_words_lem.now v.order.now
+    walks_empty v.line v.reach v.pose.now v.triangles.now v.nodes v.node_boxes.now v.node_words.now v.order.now
     t.if1.taken _ e.empty.ensures
 
 best-of-requires : tie.Need-best-of-requires invariant-loop decreases-loop
@@ -44,7 +44,7 @@ loop-holds : tie.Need-loop-init invariant-loop decreases-loop
 loop-holds c =
     let (s, e, z, b) : Start × tie.Else1 invariant-loop decreases-loop × tie.After-empty2 invariant-loop decreases-loop × tie.After-best-of invariant-loop decreases-loop = search in
     let v = s.args in
-    walk_begins v.line v.reach v.pose.now v.triangles.now v.nodes v.node_boxes_lem.now v.node_words_lem.now v.order.now
+    walk_begins v.line v.reach v.pose.now v.triangles.now v.nodes v.node_boxes.now v.node_words.now v.order.now
     v.stack.now s.pre.1.1 (omega (arith, e.if1.left)) _ _ b.best_of.ensures.0 z.empty2.ensures b.best_of.ensures.1
 
 same_length : tie.Need-same-length invariant-loop decreases-loop
@@ -57,7 +57,7 @@ returns-2 : tie.Need-returns-2 invariant-loop decreases-loop
 returns-2 c =
     let (s, l, t) : Start × At × tie.Then2 invariant-loop decreases-loop = search in
     let v = s.args in
-    walk_ended v.line v.reach v.pose.now v.triangles.now v.nodes v.node_boxes_lem.now v.node_words_lem.now v.order.now
+    walk_ended v.line v.reach v.pose.now v.triangles.now v.nodes v.node_boxes.now v.node_words.now v.order.now
     _ _ _ _ _ l.loop.inv t.if2.taken _ refl
 
 take-node-requires : tie.Need-take-node-requires invariant-loop decreases-loop
@@ -78,7 +78,7 @@ returns-3 c =
     let (s, l, i, e, k) : Start × At × Within × tie.Else2 invariant-loop decreases-loop × Taken = search in
     let z : tie.After-enum-told invariant-loop decreases-loop = search in
     let v = s.args in
-    walk_broken v.line v.reach v.pose.now v.triangles.now v.nodes v.node_boxes_lem.now v.node_words_lem.now v.order.now
+    walk_broken v.line v.reach v.pose.now v.triangles.now v.nodes v.node_boxes.now v.node_words.now v.order.now
     _ _ _ _ _ l.loop.inv i.loop-test.taken (omega (arith, e.if2.left)) _ _ k.take-node.ensures z.enum_told.given.1
 
 -- the next node, with nothing more found
@@ -87,7 +87,7 @@ loop-again c =
     let (s, l, i, e, k) : Start × At × Within × tie.Else2 invariant-loop decreases-loop × Taken = search in
     let n : tie.After-step invariant-loop decreases-loop = search in
     let v = s.args in
-    walk_finds_nothing v.line v.reach v.pose.now v.triangles.now v.nodes v.node_boxes_lem.now v.node_words_lem.now
+    walk_finds_nothing v.line v.reach v.pose.now v.triangles.now v.nodes v.node_boxes.now v.node_words.now
     v.order.now _ _ _ _ _ l.loop.inv i.loop-test.taken (omega (arith, e.if2.left)) _ _ k.take-node.ensures _
     n.step.given.1 k.take-node.kept.1.1.1.1.1.1.1.1.0
 
@@ -97,7 +97,7 @@ loop-again-2 c =
     let (s, l, i, e, k) : Start × At × Within × tie.Else2 invariant-loop decreases-loop × Taken = search in
     let n : tie.After-step2 invariant-loop decreases-loop = search in
     let v = s.args in
-    walk_goes v.line v.reach v.pose.now v.triangles.now v.nodes v.node_boxes_lem.now v.node_words_lem.now v.order.now
+    walk_goes v.line v.reach v.pose.now v.triangles.now v.nodes v.node_boxes.now v.node_words.now v.order.now
     _ _ _ _ _ l.loop.inv i.loop-test.taken (omega (arith, e.if2.left)) _ _ k.take-node.ensures _ _ n.step2.given.1
     k.take-node.kept.1.1.1.1.1.1.1.1.0
 
@@ -111,7 +111,7 @@ returns-4 : tie.Need-returns-4 invariant-loop decreases-loop
 returns-4 c =
     let (s, l, t) : Start × At × tie.Then3 invariant-loop decreases-loop = search in
     let v = s.args in
-    walk_ended v.line v.reach v.pose.now v.triangles.now v.nodes v.node_boxes_lem.now v.node_words_lem.now v.order.now
+    walk_ended v.line v.reach v.pose.now v.triangles.now v.nodes v.node_boxes.now v.node_words.now v.order.now
     _ _ _ _ _ l.loop.inv t.if3.taken _ refl
 
 same-length-4 : tie.Need-same-length-4 invariant-loop decreases-loop
@@ -124,7 +124,7 @@ returns-5 : tie.Need-returns-5 invariant-loop decreases-loop
 returns-5 c =
     let (s, l, o, e) : Start × At × tie.After-loop invariant-loop decreases-loop × tie.Else3 invariant-loop decreases-loop = search in
     let v = s.args in
-    walk_used_up v.line v.reach v.pose.now v.triangles.now v.nodes v.node_boxes_lem.now v.node_words_lem.now
+    walk_used_up v.line v.reach v.pose.now v.triangles.now v.nodes v.node_boxes.now v.node_words.now
     v.order.now _ _ _ _ _ l.loop.inv (omega (arith, o.loop-test.left)) (omega (arith, e.if3.left))
 
 pub find-nearest-spec : {M : Type 1} → statement M

@@ -10,7 +10,7 @@ note-leaf-requires c κs =
     let (s, a, k) : tie.Start × tie.After-node-at × tie.After-opened = search in
     let v = s.args in (
       s.pre.0.0,
-      leaf_within v.line v.reach v.pose.now v.triangles.now v.nodes v.node_boxes_lem.now v.node_words_lem.now
+      leaf_within v.line v.reach v.pose.now v.triangles.now v.nodes v.node_boxes.now v.node_words.now
           v.order.now v.stack.now v.node v.top v.best _ a.node_at.ensures _ _ k.opened.given.1
           s.pre.1.0.ordered,
     )
@@ -20,7 +20,7 @@ returns : tie.Need-returns
 returns c =
     let (s, a, k, l, z) : tie.Start × tie.After-node-at × tie.After-opened × tie.After-note-leaf × tie.After-enum-told = search in
     let v = s.args in
-    opens_leaf_bad v.line v.reach v.pose.now v.triangles.now v.nodes v.node_boxes_lem.now v.node_words_lem.now
+    opens_leaf_bad v.line v.reach v.pose.now v.triangles.now v.nodes v.node_boxes.now v.node_words.now
     v.order.now v.stack.now v.node v.top v.best _ a.node_at.ensures _ _ k.opened.given.1 _ l.note-leaf.ensures
     z.enum_told.given.1
 
@@ -30,7 +30,7 @@ returns-2 c =
     let (s, a, k, l, z, b) : tie.Start × tie.After-node-at × tie.After-opened × tie.After-note-leaf × tie.After-leaf
     × tie.After-best-of = search in
     let v = s.args in
-    opens_leaf v.line v.reach v.pose.now v.triangles.now v.nodes v.node_boxes_lem.now v.node_words_lem.now
+    opens_leaf v.line v.reach v.pose.now v.triangles.now v.nodes v.node_boxes.now v.node_words.now
     v.order.now v.stack.now v.node v.top v.best _ a.node_at.ensures _ _ k.opened.given.1 _ l.note-leaf.ensures
     _ z.leaf.given.1 _ b.best_of.ensures.0 b.best_of.ensures.1
 
@@ -57,7 +57,7 @@ returns-3 : tie.Need-returns-3
 returns-3 c =
     let (s, a, k, f, p) : tie.Start × tie.After-node-at × tie.After-opened2 × tie.After-taken-first × tie.After-push = search in
     let v = s.args in
-    opens_branch v.line v.reach v.pose.now v.triangles.now v.nodes v.node_boxes_lem.now v.node_words_lem.now
+    opens_branch v.line v.reach v.pose.now v.triangles.now v.nodes v.node_boxes.now v.node_words.now
     v.order.now v.stack.now v.node v.top v.best _ a.node_at.ensures _ _ k.opened2.given.1 _
     f.taken-first.ensures _ p.push.ensures
 
@@ -66,7 +66,7 @@ returns-4 : tie.Need-returns-4
 returns-4 c =
     let (s, a, z) : tie.Start × tie.After-node-at × tie.After-enum-told2 = search in
     let v = s.args in
-    opens_bad v.line v.reach v.pose.now v.triangles.now v.nodes v.node_boxes_lem.now v.node_words_lem.now
+    opens_bad v.line v.reach v.pose.now v.triangles.now v.nodes v.node_boxes.now v.node_words.now
     v.order.now v.stack.now v.node v.top v.best _ a.node_at.ensures z.enum-told2.given.1
 
 pub open-node-spec : {M : Type 1} → statement M

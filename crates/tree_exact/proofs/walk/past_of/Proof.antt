@@ -55,14 +55,14 @@ depth-at-requires c κs =
 add-result-3 : tie.Need-overflow-add-result-3
 add-result-3 c =
     let (s, d) : tie.Start × tie.After-depth-at = search in
-    let h = d.depth_at_lem.ensures in
+    let h = d.depth_at.ensures in
     past_fits (plain (widen h.1 (lit≤ tt))) (gain-plain s) h.1 s.pre.gain
 
 -- one unit past the nearest hit
 returns-3 : tie.Need-returns-3
 returns-3 c =
     let (s, k, w, e, d) : tie.Start × tie.After-least × tie.After-within × tie.Else1 × tie.After-depth-at = search in
-    let h = d.depth_at_lem.ensures in
+    let h = d.depth_at.ensures in
     let back = plain (widen h.1 (lit≤ tt)) in (
       past_sized back (gain-plain s) h.1 s.pre.gain,
       λ l sees.

@@ -13,7 +13,7 @@ returns : tie.Need-returns
 returns c =
     let (s, w) : tie.Start × tie.After-word-at = search in
     let v = s.args in
-    takes_bad v.line v.reach v.pose.now v.triangles.now v.nodes v.node_boxes_lem.now v.node_words_lem.now v.order.now
+    takes_bad v.line v.reach v.pose.now v.triangles.now v.nodes v.node_boxes.now v.node_words.now v.order.now
     v.stack.now v.top v.best s.pre.1.1.0 w.word_at.result w.word_at.ensures (omega arith)
 
 box-met-requires : tie.Need-box-met-requires
@@ -25,7 +25,7 @@ returns-2 c =
     let (s, w, e, b, m, f) : tie.Start × tie.After-word-at × tie.Else1 × tie.After-box-at × tie.After-box-met × tie.Then2 = search in
     let v = s.args in
     let limited = s.pre.0.1 in
-    takes_past v.line v.reach v.pose.now v.triangles.now v.nodes v.node_boxes_lem.now v.node_words_lem.now v.order.now
+    takes_past v.line v.reach v.pose.now v.triangles.now v.nodes v.node_boxes.now v.node_words.now v.order.now
     v.stack.now v.top v.best s.pre.1.1.0 w.word_at.result w.word_at.ensures (omega (arith, e.if1.left)) limited
     b.box-at.result b.box-at.ensures m.box-met.result
     (λ l limit sees box past. m.box-met.ensures l limit sees box (plain limited.fits ∙ past))
@@ -43,7 +43,7 @@ returns-3 c =
     let o : tie.After-open-node = search in
     let v = s.args in
     let limited = s.pre.0.1 in
-    takes_open v.line v.reach v.pose.now v.triangles.now v.nodes v.node_boxes_lem.now v.node_words_lem.now v.order.now
+    takes_open v.line v.reach v.pose.now v.triangles.now v.nodes v.node_boxes.now v.node_words.now v.order.now
     v.stack.now v.top v.best s.pre.1.1.0 w.word_at.result w.word_at.ensures (omega (arith, e.if1.left)) limited
     b.box-at.result b.box-at.ensures m.box-met.result
     (λ l limit sees box past. m.box-met.ensures l limit sees box (plain limited.fits ∙ past))

@@ -17,7 +17,7 @@ use Rattle.tree_query.proofs.query.query.Tie as tie
 abbrev tree : tie.Start → Tree
 tree s =
     let a = s.args in
-    tree_of a.nodes a.node_boxes_lem.now a.triangle_boxes_lem.now a.node_words_lem.now a.order.now
+    tree_of a.nodes a.node_boxes.now a.triangle_boxes.now a.node_words.now a.order.now
 
 -- the third test
 abbrev fitting : tie.Start → Bool

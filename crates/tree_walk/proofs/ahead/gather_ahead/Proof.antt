@@ -44,7 +44,7 @@ Taken = tie.After-open-node invariant-loop decreases-loop
 abbrev tree : Start → Tree
 tree s =
     let a = s.args in
-    tree_of a.nodes a.node_boxes_lem.now a.triangle_boxes_lem.now a.node_words_lem.now a.order.now
+    tree_of a.nodes a.node_boxes.now a.triangle_boxes.now a.node_words.now a.order.now
 
 -- no node
 returns : tie.Need-returns invariant-loop decreases-loop

@@ -28,7 +28,7 @@ returns-3 c s =
       e1.if1.left,
       sym (ne_self_is_nan _) ∙ e2.if2.left,
       reach_by_normal,
-      sym c.before.has_normal_lem.ensures,
+      sym c.before.has_normal.ensures,
       c.if3.true,
     )
 
@@ -41,7 +41,7 @@ returns-4 c s =
       e1.if1.left,
       sym (ne_self_is_nan _) ∙ e2.if2.left,
       reach_by_normal,
-      sym c.before.has_normal_lem.ensures,
+      sym c.before.has_normal.ensures,
       c.if3.false,
     )
 
