@@ -39,14 +39,14 @@ gathered g =
     let s = start g in
     let casts = s.requires.0 in
     let all = g.gather_met-gathered.ensures s.args.ray casts in
-    let kept = g.gather_met-gathered.auto.1.1.1.1.1.1 in
+    let kept = g.gather_met-gathered.auto in
     record {
       at_numbers = hits_are_numbers _ _ _ casts.valid casts.shown.admitted;
       below = s.requires.1.1;
       lent = omega (arith, length-take-le s.args.found s.args.list.now s.requires.1.0, s.requires.1.0);
       places_are = (counted g).places_of-room.ensures;
-      long = kept.0;
-      numbers_long = kept.1.0;
+      long = kept.indices;
+      numbers_long = kept.numbers;
       noted = all.0;
       stored = all.1;
     }

@@ -53,10 +53,10 @@ loop-again : tie.Need-loop-i-preserved invariant-loop decreases-loop
 loop-again c =
     let (l, w, k) : At × Within × tie.After-cast_at invariant-loop decreases-loop = search in
     let inv = l.loop-i.invariant in
-    let kept = k.cast_at.kept.1.1.1.1.1.1.1.1.1.1 in
+    let kept = k.cast_at.auto in
     next_answered _ _ _ _ _ _ _ _ _ _ w.loop-i-test.true inv _ _ _
     (k.cast_at.ensures ∙ same_exact _ _ _ _ _ inv.stack_long _ _ _)
-    kept.1.0 kept.1.1.0 kept.1.1.1.0 kept.0 kept.0
+    kept.codes kept.hits kept.indices kept.stack kept.stack
 
 same_length : tie.Need-shape_of-stack invariant-loop decreases-loop
 same_length c = let l : At = search in l.loop-i.invariant.stack_long

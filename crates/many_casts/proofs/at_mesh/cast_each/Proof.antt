@@ -54,10 +54,10 @@ loop-again : tie.Need-loop-i-preserved invariant-loop decreases-loop
 loop-again c =
     let (l, w, k) : At × Within × tie.After-cast_at invariant-loop decreases-loop = search in
     let inv = l.loop-i.invariant in
-    let kept = k.cast_at.kept.1.1.1.1.1.1.1.1.1.1 in
+    let kept = k.cast_at.auto in
     next_answered _ _ _ _ _ _ _ _ _ _ w.loop-i-test.true inv _ _ _
     (k.cast_at.ensures ∙ same_answer _ _ _ _ _ _ _ inv.list_long inv.stack_long _ _ _)
-    kept.1.1.0 kept.1.1.1.0 kept.1.1.1.1.0 kept.0 kept.1.0
+    kept.codes kept.hits kept.indices kept.list kept.stack
 
 same_length : tie.Need-shape_of-list invariant-loop decreases-loop
 same_length c = let l : At = search in l.loop-i.invariant.list_long
