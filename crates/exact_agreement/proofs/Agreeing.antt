@@ -155,7 +155,7 @@ module _ (r : Ray) (m : Mesh) (p : Plan) (whole_mesh : WholeMesh r m p) (others 
       let inner : Closed D' (pos j) (pos k) =
       record { first = not_below_zero j; second = not_below_zero k; sum = le_z_yes (le→leb (j + k) D' whole) } in
       let most : n ≤ F * D' = subst (λ (z : ℕ). n ≤ z) (regroup F D) (leb-true n (units * F * D) s.most) in
-      let apart = closed.opposite_side i c D' (pos j) (pos k) (pos n) x inner in
+      let apart = closed.negate i c D' (pos j) (pos k) (pos n) x inner in
       let before = closed.at_maximum i c D' (pos j) (pos k) (pos n) x inner in
       record {
         candidate = c;

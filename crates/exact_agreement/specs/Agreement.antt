@@ -25,7 +25,7 @@ pub record Closed (D : ℕ) (u v : ℤ) : Type 0 where
 -- 'no candidate's crossing lies on the side opposite its first corner or at the maximum, and no candidate is parallel'
 pub record NoOpenCase (r : Ray) (m : Mesh) (p : Plan) : Type 0 where
   pub parallel : (i : ℕ) → Candidate r m i → Parallel (drawing_of p i) → ⊥
-  pub opposite_side : (i : ℕ) → Candidate r m i → (D : ℕ) (u v t : ℤ) → Crossing (drawing_of p i) D u v t → Closed D u v
+  pub negate : (i : ℕ) → Candidate r m i → (D : ℕ) (u v t : ℤ) → Crossing (drawing_of p i) D u v t → Closed D u v
       → u +ℤ v ≡ pos D → ⊥
   pub at_maximum : (i : ℕ) → Candidate r m i → (D : ℕ) (u v t : ℤ) → Crossing (drawing_of p i) D u v t → Closed D u v
       → t ≡ pos (p.maximum * D) → ⊥

@@ -42,3 +42,10 @@ module _ (whole : Outcome) (small : (number : ℕ) → whole.answer ≡ refused 
   returned_promises P p =
       subst (λ (a : Listing). P (record { answer = a; area = o.area }))
       (sym (ap (λ (c : Counted). found_returned c.number c.count) e ∙ returned_back o.answer refl)) p
+
+-- the rounded cast's listing by its own definition
+pub listed_as : (r : Ray) (m : Mesh) (pose : List Float) (t : Tree) (list stack : ℕ) (area : HitArea) (place : List ℕ)
+    → listing_returned (ray_mesh_all r m pose t list stack area) (without_place r (shape_admitted m pose t)) area place
+    ≡ all_returned r m pose t list stack area place
+unfolding listing_returned all_returned
+listed_as r m pose t list stack area place = refl

@@ -30,9 +30,14 @@ listing_returned o short area place =
     record { returned = record { number = short; count = place }; area = area }
 
 -- "index, distance and normal of every hit .. and their count"
-abbrev pub all_returned : Ray → Mesh → List Float → Tree → ℕ → ℕ → HitArea → List ℕ → ListingReturned
-all_returned r m pose t list stack area =
-    listing_returned (ray_mesh_all r m pose t list stack area) (without_place r (shape_admitted m pose t)) area
+unfoldable pub all_returned : Ray → Mesh → List Float → Tree → ℕ → ℕ → HitArea → List ℕ → ListingReturned
+all_returned r m pose t list stack area place =
+    cond (leb 1 (length place))
+    record {
+      returned = returned_found (ray_mesh_all r m pose t list stack area).answer place;
+      area = (ray_mesh_all r m pose t list stack area).area;
+    }
+    record { returned = record { number = without_place r (shape_admitted m pose t); count = place }; area = area }
 
 -- .. of every exact hit; without a place 12 of the ray comes after 1
 abbrev pub exact_all_returned : Ray → Mesh → List Float → Tree → ℕ → ℕ → HitArea → List ℕ → ListingReturned

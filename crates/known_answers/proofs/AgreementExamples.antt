@@ -304,7 +304,7 @@ before k D t l p e h =
 column_clear : NoOpenCase ray mesh plan
 column_clear = record {
   parallel = λ j c. (candid j c).of_column.apart;
-  opposite_side = λ j c D u v t x inner.
+  negate = λ j c D u v t x inner.
       let q = (candid j c).of_column in
       no_sum D u v x.divisor (q.first D u v t x) (q.second D u v t x);
   at_maximum = λ j c D u v t x inner.

@@ -221,7 +221,7 @@ fn take_node(
 }
 
 // The walk. The stack may hold anything afterwards.
-fn find_nearest(
+pub fn find_nearest(
     line: View,
     reach: Aabb,
     pose: &[f64],
