@@ -46,12 +46,12 @@ def ghost_lines(text, clauses):
     return lines, crates
 
 
-def use_lines(text, heads):
-    """The imports of the types in the calls' parameters, and the crates that they name."""
-    types = set(re.findall(r"\b[A-Z]\w*", heads))
+def use_lines(text, heads, clauses):
+    """The imports of the types in the calls' parameters and of those that the clauses name, as Form.Long, and the crates that they name."""
+    types = set(re.findall(r"\b[A-Z]\w*", heads)) | set(re.findall(r"\b([A-Z]\w*)\.[A-Z]", clauses))
     lines, crates = [], []
     for path, names in USE.findall(text):
-        for name in re.split(r",\s*", names) if names else [path.rpartition("::")[2]]:
+        for name in re.split(r",\s*", names) if names else [path.rpartition("::")[2].rpartition(" as ")[2]]:
             if name in types:
                 lines.append(f"use {path}::{name};\n" if names else f"use {path};\n")
                 crates.append(path.split("::")[0])
@@ -75,7 +75,7 @@ def module_of(text, module):
     if not found:
         return None
     ghosts, below = ghost_lines(text, "\n".join(it[5] for it in found))
-    uses, types = use_lines(text, "\n".join(it[3] for it in found))
+    uses, types = use_lines(text, "\n".join(it[3] for it in found), "\n".join(it[5] for it in found))
     parts = ["".join(ghosts)] + ["".join(uses)] * bool(uses)
     for it in found:
         head = it[0].replace(f"pub fn {it[2]}(", f'#[unsafe(no_mangle)]\npub extern "C" fn {it[2]}(')
@@ -138,6 +138,7 @@ FAULTS = [
     (f"{TO}/shapes.rt", "#[unsafe(no_mangle)]\n", ""),
     (f"{TO}/shapes.rt", "// The cast at a plane.\n", ""),
     (f"{TO}/lib.rt", "pub mod near;\n", ""),
+    (f"{TO}/conversions.rt", "use float_forms::forms::Form;\n", ""),
     (f"{FROM}/boards.rt", "    ensures glued { result ≡ done_code → Glued", "    ensures glued { result ≡ done_code → Joined"),
     (f"{FROM}/slices.rt", "≡ answered (plane_of_slices", "≡ (plane_of_slices"),
     (f"{FROM}/plain.rt", "pub fn probe_ray_mesh_plain(", "fn probe_ray_mesh_plain("),

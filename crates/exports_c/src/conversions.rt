@@ -1,6 +1,8 @@
 ghost use Rattle.std.specs.Prelude.{◌≡◌};
 ghost use Rattle.exports.specs.Conversions.{convert_returned};
 
+use float_forms::forms::Form;
+
 // Writes a record of version 2 as version 3, and how many bytes it has. Nothing is written where it refuses.
 #[unsafe(no_mangle)]
 pub extern "C" fn probe_record_to_short(bytes: &[u8], out: &mut [u8], written: &mut [usize]) -> u32
