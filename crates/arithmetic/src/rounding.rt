@@ -9,8 +9,7 @@ const WHOLE: f64 = 4503599627370496.0;
 
 // The whole part of a number between 0 and 2^52.
 fn cut(a: f64) -> f64
-    requires fact_1 { lt (fin false 0 (pos 0)) a ≡ true }
-    requires fact_2 { lt a (fin false 1 (pos 52)) ≡ true }
+    requires { (lt (fin false 0 (pos 0)) a ≡ true) × (lt a (fin false 1 (pos 52)) ≡ true) }
     ensures { result ≡ of_int binary64 (pos (toward_negative false (num a) (den a))) }
 {
     std::num::truncating_f64_to_u64(a) as f64
@@ -18,8 +17,7 @@ fn cut(a: f64) -> f64
 
 // The least whole number at or above a number between 0 and 2^52.
 fn raised(a: f64) -> f64
-    requires fact_1 { lt (fin false 0 (pos 0)) a ≡ true }
-    requires fact_2 { lt a (fin false 1 (pos 52)) ≡ true }
+    requires { (lt (fin false 0 (pos 0)) a ≡ true) × (lt a (fin false 1 (pos 52)) ≡ true) }
     ensures { result ≡ of_int binary64 (pos (toward_negative true (num a) (den a))) }
 {
     let whole = std::num::truncating_f64_to_u64(a);
@@ -31,8 +29,7 @@ fn raised(a: f64) -> f64
 
 // The nearest whole number to a number between 0 and 2^52, half way the larger.
 fn nearest(a: f64) -> f64
-    requires fact_1 { lt (fin false 0 (pos 0)) a ≡ true }
-    requires fact_2 { lt a (fin false 1 (pos 52)) ≡ true }
+    requires { (lt (fin false 0 (pos 0)) a ≡ true) × (lt a (fin false 1 (pos 52)) ≡ true) }
     ensures { result ≡ of_int binary64 (pos (ties_away false (num a) (den a))) }
 {
     // Doubling is exact, so the halves are counted.

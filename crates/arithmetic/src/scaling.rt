@@ -11,9 +11,7 @@ const LIFT: f64 = 4.4989137945431964e161;
 // The power of two that brings a normal number x, as callers show that it is, to at least 1 and below 2: its exponent's field is 2046 less
 // x's.
 fn power_for(x: f64) -> f64
-    requires fact_1 { lt (from_bits binary64 0) x ≡ true }
-    requires fact_2 { is_finite x ≡ true }
-    requires fact_3 { 53 ≤ digits_of x }
+    requires { (lt (from_bits binary64 0) x ≡ true) × ((is_finite x ≡ true) × (53 ≤ digits_of x)) }
     ensures { HasValue result false (2 * unit) (2 ^ digits_of x) }
 {
     let field = f64::to_bits(x) / 4503599627370496;
@@ -27,9 +25,7 @@ fn power_for(x: f64) -> f64
 // x times the power of two that brings largest to at least 1 and below 2, rounded once. Below 1 both are lifted first, which is exact,
 // since 2^1074 is no float.
 pub fn scaled(x: f64, largest: f64) -> f64
-    requires fact_1 { lt (from_bits binary64 0) largest ≡ true }
-    requires fact_2 { is_finite largest ≡ true }
-    requires fact_3 { le (absolute x) largest ≡ true }
+    requires { (lt (from_bits binary64 0) largest ≡ true) × ((is_finite largest ≡ true) × (le (absolute x) largest ≡ true)) }
     ensures { result ≡ scaled_by (digits_of largest) x }
 {
     if largest < 1.0 {

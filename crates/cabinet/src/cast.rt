@@ -48,9 +48,8 @@ fn cast_within(
     stack: &mut [u32],
     limit: usize,
 ) -> CastCost
-    requires fact_1 { finite_vec ray.origin ≡ true }
-    requires fact_2 { WalkRoom (thirds (length triangles.now))
-        (tree_of nodes node_boxes.now triangle_boxes.now node_words.now order.now) list.old stack.old }
+    requires { (finite_vec ray.origin ≡ true) × (WalkRoom (thirds (length triangles.now))
+        (tree_of nodes node_boxes.now triangle_boxes.now node_words.now order.now) list.old stack.old) }
     ensures { says_cost result ≡ cast_within limit ray (mesh vertices.now triangles.now)
         (tree_of nodes node_boxes.now triangle_boxes.now node_words.now order.now) }
 {

@@ -24,10 +24,9 @@ fn write_head(q: Form, kind: u8, body: usize, out: &mut [u8])
 
 // The ray's floats, and the counts.
 fn write_ray(p: Form, q: Form, source: &[u8], counts: usize, out: &mut [u8])
-    requires counts_bound { (counts ≤ 3) × (6 + size_of p * rays_of p + 4 * counts ≤ length source.now) }
-    requires counts_in_bounds { 6 + size_of q * rays_of q + 4 * counts ≤ length out.old }
-    requires source_value { every (fits_in q) (numbers_of p (rays_of p) (drop 6 source.now)) ≡ true }
-    requires p_value { rays_of p ≡ rays_of q }
+    requires { ((counts ≤ 3) × (6 + size_of p * rays_of p + 4 * counts ≤ length source.now))
+        × ((6 + size_of q * rays_of q + 4 * counts ≤ length out.old)
+        × ((every (fits_in q) (numbers_of p (rays_of p) (drop 6 source.now)) ≡ true) × (rays_of p ≡ rays_of q))) }
     ensures { out.new ≡ sets out.old 6
         (numbers_bytes q (numbers_of p (rays_of p) (drop 6 source.now)) ++
         words_bytes (words_of counts (drop (6 + size_of p * rays_of p) source.now))) }
@@ -49,9 +48,9 @@ fn write_shape(
     out: &mut [u8],
     at: usize,
 )
-    requires numbers_bound { (numbers ≤ 1025) × (place + size_of p * numbers + 4 * indices ≤ length source.now) }
-    requires indices_in_bounds { at + size_of q * numbers + 4 * indices ≤ length out.old }
-    requires source_value { every (fits_in q) (numbers_of p numbers (drop place source.now)) ≡ true }
+    requires { ((numbers ≤ 1025) × (place + size_of p * numbers + 4 * indices ≤ length source.now))
+        × ((at + size_of q * numbers + 4 * indices ≤ length out.old)
+        × (every (fits_in q) (numbers_of p numbers (drop place source.now)) ≡ true)) }
     ensures { out.new ≡ sets out.old at
         (numbers_bytes q (numbers_of p numbers (drop place source.now)) ++
         words_bytes (words_of indices (drop (place + size_of p * numbers) source.now))) }
@@ -64,10 +63,8 @@ fn write_shape(
 
 // The whole record in the form q, whose rays have as many floats.
 pub fn write(p: Form, q: Form, source: &[u8], plan: Plan, body: usize, out: &mut [u8])
-    requires known { Known p source.now plan }
-    requires body_value { (body ≡ size_for q plan) × (4 + body ≤ length out.old) }
-    requires source_value { said_fits q (said_of p source.now) ≡ true }
-    requires p_value { rays_of p ≡ rays_of q }
+    requires { (Known p source.now plan) × (((body ≡ size_for q plan) × (4 + body ≤ length out.old))
+        × ((said_fits q (said_of p source.now) ≡ true) × (rays_of p ≡ rays_of q))) }
     ensures { out.new ≡ sets out.old 0 (rewritten p q source.now) }
 {
     let from = shape::numbers_place(p, plan.counts);

@@ -15,10 +15,7 @@ pub struct Face {
 
 // The value at a node.
 fn value_at(grid: Grid, values: &[f64], x: u32, y: u32, z: u32) -> f64
-    requires fact_1 { Stands grid values.now }
-    requires fact_2 { x < grid.sides.x }
-    requires fact_3 { y < grid.sides.y }
-    requires fact_4 { z < grid.sides.z }
+    requires { (Stands grid values.now) × ((x < grid.sides.x) × ((y < grid.sides.y) × (z < grid.sides.z))) }
     ensures { result ≡ value_at grid values.now x y z }
 {
     let index = (z as usize * grid.sides.y as usize + y as usize) * grid.sides.x as usize
@@ -28,10 +25,7 @@ fn value_at(grid: Grid, values: &[f64], x: u32, y: u32, z: u32) -> f64
 
 // The four values of a cell at one z.
 pub fn face_at(grid: Grid, values: &[f64], x: u32, y: u32, z: u32) -> Face
-    requires fact_1 { Stands grid values.now }
-    requires fact_2 { x + 1 < grid.sides.x }
-    requires fact_3 { y + 1 < grid.sides.y }
-    requires fact_4 { z < grid.sides.z }
+    requires { (Stands grid values.now) × ((x + 1 < grid.sides.x) × ((y + 1 < grid.sides.y) × (z < grid.sides.z))) }
     ensures { result ≡ face_at grid values.now x y z }
 {
     Face {

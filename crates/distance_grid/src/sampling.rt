@@ -74,10 +74,7 @@ pub fn sample_faces(low: Face, high: Face, spacing: Vec3, at: Vec3) -> Sampled
 
 // The sample in a cell of the grid.
 fn sample_cell(grid: Grid, values: &[f64], x: u32, y: u32, z: u32, at: Vec3) -> Sampled
-    requires fact_1 { Stands grid values.now }
-    requires fact_2 { x + 1 < grid.sides.x }
-    requires fact_3 { y + 1 < grid.sides.y }
-    requires fact_4 { z + 1 < grid.sides.z }
+    requires { (Stands grid values.now) × ((x + 1 < grid.sides.x) × ((y + 1 < grid.sides.y) × (z + 1 < grid.sides.z))) }
     ensures { result ≡ sample_cell grid values.now x y z at }
 {
     let low = faces::face_at(grid, values, x, y, z);

@@ -116,11 +116,7 @@ fn value_of_faces(low: Face, high: Face, spacing: Vec3, at: Vec3) -> Valued
 
 // The value in a cell of the grid.
 fn value_in_cell(grid: Grid, values: &[f64], x: u32, y: u32, z: u32, at: Vec3) -> Valued
-    requires fact_1 { Stands grid values.now }
-    requires fact_2 { x + 1 < grid.sides.x }
-    requires fact_3 { y + 1 < grid.sides.y }
-    requires fact_4 { z + 1 < grid.sides.z }
-    requires fact_5 { Fractions at }
+    requires { (Stands grid values.now) × ((x + 1 < grid.sides.x) × ((y + 1 < grid.sides.y) × ((z + 1 < grid.sides.z) × (Fractions at)))) }
     ensures { result ≡ value_of (sample_cell grid values.now x y z at) }
 {
     let low = faces::face_at(grid, values, x, y, z);

@@ -35,9 +35,8 @@ fn gather_met(
     indices: &mut [u32],
     numbers: &mut [f64],
 ) -> Gathered
-    requires fact_1 { ViewSized line }
-    requires fact_2 { (found ≤ length list.now) × ((all_below (thirds (length triangles.now)) (take found list.now)
-        ≡ true) × ((places ≤ length indices.old) × (4 * places ≤ length numbers.old))) }
+    requires { (ViewSized line) × ((found ≤ length list.now) × ((all_below (thirds (length triangles.now)) (take found list.now)
+        ≡ true) × ((places ≤ length indices.old) × (4 * places ≤ length numbers.old)))) }
     ensures { (ray : AnyRay) → Casts ray line
         → (says_nearest_so_far result.notes ≡ summary_from (exact_answer ray pose.now triangles.now) nothing
         (take found list.now)) × Stored (exact_answer ray pose.now triangles.now)
@@ -69,9 +68,8 @@ fn put_normals(
     count: usize,
     numbers: &mut [f64],
 )
-    requires fact_1 { (ray_admitted ray ≡ true) × (grid_admitted ray ≡ true) }
-    requires fact_2 { HitsInPlaces (exact_answer ray pose.now triangles.now)
-        (thirds (length triangles.now)) indices.now count numbers.old }
+    requires { ((ray_admitted ray ≡ true) × (grid_admitted ray ≡ true)) × (HitsInPlaces (exact_answer ray pose.now triangles.now)
+        (thirds (length triangles.now)) indices.now count numbers.old) }
     ensures { numbers.new ≡ numbers_of (exact_answer ray pose.now triangles.now)
         (take count indices.now) ++ drop (4 * count) numbers.old }
 {
@@ -96,9 +94,8 @@ pub fn list_met(
     indices: &mut [u32],
     numbers: &mut [f64],
 ) -> Listed
-    requires fact_1 { Casts ray line }
-    requires fact_2 { (found ≤ length list.old)
-        × (all_below (thirds (length triangles.now)) (take found list.old) ≡ true) }
+    requires { (Casts ray line) × ((found ≤ length list.old)
+        × (all_below (thirds (length triangles.now)) (take found list.old) ≡ true)) }
     ensures { record { answer = says_listed result; area = hit_area indices.new numbers.new }
         ≡ listing_of (exact_answer ray pose.now triangles.now)
         (hit_area indices.old numbers.old) (sorted (take found list.old)) }

@@ -64,9 +64,8 @@ pub fn put_floats(
     out: &mut [u8],
     at: usize,
 )
-    requires count_in_bounds { place + size_of p * count ≤ length source.now }
-    requires count_in_bounds_2 { at + size_of q * count ≤ length out.old }
-    requires source_value { every (fits_in q) (numbers_of p count (drop place source.now)) ≡ true }
+    requires { (place + size_of p * count ≤ length source.now) × ((at + size_of q * count ≤ length out.old)
+        × (every (fits_in q) (numbers_of p count (drop place source.now)) ≡ true)) }
     ensures { out.new ≡ sets out.old at
         (numbers_bytes q (numbers_of p count (drop place source.now))) }
 {
@@ -86,8 +85,7 @@ pub fn put_floats(
 
 // So many u32.
 pub fn put_words(source: &[u8], place: usize, count: usize, out: &mut [u8], at: usize)
-    requires count_in_bounds { place + 4 * count ≤ length source.now }
-    requires count_in_bounds_2 { at + 4 * count ≤ length out.old }
+    requires { (place + 4 * count ≤ length source.now) × (at + 4 * count ≤ length out.old) }
     ensures { out.new ≡ sets out.old at (words_bytes (words_of count (drop place source.now))) }
 {
     let mut from = place;

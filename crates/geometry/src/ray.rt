@@ -75,8 +75,7 @@ impl Ray {
 
     // The box of origin and end, for a ray whose origin is finite and whose end is known.
     pub fn segment_box(self, end: Vec3) -> Aabb
-        requires fact_1 { finite_vec self.origin ≡ true }
-        requires fact_2 { end ≡ segment_end self }
+        requires { (finite_vec self.origin ≡ true) × (end ≡ segment_end self) }
         ensures { result ≡ segment_box self }
     {
         Aabb {

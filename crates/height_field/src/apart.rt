@@ -31,10 +31,8 @@ fn around_cell(v00: Vec3, v10: Vec3, v01: Vec3, v11: Vec3) -> Aabb
 
 // Whether the box around a cell's vertices touches; where it does not, neither triangle's does.
 pub fn cell_touches(bounds: Aabb, field: Field, heights: &[f64], row: usize, column: usize) -> bool
-    requires fact_1 { Sized field heights.now }
-    requires fact_2 { row + 1 < field.rows }
-    requires fact_3 { column + 1 < field.columns }
-    requires fact_4 { cell_finite field heights.now row column ≡ true }
+    requires { (Sized field heights.now) × ((row + 1 < field.rows) × ((column + 1 < field.columns)
+        × (cell_finite field heights.now row column ≡ true))) }
     ensures { result ≡ cell_touches field heights.now bounds row column }
 {
     let v00 = field::field_vertex(field, heights, row, column);

@@ -62,8 +62,7 @@ fn pass_answer(pass: Pass) -> Cast
 
 // The Rust's ray_height_field.
 fn height_cast(ray: Ray, field: Field, heights: &[f64]) -> Cast
-    requires fact_1 { ray_admitted ray ≡ true }
-    requires fact_2 { Sized field heights.now }
+    requires { (ray_admitted ray ≡ true) × (Sized field heights.now) }
     ensures { says result ≡ height_cast ray field heights.now }
 {
     let end = ray.segment_end();

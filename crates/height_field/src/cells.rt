@@ -59,8 +59,7 @@ pub fn span(spacing: f64, count: usize) -> f64
 
 // The range of one axis with `count` cells, of which callers show that there are some and few.
 pub fn cell_range(low: f64, high: f64, spacing: f64, count: usize) -> CellRange
-    requires fact_1 { 1 ≤ count }
-    requires fact_2 { count ≤ 1024 }
+    requires { (1 ≤ count) × (count ≤ 1024) }
     ensures { result ≡ cell_range low high spacing count }
 {
     if high < 0.0 {

@@ -52,9 +52,7 @@ pub fn float_of(n: usize) -> f64
 
 // The vertex of a row and a column, finite or not.
 pub fn field_vertex(field: Field, heights: &[f64], row: usize, column: usize) -> Vec3
-    requires fact_1 { Sized field heights.now }
-    requires fact_2 { row < field.rows }
-    requires fact_3 { column < field.columns }
+    requires { (Sized field heights.now) × ((row < field.rows) × (column < field.columns)) }
     ensures { result ≡ vertex_at field heights.now row column }
 {
     let index = row * field.columns + column;

@@ -86,9 +86,7 @@ fn pass_triangles(
     feature: u32,
     best: IndexedCast,
 ) -> IndexedCast
-    requires fact_1 { NearCorners bounds lower }
-    requires fact_2 { NearCorners bounds upper }
-    requires fact_3 { feature + 1 < 2 ^ 32 }
+    requires { (NearCorners bounds lower) × ((NearCorners bounds upper) × (feature + 1 < 2 ^ 32)) }
     ensures { says_indexed result ≡ pass_triangles ray bounds lower upper feature (says_indexed best) 2 }
 {
     let mut found = best;
@@ -103,9 +101,7 @@ fn pass_triangles(
 
 // Whether the vertices of a cell are finite.
 fn cell_finite(field: Field, heights: &[f64], row: usize, column: usize) -> bool
-    requires fact_1 { Sized field heights.now }
-    requires fact_2 { row + 1 < field.rows }
-    requires fact_3 { column + 1 < field.columns }
+    requires { (Sized field heights.now) × ((row + 1 < field.rows) × (column + 1 < field.columns)) }
     ensures { result ≡ cell_finite field heights.now row column }
 {
     let v00 = field::field_vertex(field, heights, row, column);
@@ -125,11 +121,8 @@ fn pass_cell(
     column: usize,
     best: IndexedCast,
 ) -> IndexedCast
-    requires fact_1 { Sized field heights.now }
-    requires fact_2 { row + 1 < field.rows }
-    requires fact_3 { column + 1 < field.columns }
-    requires fact_4 { cell_finite field heights.now row column ≡ true }
-    requires fact_5 { cell_touches field heights.now bounds row column ≡ true }
+    requires { (Sized field heights.now) × ((row + 1 < field.rows) × ((column + 1 < field.columns)
+        × ((cell_finite field heights.now row column ≡ true) × (cell_touches field heights.now bounds row column ≡ true)))) }
     ensures { going (says_indexed result) ≡ pass_from (answer_of ray field heights.now) (says_indexed best)
         (list_cell field heights.now bounds (cell_at field row column)) }
 {
@@ -159,9 +152,7 @@ fn pass_row(
     last: usize,
     start: IndexedCast,
 ) -> Pass
-    requires fact_1 { Sized field heights.now }
-    requires fact_2 { row + 1 < field.rows }
-    requires fact_3 { last + 1 < field.columns }
+    requires { (Sized field heights.now) × ((row + 1 < field.rows) × (last + 1 < field.columns)) }
     ensures { says_pass result ≡ pass_from (answer_of ray field heights.now) (says_indexed start)
         (list_all (list_cell field heights.now bounds) (map (cell_at field row) (run first (last + 1 - first)))) }
 {
@@ -190,9 +181,7 @@ pub fn pass_rows(
     left: usize,
     right: usize,
 ) -> Pass
-    requires fact_1 { Sized field heights.now }
-    requires fact_2 { last + 1 < field.rows }
-    requires fact_3 { right + 1 < field.columns }
+    requires { (Sized field heights.now) × ((last + 1 < field.rows) × (right + 1 < field.columns)) }
     ensures { says_pass result ≡ pass_from (answer_of ray field heights.now) no_hit
         (list_all (list_cell field heights.now bounds)
         (grid_cells field (run first (last + 1 - first)) (run left (right + 1 - left)))) }

@@ -26,8 +26,7 @@ fn ranges_admitted(field: Field, lows: &[f64], highs: &[f64]) -> bool
 
 // The ranges of all visited cells first, then the first cell that touches.
 fn visited_answer(ray: Ray, bounds: Aabb, field: Field, lows: &[f64], highs: &[f64]) -> Clearance
-    requires fact_1 { Tested ray field lows.now highs.now }
-    requires fact_2 { bounds ≡ segment_box ray }
+    requires { (Tested ray field lows.now highs.now) × (bounds ≡ segment_box ray) }
     ensures { says result ≡ visited_answer field lows.now highs.now bounds }
 {
     let cells = visited::visited_cells(bounds, field, lows);
@@ -49,8 +48,7 @@ fn visited_answer(ray: Ray, bounds: Aabb, field: Field, lows: &[f64], highs: &[f
 
 // The cast in the height cast's order.
 fn ranges_cast(ray: Ray, field: Field, lows: &[f64], highs: &[f64]) -> Clearance
-    requires fact_1 { ray_admitted ray ≡ true }
-    requires fact_2 { ranges_admitted field lows.now highs.now ≡ true }
+    requires { (ray_admitted ray ≡ true) × (ranges_admitted field lows.now highs.now ≡ true) }
     ensures { says result ≡ ranges_cast ray field lows.now highs.now }
 {
     let end = ray.segment_end();

@@ -83,8 +83,8 @@ fn value_along(ray: Ray, grid: Grid, values: &[f64], near: Near, distance: f64) 
 
 // Whether two numbers are the same: `==` excludes NaN, and equal bits exclude zeros of two signs. A no says nothing.
 fn is_same(x: f64, y: f64) -> bool
-    ensures fact_1 { (result ≡ true → is_nan x ≡ false) }
-    ensures fact_2 { (result ≡ true → x ≡ y) }
+    ensures number { result ≡ true → is_nan x ≡ false }
+    ensures same { result ≡ true → x ≡ y }
 {
     if x == y {
         return f64::to_bits(x) == f64::to_bits(y);
@@ -101,8 +101,7 @@ fn value_known(
     distance: f64,
     known: Known,
 ) -> Valued
-    requires fact_1 { Stands grid values.now }
-    requires fact_2 { Remembered ray grid values.now known }
+    requires { (Stands grid values.now) × (Remembered ray grid values.now known) }
     ensures { result ≡ value_along ray grid values.now distance }
 {
     if is_same(known.distance, distance) {
@@ -137,8 +136,7 @@ pub fn samples_along(
     end: f64,
     known: Known,
 ) -> Samples
-    requires fact_1 { Stands grid values.now }
-    requires fact_2 { Remembered ray grid values.now known }
+    requires { (Stands grid values.now) × (Remembered ray grid values.now known) }
     ensures { result ≡ samples_along ray grid values.now current end }
 {
     let mut y0 = 0.0;

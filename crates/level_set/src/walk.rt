@@ -29,8 +29,8 @@ pub enum Step {
 
 // After a cell without a root: the walk ends at the exit.
 fn goes_on(end: f64, exit: f64, known: Known) -> Step
-    ensures fact_1 { tells result ≡ goes_on end exit }
-    ensures fact_2 { Carries known result }
+    ensures step { tells result ≡ goes_on end exit }
+    ensures carries { Carries known result }
 {
     if end >= exit {
         return Step::Done(Cast::None);
@@ -52,10 +52,9 @@ fn cell_by(
     samples: [f64; 4],
     known: Known,
 ) -> Step
-    requires fact_1 { Stands grid values.now }
-    requires fact_2 { Remembered ray grid values.now known }
-    ensures fact_1 { tells result ≡ cell_by ray grid values.now current end exit samples }
-    ensures fact_2 { Kept ray grid values.now result }
+    requires { (Stands grid values.now) × (Remembered ray grid values.now known) }
+    ensures step { tells result ≡ cell_by ray grid values.now current end exit samples }
+    ensures kept { Kept ray grid values.now result }
 {
     let root = roots::first_cubic_root(samples);
     match root {
@@ -81,10 +80,9 @@ fn cell_cast(
     exit: f64,
     known: Known,
 ) -> Step
-    requires fact_1 { Stands grid values.now }
-    requires fact_2 { Remembered ray grid values.now known }
-    ensures fact_1 { tells result ≡ cell_cast ray grid values.now current end exit }
-    ensures fact_2 { Kept ray grid values.now result }
+    requires { (Stands grid values.now) × (Remembered ray grid values.now known) }
+    ensures step { tells result ≡ cell_cast ray grid values.now current end exit }
+    ensures kept { Kept ray grid values.now result }
 {
     let taken = hits::samples_along(ray, grid, values, near, current, end, known);
     match taken {
@@ -119,10 +117,9 @@ fn goes_to(
     next: f64,
     known: Known,
 ) -> Step
-    requires fact_1 { Stands grid values.now }
-    requires fact_2 { Remembered ray grid values.now known }
-    ensures fact_1 { tells result ≡ goes_to ray grid values.now current exit next }
-    ensures fact_2 { Kept ray grid values.now result }
+    requires { (Stands grid values.now) × (Remembered ray grid values.now known) }
+    ensures step { tells result ≡ goes_to ray grid values.now current exit next }
+    ensures kept { Kept ray grid values.now result }
 {
     if next <= current {
         return Step::Done(hits::touch_at(ray, grid, values, current));
@@ -141,10 +138,9 @@ fn goes_to(
 
 // One cell of the walk.
 fn walk_step(ray: Ray, grid: Grid, values: &[f64], current: f64, exit: f64, known: Known) -> Step
-    requires fact_1 { Stands grid values.now }
-    requires fact_2 { Remembered ray grid values.now known }
-    ensures fact_1 { tells result ≡ walk_step ray grid values.now current exit }
-    ensures fact_2 { Kept ray grid values.now result }
+    requires { (Stands grid values.now) × (Remembered ray grid values.now known) }
+    ensures step { tells result ≡ walk_step ray grid values.now current exit }
+    ensures kept { Kept ray grid values.now result }
 {
     if current > exit {
         return Step::Done(Cast::None);

@@ -30,9 +30,8 @@ fn mesh_cast(
     list: &mut [u32],
     stack: &mut [u32],
 ) -> IndexedCast
-    requires fact_1 { ray_admitted ray ≡ true }
-    requires fact_2 { WalkRoom (thirds (length triangles.now))
-        (tree_of nodes node_boxes.now triangle_boxes.now node_words.now order.now) list.old stack.old }
+    requires { (ray_admitted ray ≡ true) × (WalkRoom (thirds (length triangles.now))
+        (tree_of nodes node_boxes.now triangle_boxes.now node_words.now order.now) list.old stack.old) }
     ensures { says_indexed result ≡ mesh_cast ray (record { vertices = pose.now; triangles = triangles.now })
         pose.now (tree_of nodes node_boxes.now triangle_boxes.now node_words.now
         order.now) }

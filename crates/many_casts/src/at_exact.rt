@@ -27,13 +27,12 @@ fn cast_at(
     hits: &mut [f64],
     indices: &mut [u32],
 )
-    requires fact_1 { (8 * index + 8 ≤ length rays.now)
-        × ((index < length codes.old) × ((4 * index + 4 ≤ length hits.old) × (index < length indices.old))) }
-    requires fact_2 { Ready (mesh vertices.now triangles.now) pose.now
+    requires { ((8 * index + 8 ≤ length rays.now)
+        × ((index < length codes.old) × ((4 * index + 4 ≤ length hits.old) × (index < length indices.old)))) × (Ready (mesh vertices.now triangles.now) pose.now
         (tree_of nodes node_boxes.now triangle_boxes.now node_words.now order.now)
         (tree_fits (thirds (length triangles.now))
         (tree_of nodes node_boxes.now triangle_boxes.now node_words.now order.now)
-        && leb (nodes + 1) (length stack.old)) }
+        && leb (nodes + 1) (length stack.old))) }
     ensures { places codes.new hits.new indices.new
         ≡ answer_at (exact_answer (mesh vertices.now triangles.now) pose.now
         (tree_of nodes node_boxes.now triangle_boxes.now node_words.now order.now)
@@ -73,13 +72,12 @@ fn cast_each(
     hits: &mut [f64],
     indices: &mut [u32],
 )
-    requires fact_1 { (8 * count ≤ length rays.now)
-        × ((count ≤ length codes.old) × ((4 * count ≤ length hits.old) × (count ≤ length indices.old))) }
-    requires fact_2 { Ready (mesh vertices.now triangles.now) pose.now
+    requires { ((8 * count ≤ length rays.now)
+        × ((count ≤ length codes.old) × ((4 * count ≤ length hits.old) × (count ≤ length indices.old)))) × (Ready (mesh vertices.now triangles.now) pose.now
         (tree_of nodes node_boxes.now triangle_boxes.now node_words.now order.now)
         (tree_fits (thirds (length triangles.now))
         (tree_of nodes node_boxes.now triangle_boxes.now node_words.now order.now)
-        && leb (nodes + 1) (length stack.old)) }
+        && leb (nodes + 1) (length stack.old))) }
     ensures { places codes.new hits.new indices.new
         ≡ answers_of (exact_answer (mesh vertices.now triangles.now) pose.now
         (tree_of nodes node_boxes.now triangle_boxes.now node_words.now order.now)

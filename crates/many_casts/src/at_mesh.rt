@@ -28,13 +28,12 @@ fn cast_at(
     hits: &mut [f64],
     indices: &mut [u32],
 )
-    requires fact_1 { (8 * index + 8 ≤ length rays.now)
-        × ((index < length codes.old) × ((4 * index + 4 ≤ length hits.old) × (index < length indices.old))) }
-    requires fact_2 { Ready (mesh vertices.now triangles.now) pose.now
+    requires { ((8 * index + 8 ≤ length rays.now)
+        × ((index < length codes.old) × ((4 * index + 4 ≤ length hits.old) × (index < length indices.old)))) × (Ready (mesh vertices.now triangles.now) pose.now
         (tree_of nodes node_boxes.now triangle_boxes.now node_words.now order.now)
         (walk_fits (thirds (length triangles.now))
         (tree_of nodes node_boxes.now triangle_boxes.now node_words.now order.now) (length list.old) (length
-        stack.old)) }
+        stack.old))) }
     ensures { places codes.new hits.new indices.new
         ≡ answer_at (mesh_answer (mesh vertices.now triangles.now) pose.now
         (tree_of nodes node_boxes.now triangle_boxes.now node_words.now order.now)
@@ -76,13 +75,12 @@ fn cast_each(
     hits: &mut [f64],
     indices: &mut [u32],
 )
-    requires fact_1 { (8 * count ≤ length rays.now)
-        × ((count ≤ length codes.old) × ((4 * count ≤ length hits.old) × (count ≤ length indices.old))) }
-    requires fact_2 { Ready (mesh vertices.now triangles.now) pose.now
+    requires { ((8 * count ≤ length rays.now)
+        × ((count ≤ length codes.old) × ((4 * count ≤ length hits.old) × (count ≤ length indices.old)))) × (Ready (mesh vertices.now triangles.now) pose.now
         (tree_of nodes node_boxes.now triangle_boxes.now node_words.now order.now)
         (walk_fits (thirds (length triangles.now))
         (tree_of nodes node_boxes.now triangle_boxes.now node_words.now order.now) (length list.old) (length
-        stack.old)) }
+        stack.old))) }
     ensures { places codes.new hits.new indices.new
         ≡ answers_of (mesh_answer (mesh vertices.now triangles.now) pose.now
         (tree_of nodes node_boxes.now triangle_boxes.now node_words.now order.now)

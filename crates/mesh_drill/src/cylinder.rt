@@ -72,8 +72,7 @@ fn units_of(x: f64) -> i64
 
 // The drill about a ray's segment, on the grid.
 pub fn cylinder_of(ray: Ray, radius: f64) -> Cylinder
-    requires fact_1 { grid_admitted ray ≡ true }
-    requires fact_2 { within widestᶠ radius ≡ true }
+    requires { (grid_admitted ray ≡ true) × (within widestᶠ radius ≡ true) }
     ensures { IsCylinder result (grid_line ray) (radius_on radius) × CylinderSized result }
 {
     Cylinder {

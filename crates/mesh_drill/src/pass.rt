@@ -19,10 +19,8 @@ use tree::mesh as triangle_mesh;
 
 // Whether the drill touches a triangle, whose corners are in range.
 pub fn is_touched(drill: Drill, vertices: &[f64], triangles: &[u32], index: usize) -> bool
-    requires index_in_bounds { (3 * index + 3 ≤ length triangles.now)
-        × (corners_inside (thirds (length vertices.now)) triangles.now index ≡ true) }
-    requires drill_sized_1 { DrillSized drill }
-    requires drill_sized_2 { corners_read (corners_of vertices.now triangles.now index) ≡ true }
+    requires { ((3 * index + 3 ≤ length triangles.now)
+        × (corners_inside (thirds (length vertices.now)) triangles.now index ≡ true)) × ((DrillSized drill) × (corners_read (corners_of vertices.now triangles.now index) ≡ true)) }
     ensures { (l : Line) (ρ : ℕ) → Drills drill l ρ → Runs l
         → result ≡ touched_at l ρ (mesh vertices.now triangles.now) index }
 {
@@ -43,11 +41,8 @@ fn is_reached(
     triangles: &[u32],
     index: usize,
 ) -> bool
-    requires index_in_bounds { (3 * index + 3 ≤ length triangles.now)
-        × (corners_inside (thirds (length vertices.now)) triangles.now index ≡ true) }
-    requires drill_sized_1 { DrillSized drill }
-    requires drill_sized_2 { corners_read (corners_of vertices.now triangles.now index) ≡ true }
-    requires drill_sized_3 { (coded ≡ true → Coded bounds vertices.now codes.now) }
+    requires { ((3 * index + 3 ≤ length triangles.now)
+        × (corners_inside (thirds (length vertices.now)) triangles.now index ≡ true)) × ((DrillSized drill) × ((corners_read (corners_of vertices.now triangles.now index) ≡ true) × ((coded ≡ true → Coded bounds vertices.now codes.now)))) }
     ensures { (l : Line) (ρ : ℕ) → Drills drill l ρ → Runs l → bounds ≡ drill_box l ρ
         → result ≡ reached_at l ρ (mesh vertices.now triangles.now) index }
 {
@@ -66,10 +61,8 @@ pub fn first_touched(
     vertices: &[f64],
     triangles: &[u32],
 ) -> DrillCast
-    requires fact_1 { length triangles.now ≤ 196608 }
-    requires fact_2 { DrillSized drill }
-    requires fact_3 { (triangles_fit (mesh vertices.now triangles.now) ≡ true) × (mesh_read (mesh vertices.now triangles.now) ≡ true) }
-    requires fact_4 { (coded ≡ true → Coded bounds vertices.now codes.now) }
+    requires { (length triangles.now ≤ 196608) × ((DrillSized drill) × (((triangles_fit (mesh vertices.now triangles.now) ≡ true)
+        × (mesh_read (mesh vertices.now triangles.now) ≡ true)) × ((coded ≡ true → Coded bounds vertices.now codes.now)))) }
     ensures { (l : Line) (ρ : ℕ) → Drills drill l ρ → Runs l → bounds ≡ drill_box l ρ
         → says_drill result ≡ drill_boxed l ρ (mesh vertices.now triangles.now) }
 {

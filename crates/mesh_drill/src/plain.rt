@@ -17,9 +17,8 @@ use tree::mesh as triangle_mesh;
 
 // The drill at a mesh whose triangles all have valid boxes within the range.
 fn over_triangles(ray: Ray, radius: f64, vertices: &[f64], triangles: &[u32]) -> DrillCast
-    requires fact_1 { DrillAdmitted ray radius }
-    requires fact_2 { lengths_admitted (length vertices.now) (length triangles.now) ≡ true }
-    requires fact_3 { (triangles_fit (mesh vertices.now triangles.now) ≡ true) × (mesh_read (mesh vertices.now triangles.now) ≡ true) }
+    requires { (DrillAdmitted ray radius) × ((lengths_admitted (length vertices.now) (length triangles.now) ≡ true)
+        × ((triangles_fit (mesh vertices.now triangles.now) ≡ true) × (mesh_read (mesh vertices.now triangles.now) ≡ true))) }
     ensures { says_drill result ≡ drill_all (grid_line ray) (radius_on radius)
         (mesh vertices.now triangles.now) }
 {
@@ -39,8 +38,7 @@ fn over_triangles(ray: Ray, radius: f64, vertices: &[f64], triangles: &[u32]) ->
 
 // The drill once refusals 1, 12 of the ray and the radius and 2 have let it pass.
 pub fn over_mesh(ray: Ray, radius: f64, vertices: &[f64], triangles: &[u32]) -> DrillCast
-    requires fact_1 { DrillAdmitted ray radius }
-    requires fact_2 { lengths_admitted (length vertices.now) (length triangles.now) ≡ true }
+    requires { (DrillAdmitted ray radius) × (lengths_admitted (length vertices.now) (length triangles.now) ≡ true) }
     ensures { says_drill result ≡ over_mesh ray radius (mesh vertices.now triangles.now) }
 {
     let within = bounds::all_within(vertices);

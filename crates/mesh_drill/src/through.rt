@@ -24,8 +24,7 @@ use tree_walk::step::Filled;
 
 // The answer of one triangle.
 fn drilled_at(drill: Drill, vertices: &[f64], triangles: &[u32], index: u32) -> DrillCast
-    requires fact_1 { 3 * index + 3 ≤ length triangles.now }
-    requires fact_2 { DrillSized drill }
+    requires { (3 * index + 3 ≤ length triangles.now) × (DrillSized drill) }
     ensures { (l : Line) (ρ : ℕ) → Drills drill l ρ → Runs l
         → says_drill result ≡ drilled_at l ρ (mesh vertices.now triangles.now) index }
 {
@@ -50,8 +49,7 @@ fn first_listed(
     list: &[u32],
     found: usize,
 ) -> DrillCast
-    requires fact_1 { (found ≤ length list.now) × (all_below (thirds (length triangles.now)) (take found list.now) ≡ true) }
-    requires fact_2 { DrillSized drill }
+    requires { ((found ≤ length list.now) × (all_below (thirds (length triangles.now)) (take found list.now) ≡ true)) × (DrillSized drill) }
     ensures { (l : Line) (ρ : ℕ) → Drills drill l ρ → Runs l
         → says_drill result ≡ first_answer (drilled_at l ρ (mesh vertices.now triangles.now))
         (take found list.now) }
@@ -97,8 +95,8 @@ fn over_list(
     list: &[u32],
     found: usize,
 ) -> DrillCast
-    requires fact_1 { (found ≤ length list.now) × (all_below (thirds (length triangles.now)) (take found list.now) ≡ true) }
-    requires fact_2 { CylinderSized body }
+    requires { ((found ≤ length list.now) × (all_below (thirds (length triangles.now)) (take found list.now) ≡ true))
+        × (CylinderSized body) }
     ensures { (l : Line) (ρ : ℕ) → IsCylinder body l ρ → Runs l
         → says_drill result ≡ first_answer (drilled_at l ρ (mesh vertices.now triangles.now))
         (take found list.now) }
@@ -126,10 +124,8 @@ fn over_walk(
     list: &mut [u32],
     stack: &mut [u32],
 ) -> DrillCast
-    requires fact_1 { CylinderSized body }
-    requires fact_2 { length triangles.now ≤ 196608 }
-    requires fact_3 { WalkRoom (thirds (length triangles.now))
-        (tree_of nodes node_boxes.now triangle_boxes.now node_words.now order.now) list.old stack.old }
+    requires { (CylinderSized body) × ((length triangles.now ≤ 196608) × (WalkRoom (thirds (length triangles.now))
+        (tree_of nodes node_boxes.now triangle_boxes.now node_words.now order.now) list.old stack.old)) }
     ensures { (l : Line) (ρ : ℕ) → IsCylinder body l ρ → Runs l
         → says_drill result ≡ walked_by l ρ (mesh vertices.now triangles.now)
         (tree_of nodes node_boxes.now triangle_boxes.now node_words.now order.now) }
@@ -166,10 +162,9 @@ fn over_tree(
     list: &mut [u32],
     stack: &mut [u32],
 ) -> DrillCast
-    requires fact_1 { DrillAdmitted ray radius }
-    requires fact_2 { lengths_admitted (length vertices.now) (length triangles.now) ≡ true }
-    requires fact_3 { WalkRoom (thirds (length triangles.now))
-        (tree_of nodes node_boxes.now triangle_boxes.now node_words.now order.now) list.old stack.old }
+    requires { (DrillAdmitted ray radius) × ((lengths_admitted (length vertices.now) (length triangles.now) ≡ true)
+        × (WalkRoom (thirds (length triangles.now))
+        (tree_of nodes node_boxes.now triangle_boxes.now node_words.now order.now) list.old stack.old)) }
     ensures { says_drill result ≡ over_tree ray radius (mesh vertices.now triangles.now)
         (tree_of nodes node_boxes.now triangle_boxes.now node_words.now order.now) }
 {

@@ -24,8 +24,7 @@ pub fn corners_read(corners: [Vec3; 3]) -> bool
 
 // Whether the indices of each triangle are below the vertex count: where all vertices are in range, its box is valid then.
 fn all_inside(vertices: &[f64], triangles: &[u32]) -> bool
-    requires fact_1 { length triangles.now ≤ 196608 }
-    requires fact_2 { AllWithin vertices.now }
+    requires { (length triangles.now ≤ 196608) × (AllWithin vertices.now) }
     ensures { result ≡ triangles_fit (mesh vertices.now triangles.now) }
 {
     let limit = vertices.len() / 3;
@@ -42,8 +41,7 @@ fn all_inside(vertices: &[f64], triangles: &[u32]) -> bool
 
 // Whether each triangle has a valid box: within says that all vertices are in range.
 pub fn all_fit(within: bool, vertices: &[f64], triangles: &[u32]) -> bool
-    requires fact_1 { length triangles.now ≤ 196608 }
-    requires fact_2 { (within ≡ true → AllWithin vertices.now) }
+    requires { (length triangles.now ≤ 196608) × ((within ≡ true → AllWithin vertices.now)) }
     ensures { result ≡ triangles_fit (mesh vertices.now triangles.now) }
 {
     if within {
@@ -54,8 +52,7 @@ pub fn all_fit(within: bool, vertices: &[f64], triangles: &[u32]) -> bool
 
 // Whether every corner of every triangle is within 8,192 mm.
 fn each_read(vertices: &[f64], triangles: &[u32]) -> bool
-    requires fact_1 { length triangles.now ≤ 196608 }
-    requires fact_2 { triangles_fit (mesh vertices.now triangles.now) ≡ true }
+    requires { (length triangles.now ≤ 196608) × (triangles_fit (mesh vertices.now triangles.now) ≡ true) }
     ensures { result ≡ mesh_read (mesh vertices.now triangles.now) }
 {
     let count = triangles.len() / 3;
@@ -71,9 +68,8 @@ fn each_read(vertices: &[f64], triangles: &[u32]) -> bool
 
 // The same; where all vertices are in range, it is.
 pub fn all_read(within: bool, vertices: &[f64], triangles: &[u32]) -> bool
-    requires fact_1 { length triangles.now ≤ 196608 }
-    requires fact_2 { (within ≡ true → AllWithin vertices.now) }
-    requires fact_3 { triangles_fit (mesh vertices.now triangles.now) ≡ true }
+    requires { (length triangles.now ≤ 196608) × (((within ≡ true → AllWithin vertices.now))
+        × (triangles_fit (mesh vertices.now triangles.now) ≡ true)) }
     ensures { result ≡ mesh_read (mesh vertices.now triangles.now) }
 {
     if within {

@@ -26,8 +26,7 @@ fn over_triangles(
     vertices: &[f64],
     triangles: &[u32],
 ) -> IndexedCast
-    requires fact_1 { length triangles.now ≤ 196608 }
-    requires fact_2 { Bounded ray line bounds }
+    requires { (length triangles.now ≤ 196608) × (Bounded ray line bounds) }
     ensures { says_indexed result ≡ over_triangles ray (mesh vertices.now triangles.now) }
 {
     let within = bounds::all_within(vertices);
@@ -54,8 +53,7 @@ fn over_triangles(
 
 // The cast once refusals 1, 12 of the ray and 2 have let it pass.
 pub fn exact_cast(ray: Ray, line: View, vertices: &[f64], triangles: &[u32]) -> IndexedCast
-    requires fact_1 { Casts ray line }
-    requires fact_2 { lengths_admitted (length vertices.now) (length triangles.now) ≡ true }
+    requires { (Casts ray line) × (lengths_admitted (length vertices.now) (length triangles.now) ≡ true) }
     ensures { says_indexed result ≡ over_triangles ray (mesh vertices.now triangles.now) }
 {
     over_triangles(ray, line, bounds::segment_box(ray), vertices, triangles)

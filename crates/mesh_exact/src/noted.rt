@@ -21,9 +21,8 @@ use tree::mesh as triangle_mesh;
 
 // What a triangle is reached at, without its normal.
 pub fn reach_of(line: View, vertices: &[f64], triangles: &[u32], index: usize) -> Reach
-    requires index_in_bounds { (3 * index + 3 ≤ length triangles.now)
-        × (corners_inside (thirds (length vertices.now)) triangles.now index ≡ true) }
-    requires view_sized { ViewSized line }
+    requires { ((3 * index + 3 ≤ length triangles.now)
+        × (corners_inside (thirds (length vertices.now)) triangles.now index ≡ true)) × (ViewSized line) }
     ensures { (ray : AnyRay) → Casts ray line
         → result ≡ reach_of (exact_answer ray vertices.now triangles.now index) }
 {
@@ -33,8 +32,7 @@ pub fn reach_of(line: View, vertices: &[f64], triangles: &[u32], index: usize) -
 // Whether each triangle whose indices are below the vertex count has a valid box: of vertices in range, which callers show if they are told
 // to be, it has.
 pub fn boxes_hold(within: bool, vertices: &[f64], triangles: &[u32]) -> bool
-    requires fact_1 { length triangles.now ≤ 196608 }
-    requires fact_2 { (within ≡ true → AllWithin vertices.now) }
+    requires { (length triangles.now ≤ 196608) × ((within ≡ true → AllWithin vertices.now)) }
     ensures boxes_hold { result ≡ true → BoxesHold (mesh vertices.now triangles.now) }
     ensures triangles_value { result ≡ false → triangles_fit (mesh vertices.now triangles.now) ≡ false }
 {
@@ -54,9 +52,8 @@ fn looked_at(
     triangles: &[u32],
     index: usize,
 ) -> bool
-    requires index_in_bounds { (3 * index + 3 ≤ length triangles.now)
-        × (corners_inside (thirds (length vertices.now)) triangles.now index ≡ true) }
-    requires coded { coded ≡ true → Coded bounds vertices.now codes.now }
+    requires { ((3 * index + 3 ≤ length triangles.now)
+        × (corners_inside (thirds (length vertices.now)) triangles.now index ≡ true)) × (coded ≡ true → Coded bounds vertices.now codes.now) }
     ensures { result ≡ (not within
         || touches (corners_box (corners_of vertices.now triangles.now index)) bounds) }
 {
@@ -79,11 +76,8 @@ pub fn winner_of(
     coded: bool,
     codes: &[u64],
 ) -> Outcome
-    requires triangles_len_bound_1 { length triangles.now ≤ 196608 }
-    requires triangles_len_bound_2 { ViewSized line }
-    requires triangles_len_bound_3 { BoxesHold (mesh vertices.now triangles.now) }
-    requires all_within_1 { (within ≡ true → AllWithin vertices.now) }
-    requires all_within_2 { (coded ≡ true → Coded bounds vertices.now codes.now) }
+    requires { (length triangles.now ≤ 196608) × ((ViewSized line) × ((BoxesHold (mesh vertices.now triangles.now))
+        × (((within ≡ true → AllWithin vertices.now)) × ((coded ≡ true → Coded bounds vertices.now codes.now))))) }
     ensures { (ray : AnyRay) → Bounded ray line bounds → Won ray (mesh vertices.now triangles.now) result }
 {
     let limit = vertices.len() / 3;

@@ -31,9 +31,8 @@ fn mesh_listing(
     indices: &mut [u32],
     numbers: &mut [f64],
 ) -> Listed
-    requires fact_1 { ray_admitted ray ≡ true }
-    requires fact_2 { WalkRoom (thirds (length triangles.now))
-        (tree_of nodes node_boxes.now triangle_boxes.now node_words.now order.now) list.old stack.old }
+    requires { (ray_admitted ray ≡ true) × (WalkRoom (thirds (length triangles.now))
+        (tree_of nodes node_boxes.now triangle_boxes.now node_words.now order.now) list.old stack.old) }
     ensures { record { answer = says_listed result; area = hit_area indices.new numbers.new }
         ≡ mesh_listing ray triangles.now pose.now
         (tree_of nodes node_boxes.now triangle_boxes.now node_words.now order.now)

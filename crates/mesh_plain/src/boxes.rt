@@ -155,9 +155,8 @@ pub fn codes_touch(
     triangles: &[u32],
     index: usize,
 ) -> bool
-    requires index_in_bounds { (3 * index + 3 ≤ length triangles.now)
-        × (corners_inside (thirds (length vertices.now)) triangles.now index ≡ true) }
-    requires coded { Coded bounds vertices.now codes.now }
+    requires { ((3 * index + 3 ≤ length triangles.now)
+        × (corners_inside (thirds (length vertices.now)) triangles.now index ≡ true)) × (Coded bounds vertices.now codes.now) }
     ensures { result ≡ touches (corners_box (corners_of vertices.now triangles.now index)) bounds }
 {
     let first = codes[layout::word_at(triangles, 3 * index)];
@@ -175,9 +174,8 @@ pub fn triangle_touches(
     triangles: &[u32],
     index: usize,
 ) -> bool
-    requires index_in_bounds { (3 * index + 3 ≤ length triangles.now)
-        × (corners_inside (thirds (length vertices.now)) triangles.now index ≡ true) }
-    requires coded { told ≡ true → Coded bounds vertices.now codes.now }
+    requires { ((3 * index + 3 ≤ length triangles.now)
+        × (corners_inside (thirds (length vertices.now)) triangles.now index ≡ true)) × (told ≡ true → Coded bounds vertices.now codes.now) }
     ensures { result ≡ touches (corners_box (corners_of vertices.now triangles.now index)) bounds }
 {
     if told {

@@ -23,9 +23,8 @@ fn cast_all(
     told: bool,
     codes: &[u64],
 ) -> IndexedCast
-    requires triangles_len_bound_1 { length triangles.now ≤ 196608 }
-    requires triangles_len_bound_2 { BoxesHold (mesh vertices.now triangles.now) }
-    requires coded { told ≡ true → Coded bounds vertices.now codes.now }
+    requires { (length triangles.now ≤ 196608) × ((BoxesHold (mesh vertices.now triangles.now))
+        × (told ≡ true → Coded bounds vertices.now codes.now)) }
     ensures { says_indexed result ≡ over_triangles ray bounds (mesh vertices.now triangles.now) }
 {
     let limit = vertices.len() / 3;
@@ -60,8 +59,7 @@ fn over_triangles(ray: Ray, bounds: Aabb, vertices: &[f64], triangles: &[u32]) -
 
 // The cast once refusals 1 and 2 have let it pass.
 pub fn plain_cast(ray: Ray, vertices: &[f64], triangles: &[u32]) -> IndexedCast
-    requires fact_1 { ray_admitted ray ≡ true }
-    requires fact_2 { lengths_admitted (length vertices.now) (length triangles.now) ≡ true }
+    requires { (ray_admitted ray ≡ true) × (lengths_admitted (length vertices.now) (length triangles.now) ≡ true) }
     ensures { says_indexed result ≡ plain_cast ray (mesh vertices.now triangles.now) }
 {
     let end = ray.segment_end();

@@ -34,8 +34,8 @@ fn record_step(
     stack: &mut [u32; 1355],
     output: &mut [u8],
 ) -> Progress
-    requires end_in_bounds { (end ≤ length rest.now) × (s.filled + 114 ≤ length output.old) }
-    requires next_bound { (s.next < 18446744073709551615) × (s.used + end < 18446744073709551616) }
+    requires { ((end ≤ length rest.now) × (s.filled + 114 ≤ length output.old)) × ((s.next < 18446744073709551615)
+        × (s.used + end < 18446744073709551616)) }
     ensures { Stepped (step_of s.next rest.now (Found.Record end)) s result output.old output.new }
 {
     let printed = lines::line(
@@ -74,8 +74,7 @@ fn step(
     stack: &mut [u32; 1355],
     output: &mut [u8],
 ) -> Progress
-    requires used_in_bounds { (s.used ≤ length input.now) × (s.filled + 114 ≤ length output.old) }
-    requires next_bound { s.next < 18446744073709551615 }
+    requires { ((s.used ≤ length input.now) × (s.filled + 114 ≤ length output.old)) × (s.next < 18446744073709551615) }
     ensures { Stepped (step_of s.next (drop s.used input.now) (next_of (drop s.used input.now))) s result
         output.old output.new }
 {

@@ -42,8 +42,8 @@ fn put_shape(
     list: &mut [u32],
     stack: &mut [u32],
 ) -> usize
-    requires sized { (Sized kind counts.now numbers.now × (length indices.now ≤ 2031)) × (at + 92 ≤ length out.old) }
-    requires tree_lent { TreeLent node_boxes.old triangle_boxes.old node_words.old order.old list.old stack.old }
+    requires { ((Sized kind counts.now numbers.now × (length indices.now ≤ 2031)) × (at + 92 ≤ length out.old))
+        × (TreeLent node_boxes.old triangle_boxes.old node_words.old order.old list.old stack.old) }
     ensures { Put out.old at
         (shape_text ray (shape_from kind counts.now numbers.now indices.now)) out.new result }
 {
@@ -91,9 +91,8 @@ fn put_planned(
     list: &mut [u32],
     stack: &mut [u32],
 ) -> usize
-    requires known { Known form source.now plan }
-    requires at_in_bounds { (at + 92 ≤ length out.old) × ((1024 ≤ length work.old) × (2031 ≤ length triangles.old)) }
-    requires tree_lent { TreeLent node_boxes.old triangle_boxes.old node_words.old order.old list.old stack.old }
+    requires { (Known form source.now plan) × (((at + 92 ≤ length out.old) × ((1024 ≤ length work.old)
+        × (2031 ≤ length triangles.old))) × (TreeLent node_boxes.old triangle_boxes.old node_words.old order.old list.old stack.old)) }
     ensures { Put out.old at
         (shape_text (ray_by (said_of form source.now).ray) (shape_by (said_of form source.now))) out.new result }
 {
@@ -138,8 +137,8 @@ fn put_record(
     list: &mut [u32],
     stack: &mut [u32],
 ) -> Printed
-    requires at_in_bounds { (at + 92 ≤ length out.old) × ((1024 ≤ length work.old) × (2031 ≤ length triangles.old)) }
-    requires tree_lent { TreeLent node_boxes.old triangle_boxes.old node_words.old order.old list.old stack.old }
+    requires { ((at + 92 ≤ length out.old) × ((1024 ≤ length work.old) × (2031 ≤ length triangles.old)))
+        × (TreeLent node_boxes.old triangle_boxes.old node_words.old order.old list.old stack.old) }
     ensures put { Put out.old at (record_text source.now) out.new result.end }
     ensures malformed_value { result.malformed ≡ not (is_record source.now) }
 {

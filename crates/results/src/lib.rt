@@ -123,8 +123,7 @@ pub fn put_answer(answer: Cast, hit: &mut [f64]) -> u32
 
 // The same with the triangle's index.
 pub fn put_indexed(answer: IndexedCast, hit: &mut [f64], index: &mut [u32]) -> u32
-    requires fact_1 { 4 ≤ length hit.old }
-    requires fact_2 { 1 ≤ length index.old }
+    requires { (4 ≤ length hit.old) × (1 ≤ length index.old) }
     ensures { record { number = result; hit = hit.new; index = index.new }
         ≡ returned_indexed (says_indexed answer) hit.old index.old }
 {

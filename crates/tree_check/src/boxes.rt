@@ -45,8 +45,7 @@ fn place_enclosed(outer: Aabb, boxes: &[f64], order: &[u32], p: usize) -> bool
 
 // Whether it encloses those at all places from start on and below end.
 fn places_enclosed(outer: Aabb, boxes: &[f64], order: &[u32], start: usize, end: usize) -> bool
-    requires end_in_bounds { end ≤ length order.now }
-    requires by_index { (p : ℕ) → p < end → 6 * get_or order.now p 0 + 6 ≤ length boxes.now }
+    requires { (end ≤ length order.now) × ((p : ℕ) → p < end → 6 * get_or order.now p 0 + 6 ≤ length boxes.now) }
     ensures { result ≡ every (place_enclosed outer boxes.now order.now) (range start (end - start)) }
 {
     let mut p = start;

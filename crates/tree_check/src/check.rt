@@ -46,8 +46,8 @@ fn boxes_pass(
     words: &[u32],
     order: &[u32],
 ) -> bool
-    requires n_in_bounds { (3 * n ≤ length triangles.now) × (6 * n ≤ length triangle_boxes.now) }
-    requires readable { Readable n nodes node_boxes.now triangle_boxes.now words.now order.now }
+    requires { ((3 * n ≤ length triangles.now) × (6 * n ≤ length triangle_boxes.now))
+        × (Readable n nodes node_boxes.now triangle_boxes.now words.now order.now) }
     ensures { result ≡ boxes_pass n nodes vertices.now triangles.now node_boxes.now
         triangle_boxes.now words.now order.now }
 {

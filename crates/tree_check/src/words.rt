@@ -80,8 +80,8 @@ fn second_mark(kind: usize, n: usize, first: usize, second: usize) -> usize
 
 // One more of each of two numbers.
 fn mark_pair(first: usize, second: usize, marks: &mut [u32])
-    requires first_in_bounds { (first < length marks.old) × (second < length marks.old) }
-    requires first_bound { (get_or marks.old first 0 < 4294967290) × (get_or marks.old second 0 < 4294967290) }
+    requires { ((first < length marks.old) × (second < length marks.old)) × ((get_or marks.old first 0 < 4294967290)
+        × (get_or marks.old second 0 < 4294967290)) }
     ensures { (x : ℕ) → get_or marks.new x 0 ≡ count x (first ∷ (second ∷ [])) + get_or marks.old x 0 }
 {
     marks::bump(marks, first);
@@ -90,9 +90,8 @@ fn mark_pair(first: usize, second: usize, marks: &mut [u32])
 
 // One more of each number that a node marks, if it is of the kind.
 fn mark_node(kind: usize, n: usize, words: &[u32], node: usize, marks: &mut [u32])
-    requires node_in_bounds { (3 * node + 3 ≤ length words.now) × ((n < 4294967296) × (3 * n ≤ length marks.old)) }
-    requires inside { Inside kind n words.now node }
-    requires by_index { (x : ℕ) → x < 3 * n → get_or marks.old x 0 < 4294967290 }
+    requires { ((3 * node + 3 ≤ length words.now) × ((n < 4294967296) × (3 * n ≤ length marks.old)))
+        × ((Inside kind n words.now node) × ((x : ℕ) → x < 3 * n → get_or marks.old x 0 < 4294967290)) }
     ensures { (x : ℕ) → get_or marks.new x 0 ≡ count x (marked kind n words.now node) + get_or marks.old
         x 0 }
 {
@@ -106,8 +105,8 @@ fn mark_node(kind: usize, n: usize, words: &[u32], node: usize, marks: &mut [u32
 
 // Counts what all nodes of the kind mark.
 fn mark_nodes(kind: usize, n: usize, nodes: usize, words: &[u32], marks: &mut [u32])
-    requires nodes_in_bounds { (3 * nodes ≤ length words.now) × ((n ≤ 65536) × ((nodes ≤ 2 * n) × (3 * n ≤ length marks.old))) }
-    requires by_index { (i : ℕ) → i < nodes → Inside kind n words.now i }
+    requires { ((3 * nodes ≤ length words.now) × ((n ≤ 65536) × ((nodes ≤ 2 * n) × (3 * n ≤ length marks.old))))
+        × ((i : ℕ) → i < nodes → Inside kind n words.now i) }
     ensures { (x : ℕ) → x < 3 * n → get_or marks.new x 0 ≡ count x
         (flat_map (marked kind n words.now) (range 0 nodes)) }
 {
@@ -121,8 +120,8 @@ fn mark_nodes(kind: usize, n: usize, nodes: usize, words: &[u32], marks: &mut [u
 
 // Whether each node but the first is named once.
 pub fn named_once(n: usize, nodes: usize, words: &[u32], marks: &mut [u32]) -> bool
-    requires nodes_in_bounds { (3 * nodes ≤ length words.now) × ((n ≤ 65536) × ((nodes ≤ 2 * n) × (3 * n ≤ length marks.old))) }
-    requires nodes_value { every (node_sound n nodes words.now) (range 0 nodes) ≡ true }
+    requires { ((3 * nodes ≤ length words.now) × ((n ≤ 65536) × ((nodes ≤ 2 * n) × (3 * n ≤ length marks.old))))
+        × (every (node_sound n nodes words.now) (range 0 nodes) ≡ true) }
     ensures { result ≡ every (once (flat_map (marked 1 n words.now) (range 0 nodes))) (range 1 (nodes - 1)) }
 {
     mark_nodes(1, n, nodes, words, marks);
@@ -131,8 +130,8 @@ pub fn named_once(n: usize, nodes: usize, words: &[u32], marks: &mut [u32]) -> b
 
 // Whether each order place lies in one leaf, with no leaf's places walked.
 pub fn placed_once(n: usize, nodes: usize, words: &[u32], marks: &mut [u32]) -> bool
-    requires nodes_in_bounds { (3 * nodes ≤ length words.now) × ((n ≤ 65536) × ((nodes ≤ 2 * n) × (3 * n ≤ length marks.old))) }
-    requires nodes_value { every (node_sound n nodes words.now) (range 0 nodes) ≡ true }
+    requires { ((3 * nodes ≤ length words.now) × ((n ≤ 65536) × ((nodes ≤ 2 * n) × (3 * n ≤ length marks.old))))
+        × (every (node_sound n nodes words.now) (range 0 nodes) ≡ true) }
     ensures { result ≡ every (once (flat_map (places words.now) (range 0 nodes))) (range 0 n) }
 {
     mark_nodes(0, n, nodes, words, marks);
@@ -141,8 +140,7 @@ pub fn placed_once(n: usize, nodes: usize, words: &[u32], marks: &mut [u32]) -> 
 
 // One more of the triangle at an order place, if it is one.
 fn mark_place(n: usize, order: &[u32], p: usize, marks: &mut [u32])
-    requires p_in_bounds { (p < length order.now) × (n ≤ length marks.old) }
-    requires by_index { (x : ℕ) → x < n → get_or marks.old x 0 < 4294967295 }
+    requires { ((p < length order.now) × (n ≤ length marks.old)) × ((x : ℕ) → x < n → get_or marks.old x 0 < 4294967295) }
     ensures { (x : ℕ) → x < n → get_or marks.new x 0 ≡ count x (get_or order.now p 0 ∷ []) + get_or
         marks.old x 0 }
 {

@@ -19,8 +19,7 @@ pub fn copy_numbers(from: &[f64], count: usize, area: &mut [f64], place: usize)
 
 // The first words of a slice, moved up, from a place of the area on.
 pub fn copy_words(from: &[u32], count: usize, up: usize, area: &mut [u32], place: usize)
-    requires count_in_bounds { (count ≤ length from.now) × (place + count ≤ length area.old) }
-    requires small_words { SmallWords from.now count up }
+    requires { ((count ≤ length from.now) × (place + count ≤ length area.old)) × (SmallWords from.now count up) }
     ensures { area.new ≡ sets area.old place (moved_up up (take count from.now)) }
 {
     let mut i = 0;
@@ -40,8 +39,7 @@ fn copy_node(
     area: &mut [u32],
     place: usize,
 )
-    requires node_in_bounds { (3 * node + 3 ≤ length words.now) × (place + 3 ≤ length area.old) }
-    requires small_node { SmallNode words.now nodes places node }
+    requires { ((3 * node + 3 ≤ length words.now) × (place + 3 ≤ length area.old)) × (SmallNode words.now nodes places node) }
     ensures { area.new ≡ sets area.old place (moved_node nodes places words.now node) }
 {
     let kind = words[3 * node];
@@ -63,8 +61,7 @@ pub fn copy_nodes(
     area: &mut [u32],
     place: usize,
 )
-    requires count_in_bounds { (3 * count ≤ length words.now) × (place + 3 * count ≤ length area.old) }
-    requires small_nodes { SmallNodes words.now nodes places count }
+    requires { ((3 * count ≤ length words.now) × (place + 3 * count ≤ length area.old)) × (SmallNodes words.now nodes places count) }
     ensures { area.new ≡ sets area.old place (moved_nodes nodes places words.now count) }
 {
     let mut i = 0;

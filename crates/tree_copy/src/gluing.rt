@@ -17,9 +17,8 @@ pub fn glue_mesh(
     vertices: &mut [f64],
     triangles: &mut [u32],
 )
-    requires second_vertices_in_bounds { (length first_vertices.now + length second_vertices.now ≤ length vertices.old)
-        × (length first_triangles.now + length second_triangles.now ≤ length triangles.old) }
-    requires small_words { SmallWords second_triangles.now (length second_triangles.now) (thirds (length first_vertices.now)) }
+    requires { ((length first_vertices.now + length second_vertices.now ≤ length vertices.old)
+        × (length first_triangles.now + length second_triangles.now ≤ length triangles.old)) × (SmallWords second_triangles.now (length second_triangles.now) (thirds (length first_vertices.now))) }
     ensures { (vertices.new ≡ over (first_vertices.now ++ second_vertices.now)
         vertices.old) × (triangles.new
         ≡ over (first_triangles.now ++ moved_up (thirds (length first_vertices.now))
@@ -56,11 +55,10 @@ pub fn glue_boxes(
     boxes: &mut [f64],
     around: &mut [f64],
 )
-    requires n_bound { ((n ≤ 65536) × (m ≤ 65536)) × ((nodes ≤ 131072) × (others ≤ 131072)) }
-    requires nodes_in_bounds { ((6 * nodes ≤ length first_boxes.now) × (6 * others ≤ length second_boxes.now))
-        × ((6 * n ≤ length first_around.now) × (6 * m ≤ length second_around.now)) }
-    requires others_in_bounds { ((6 * (cond empty 0 1 + (nodes + others)) ≤ length boxes.old) × (6 * n + 6 * m ≤ length around.old))
-        × (empty ≡ false → (1 ≤ nodes) × (1 ≤ others)) }
+    requires { (((n ≤ 65536) × (m ≤ 65536)) × ((nodes ≤ 131072) × (others ≤ 131072))) × ((((6 * nodes ≤ length first_boxes.now)
+        × (6 * others ≤ length second_boxes.now))
+        × ((6 * n ≤ length first_around.now) × (6 * m ≤ length second_around.now))) × (((6 * (cond empty 0 1 + (nodes + others)) ≤ length boxes.old) × (6 * n + 6 * m ≤ length around.old))
+        × (empty ≡ false → (1 ≤ nodes) × (1 ≤ others)))) }
     ensures { (boxes.new ≡ over (cond empty []
         (box_numbers (union_of (box_at first_boxes.now 0) (box_at second_boxes.now 0))) ++
         (take (6 * nodes) first_boxes.now ++ take (6 * others) second_boxes.now)) boxes.old)
@@ -85,12 +83,10 @@ pub fn glue_words(
     words: &mut [u32],
     order: &mut [u32],
 )
-    requires nodes_bound { ((nodes ≤ 131072) × (others ≤ 131072))
+    requires { (((nodes ≤ 131072) × (others ≤ 131072))
         × (((3 * nodes ≤ length first_words.now) × (3 * others ≤ length second_words.now))
-        × ((n ≤ length first_order.now) × (m ≤ length second_order.now))) }
-    requires others_in_bounds { (3 * (cond empty 0 1 + (nodes + others)) ≤ length words.old) × (n + m ≤ length order.old) }
-    requires small_nodes { (SmallNodes first_words.now (cond empty 0 1) 0 nodes
-        × SmallNodes second_words.now (cond empty 0 1 + nodes) n others) × SmallWords second_order.now m n }
+        × ((n ≤ length first_order.now) × (m ≤ length second_order.now)))) × (((3 * (cond empty 0 1 + (nodes + others)) ≤ length words.old) × (n + m ≤ length order.old)) × ((SmallNodes first_words.now (cond empty 0 1) 0 nodes
+        × SmallNodes second_words.now (cond empty 0 1 + nodes) n others) × SmallWords second_order.now m n)) }
     ensures { (words.new ≡ over (cond empty [] (1 ∷ (1 ∷ ((1 + nodes) ∷ []))) ++
         (moved_nodes (cond empty 0 1) 0 first_words.now nodes ++ moved_nodes (cond empty 0 1 + nodes) n
         second_words.now others)) words.old)

@@ -18,8 +18,7 @@ pub fn join_numbers(first: &[f64], m: usize, second: &[f64], n: usize, area: &mu
 
 // The first words of one slice and then of another, the second's moved up.
 pub fn join_words(first: &[u32], m: usize, second: &[u32], n: usize, up: usize, area: &mut [u32])
-    requires m_in_bounds { ((m ≤ length first.now) × (n ≤ length second.now)) × (m + n ≤ length area.old) }
-    requires small_words { SmallWords second.now n up }
+    requires { (((m ≤ length first.now) × (n ≤ length second.now)) × (m + n ≤ length area.old)) × (SmallWords second.now n up) }
     ensures { area.new ≡ over (take m first.now ++ moved_up up (take n second.now))
         area.old }
 {
@@ -29,8 +28,8 @@ pub fn join_words(first: &[u32], m: usize, second: &[u32], n: usize, up: usize, 
 
 // The boxes of the root, of the first tree's nodes and of the second's.
 pub fn join_boxes(empty: bool, first: &[f64], m: usize, second: &[f64], n: usize, area: &mut [f64])
-    requires m_in_bounds { ((6 * m ≤ length first.now) × (6 * n ≤ length second.now)) × (6 * (cond empty 0 1 + (m + n)) ≤ length area.old) }
-    requires m_bound { ((m ≤ 131072) × (n ≤ 131072)) × (empty ≡ false → (1 ≤ m) × (1 ≤ n)) }
+    requires { (((6 * m ≤ length first.now) × (6 * n ≤ length second.now)) × (6 * (cond empty 0 1 + (m + n)) ≤ length area.old))
+        × (((m ≤ 131072) × (n ≤ 131072)) × (empty ≡ false → (1 ≤ m) × (1 ≤ n))) }
     ensures { area.new ≡ over (cond empty []
         (box_numbers (union_of (box_at first.now 0) (box_at second.now 0))) ++
         (take (6 * m) first.now ++ take (6 * n) second.now)) area.old }
@@ -50,9 +49,9 @@ pub fn join_nodes(
     places: usize,
     area: &mut [u32],
 )
-    requires m_in_bounds { ((3 * m ≤ length first.now) × (3 * n ≤ length second.now)) × (3 * (cond empty 0 1 + (m + n)) ≤ length area.old) }
-    requires m_bound { ((m ≤ 131072) × (n ≤ 131072)) × (SmallNodes first.now (cond empty 0 1) 0 m
-        × SmallNodes second.now (cond empty 0 1 + m) places n) }
+    requires { (((3 * m ≤ length first.now) × (3 * n ≤ length second.now)) × (3 * (cond empty 0 1 + (m + n)) ≤ length area.old))
+        × (((m ≤ 131072) × (n ≤ 131072)) × (SmallNodes first.now (cond empty 0 1) 0 m
+        × SmallNodes second.now (cond empty 0 1 + m) places n)) }
     ensures { area.new ≡ over (cond empty [] (1 ∷ (1 ∷ ((1 + m) ∷ []))) ++
         (moved_nodes (cond empty 0 1) 0 first.now m ++ moved_nodes (cond empty 0 1 + m) places second.now n))
         area.old }

@@ -34,9 +34,8 @@ fn exact_through(
     order: &[u32],
     stack: &mut [u32],
 ) -> IndexedCast
-    requires fact_1 { (ray_admitted ray ≡ true) × (grid_admitted ray ≡ true) }
-    requires fact_2 { WalkRoom (thirds (length triangles.now)) nodes
-        node_boxes.now node_words.now order.now × (nodes < length stack.old) }
+    requires { ((ray_admitted ray ≡ true) × (grid_admitted ray ≡ true)) × (WalkRoom (thirds (length triangles.now)) nodes
+        node_boxes.now node_words.now order.now × (nodes < length stack.old)) }
     ensures { says_indexed result ≡ exact_through ray pose.now triangles.now
         (tree_of nodes node_boxes.now triangle_boxes.now node_words.now order.now) }
 {

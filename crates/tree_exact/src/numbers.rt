@@ -43,7 +43,7 @@ fn corners_numbered(vertices: &[f64], triangles: &[u32], index: usize) -> bool
 // second clause.
 pub fn has_numbers(vertices: &[f64], triangles: &[u32]) -> bool
     ensures value { result ≡ has_numbers (mesh vertices.now triangles.now) }
-    ensures no_na_n { result ≡ true → NoNaN (mesh vertices.now triangles.now) }
+    ensures no_nan { result ≡ true → NoNaN (mesh vertices.now triangles.now) }
 {
     let count = triangles.len() / 3;
     let mut i: usize = 0;

@@ -289,9 +289,9 @@ pub fn nearest_along(
     order: &[u32],
     stack: &mut [u32],
 ) -> Walked
-    requires fact_1 { ((ray_admitted ray ≡ true) × (grid_admitted ray ≡ true)) × (reach ≡ certain_box (grid_line ray)) }
-    requires fact_2 { WalkRoom (thirds (length triangles.now)) nodes node_boxes.now node_words.now order.now
-        × (nodes < length stack.old) }
+    requires { (((ray_admitted ray ≡ true) × (grid_admitted ray ≡ true)) × (reach ≡ certain_box (grid_line ray)))
+        × (WalkRoom (thirds (length triangles.now)) nodes node_boxes.now node_words.now order.now
+        × (nodes < length stack.old)) }
     ensures { WalksAlong ray pose.now triangles.now nodes node_boxes.now
         node_words.now order.now result }
 {
