@@ -30,7 +30,7 @@ def same(what, found, wanted):
 
 
 def started(stdin, stdout, ignore=True):
-    """SIGPIPE ignored, as most do, or as the system has it: a closed pipe is a write that fails, and not a signal."""
+    """SIGPIPE ignored: a closed pipe is then a write that fails, and not a signal."""
     prepare = (lambda: signal.signal(signal.SIGPIPE, signal.SIG_IGN)) if ignore else (lambda: signal.signal(signal.SIGPIPE, signal.SIG_DFL))
     return subprocess.Popen([probe], stdin=stdin, stdout=stdout, stderr=subprocess.PIPE, preexec_fn=prepare)
 
@@ -44,7 +44,7 @@ with open("/dev/full", "wb") as full:
     run = started(source(), full)
     same("a full device", run.communicate()[1], UNWRITTEN)
 
-# a pipe that closes: the program ignores SIGPIPE from its start, whether or not whoever starts it did
+# a pipe that closes: a write that fails, however the program was started, since it ignores SIGPIPE itself
 for ignore in (True, False):
     out, into = os.pipe()
     run = started(source(), into, ignore)

@@ -67,6 +67,8 @@ unbounded_sum f (inf false) nan infinite q = no_number
 unbounded_sum f (inf false) (inf true) infinite q = absurd (true≢false q)
 unbounded_sum f (inf false) (inf false) infinite q = infinite
 unbounded_sum f (inf false) (fin t n d) infinite q = infinite
+unbounded_sum f (inf true) y x5 q = elim x5 [ ]
+unbounded_sum f (fin _ _ _) y x7 q = elim x7 [ ]
 
 pub sum_unbounded : (f : Format) (x y : Float) → negative x ≡ false → Unbounded y → Unbounded (add f x y)
 unfolding add negative
@@ -76,3 +78,7 @@ sum_unbounded f (inf false) nan p no_number = no_number
 sum_unbounded f (inf false) (inf false) p infinite = infinite
 sum_unbounded f (fin s m e) nan p no_number = no_number
 sum_unbounded f (fin s m e) (inf false) p infinite = infinite
+sum_unbounded f (inf false) (inf true) p u = elim u [ ]
+sum_unbounded f (inf false) (fin _ _ _) p u = elim u [ ]
+sum_unbounded f (fin s m e) (inf true) p u = elim u [ ]
+sum_unbounded f (fin s m e) (fin _ _ _) p u = elim u [ ]

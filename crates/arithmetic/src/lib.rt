@@ -1,5 +1,7 @@
 // The arithmetic below all geometry, after IEEE 754 (document 01, 'Arithmetic under the geometry').
 
+#![tactic(auto)]
+
 // Finite, absolute value, sign, clamp.
 pub mod basic;
 // The float just below.

@@ -109,7 +109,7 @@ module _ (r : Ray) (a : Areas) where
 
     pub parts_limited : (s : Progress) (ps : List Part) → s.spent ≤ limit → Limited (own_parts r a s ps) (cast_parts r a limit s ps)
     unfolding own_parts cast_parts
-    parts_limited s [] l = record { suffices = λ k. refl; used_up_lem = λ k. absurd (omega arith); within = l }
+    parts_limited s [] l = record { suffices = λ k. refl; used_up = λ k. absurd (omega arith); within = l }
     parts_limited s (p ∷ ps) l = go (is_refused s.found) refl
         (leb (s.spent + (own_cast r p.origin (mesh_of a p) (tree_of_part a p)).spent) limit) refl
         (λ (x : Progress) (k : x.spent ≤ limit). parts_limited x ps k)
@@ -119,7 +119,7 @@ module _ (r : Ray) (a : Areas) where
         refused_before e =
             let f = own_refused s (p ∷ ps) e in
             let g = cast_refused limit s (p ∷ ps) e in
-            rw (f, g) (record { suffices = λ k. refl; used_up_lem = λ k. absurd (omega arith); within = l })
+            rw (f, g) (record { suffices = λ k. refl; used_up = λ k. absurd (omega arith); within = l })
 
         go : (b : Bool) → is_refused s.found ≡ b → (d : Bool)
             → leb (s.spent + (own_cast r p.origin (mesh_of a p) (tree_of_part a p)).spent) limit ≡ d
@@ -139,4 +139,4 @@ module _ (r : Ray) (a : Areas) where
                   (λ (x : Progress). x.spent) (own_begun s p e l),
             ) in
             rw (part_used s p e l k, cast_refused limit (used s) ps refl)
-            (record { suffices = λ q. absurd (omega arith); used_up_lem = λ q. refl; within = omega arith })
+            (record { suffices = λ q. absurd (omega arith); used_up = λ q. refl; within = omega arith })

@@ -232,7 +232,7 @@ module _ (r : Ray) (a : Areas) (list stack : ℕ) (parts : List Part) (limit : �
       go true e =
           (limits_hold r a list stack parts (tests_passed h)).each_alone limit (leb-true (needed r a list stack parts) limit e)
       go false e =
-          let used = (limits_hold r a list stack parts (tests_passed h)).used_up_lem limit (leb-false (needed r a list stack parts) limit e) in
+          let used = (limits_hold r a list stack parts (tests_passed h)).used_up limit (leb-false (needed r a list stack parts) limit e) in
           absurd (true≢false (sym h ∙ ap of_parts used))
 
   pub answers_parts : length parts < 18446744073709551616 → AnswersParts r a list stack parts (answer_at r a list stack parts limit)

@@ -77,7 +77,7 @@ module _ (r : Ray) (a : Areas) (list stack : ℕ) (parts : List Part) (p : Passe
   enough limit h = passed limit ∙ ap answer_of ((bound limit).suffices h)
 
   short : (limit : ℕ) → limit < needed r a list stack parts → answer_at r a list stack parts limit ≡ refused_after limit_reached limit
-  short limit h = passed limit ∙ (bound limit).used_up_lem h
+  short limit h = passed limit ∙ (bound limit).used_up h
 
   settled_stays : (limit more : ℕ) → limit ≤ more → is_settled (answer_at r a list stack parts limit) ≡ true
       → answer_at r a list stack parts more ≡ answer_at r a list stack parts limit
@@ -112,7 +112,7 @@ module _ (r : Ray) (a : Areas) (list stack : ℕ) (parts : List Part) (p : Passe
       go true e =
           ap (λ (s : Progress). returned_apart (answer_of s)) ((bound limit).suffices (leb-true (needed r a list stack parts) limit e))
           ∙ found_apart (own_parts r a beginning parts).found (needed r a list stack parts) (parts_plain r a beginning parts refl)
-      go false e = ap returned_apart ((bound limit).used_up_lem (leb-false (needed r a list stack parts) limit e))
+      go false e = ap returned_apart ((bound limit).used_up (leb-false (needed r a list stack parts) limit e))
 
   few : AllChecked a parts → needed r a list stack parts ≤ nodes_of parts
   few c = omega (arith, own_parts_few r a list stack beginning parts c)
@@ -120,7 +120,7 @@ module _ (r : Ray) (a : Areas) (list stack : ℕ) (parts : List Part) (p : Passe
   pub promises : LimitPromises r a list stack parts
   promises = record {
     suffices = enough;
-    used_up_lem = short;
+    used_up = short;
     only_used_up = only_short;
     spent_within =
         λ (limit : ℕ). omega (

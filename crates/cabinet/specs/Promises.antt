@@ -63,7 +63,7 @@ module _ (r : Ray) (a : Areas) (list stack : ℕ) where
       -- the answer at a limit is that without one if the limit is at least the need ..
       pub suffices : (limit : ℕ) → needed ≤ limit → answer_at limit ≡ answer_of (own_parts r a beginning parts)
       -- .. and else 10 with the limit spent
-      pub used_up_lem : (limit : ℕ) → limit < needed → answer_at limit ≡ refused_after limit_reached limit
+      pub used_up : (limit : ℕ) → limit < needed → answer_at limit ≡ refused_after limit_reached limit
       -- "number 10 exactly when the next node in the walk would exceed the limit": nothing else is answered with it
       pub only_used_up : (limit spent : ℕ) → answer_at limit ≡ refused_after limit_reached spent → limit < needed
       -- the nodes spent "never pass the limit"

@@ -1,5 +1,7 @@
 // The first root of a cubic between 0 and 1.
 
+#![tactic(auto)]
+
 // A cubic through four values.
 pub mod polynomial;
 // Where a cubic turns.

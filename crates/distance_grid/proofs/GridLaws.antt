@@ -23,10 +23,10 @@ side_stands n e = record {
 
 -- the products of admitted sides
 pub plane_small : (s : Sides) → SidesStand s → s.z * s.y ≤ 256 * 256
-plane_small s p = mul-le-mul p.on_z_lem.most p.on_y_lem.most
+plane_small s p = mul-le-mul p.on_z.most p.on_y.most
 
 pub nodes_small : (s : Sides) → SidesStand s → nodes s ≤ 256 * 256 * 256
-nodes_small s p = mul-le-mul (plane_small s p) p.on_x_lem.most
+nodes_small s p = mul-le-mul (plane_small s p) p.on_x.most
 
 -- ---- what the admission of a grid says of it
 sides_stand_by : (s : Sides) (count : ℕ) → sides_admitted s count ≡ true → SidesStand s × (count ≡ nodes s)
@@ -38,7 +38,7 @@ sides_stand_by s count e =
     let z-count = and_second (side_admitted s.y) (side_admitted s.z && eqb count (nodes s)) yz in
     let z = and_first (side_admitted s.z) (eqb count (nodes s)) z-count in
     let n = and_second (side_admitted s.z) (eqb count (nodes s)) z-count in
-    (record { on_x_lem = side_stands s.x x; on_y_lem = side_stands s.y y; on_z_lem = side_stands s.z z }, eqb-true count (nodes s) n)
+    (record { on_x = side_stands s.x x; on_y = side_stands s.y y; on_z = side_stands s.z z }, eqb-true count (nodes s) n)
 
 pub admitted_stands : (g : Grid) (values : List Float) → grid_admitted g (length values) ≡ true → Stands g values
 unfolding grid_admitted

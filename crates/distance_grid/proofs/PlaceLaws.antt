@@ -46,13 +46,13 @@ stays_there p o s side = go (lt p o) (lt (last_node o s side) p)
 pub in_box_stays : (g : Grid) (p : Vec3) → in_box g p ≡ true → p ≡ clamped_point g p
 unfolding in_box clamped_point
 in_box_stays g p h =
-    let on_x_lem = stays p.x g.origin.x (last_node g.origin.x g.spacing.x g.sides.x) in
-    let on_y_lem = stays p.y g.origin.y (last_node g.origin.y g.spacing.y g.sides.y) in
-    let on_z_lem = stays p.z g.origin.z (last_node g.origin.z g.spacing.z g.sides.z) in
-    let rest = and_second on_x_lem (on_y_lem && on_z_lem) h in
-    let x = stays_there p.x g.origin.x g.spacing.x g.sides.x (and_first on_x_lem (on_y_lem && on_z_lem) h) in
-    let y = stays_there p.y g.origin.y g.spacing.y g.sides.y (and_first on_y_lem on_z_lem rest) in
-    let z = stays_there p.z g.origin.z g.spacing.z g.sides.z (and_second on_y_lem on_z_lem rest) in
+    let on_x = stays p.x g.origin.x (last_node g.origin.x g.spacing.x g.sides.x) in
+    let on_y = stays p.y g.origin.y (last_node g.origin.y g.spacing.y g.sides.y) in
+    let on_z = stays p.z g.origin.z (last_node g.origin.z g.spacing.z g.sides.z) in
+    let rest = and_second on_x (on_y && on_z) h in
+    let x = stays_there p.x g.origin.x g.spacing.x g.sides.x (and_first on_x (on_y && on_z) h) in
+    let y = stays_there p.y g.origin.y g.spacing.y g.sides.y (and_first on_y on_z rest) in
+    let z = stays_there p.z g.origin.z g.spacing.z g.sides.z (and_second on_y on_z rest) in
     same x y z
   where
     same : {a b c : Float} → p.x ≡ a → p.y ≡ b → p.z ≡ c → p ≡ record { x = a; y = b; z = c }
@@ -180,7 +180,7 @@ chosen_settled false p q = q
 all_found : (s : Sides) {a b c : Place} → Found s.x a → Found s.y b → Found s.z c
     → Settled s (with_place a (λ (x : ℕ) (tx : Float). with_place b (λ (y : ℕ) (ty : Float). with_place c (λ (z : ℕ) (tz : Float). At x tx y ty
     z tz))))
-all_found s (found p t) (found q u) (found r v) = settled (p, (q, r)) record { on_x_lem = t; on_y_lem = u; on_z_lem = v }
+all_found s (found p t) (found q u) (found r v) = settled (p, (q, r)) record { on_x = t; on_y = u; on_z = v }
 all_found s (found p t) (found q u) not_found = not_settled
 all_found s (found p t) not_found c = not_settled
 all_found s not_found b c = not_settled
@@ -190,9 +190,9 @@ unfolding locate locate_inside
 locate_settled g p s =
     chosen_settled (finite_vec p)
     (all_found g.sides
-    (axis_found (clamped_point g p).x g.origin.x g.spacing.x g.sides.x s.on_x_lem)
-    (axis_found (clamped_point g p).y g.origin.y g.spacing.y g.sides.y s.on_y_lem)
-    (axis_found (clamped_point g p).z g.origin.z g.spacing.z g.sides.z s.on_z_lem))
+    (axis_found (clamped_point g p).x g.origin.x g.spacing.x g.sides.x s.on_x)
+    (axis_found (clamped_point g p).y g.origin.y g.spacing.y g.sides.y s.on_y)
+    (axis_found (clamped_point g p).z g.origin.z g.spacing.z g.sides.z s.on_z))
     not_settled
 
 cell_of : {s : Sides} {x y z : ℕ} {tx ty tz : Float} → Settled s (At x tx y ty z tz) → (x + 1 < s.x) × ((y + 1 < s.y) × (z + 1 < s.z))

@@ -191,9 +191,9 @@ unfolding sample_faces fair_spacing
 tested_value low high spacing at f l h b =
     let v = face_within low l in
     let w = face_within high h in
-    let x = fraction_within at.x f.on_x_lem in
-    let y = fraction_within at.y f.on_y_lem in
-    let z = fraction_within at.z f.on_z_lem in
+    let x = fraction_within at.x f.on_x in
+    let y = fraction_within at.y f.on_y in
+    let z = fraction_within at.z f.on_z in
     let yz = and_second (fair_side spacing.x) (fair_side spacing.y && fair_side spacing.z) b in
     ap (λ (c : Checked). value_of (gathered c (slope_on (low_x low high) (high_x low high) spacing.x at.y at.z) (slope_on (low_y low
     high) (high_y low high) spacing.y at.x at.z) (slope_on low high spacing.z at.x at.y)))

@@ -37,9 +37,9 @@ pub record SideStands (n : ℕ) : Type 0 where
   pub most : n ≤ 256
 
 pub record SidesStand (s : Sides) : Type 0 where
-  pub on_x_lem : SideStands s.x
-  pub on_y_lem : SideStands s.y
-  pub on_z_lem : SideStands s.z
+  pub on_x : SideStands s.x
+  pub on_y : SideStands s.y
+  pub on_z : SideStands s.z
 
 pub record Stands (g : Grid) (values : List Float) : Type 0 where
   pub sides_stand : SidesStand g.sides

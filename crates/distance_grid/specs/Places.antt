@@ -97,6 +97,6 @@ unfoldable pub is_fraction : Float → Bool
 is_fraction t = le zeroᶠ t && le t oneᶠ
 
 pub record Fractions (at : Vec3) : Type 0 where
-  pub on_x_lem : is_fraction at.x ≡ true
-  pub on_y_lem : is_fraction at.y ≡ true
-  pub on_z_lem : is_fraction at.z ≡ true
+  pub on_x : is_fraction at.x ≡ true
+  pub on_y : is_fraction at.y ≡ true
+  pub on_z : is_fraction at.z ≡ true

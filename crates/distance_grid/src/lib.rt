@@ -1,5 +1,7 @@
 // A distance grid: which are admitted, its box, and the cell at a point.
 
+#![tactic(auto)]
+
 // Grid, which are admitted, and its box.
 pub mod grid;
 // The cell at a point of the grid.

@@ -1,5 +1,7 @@
 // Whether a drill touches a triangle, decided by the signs of whole numbers of up to 384 digits.
 
+#![tactic(auto)]
+
 // Crosses, dots and the forms that the tests compare.
 pub mod forms;
 // The drill, and a corner from its axis.

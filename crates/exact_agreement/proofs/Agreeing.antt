@@ -281,6 +281,6 @@ whole_numbers_agree r m t list stack p lengths passes room whole_mesh others clo
 -- ---- a mesh with whole corners alone meets what is asked of the others
 pub whole_mesh : (r : Ray) (m : Mesh) (p : Plan) → ((i : ℕ) → i < triangle_count m → WholeCorners m p i) → OthersApart r m p
 whole_mesh r m p w = record {
-  in_range_lem = λ i k h l. point_within _ (p.corner i k) ((w i h).corners k l);
+  in_range = λ i k h l. point_within _ (p.corner i k) ((w i h).corners k l);
   whole_or_apart = λ i h. inl (w i h);
 }

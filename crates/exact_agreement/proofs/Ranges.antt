@@ -62,7 +62,7 @@ module _ (r : Ray) (m : Mesh) (p : Plan) (whole_mesh : WholeMesh r m p) (others 
   in_range_lem (origin h) = true≢false (sym (point_within r.origin p.o whole_mesh.origin) ∙ h)
   in_range_lem (near h) = true≢false (sym h ∙ not_longer 0 r.near 0 (lit≤ tt) whole_mesh.near)
   in_range_lem (maximum h) = true≢false (sym h ∙ not_longer 16384 r.max_distance p.maximum (lit≤ tt) whole_mesh.maximum)
-  in_range_lem (corner i k l l' h) = true≢false (sym (others.in_range_lem i k l l') ∙ h)
+  in_range_lem (corner i k l l' h) = true≢false (sym (others.in_range i k l l') ∙ h)
 
   pub not_refused : lengths_admitted (length m.vertices) (length m.triangles) ≡ true → triangles_fit m ≡ true
       → (number : ℕ) → Reason r m number → ⊥

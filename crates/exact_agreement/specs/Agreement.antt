@@ -37,7 +37,7 @@ pub record WholeCorners (m : Mesh) (p : Plan) (i : ℕ) : Type 0 where
 
 pub record OthersApart (r : Ray) (m : Mesh) (p : Plan) : Type 0 where
   -- every corner of every triangle is in range: the exact cast refuses others with 12
-  pub in_range_lem : (i k : ℕ) → i < triangle_count m → k < 3 → all_within furthest (corner_at m.vertices m.triangles i k) ≡ true
+  pub in_range : (i k : ℕ) → i < triangle_count m → k < 3 → all_within furthest (corner_at m.vertices m.triangles i k) ≡ true
   -- a triangle whose corners are not whole is a candidate if its box touches the segment's widened by a unit of the grid: corners that are
   -- not on the grid may be met there
   pub whole_or_apart : (i : ℕ) → i < triangle_count m

@@ -1,5 +1,7 @@
 // The first point of a segment that lies in a closed triangle, over whole numbers, as the segment's line sees the triangle.
 
+#![tactic(auto)]
+
 // A point, a triangle as the line sees it, and a depth on the line.
 pub mod projection;
 // A plane that the line lies in.

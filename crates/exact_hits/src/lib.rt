@@ -1,5 +1,7 @@
 // All exact hits of a ray at a mesh through a tree, in order of depth.
 
+#![tactic(auto)]
+
 // The public call.
 pub mod listing;
 

@@ -1,5 +1,7 @@
 // The exact cast at one triangle, in any direction, on a grid of 2^-15 mm.
 
+#![tactic(auto)]
+
 // Whole numbers from floats.
 pub mod grid;
 // The ray as a line on the grid.

@@ -41,14 +41,14 @@ refusals_below_codes = record {
   exact_plain = λ r m. small_below indexed_number stopped (λ n. refl) _ (exact_plain_small r m);
   many = many_small;
   drill = λ r radius m t list stack. small_below refusal_number Stopped (λ n. refl) _ (drill_small r radius m t list stack);
-  drill_plain_lem = λ r radius m. small_below refusal_number Stopped (λ n. refl) _ (drill_plain_small r radius m);
+  drill_plain = λ r radius m. small_below refusal_number Stopped (λ n. refl) _ (drill_plain_small r radius m);
   drill_many = drill_many_small;
   build = λ m a work. small_below build_number Build.refused (λ n. refl) _ (is_small (build_small m a work).below);
   query = λ box n t list stack. small_below query_number Query.refused (λ n. refl) _ (is_small (query_small box n t list stack).below);
   check = λ m t marks. small_below check_number Verdict.refused (λ n. refl) _ (check_small m t marks);
   merge = λ a b old marks. small_below merge_number Merge.refused (λ n. refl) _ (is_small (merge_small a b old marks).below);
   listing = refusals_small;
-  exact_listing_lem = λ r m pose t list stack area.
+  exact_listing = λ r m pose t list stack area.
       small_below query_number Query.refused (λ n. refl) _ (is_small (exact_all_small r m pose t list stack area).below);
   cabinet = λ r a list stack limit parts.
       small_below cabinet_number Cabinet.refused (λ n. refl) _ (cabinet_small r a list stack limit parts);

@@ -128,7 +128,7 @@ module _ (index : List ℕ) where
       e,
       λ fits.
           let read = ap drill_read (e ∙ fitting fits) ∙ drill_read_lem index fits (drill_plain r radius m)
-          (refusals_below_codes.drill_plain_lem r radius m) in (
+          (refusals_below_codes.drill_plain r radius m) in (
             subst (CertainRayDrill r radius m) (sym read) (drill_sure r radius m),
             subst (PartAsDrawn r radius m) (sym read) (part_as_drawn r radius m),
           ),

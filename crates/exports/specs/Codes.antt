@@ -61,7 +61,7 @@ pub record RefusalsBelowCodes : Type 0 where
   pub many : (answer : Ray → Indexed) (rays : List Float) (m : Mesh) (pose : List Float) (t : Tree) (room : Bool) (p : Places)
       → ((many_returned answer rays m pose t room p).number ≡ done_code → ⊥) → (many_returned answer rays m pose t room p).number < hit_code
   pub drill : (r : Ray) (radius : Float) (m : Mesh) (t : Tree) (list stack : ℕ) → Below Stopped (drill_through r radius m t list stack)
-  pub drill_plain_lem : (r : Ray) (radius : Float) (m : Mesh) → Below Stopped (drill_plain r radius m)
+  pub drill_plain : (r : Ray) (radius : Float) (m : Mesh) → Below Stopped (drill_plain r radius m)
   -- many drills, in the same way
   pub drill_many : (answer : Ray → Float → DrillAnswer) (drills : List Float) (m : Mesh) (t : Tree) (room : Bool) (p : Drills.Places)
       → ((Drills.many_returned answer drills m t room p).number ≡ done_code → ⊥)
@@ -72,7 +72,7 @@ pub record RefusalsBelowCodes : Type 0 where
   pub merge : (a b : Merge.Board) (old : Merge.Areas) (marks : ℕ) → Below Merge.refused (Merge.merge_of a b old marks).answer
   pub listing : (r : Ray) (m : Mesh) (pose : List Float) (t : Tree) (list stack : ℕ) (area : HitArea)
       → Below Query.refused (ray_mesh_all r m pose t list stack area).answer
-  pub exact_listing_lem : (r : Ray) (m : Mesh) (pose : List Float) (t : Tree) (list stack : ℕ) (area : HitArea)
+  pub exact_listing : (r : Ray) (m : Mesh) (pose : List Float) (t : Tree) (list stack : ℕ) (area : HitArea)
       → Below Query.refused (ray_mesh_exact_all r m pose t list stack area).answer
   pub cabinet : (r : Ray) (a : CabinetAreas) (list stack limit : ℕ) (parts : List Part)
       → Below Cabinet.refused (Cabinet.cast_cabinet r a list stack limit parts)

@@ -2,6 +2,8 @@
 // A slice is a pointer and a length there, and a ray is its eight numbers, or seven where its near distance is 0.
 // A call answers one number: a refusal's of document 01, or a code of `results`, which no refusal has.
 
+#![tactic(auto)]
+
 // The version, and the casts at a plane, a triangle and the two grids.
 pub mod shapes;
 // The same casts of a ray with a near distance.

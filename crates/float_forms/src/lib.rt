@@ -1,5 +1,7 @@
 // Floats of 8 bytes and of 4, in a record's bytes.
 
+#![tactic(auto)]
+
 // The forms, by version.
 pub mod forms;
 // The reader of one 64-bit word.

@@ -204,6 +204,8 @@ unbounded_above : (x : Float) → Unbounded x → le x greatest_square ≡ false
 unfolding of_bits le
 unbounded_above nan no_number = refl
 unbounded_above (inf false) infinite = refl
+unbounded_above (inf true) x4 = elim x4 [ ]
+unbounded_above (fin _ _ _) x6 = elim x6 [ ]
 
 -- where the square is a number, "not more than" and "within" are one
 same_at_number : (x d : Float) → Place x d → is_nan x ≡ false → not (lt tolerance d) ≡ le d tolerance

@@ -1,5 +1,7 @@
 // Boxes and rays as structs of f64 by value (document 01, 'Arithmetic under the geometry').
 
+#![tactic(auto)]
+
 // Aabb, the axis-aligned box.
 pub mod aabb;
 // Ray, its validation, and its segment.

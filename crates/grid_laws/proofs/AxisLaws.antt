@@ -68,7 +68,7 @@ axis_stands : (o s : Float) (side : ℕ) → is_finite o ≡ true → T (fits bi
 axis_stands o s side p f a g l v = record {
   origin_finite = p;
   origin_fits = f;
-  spacing_admitted_lem = a;
+  spacing_admitted = a;
   spacing_fits = g;
   side_stands = l;
   last_finite = side_last o (last_node o s side) p (last_number_lem o s side p (spacing_finite s a) l) v;
@@ -112,11 +112,11 @@ axes_stand g values o s a v =
     let p = origin_sides g both.third in
     let b = box_sides g v in
     record {
-      on_x_lem = axis_stands g.origin.x g.spacing.x g.sides.x p.first o.fits_x ax s.fits_x sides.on_x_lem b.first;
-      on_y_lem =
-          axis_stands g.origin.y g.spacing.y g.sides.y p.second o.fits_y both.first s.fits_y sides.on_y_lem
+      on_x = axis_stands g.origin.x g.spacing.x g.sides.x p.first o.fits_x ax s.fits_x sides.on_x b.first;
+      on_y =
+          axis_stands g.origin.y g.spacing.y g.sides.y p.second o.fits_y both.first s.fits_y sides.on_y
           b.second;
-      on_z_lem =
-          axis_stands g.origin.z g.spacing.z g.sides.z p.third o.fits_z both.second s.fits_z sides.on_z_lem
+      on_z =
+          axis_stands g.origin.z g.spacing.z g.sides.z p.third o.fits_z both.second s.fits_z sides.on_z
           b.third;
     }

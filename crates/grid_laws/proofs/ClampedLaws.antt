@@ -102,7 +102,7 @@ module _ (o s : Float) (side : ℕ) (axis : AxisStands o s side) where
 
   spacing_positive : Positive s
   spacing_positive =
-      let a : (is_finite s && lt zeroᶠ s) ≡ true = unfold spacing_admitted in axis.spacing_admitted_lem in
+      let a : (is_finite s && lt zeroᶠ s) ≡ true = unfold spacing_admitted in axis.spacing_admitted in
       positive_of s (and_first (is_finite s) (lt zeroᶠ s) a)
       (subst (λ (z : Float). lt z s ≡ true) zero_is_nothing (and_second (is_finite s) (lt zeroᶠ s) a))
 

@@ -79,9 +79,9 @@ refused_inside g axes p number f e = go (missing (inside_refused g p number f e)
         → RefusedInside g.origin.x g.spacing.x g.sides.x p.x
         ⊎ (RefusedInside g.origin.y g.spacing.y g.sides.y p.y ⊎ RefusedInside g.origin.z g.spacing.z g.sides.z
         p.z)
-    go (inl h) = inl (clamped_refused g.origin.x g.spacing.x g.sides.x axes.on_x_lem p.x h)
-    go (inr (inl h)) = inr (inl (clamped_refused g.origin.y g.spacing.y g.sides.y axes.on_y_lem p.y h))
-    go (inr (inr h)) = inr (inr (clamped_refused g.origin.z g.spacing.z g.sides.z axes.on_z_lem p.z h))
+    go (inl h) = inl (clamped_refused g.origin.x g.spacing.x g.sides.x axes.on_x p.x h)
+    go (inr (inl h)) = inr (inl (clamped_refused g.origin.y g.spacing.y g.sides.y axes.on_y p.y h))
+    go (inr (inr h)) = inr (inr (clamped_refused g.origin.z g.spacing.z g.sides.z axes.on_z p.z h))
 
 -- on a grid that is admitted and whose box is valid
 pub refused_only_inside : (g : Grid) (values : List Float) → VectorFits g.origin → VectorFits g.spacing → grid_admitted g

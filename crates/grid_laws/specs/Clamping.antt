@@ -15,16 +15,16 @@ use Rattle.distance_grid.specs.declared.places.Place.TheVariants.{Overflow as No
 pub record AxisStands (origin spacing : Float) (side : ℕ) : Type 0 where
   pub origin_finite : is_finite origin ≡ true
   pub origin_fits : T (fits binary64 origin)
-  pub spacing_admitted_lem : spacing_admitted spacing ≡ true
+  pub spacing_admitted : spacing_admitted spacing ≡ true
   pub spacing_fits : T (fits binary64 spacing)
   pub side_stands : SideStands side
   pub last_finite : is_finite (last_node origin spacing side) ≡ true
 
 -- the same of the grid's three axes, and that a vector's components are f64s
 pub record AxesStand (g : Grid) : Type 0 where
-  pub on_x_lem : AxisStands g.origin.x g.spacing.x g.sides.x
-  pub on_y_lem : AxisStands g.origin.y g.spacing.y g.sides.y
-  pub on_z_lem : AxisStands g.origin.z g.spacing.z g.sides.z
+  pub on_x : AxisStands g.origin.x g.spacing.x g.sides.x
+  pub on_y : AxisStands g.origin.y g.spacing.y g.sides.y
+  pub on_z : AxisStands g.origin.z g.spacing.z g.sides.z
 
 pub record VectorFits (v : Vec3) : Type 0 where
   pub fits_x : T (fits binary64 v.x)

@@ -1,5 +1,7 @@
 // The cast at a height grid (document 01, 'Grid hits').
 
+#![tactic(auto)]
+
 // Field, the grid without its heights: which are admitted, and the vertices.
 pub mod field;
 // The range of cells that a box covers on one axis.

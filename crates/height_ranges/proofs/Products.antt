@@ -31,6 +31,7 @@ below_finite (fin s m e) y h k = refl
 
 true_of : (b : Bool) → T b → b ≡ true
 true_of true t = refl
+true_of false t = elim t [ ]
 
 rounded_finite : (a b c d : ℕ) → 0 < b → 0 < d → a * d ≤ c * b → is_finite (round binary64 false c d) ≡ true
     → is_finite (round binary64 false a b) ≡ true

@@ -146,7 +146,7 @@ abbrev plan : Plan
 plan = record { o = at (pos 0) (pos 0) (pos 1); direction = downward; maximum = 3; corner = λ (j : ℕ). whole_triangle (height_of j) }
 
 others : OthersApart ray mesh plan
-others = record { in_range_lem = λ j k h g. in_range_lem j k h g; whole_or_apart = λ j h. inr (candidates j h) }
+others = record { in_range = λ j k h g. in_range_lem j k h g; whole_or_apart = λ j h. inr (candidates j h) }
 
 whole_floats : eq o (of_int binary64 (pos 0)) ∷ (eq i (of_int binary64 (pos 1)) ∷ (eq lower (of_int binary64 (negsuc 0))
     ∷ (eq ray.max_distance (of_int binary64 (pos 3)) ∷ []))) ≡ true ∷ (true ∷ (true ∷ (true ∷ [])))

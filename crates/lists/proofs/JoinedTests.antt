@@ -63,8 +63,8 @@ alike false true f g = g refl
 alike false false f g = refl
 
 -- ---- a test `if !f(..)` that was passed, or taken: what f says
-pub test_passed : {r b : Bool} → r ≡ b → not r ≡ false → b ≡ true
-test_passed told left = sym told ∙ not-false _ left
+pub test_passed : {r b : Bool} → r ≡ b → r ≡ true → b ≡ true
+test_passed told taken = sym told ∙ taken
 
-pub test_failed : {r b : Bool} → r ≡ b → not r ≡ true → b ≡ false
-test_failed told taken = sym told ∙ not-true _ taken
+pub test_failed : {r b : Bool} → r ≡ b → r ≡ false → b ≡ false
+test_failed told left = sym told ∙ left

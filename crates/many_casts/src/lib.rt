@@ -1,5 +1,7 @@
 // Many rays in one call: the mesh cast and the exact cast, each ray's answer at the ray's own places of the result slices.
 
+#![tactic(auto)]
+
 // A ray in the slice of rays, and the places of its answer.
 pub mod places;
 // The mesh cast of one ray, past the tests of the mesh and its tree.

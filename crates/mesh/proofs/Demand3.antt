@@ -151,7 +151,7 @@ module _ (r : Ray) (m : Mesh) (t : Tree) (list stack : ℕ) (a : Admitted r m t 
 
   nearest_hit : (normal : Vec3) (distance : Float) (i : ℕ) → folded ≡ hit_at normal distance i → NearestHit r m i normal distance
   nearest_hit normal distance i h = record {
-    is_hit_lem = record { candidate = c; answers = sym (answers_same i c) ∙ l.answers };
+    is_hit = record { candidate = c; answers = sym (answers_same i c) ∙ l.answers };
     as_far =
         λ (j : ℕ) (n : Vec3) (d : Float) (f : IsHit r m j n d). l.nearest j (candidate_listed r m j f.candidate) n d
         (answers_same j f.candidate ∙ f.answers);

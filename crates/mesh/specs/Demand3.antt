@@ -55,7 +55,7 @@ module _ (r : Ray) (m : Mesh) where
 
   -- "one candidate's distance, normal and index: every other candidate that is hit lies at least as far, and farther if its index is lower"
   pub record NearestHit (i : ℕ) (normal : Vec3) (distance : Float) : Type 0 where
-    pub is_hit_lem : IsHit i normal distance
+    pub is_hit : IsHit i normal distance
     pub as_far : (j : ℕ) (normal' : Vec3) (distance' : Float) → IsHit j normal' distance' → le distance distance' ≡ true
     pub farther : (j : ℕ) (normal' : Vec3) (distance' : Float) → IsHit j normal' distance' → j < i → lt distance distance' ≡ true
 

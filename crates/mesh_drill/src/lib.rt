@@ -1,5 +1,7 @@
 // Whether a drill, a closed, flat-ended cylinder about a ray's segment, touches a mesh, and the first triangle that it touches.
 
+#![tactic(auto)]
+
 // What a drill answers.
 pub mod answer;
 // The radius, the numbers of a drill on the grid, and its box.

@@ -42,7 +42,7 @@ fn is_reached(
     index: usize,
 ) -> bool
     requires { ((3 * index + 3 ≤ length triangles.now)
-        × (corners_inside (thirds (length vertices.now)) triangles.now index ≡ true)) × ((DrillSized drill) × ((corners_read (corners_of vertices.now triangles.now index) ≡ true) × ((coded ≡ true → Coded bounds vertices.now codes.now)))) }
+        × (corners_inside (thirds (length vertices.now)) triangles.now index ≡ true)) × ((DrillSized drill) × ((corners_read (corners_of vertices.now triangles.now index) ≡ true) × (coded ≡ true → Coded bounds vertices.now codes.now))) }
     ensures { (l : Line) (ρ : ℕ) → Drills drill l ρ → Runs l → bounds ≡ drill_box l ρ
         → result ≡ reached_at l ρ (mesh vertices.now triangles.now) index }
 {
@@ -62,7 +62,7 @@ pub fn first_touched(
     triangles: &[u32],
 ) -> DrillCast
     requires { (length triangles.now ≤ 196608) × ((DrillSized drill) × (((triangles_fit (mesh vertices.now triangles.now) ≡ true)
-        × (mesh_read (mesh vertices.now triangles.now) ≡ true)) × ((coded ≡ true → Coded bounds vertices.now codes.now)))) }
+        × (mesh_read (mesh vertices.now triangles.now) ≡ true)) × (coded ≡ true → Coded bounds vertices.now codes.now))) }
     ensures { (l : Line) (ρ : ℕ) → Drills drill l ρ → Runs l → bounds ≡ drill_box l ρ
         → says_drill result ≡ drill_boxed l ρ (mesh vertices.now triangles.now) }
 {

@@ -41,7 +41,7 @@ fn all_inside(vertices: &[f64], triangles: &[u32]) -> bool
 
 // Whether each triangle has a valid box: within says that all vertices are in range.
 pub fn all_fit(within: bool, vertices: &[f64], triangles: &[u32]) -> bool
-    requires { (length triangles.now ≤ 196608) × ((within ≡ true → AllWithin vertices.now)) }
+    requires { (length triangles.now ≤ 196608) × (within ≡ true → AllWithin vertices.now) }
     ensures { result ≡ triangles_fit (mesh vertices.now triangles.now) }
 {
     if within {
@@ -68,7 +68,7 @@ fn each_read(vertices: &[f64], triangles: &[u32]) -> bool
 
 // The same; where all vertices are in range, it is.
 pub fn all_read(within: bool, vertices: &[f64], triangles: &[u32]) -> bool
-    requires { (length triangles.now ≤ 196608) × (((within ≡ true → AllWithin vertices.now))
+    requires { (length triangles.now ≤ 196608) × ((within ≡ true → AllWithin vertices.now)
         × (triangles_fit (mesh vertices.now triangles.now) ≡ true)) }
     ensures { result ≡ mesh_read (mesh vertices.now triangles.now) }
 {

@@ -32,7 +32,7 @@ pub fn reach_of(line: View, vertices: &[f64], triangles: &[u32], index: usize) -
 // Whether each triangle whose indices are below the vertex count has a valid box: of vertices in range, which callers show if they are told
 // to be, it has.
 pub fn boxes_hold(within: bool, vertices: &[f64], triangles: &[u32]) -> bool
-    requires { (length triangles.now ≤ 196608) × ((within ≡ true → AllWithin vertices.now)) }
+    requires { (length triangles.now ≤ 196608) × (within ≡ true → AllWithin vertices.now) }
     ensures boxes_hold { result ≡ true → BoxesHold (mesh vertices.now triangles.now) }
     ensures triangles_value { result ≡ false → triangles_fit (mesh vertices.now triangles.now) ≡ false }
 {
@@ -77,7 +77,7 @@ pub fn winner_of(
     codes: &[u64],
 ) -> Outcome
     requires { (length triangles.now ≤ 196608) × ((ViewSized line) × ((BoxesHold (mesh vertices.now triangles.now))
-        × (((within ≡ true → AllWithin vertices.now)) × ((coded ≡ true → Coded bounds vertices.now codes.now))))) }
+        × ((within ≡ true → AllWithin vertices.now) × (coded ≡ true → Coded bounds vertices.now codes.now)))) }
     ensures { (ray : AnyRay) → Bounded ray line bounds → Won ray (mesh vertices.now triangles.now) result }
 {
     let limit = vertices.len() / 3;

@@ -1,5 +1,7 @@
 // The nearest of many triangles.
 
+#![tactic(auto)]
+
 // In ascending order, by the answers.
 pub mod nearest;
 // In whatever order they come, by what decides it.

@@ -2,4 +2,5 @@
 pub mod Moving
 pub mod Returns
 pub mod RunLaws
+pub mod Known
 pub mod Moves

@@ -1,21 +1,21 @@
 -- What the functions over a run return, as their contracts say it. Assumes nothing.
-use Prim.Native.Nat.{ℕ, ◌+◌, ◌-◌, ◌<◌, ◌≤◌}
+use Prim.Native.Nat.{ℕ, min, ◌+◌, ◌-◌, ◌<◌, ◌≤◌}
 use mathlib.Core.Path.{◌≡◌, refl, sym, ap, ◌∙◌}
 use mathlib.Core.Bool.{Bool, true, false, true≢false}
 use mathlib.Core.List.{List, ◌++◌}
-use native.Mathlib.Nat.{min-le_right}
+use native.Mathlib.Nat.{min-le_right, min_comm}
 use native.Mathlib.Omega.{arith}
 use borrow.Author.Tests.{ltb-true}
 use lib.Dec.{eqb}
-use lib.IntN.{ℤ, pos, negsuc}
+use lib.IntN.{ℤ, pos, negsuc, nat_abs}
 use lib.ListN.{length, take, drop, length-drop}
 use lib.Signed.{lt_z}
 use lib.Seq.{take-add, take_at, drop_at, length-take-le}
-use Rattle.io.specs.Counts.{clamp_len}
+use borrow.Rule.Slice.PartMut.{mid_of, put_mid, take_put, same_len_mid}
 use Rattle.record_stream.specs.declared.answers.Progress.{Progress}
 use Rattle.record_stream.specs.Progress.{Answered, goes_on}
 use Rattle.probe.specs.declared.runs.Run.{Run}
-use Rattle.probe.specs.Runs.{last_number, failed_run, after_read, next_run, after_write, held_of}
+use Rattle.probe.specs.Runs.{last_number, reads_more, failed_run, after_read, next_run, after_write, held_of, ReadOn, asked}
 use Rattle.probe.specs.Runs.{Answers, made, AfterWrite}
 
 -- by the sign of what a read answered
@@ -24,22 +24,41 @@ unfolding after_read
 read_failed run (pos k) room h = absurd (omega (arith, ltb-true k 0 h))
 read_failed run (negsuc k) room h = refl
 
-pub read_gave : (run : Run) (got : ℤ) (room more : ℕ) → lt_z got (pos 0) ≡ false → more ≡ clamp_len got room
+pub read_gave : (run : Run) (got : ℤ) (room more : ℕ) → lt_z got (pos 0) ≡ false → more ≡ min room (nat_abs got)
     → record { held = run.held + more; next = run.next; filled = 0; ended = eqb more 0; over = false; failed = false }
     ≡ after_read run got room
 unfolding after_read
-read_gave run (pos k) room more h e = simp e
+read_gave run (pos k) room more h e = simp (e, min_comm room k)
 read_gave run (negsuc k) room more h e = absurd (true≢false h)
 
-pub read_held : (run ready : Run) (got : ℤ) (room most : ℕ) → ready ≡ after_read run got room → run.held + room ≤ most
+read_held : (run ready : Run) (got : ℤ) (room most : ℕ) → ready ≡ after_read run got room → run.held + room ≤ most
     → ready.held ≤ most
 unfolding after_read
 read_held run ready (negsuc k) room most e h = omega (arith, ap (λ (r : Run). r.held) e)
 read_held run ready (pos k) room most e h = omega (arith, ap (λ (r : Run). r.held) e, min-le_right k room)
 
-pub rest_length : (area input : List ℕ) (held : ℕ) → length area ≡ length input
+rest_length : (area input : List ℕ) (held : ℕ) → length area ≡ length input
     → length (take (length area - held) (drop held area)) ≡ length input - held
 rest_length area input held e = length-take-le _ _ (omega (arith, length-drop held area)) ∙ ap (λ (n : ℕ). n - held) e
+
+-- the input area, with what a read left in its rest
+abbrev pub area_after : Run → List ℕ → List ℕ → List ℕ
+area_after run input rest = put_mid run.held (length input - run.held) input rest
+
+-- A read was made, whatever it answered: what was held stays, and the run goes by the answer.
+module _ (run ready : Run) (input rest : List ℕ) (got : ℤ) (held_in : run.held ≤ length input)
+    (same : length rest ≡ length (mid_of run.held (length input - run.held) input))
+    (is : ready ≡ after_read run got (length (take (length (area_after run input rest) - run.held)
+    (drop run.held (area_after run input rest))))) where
+  pub goes : ready ≡ after_read run got (length input - run.held)
+  goes = is ∙ ap (after_read run got) (rest_length (area_after run input rest) input run.held
+      (same_len_mid {X = ℕ} run.held (length input - run.held) input rest same))
+
+  pub read_made : reads_more run ≡ true → ReadOn run input ready (area_after run input rest)
+  read_made more = asked got more goes (take_put {X = ℕ} run.held (length input - run.held) input rest held_in)
+
+  pub read_bound : length input ≡ 65536 → ready.held ≤ 65536
+  read_bound whole = read_held run ready got (length input - run.held) 65536 goes (omega arith)
 
 -- what is moved to the front is what was not used
 front_left : (input : List ℕ) (held used : ℕ) → used ≤ held → held ≤ length input

@@ -1,22 +1,21 @@
 -- What the steps of `probe` hand to its writes is the output for what its reads gave. Assumes nothing.
-use Prim.Native.Nat.{ℕ, ◌+◌, ◌-◌, ◌≤◌}
+use Prim.Native.Nat.{ℕ, min, ◌+◌, ◌-◌, ◌<◌, ◌≤◌}
 use mathlib.Core.Path.{◌≡◌, refl, sym, ap, subst, ◌∙◌}
 use mathlib.Core.Bool.{Bool, true, false, not, ◌&&◌, false≢true, true≢false}
 use mathlib.Core.List.{List, [], ◌++◌, append_assoc, append-nil}
 use native.Mathlib.Omega.{arith}
-use native.Mathlib.Numerals.{add-one}
 use lib.Dec.{ltb}
+use borrow.Author.Tests.{ltb-true}
 use lib.IntN.{ℤ, pos, negsuc}
 use lib.ListN.{length, take, drop}
 use lib.Seq.{take-add}
-use Rattle.io.specs.Counts.{clamp_len}
 use Rattle.records.specs.Output.{output_of}
 use Rattle.record_stream.specs.declared.answers.Progress.{Progress}
 use Rattle.record_stream.specs.Progress.{output_from, output_after, MayCome, Answered}
 use Rattle.record_stream.proofs.StreamLaws.{output_is}
 use Rattle.probe.specs.declared.runs.Run.{Run}
-use Rattle.probe.specs.Runs.{most_steps, start_run, reads_more, failed_run, after_read, next_run, after_write, held_of}
-use Rattle.probe.specs.Runs.{ReadOn, idle, asked, read_bytes, Answers, spent, made, AfterWrite, Stepped, unread, stepped, Step}
+use Rattle.probe.specs.Runs.{most_steps, reads_more, failed_run, after_read, next_run, after_write, held_of}
+use Rattle.probe.specs.Runs.{ReadOn, idle, asked, read_bytes, Answers, spent, made, AfterWrite, Stepped, unread, stepped}
 use Rattle.probe.specs.Runs.{Steps, none, more, Front, Finished}
 
 -- ---- what is left to do
@@ -49,13 +48,22 @@ fails run left f = record { fronts = f; exact = λ h. absurd (true≢false h); u
 
 -- ---- reading
 
-not_ended : (run : Run) → reads_more run ≡ true → run.ended ≡ false
+pub not_ended : (run : Run) → reads_more run ≡ true → run.ended ≡ false
 unfolding reads_more
 not_ended run h = go run.ended refl h
   where
     go : (b : Bool) → run.ended ≡ b → (not b && ltb run.held 8196) ≡ true → run.ended ≡ false
     go true e h = absurd (false≢true h)
     go false e h = e
+
+pub few_held : (run : Run) → reads_more run ≡ true → run.held < 8196
+unfolding reads_more
+few_held run h = go run.ended (ltb run.held 8196) (ltb-true run.held 8196) h
+  where
+    go : (e b : Bool) → (b ≡ true → run.held < 8196) → (not e && b) ≡ true → run.held < 8196
+    go true b f h = absurd (false≢true h)
+    go false true f h = f refl
+    go false false f h = absurd (false≢true h)
 
 -- what a read gave stands behind what was held
 held_grows : (held count : ℕ) (area input : List ℕ) → take held area ≡ take held input
@@ -70,9 +78,14 @@ pub record Given (run ready : Run) (count : ℕ) : Type 0 where
   pub same : ready.next ≡ run.next
   pub untouched : ready.over ≡ false
 
+-- how many bytes it gave
+read_count : ℤ → ℕ → ℕ
+read_count (pos k) room = min k room
+read_count (negsuc k) room = 0
+
 given : (run ready : Run) (got : ℤ) (room : ℕ) → ready ≡ after_read run got room → ready.failed ≡ false
-    → Given run ready (clamp_len got room)
-unfolding after_read
+    → Given run ready (read_count got room)
+unfolding after_read read_count
 given run ready (negsuc k) room e f = absurd (true≢false (sym (ap (λ (r : Run). r.failed) e) ∙ f))
 given run ready (pos k) room e f =
     record { grown = ap (λ (r : Run). r.held) e; same = ap (λ (r : Run). r.next) e; untouched = ap (λ (r : Run). r.over) e }
@@ -183,13 +196,18 @@ steps_progress (more {count} {bytes} {lines} {run} {input} {after} {last} s o t)
     step_progress bytes lines run input after last t.bytes t.lines (steps_progress s) o t.stepped
 
 module _ {count : ℕ} {bytes lines : List ℕ} {run : Run} {input : List ℕ} (s : Steps count bytes lines run input) where
+  -- also for what may follow, as behind a malformed record
+  pub whole_following : run.over ≡ true → run.failed ≡ false → (following : List ℕ) → MayCome run.ended following
+      → lines ≡ output_of (bytes ++ following)
+  unfolding output_after
+  whole_following o f following m =
+      let done : output_from 1 (bytes ++ following) ≡ lines ++ output_after true run.next (held_of run input ++ following)
+      = rw o at (((steps_progress s).exact f).output following m) in
+      sym (sym (output_is (bytes ++ following)) ∙ (done ∙ append-nil lines))
+
   -- document 01's 'Whole output'
   pub whole_output : run.over ≡ true → run.failed ≡ false → lines ≡ output_of bytes
-  unfolding output_after
-  whole_output o f =
-      let done : output_from 1 (bytes ++ []) ≡ lines ++ output_after true run.next (held_of run input ++ [])
-      = rw o at (((steps_progress s).exact f).output [] (λ e. refl)) in
-      sym (sym (output_is bytes) ∙ (ap (output_from 1) (sym (append-nil bytes)) ∙ (done ∙ append-nil lines)))
+  whole_output o f = whole_following o f [] (λ e. refl) ∙ ap output_of (append-nil bytes)
 
   pub front_output : (following : List ℕ) → MayCome run.ended following → Front lines (output_of (bytes ++ following))
   front_output following m = subst (Front lines) (output_is (bytes ++ following)) ((steps_progress s).fronts.front following m)
@@ -205,29 +223,6 @@ module _ {count : ℕ} {bytes lines : List ℕ} {run : Run} {input : List ℕ} (
     whole = whole_output;
     front = front_output;
   }
-
--- ---- the loop
-
--- the steps so far
-pub record Looped (count : ℕ) (run : Run) (input : List ℕ) : Type 0 where
-  pub bytes : List ℕ
-  pub lines : List ℕ
-  pub steps : Steps count bytes lines run input
-
-pub looped_start : (run : Run) (input : List ℕ) → run ≡ start_run → Looped 0 run input
-looped_start run input e = rw e record { bytes = []; lines = []; steps = none }
-
-pub looped_more : {count : ℕ} {run after : Run} {input last : List ℕ} → Looped count run input → run.over ≡ false
-    → Step run input after last → Looped (count + 1) after last
-looped_more {count} l o s = rw (add-one count) record {
-  bytes = l.bytes ++ s.bytes;
-  lines = l.lines ++ s.lines;
-  steps = more l.steps o s;
-}
-
-pub looped_finished : {count : ℕ} {run : Run} {input : List ℕ} → Looped count run input → (run.over ≡ false → most_steps ≤ count)
-    → Finished run
-looped_finished l e = finished l.steps e
 
 -- a run that is not over has made 2^64 - 1 steps, more than any that a machine makes
 pub never_cut_short : (run : Run) (f : Finished run) → run.over ≡ false → 18446744073709551615 ≤ f.count

@@ -1,5 +1,7 @@
 -- What `probe` does between its reads and its writes: the run, one step, and all steps. Definitions only. Assumes nothing.
-use Rattle.std.specs.Prelude.{ℕ, suc, ◌+◌, ◌-◌, ◌<◌, ◌≤◌, min, ◌≡◌, Bool, true, false, not, ◌&&◌, List, [], ◌++◌, ltb, eqb, ℤ, pos, negsuc, length, take, drop}
+use Rattle.std.specs.Prelude.{ℕ, suc, ◌+◌, ◌-◌, ◌<◌, ◌≤◌, min, ◌≡◌, Bool, true, false, not, ◌&&◌, List, [], ◌++◌, ltb, eqb, ℤ, pos, negsuc, length, take, drop, IfSome}
+use Rattle.core.specs.declared.option.Option.{Option}
+use Rattle.std.specs.Io.KnownBytes.{Consumes, Appends, IsAtEnd}
 use Rattle.records.specs.Output.{output_of}
 use Rattle.record_stream.specs.declared.answers.Progress.{Progress}
 use Rattle.record_stream.specs.Progress.{longest_record, MayCome, Answered, goes_on}
@@ -104,6 +106,24 @@ pub record Step (run : Run) (input : List ℕ) (after : Run) (last : List ℕ) :
   pub bytes : List ℕ
   pub lines : List ℕ
   pub stepped : Stepped run input after last bytes lines
+
+-- ---- where the bytes of the reader and of the writer are known
+
+-- a run for which the input has ended left no byte of the reader's
+abbrev pub AtEnd : Run → Option (List ℕ) → Type 0
+AtEnd run ahead = run.ended ≡ true → IsAtEnd ahead
+
+-- what a step does to a reader and a writer: its bytes are the reader's next ones, and its lines, unless it failed, are what the writer took
+pub record StepMoves (run : Run) (input : List ℕ) (after : Run) (last : List ℕ) (ahead left before written : Option (List ℕ)) : Type 0 where
+  pub step : Step run input after last
+  pub reads : Consumes ahead left step.bytes
+  pub writes : after.failed ≡ false → Appends before written step.lines
+
+-- A run that is over and that no failure ended has put out the output for all that the reader had, also for what it left behind a malformed
+-- record.
+abbrev pub PutsOut : Run → Option (List ℕ) → Option (List ℕ) → Option (List ℕ) → Type 0
+PutsOut run ahead before written =
+    run.over ≡ true → run.failed ≡ false → IfSome ahead (λ bytes. Appends before written (output_of bytes))
 
 -- ---- all steps
 

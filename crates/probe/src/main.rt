@@ -1,38 +1,47 @@
 // Records in, lines out (document 01, 'Printed result'): reads standard input, answers what is held and writes the lines, up to the
 // end, to the first malformed record, or to a read or a write that fails.
 //
-// Everything between the reads and the writes is proved: `Finished`, the contract of `all_steps`, says that the lines of a run are the
-// output for what its reads gave, or its front, and `write_lines` requires the lines that an answer made. No contract can say that a read
-// gives the next bytes of standard input, that a write puts its bytes on standard output, which of them failed, or that `main` makes one
-// run: tests/pipes.sh runs that.
+// It is proved over any reader and any writer. `Finished` of `all_steps` says that the lines of a run are the output for what its reads gave,
+// or its front, and `write_lines` requires the lines that an answer made. `PutsOut` of `all_steps` says that the writer took the output for
+// all that the reader had, where their bytes are known and nothing failed. No contract can say that standard input and standard output are
+// such a reader and such a writer, which of their calls failed, or that `main` makes one run: tests/pipes.sh runs that.
+
+#![tactic(auto)]
 
 // A run, and what each call's result makes of it.
 mod runs;
 
-ghost use Rattle.std.specs.Prelude.{◌≡◌, ◌≤◌, length, take};
-ghost use Rattle.probe.specs.Runs.{ReadOn, Answers, LinesOf, AfterWrite, Step, Finished};
+ghost use Rattle.std.specs.Prelude.{◌≡◌, ◌≤◌, false, length, take};
+ghost use Rattle.std.specs.Io.KnownBytes.{Consumes, Appends};
+ghost use Rattle.probe.specs.Runs.{read_bytes, ReadOn, Answers, LinesOf, AfterWrite, Step, AtEnd, StepMoves, PutsOut, Finished};
 
 use crate::runs::Run;
-use libc::{STDERR_FILENO, STDIN_FILENO, STDOUT_FILENO};
 use record_stream::answers;
+use std::io::{Eprint, Read, Write};
+
+// Says on standard error that a read or a write failed, where it did. Nothing is to be done where that fails too.
+fn say_if(rt: &impl Eprint, failed: bool, words: &str) {
+    if failed {
+        let _ = rt.eprintln(words);
+    }
+}
 
 // Reads on where what is held may be less than a record. A read that fails is no end of the input: it ends the run, and standard error says
 // so.
-fn read_on(run: Run, input: &mut [u8]) -> Run
+fn read_on<R: Read>(stdin: &mut R, rt: &impl Eprint, run: Run, input: &mut [u8]) -> Run
     requires { (run.held ≤ 65536) × (length input.old ≡ 65536) }
     ensures read_on { ReadOn run input.old result input.new }
     ensures held_bound { result.held ≤ 65536 }
+    ensures bytes { Consumes (R.remaining stdin.old) (R.remaining stdin.new) (read_bytes run result input.new) }
+    ensures end { AtEnd run (R.remaining stdin.old) → AtEnd result (R.remaining stdin.new) }
 {
     if !runs::reads_more(run) {
         return run;
     }
     let held = run.held;
-    let got = libc::read(STDIN_FILENO, &mut input[held..]);
+    let got = runs::answer_of(stdin.read(&mut input[held..]));
     let given = runs::after_read(run, got, &input[held..]);
-    if given.failed {
-        io::write_all(STDERR_FILENO, b"probe: standard input cannot be read\n");
-        return given;
-    }
+    say_if(rt, given.failed, "probe: standard input cannot be read");
     given
 }
 
@@ -78,20 +87,21 @@ fn answer(
 }
 
 // Writes the lines of a run: all that it answered, and nothing else. A write that fails ends the run, and standard error says so.
-fn write_lines(run: Run, lines: &[u8]) -> Run
+fn write_lines<W: Write>(stdout: &mut W, rt: &impl Eprint, run: Run, lines: &[u8]) -> Run
     requires { LinesOf run lines.now }
-    ensures { AfterWrite run result }
+    ensures after_write { AfterWrite run result }
+    ensures lines { result.failed ≡ false → Appends (W.contents stdout.old) (W.contents stdout.new) lines.now }
 {
-    let written = io::write_all(STDOUT_FILENO, lines);
-    if !written {
-        io::write_all(STDERR_FILENO, b"probe: standard output cannot be written\n");
-        return runs::after_write(run, written);
-    }
+    let written = stdout.write_all(lines).is_ok();
+    say_if(rt, !written, "probe: standard output cannot be written");
     runs::after_write(run, written)
 }
 
 // Reads, answers, writes; after a read that failed nothing is answered.
-fn step(
+fn step<R: Read, W: Write>(
+    stdin: &mut R,
+    stdout: &mut W,
+    rt: &impl Eprint,
     run: Run,
     input: &mut [u8],
     work: &mut [f64; 1024],
@@ -107,8 +117,11 @@ fn step(
     requires { (run.held ≤ 65536) × ((length input.old ≡ 65536) × (length output.old ≡ 65536)) }
     ensures step { Step run input.old result input.new }
     ensures held_bound { result.held ≤ 65536 }
+    ensures moves { StepMoves run input.old result input.new (R.remaining stdin.old) (R.remaining stdin.new)
+        (W.contents stdout.old) (W.contents stdout.new) }
+    ensures end { AtEnd run (R.remaining stdin.old) → AtEnd result (R.remaining stdin.new) }
 {
-    let ready = read_on(run, input);
+    let ready = read_on(stdin, rt, run, input);
     if ready.failed {
         return ready;
     }
@@ -126,14 +139,15 @@ fn step(
         output,
     );
     let filled = answered.filled;
-    write_lines(answered, &output[..filled])
+    write_lines(stdout, rt, answered, &output[..filled])
 }
 
 // Steps until the run is over. A proved loop ends: no run makes so many steps as the counter counts.
-fn all_steps() -> Run
-    ensures { Finished result }
+fn all_steps<R: Read, W: Write>(stdin: &mut R, stdout: &mut W, rt: &impl Eprint) -> Run
+    ensures finished { Finished result }
+    ensures output { PutsOut result (R.remaining stdin.old) (W.contents stdout.old) (W.contents stdout.new) }
 {
-    let mut input = io::large_buffer();
+    let mut input = [0u8; 65536];
     let mut work = [0.0; 1024];
     let mut triangles = [0u32; 2031];
     let mut node_boxes = [0.0; 8124];
@@ -142,11 +156,14 @@ fn all_steps() -> Run
     let mut order = [0u32; 677];
     let mut list = [0u32; 677];
     let mut stack = [0u32; 1355];
-    let mut output = io::large_buffer();
+    let mut output = [0u8; 65536];
     let mut run = runs::start();
     let mut steps: u64 = 0;
     while steps < u64::MAX && !run.over {
         run = step(
+            stdin,
+            stdout,
+            rt,
             run,
             &mut input,
             &mut work,
@@ -164,6 +181,6 @@ fn all_steps() -> Run
     run
 }
 
-fn main() {
-    all_steps();
+fn main(rt: HostRuntime) {
+    all_steps(&mut rt.stdin(), &mut rt.stdout(), &rt);
 }

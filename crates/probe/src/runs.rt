@@ -1,8 +1,9 @@
 // A run between two calls of the system, and what each call's result makes of it.
-ghost use Rattle.std.specs.Prelude.{◌≡◌, ◌++◌, ◌+◌, ◌-◌, ◌<◌, ◌≤◌, length, take, drop};
+ghost use Rattle.std.specs.Prelude.{◌≡◌, ◌++◌, ◌+◌, ◌-◌, ◌^◌, ◌<◌, ◌≤◌, length, take, drop, pos, negsuc, IfOk, MatchResult};
 ghost use Rattle.probe.specs.Runs.{start_run, reads_more, failed_run, after_read, next_run, after_write};
 
 use record_stream::answers::Progress;
+use std::io;
 
 // input[..held] was read and is not used yet; output[..filled] are the lines that are written next.
 #[derive(Clone, Copy)]
@@ -57,15 +58,27 @@ pub fn failed_run(run: Run) -> Run
     }
 }
 
+// What a read answered, as a number: how many bytes it gave, or a negative number where it failed.
+pub fn answer_of(got: io::Result<usize>) -> isize
+    requires { IfOk got (λ count. count < 2 ^ 63) }
+    ensures { MatchResult got (λ count. result ≡ pos count) (λ _. result ≡ negsuc 0) }
+{
+    match got {
+        Ok(count) => count as isize,
+        Err(_) => -1,
+    }
+}
+
 // After a read, by what it answered: a negative number where it failed, else how many bytes of `rest` it gave.
 pub fn after_read(run: Run, got: isize, rest: &[u8]) -> Run
     requires { run.held + length rest.now < 18446744073709551616 }
     ensures { result ≡ after_read run got (length rest.now) }
 {
-    if got < 0 {
+    let failed = got < 0;
+    if failed {
         return failed_run(run);
     }
-    let more = io::count(got, rest);
+    let more = rest.len().min(got as usize);
     Run {
         held: run.held + more,
         next: run.next,

@@ -23,6 +23,8 @@
 // | 4 height grid     | rows r, columns c           | two spacings, rc       |         |
 // | 5 distance grid   | sides x, y, z               | origin, spacing, xyz   |         |
 
+#![tactic(auto)]
+
 // Which records are well formed, and how many numbers they have.
 pub mod shape;
 // Where a record ends in a stream.

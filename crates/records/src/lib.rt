@@ -1,5 +1,7 @@
 // One record of bytes to its line of bytes, on lent slices (document 01, 'Printed result').
 
+#![tactic(auto)]
+
 // A ray and a shape from a record's numbers, and the cast at the shape.
 mod shapes;
 // The answer to a mesh.

@@ -1,5 +1,7 @@
 // The codes of the calls for C, C++ and Rust, and how an answer goes into the lent result slices.
 
+#![tactic(auto)]
+
 // The mesh cast's number where a result slice is too short.
 pub mod short;
 

@@ -29,8 +29,8 @@ module _ (n node_boxes triangle_boxes node_words order s l : ℕ) {told : Bool}
       one_more (lent (12 * n) node_boxes) (lent (6 * n) triangle_boxes ∷ (lent (6 * n) node_words ∷ (lent n order ∷ []))) s l
       ∙ ap (λ (b : Bool). b && leb s l) (sym is)
 
-  pub room_failed : not told ≡ true → false ≡ both
-  room_failed taken = sym (joined ∙ ap (λ (b : Bool). b && leb s l) (not-true told taken))
+  pub room_failed : told ≡ false → false ≡ both
+  room_failed taken = sym (joined ∙ ap (λ (b : Bool). b && leb s l) taken)
 
-  pub room_passed : not told ≡ false → leb s l ≡ both
-  room_passed left = sym (joined ∙ ap (λ (b : Bool). b && leb s l) (not-false told left))
+  pub room_passed : told ≡ true → leb s l ≡ both
+  room_passed left = sym (joined ∙ ap (λ (b : Bool). b && leb s l) left)

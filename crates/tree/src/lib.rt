@@ -18,6 +18,8 @@
 // A longer area is admitted. A function of this crate with a `requires` (an index below a length) is no public call, and each caller shows
 // the demand.
 
+#![tactic(auto)]
+
 // Readers of the areas.
 pub mod layout;
 // A mesh: which lengths are admitted, a triangle's corners and its box.

@@ -1,6 +1,8 @@
 // The tree check (document 01, 'Mesh hit and its tree'): yes, no or a refusal for any tree, whoever built it, in time linear in the
 // triangles.
 
+#![tactic(auto)]
+
 // The boxes: equal to the vertices', valid, enclosing.
 mod boxes;
 // The public call.

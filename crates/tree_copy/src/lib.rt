@@ -1,5 +1,7 @@
 // What of two meshes and their trees is copied into one, the indices moved up, and the root over both (document 02, M-105).
 
+#![tactic(auto)]
+
 // Numbers, words and nodes from a place of an area on.
 pub mod copying;
 // Whether there is a root, its box and its words.

@@ -121,13 +121,13 @@ module _ (s : Span) (d near past : ℤ) {m : Span} {D N P : ℤ} (known : m ≡ 
   near_missed t = sym (ap (λ (b : Bool). b && lt_z (multiple d s).low past) (at_most_read n high_is t))
 
 -- ---- all tests
-pub first_fails : {a b : Bool} (c d : Bool) → a ≡ b → not a ≡ true → false ≡ (b && (c && d))
+pub first_fails : {a b : Bool} (c d : Bool) → a ≡ b → a ≡ false → false ≡ (b && (c && d))
 first_fails c d e h = sym (ap (λ (x : Bool). x && (c && d)) (test_failed e h))
 
-pub second_fails : {a b p q : Bool} (d : Bool) → a ≡ b → not a ≡ false → p ≡ q → not p ≡ true → false ≡ (b && (q && d))
+pub second_fails : {a b p q : Bool} (d : Bool) → a ≡ b → a ≡ true → p ≡ q → p ≡ false → false ≡ (b && (q && d))
 second_fails d e h f k = sym (λ i. test_passed e h i && (test_failed f k i && d))
 
-pub last_decides : {a b p q r s : Bool} → a ≡ b → not a ≡ false → p ≡ q → not p ≡ false → r ≡ s → r ≡ (b && (q && s))
+pub last_decides : {a b p q r s : Bool} → a ≡ b → a ≡ true → p ≡ q → p ≡ true → r ≡ s → r ≡ (b && (q && s))
 last_decides {s = s} e h f k g = g ∙ sym (λ i. test_passed e h i && (test_passed f k i && s))
 
 pub side_plain : {b : Bool} (s t : Span) {d e D E : ℤ} → b ≡ holds_zero (difference (multiple D s) (multiple E t)) → D ≡ d → E ≡ e

@@ -1,5 +1,7 @@
 // The exact cast through a tree: the walk looks for the nearest hit and passes over what cannot change it.
 
+#![tactic(auto)]
+
 // A node that is opened.
 pub mod node;
 

@@ -2,6 +2,8 @@
 // it.
 // A function with a `requires` (a range that is not empty, a box that is at hand) is no public call, and each caller shows the demand.
 
+#![tactic(auto)]
+
 // The box of a range written as a node's box.
 pub mod hulls;
 // Boxes, centres, extents and keys.

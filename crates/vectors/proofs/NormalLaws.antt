@@ -62,6 +62,8 @@ unbounded_not_finite : (x : Float) → Unbounded x → is_finite x ≡ false
 unfolding is_finite
 unbounded_not_finite nan no_number = refl
 unbounded_not_finite (inf false) infinite = refl
+unbounded_not_finite (inf true) x4 = elim x4 [ ]
+unbounded_not_finite (fin _ _ _) x6 = elim x6 [ ]
 
 square_zero : (x : Float) → Is x 0 0 → Is (x *ᶠ x) 0 0
 square_zero x v = mul_is x x 0 0 0 0 v v (lit≤ tt) (lit≤ tt)

@@ -150,7 +150,7 @@ module _ (r : Ray) (m : Mesh) (p : Plan) (b : WholeMesh r m p) where
 
     module _ (normal : Vec3) (distance : Float) (index : ℕ) (h : answer ≡ hit_at normal distance index) where
       own : IsHit r m index normal distance
-      own = (d.hit_only_if normal distance index h).is_hit_lem
+      own = (d.hit_only_if normal distance index h).is_hit
 
       least_depth : (i : ℕ) → Candidate r m i → (D : ℕ) (u v t : ℤ) → Met (drawing_of p i) D u v t → AtMost distance (nat_abs t) D
       least_depth i c D u v t k =

@@ -5,51 +5,51 @@ use borrow.Author.Rules.{rules}
 use Rattle.results.proofs.put_answer.Statement.{statement}
 use Rattle.results.proofs.put_answer.Tie as tie
 
-short-number-requires : tie.Need-short-number-requires
+short-number-requires : tie.Need-short_number-requires
 short-number-requires c κs = search rules
 
 -- the slice is too short
-returns : tie.Need-returns
+returns : tie.Need-returns-then-hit-lt4
 unfolding answered
 returns c =
-    let e : tie.Then1 = search in
-    simp (lt-leb _ _ e.if1.taken, c.short-number.ensures)
+    let e : tie.Then-hit-lt4 = search in
+    simp (lt-leb _ _ e.if-hit-lt4.true, c.short_number.ensures)
 
-enum-known-answer : tie.Need-enum-known-answer
+enum-known-answer : tie.Need-enum_known-answer
 enum-known-answer c = search rules
 
-put-hit-requires : tie.Need-put-hit-requires
+put-hit-requires : tie.Need-put_hit-requires
 put-hit-requires c κs = search rules
 
-same_length : tie.Need-same-length
+same_length : tie.Need-shape_of-hit-in-Hit
 same_length c = search rules
 
-returns-2 : tie.Need-returns-2
+returns-2 : tie.Need-returns-in-Hit
 unfolding answered returned
 returns-2 c =
-    let (e, k, p) : tie.Else1 × tie.After-answer × tie.After-put-hit = search in
-    simp (le-leb _ _ e.if1.left, k.answer.given.1, p.put-hit.ensures)
+    let (e, k, p) : tie.Else-hit-lt4 × tie.In-Hit × tie.After-put_hit = search in
+    simp (le-leb _ _ e.if-hit-lt4.false, k.in-Hit.is, p.put_hit.ensures)
 
-enum_told : tie.Need-enum-told
+enum_told : tie.Need-enum_told-1
 enum_told c = search rules
 
-returns-3 : tie.Need-returns-3
+returns-3 : tie.Need-returns-in-None
 unfolding answered returned
 returns-3 c =
-    let e : tie.Else1 = search in
-    simp (le-leb _ _ e.if1.left, c.enum_told.given.1)
+    let e : tie.Else-hit-lt4 = search in
+    simp (le-leb _ _ e.if-hit-lt4.false, c.in-None.is)
 
-enum-known-answer-2 : tie.Need-enum-known-answer-2
+enum-known-answer-2 : tie.Need-enum_known-answer-in-Refused-1
 enum-known-answer-2 c = search rules
 
-returns-4 : tie.Need-returns-4
+returns-4 : tie.Need-returns-in-Refused
 unfolding answered returned
 returns-4 c =
-    let e : tie.Else1 = search in
-    simp (le-leb _ _ e.if1.left, c.before.answer2.given.1)
+    let e : tie.Else-hit-lt4 = search in
+    simp (le-leb _ _ e.if-hit-lt4.false, c.in-Refused.is)
 
-pub put-answer-spec : {M : Type 1} → statement M
-put-answer-spec =
+pub put_answer_spec : {M : Type 1} → statement M
+put_answer_spec =
     tie.close
     (tie.spec
     short-number-requires

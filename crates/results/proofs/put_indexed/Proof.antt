@@ -4,43 +4,43 @@ use borrow.Author.Rules.{rules}
 use Rattle.results.proofs.put_indexed.Statement.{statement}
 use Rattle.results.proofs.put_indexed.Tie as tie
 
-enum-known-answer : tie.Need-enum-known-answer
+enum-known-answer : tie.Need-enum_known-answer
 enum-known-answer c = search rules
 
-put-hit-requires : tie.Need-put-hit-requires
+put-hit-requires : tie.Need-put_hit-requires
 put-hit-requires c κs = search rules
 
-slice-write-index : tie.Need-slice-write-index
+slice-write-index : tie.Need-bounds-index-0
 slice-write-index c = search rules
 
-same_length : tie.Need-same-length
+same_length : tie.Need-shape_of-hit-in-Hit
 same_length c = search rules
 
-same-length-2 : tie.Need-same-length-2
+same-length-2 : tie.Need-shape_of-index-in-Hit
 same-length-2 c = search rules
 
-returns : tie.Need-returns
+returns : tie.Need-returns-in-Hit
 unfolding returned_indexed
 returns c =
-    let (k, p) : tie.After-answer × tie.After-put-hit = search in
-    simp (k.answer.given.1, p.put-hit.ensures)
+    let (k, p) : tie.In-Hit × tie.After-put_hit = search in
+    simp (k.in-Hit.is, p.put_hit.ensures)
 
-enum_told : tie.Need-enum-told
+enum_told : tie.Need-enum_told-1
 enum_told c = search rules
 
-returns-2 : tie.Need-returns-2
+returns-2 : tie.Need-returns-in-None
 unfolding returned_indexed
-returns-2 c = simp c.enum_told.given.1
+returns-2 c = simp c.in-None.is
 
-enum-known-answer-2 : tie.Need-enum-known-answer-2
+enum-known-answer-2 : tie.Need-enum_known-answer-in-Refused-1
 enum-known-answer-2 c = search rules
 
-returns-3 : tie.Need-returns-3
+returns-3 : tie.Need-returns-in-Refused
 unfolding returned_indexed
-returns-3 c = simp c.before.answer2.given.1
+returns-3 c = simp c.in-Refused.is
 
-pub put-indexed-spec : {M : Type 1} → statement M
-put-indexed-spec =
+pub put_indexed_spec : {M : Type 1} → statement M
+put_indexed_spec =
     tie.close
     (tie.spec
     enum-known-answer

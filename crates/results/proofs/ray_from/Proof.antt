@@ -6,5 +6,5 @@ use Rattle.results.proofs.ray_from.Tie as tie
 returns : tie.Need-returns
 returns c = refl
 
-pub ray-from-spec : {M : Type 1} → statement M
-ray-from-spec = tie.close (tie.spec returns)
+pub ray_from_spec : {M : Type 1} → statement M
+ray_from_spec = tie.close (tie.spec returns)

@@ -5,16 +5,16 @@ use borrow.Author.Rules.{rules}
 use Rattle.results.proofs.short_build.Statement.{statement}
 use Rattle.results.proofs.short_build.Tie as tie
 
-returns : tie.Need-returns
-returns c = simp (sym c.before.lengths-admitted.ensures ∙ not-true c.before.lengths-admitted.result c.if1.true)
+returns : tie.Need-returns-then-not-lengths_admitted
+returns c = simp (sym c.lengths_admitted.ensures ∙ c.if-not-lengths_admitted.true)
 
-returns-2 : tie.Need-returns-2
-returns-2 c = simp (sym c.before.lengths-admitted.ensures ∙ not-false c.before.lengths-admitted.result c.if1.false)
+returns-2 : tie.Need-returns
+returns-2 c = simp (sym c.lengths_admitted.ensures ∙ c.if-not-lengths_admitted.false)
 
-pub short-build-spec : {M : Type 1} → statement M
-short-build-spec =
+pub short_build_spec : {M : Type 1} → statement M
+short_build_spec =
     tie.close
     (tie.spec
-    (λ c κs. search rules)  -- lengths-admitted-requires
+    (λ c κs. search rules)  -- lengths_admitted-requires
     returns
     returns-2)

@@ -2,11 +2,11 @@
 use Rattle.arithmetic.proofs.basic.at_most.Statement.{statement}
 use Rattle.arithmetic.proofs.basic.at_most.Tie as tie
 
-returns : tie.Need-returns
-returns c = simp c.if1.true
+returns : tie.Need-returns-then-x-max
+returns c = simp c.if-x-max.true
 
-returns-2 : tie.Need-returns-2
-returns-2 c = simp c.if1.false
+returns-2 : tie.Need-returns
+returns-2 c = simp c.if-x-max.false
 
-pub at-most-spec : {M : Type 1} → statement M
-at-most-spec = tie.close (tie.spec returns returns-2)
+pub at_most_spec : {M : Type 1} → statement M
+at_most_spec = tie.close (tie.spec returns returns-2)

@@ -4,13 +4,13 @@ use lib.Ieee.{of_bits, div, neg}
 use Rattle.arithmetic.proofs.basic.is_finite.Statement.{statement}
 use Rattle.arithmetic.proofs.basic.is_finite.Tie as tie
 
-returns : tie.Need-returns
+returns : tie.Need-returns-then-x-infinity
 unfolding of_bits div neg
-returns c = above_minus_infinity _ c.if1.true
+returns c = above_minus_infinity _ c.if-x-infinity.true
 
-returns-2 : tie.Need-returns-2
+returns-2 : tie.Need-returns
 unfolding of_bits div
-returns-2 c = not_below_infinity _ c.if1.false
+returns-2 c = not_below_infinity _ c.if-x-infinity.false
 
-pub is-finite-spec : {M : Type 1} → statement M
-is-finite-spec = tie.close (tie.spec returns returns-2)
+pub is_finite_spec : {M : Type 1} → statement M
+is_finite_spec = tie.close (tie.spec returns returns-2)

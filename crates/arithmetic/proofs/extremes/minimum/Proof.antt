@@ -5,17 +5,17 @@ use Rattle.arithmetic.proofs.Order.{ne_self_is_nan}
 use Rattle.arithmetic.proofs.extremes.minimum.Statement.{statement}
 use Rattle.arithmetic.proofs.extremes.minimum.Tie as tie
 
-returns : tie.Need-returns
+returns : tie.Need-returns-then-y-x
 unfolding minimum_of
-returns c = simp c.if1.true
+returns c = simp c.if-y-x.true
 
-returns-2 : tie.Need-returns-2
+returns-2 : tie.Need-returns-then-x
 unfolding minimum_of
-returns-2 c = simp (c.before.if1.false, sym (ne_self_is_nan _) ∙ c.if2.true)
+returns-2 c = simp (c.before.if-y-x.false, sym (ne_self_is_nan _) ∙ c.if-x.true)
 
-returns-3 : tie.Need-returns-3
+returns-3 : tie.Need-returns
 unfolding minimum_of
-returns-3 c = simp (c.before.if1.false, sym (ne_self_is_nan _) ∙ c.if2.false)
+returns-3 c = simp (c.before.if-y-x.false, sym (ne_self_is_nan _) ∙ c.if-x.false)
 
-pub minimum-spec : {M : Type 1} → statement M
-minimum-spec = tie.close (tie.spec returns returns-2 returns-3)
+pub minimum_spec : {M : Type 1} → statement M
+minimum_spec = tie.close (tie.spec returns returns-2 returns-3)

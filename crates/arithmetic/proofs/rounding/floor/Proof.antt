@@ -9,45 +9,52 @@ use Rattle.arithmetic.proofs.rounding.floor.Statement.{statement}
 use Rattle.arithmetic.proofs.rounding.floor.Tie as tie
 
 held : (c : tie.Start) → T (fits binary64 c.args.x)
-held c = subst T (sym c.well-formed.0.1) tt
+held c = subst T (sym c.well_formed.0.1) tt
 
 cut-requires : tie.Need-cut-requires
 unfolding of_bits
-cut-requires c κs = (c.before.if1.true, c.if2.true)
+cut-requires c κs = (c.before.if-x.true, c.if-x-2.true)
 
-returns : tie.Need-returns
+returns : tie.Need-returns-then-x-2
 unfolding of_bits floor_of
 returns c =
-    let (start, then1) : tie.Start × tie.Then1 = search in
-    c.cut.ensures ∙ sym (whole_above_zero toward_negative start.args.x then1.if1.taken c.before.if2.true)
+    let (start, then1) : tie.Start × tie.Then-x = search in
+    c.cut.ensures ∙ sym (whole_above_zero toward_negative start.args.x then1.if-x.true c.before.if-x-2.true)
 
-returns-2 : tie.Need-returns-2
+returns-2 : tie.Need-returns-then-x
 unfolding of_bits floor_of
 returns-2 c =
     let start : tie.Start = search in
-    sym (kept_above_zero toward_negative toward_negative_exact start.args.x (held (start)) c.before.if1.true c.if2.false)
+    sym (kept_above_zero toward_negative toward_negative_exact start.args.x (held (start)) c.before.if-x.true c.if-x-2.false)
 
 raised-requires : tie.Need-raised-requires
 unfolding of_bits
-raised-requires c κs = (c.before.if3.true, c.if4.true)
+raised-requires c κs = (c.before.if-a.true, c.if-a-2.true)
 
-returns-3 : tie.Need-returns-3
+returns-3 : tie.Need-returns-then-a-2
 unfolding of_bits floor_of
 returns-3 c =
-    let (start, then3) : tie.Start × tie.Then3 = search in
-    ap neg c.raised.ensures ∙ sym (whole_below_zero toward_negative start.args.x then3.if3.taken c.before.if4.true)
+    let (start, then3) : tie.Start × tie.Then-a = search in
+    ap neg c.raised.ensures ∙ sym (whole_below_zero toward_negative start.args.x then3.if-a.true c.before.if-a-2.true)
 
-returns-4 : tie.Need-returns-4
+returns-4 : tie.Need-returns-then-a
 unfolding of_bits floor_of
 returns-4 c =
     let start : tie.Start = search in
-    sym (kept_below_zero toward_negative toward_negative_exact start.args.x (held (start)) c.before.if3.true c.if4.false)
+    sym (kept_below_zero toward_negative toward_negative_exact start.args.x (held (start)) c.before.if-a.true c.if-a-2.false)
 
-returns-5 : tie.Need-returns-5
+returns-5 : tie.Need-returns
 unfolding of_bits floor_of
 returns-5 c =
     let start : tie.Start = search in
-    sym (kept_off_order toward_negative toward_negative_exact start.args.x (held (start)) c.before.if1.false c.if3.false)
+    sym (kept_off_order toward_negative toward_negative_exact start.args.x (held (start)) c.before.if-x.false c.if-a.false)
 
-pub floor-spec : {M : Type 1} → statement M
-floor-spec = tie.close (tie.spec cut-requires returns returns-2 raised-requires returns-3 returns-4 returns-5)
+pub floor_spec : {M : Type 1} → statement M
+floor_spec = tie.close (tie.spec
+    cut-requires
+    returns
+    returns-2
+    raised-requires
+    returns-3
+    returns-4
+    returns-5)

@@ -4,11 +4,15 @@ use Rattle.arithmetic.proofs.RootPatterns.{digits_once, digits_twice}
 use Rattle.arithmetic.proofs.square_root.even_digits.Statement.{statement}
 use Rattle.arithmetic.proofs.square_root.even_digits.Tie as tie
 
-returns : tie.Need-returns
-returns c = digits_once c.before.args.c c.if1.true
+returns : tie.Need-returns-then-c-lt4503599627370496
+returns c = digits_once c.before.args.c c.if-c-lt4503599627370496.true
 
-returns-2 : tie.Need-returns-2
-returns-2 c = digits_twice c.before.args.c c.if1.false c.before.requires
+returns-2 : tie.Need-returns
+returns-2 c = digits_twice c.before.args.c c.if-c-lt4503599627370496.false c.before.requires
 
-pub even-digits-spec : {M : Type 1} → statement M
-even-digits-spec = tie.close (tie.spec (search rules) returns (search rules) returns-2)
+pub even_digits_spec : {M : Type 1} → statement M
+even_digits_spec = tie.close (tie.spec
+    (search rules)  -- overflow_add-result
+    returns
+    (search rules)  -- overflow_add-result-2
+    returns-2)

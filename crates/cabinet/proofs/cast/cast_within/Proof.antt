@@ -8,78 +8,78 @@ use borrow.Author.Rules.{rules}
 use Rattle.cabinet.proofs.cast.cast_within.Statement.{statement}
 use Rattle.cabinet.proofs.cast.cast_within.Tie as tie
 
-returns : tie.Need-returns
+returns : tie.Need-returns-then-not-is_finite
 returns c =
     let e = c.before in
-    within_overflows _ _ _ _ (end_is _ _ _ e.is_finite.ensures e.before.segment-end.ensures _
-    (not-true e.is_finite.result c.if1.true))
+    within_overflows _ _ _ _ (end_is _ _ _ e.is_finite.ensures e.segment_end-end.ensures _
+    c.if-not-is_finite.true)
 
-leaves-at-root-requires : tie.Need-leaves-at-root-requires
+leaves-at-root-requires : tie.Need-leaves_at_root-requires
 leaves-at-root-requires c κs =
     let s : tie.Start = search in
-    s.pre.1.boxed
+    s.requires.1.boxed
 
 -- the box leaves the tree at its first node
-returns-2 : tie.Need-returns-2
+returns-2 : tie.Need-returns-then-leaves_at_root
 returns-2 c =
-    let (at-is-finite, else1, at-segment-box) : tie.After-is-finite × tie.Else1 × tie.After-segment-box = search in
+    let (at-is-finite, else1, at-segment-box) : tie.After-is_finite × tie.Else-not-is_finite × tie.After-segment_box-bounds = search in
     let e = at-is-finite in
-    let l = c.before.leaves-at-root in
-    within_leaves _ _ _ _ (end_is _ _ _ e.is_finite.ensures e.before.segment-end.ensures _
-    (not-false e.is_finite.result else1.if1.left)) _ at-segment-box.segment-box.ensures (sym l.ensures ∙ c.if2.true)
+    let l = c.leaves_at_root in
+    within_leaves _ _ _ _ (end_is _ _ _ e.is_finite.ensures e.segment_end-end.ensures _
+    else1.if-not-is_finite.false) _ at-segment-box.segment_box-bounds.ensures (sym l.ensures ∙ c.if-leaves_at_root.true)
 
-nearest-of-requires : tie.Need-nearest-of-requires
+nearest-of-requires : tie.Need-nearest_of-cast-requires
 nearest-of-requires c κs =
-    let (at-gather-within, at-walked) : tie.After-gather-within × tie.After-walked = search in
-    list_inside _ _ _ _ _ _ at-gather-within.gather-within.ensures.1 at-walked.walked.given.1
+    let (at-gather-within, at-walked) : tie.After-gather_within-walked × tie.In-Count = search in
+    list_inside _ _ _ _ _ _ at-gather-within.gather_within-walked.ensures.1 at-walked.in-Count.is
 
-returns-3 : tie.Need-returns-3
+returns-3 : tie.Need-returns-in-Count
 returns-3 c =
     let (at-is-finite, else1, at-segment-box, at-gather-within, at-walked) :
-    tie.After-is-finite × tie.Else1 × tie.After-segment-box × tie.After-gather-within × tie.After-walked = search in
+    tie.After-is_finite × tie.Else-not-is_finite × tie.After-segment_box-bounds × tie.After-gather_within-walked × tie.In-Count = search in
     let e = at-is-finite in
-    within_nearest _ _ _ _ (end_is _ _ _ e.is_finite.ensures e.before.segment-end.ensures _
-    (not-false e.is_finite.result else1.if1.left)) _ at-segment-box.segment-box.ensures _ _ at-gather-within.gather-within.ensures.0 _ _ _ at-walked.walked.given.1 c.nearest_of_lem.ensures
+    within_nearest _ _ _ _ (end_is _ _ _ e.is_finite.ensures e.segment_end-end.ensures _
+    else1.if-not-is_finite.false) _ at-segment-box.segment_box-bounds.ensures _ _ at-gather-within.gather_within-walked.ensures.0 _ _ _ at-walked.in-Count.is c.nearest_of-cast.ensures
 
-returns-4 : tie.Need-returns-4
+returns-4 : tie.Need-returns-in-Broken
 returns-4 c =
     let (at-is-finite, else1, at-segment-box, at-gather-within) :
-    tie.After-is-finite × tie.Else1 × tie.After-segment-box × tie.After-gather-within = search in
+    tie.After-is_finite × tie.Else-not-is_finite × tie.After-segment_box-bounds × tie.After-gather_within-walked = search in
     let e = at-is-finite in
-    within_broken _ _ _ _ (end_is _ _ _ e.is_finite.ensures e.before.segment-end.ensures _
-    (not-false e.is_finite.result else1.if1.left)) _ at-segment-box.segment-box.ensures _ _
-    at-gather-within.gather-within.ensures.0 _ c.before.walked2.given.1
+    within_broken _ _ _ _ (end_is _ _ _ e.is_finite.ensures e.segment_end-end.ensures _
+    else1.if-not-is_finite.false) _ at-segment-box.segment_box-bounds.ensures _ _
+    at-gather-within.gather_within-walked.ensures.0 _ c.in-Broken.is
 
-returns-5 : tie.Need-returns-5
+returns-5 : tie.Need-returns-in-UsedUp
 returns-5 c =
     let (at-is-finite, else1, at-segment-box, at-gather-within) :
-    tie.After-is-finite × tie.Else1 × tie.After-segment-box × tie.After-gather-within = search in
+    tie.After-is_finite × tie.Else-not-is_finite × tie.After-segment_box-bounds × tie.After-gather_within-walked = search in
     let e = at-is-finite in
-    within_used _ _ _ _ (end_is _ _ _ e.is_finite.ensures e.before.segment-end.ensures _
-    (not-false e.is_finite.result else1.if1.left)) _ at-segment-box.segment-box.ensures _ _
-    at-gather-within.gather-within.ensures.0 _ c.before.walked3.given.1
+    within_used _ _ _ _ (end_is _ _ _ e.is_finite.ensures e.segment_end-end.ensures _
+    else1.if-not-is_finite.false) _ at-segment-box.segment_box-bounds.ensures _ _
+    at-gather-within.gather_within-walked.ensures.0 _ c.in-UsedUp.is
 
-pub cast-within-spec : {M : Type 1} → statement M
-cast-within-spec =
+pub cast_within_spec : {M : Type 1} → statement M
+cast_within_spec =
     tie.close
     (tie.spec
-    (λ c κs. search rules)  -- segment-end-requires
-    (λ c κs. search rules)  -- is-finite-requires
+    (λ c κs. search rules)  -- segment_end-end-requires
+    (λ c κs. search rules)  -- is_finite-requires
     returns
-    (λ c κs. search rules)  -- segment-box-requires
+    (λ c κs. search rules)  -- segment_box-bounds-requires
     leaves-at-root-requires
     returns-2
-    (λ c κs. search rules)  -- gather-within-requires
-    (λ c. search rules)  -- enum-known-walked
+    (λ c κs. search rules)  -- gather_within-walked-requires
+    (λ c. search rules)  -- enum_known-walked
     nearest-of-requires
-    (λ c. search rules)  -- same-length
-    (λ c. search rules)  -- same-length-2
+    (λ c. search rules)  -- shape_of-list-in-Count
+    (λ c. search rules)  -- shape_of-stack-in-Count
     returns-3
-    (λ c. search rules)  -- enum-known-walked-2
-    (λ c. search rules)  -- same-length-3
-    (λ c. search rules)  -- same-length-4
+    (λ c. search rules)  -- enum_known-walked-in-Broken-1
+    (λ c. search rules)  -- shape_of-list-in-Broken
+    (λ c. search rules)  -- shape_of-stack-in-Broken
     returns-4
-    (λ c. search rules)  -- enum-known-walked-3
-    (λ c. search rules)  -- same-length-5
-    (λ c. search rules)  -- same-length-6
+    (λ c. search rules)  -- enum_known-walked-in-UsedUp-1
+    (λ c. search rules)  -- shape_of-list-in-UsedUp
+    (λ c. search rules)  -- shape_of-stack-in-UsedUp
     returns-5)

@@ -6,18 +6,24 @@ use borrow.Author.Rules.{rules}
 use Rattle.cabinet.proofs.found.after_part.Statement.{statement}
 use Rattle.cabinet.proofs.found.after_part.Tie as tie
 
-returns : tie.Need-returns
+returns : tie.Need-returns-then-is_refused
 unfolding after_part
-returns c = simp (sym c.before.is-refused.ensures, c.if1.true)
+returns c = simp (sym c.is_refused.ensures, c.if-is_refused.true)
 
-returns-2 : tie.Need-returns-2
+returns-2 : tie.Need-returns
 returns-2 c =
     let (start, at-is-refused, else1, at-found-next, at-next-part) :
-    tie.Start × tie.After-is-refused × tie.Else1 × tie.After-found-next × tie.After-next-part = search in
-    after_goes start.args.s start.args.cost (sym at-is-refused.is-refused.ensures ∙ else1.if1.left) _
-    at-next-part.next-part.ensures _ at-found-next.found-next.ensures
+    tie.Start × tie.After-is_refused × tie.Else-is_refused × tie.After-found_next-next × tie.After-next_part = search in
+    after_goes start.args.s start.args.cost (sym at-is-refused.is_refused.ensures ∙ else1.if-is_refused.false) _
+    at-next-part.next_part.ensures _ at-found-next.found_next-next.ensures
 
-pub after-part-spec : {M : Type 1} → statement M
-after-part-spec =
+pub after_part_spec : {M : Type 1} → statement M
+after_part_spec =
     tie.close
-    (tie.spec (search rules) returns (search rules) (search rules) (search rules) returns-2)
+    (tie.spec
+    (search rules)  -- is_refused-requires
+    returns
+    (search rules)  -- found_next-next-requires
+    (search rules)  -- next_part-requires
+    (search rules)  -- overflow_add-result
+    returns-2)

@@ -5,29 +5,29 @@ use borrow.Author.Rules.{rules}
 use Rattle.cabinet.proofs.found.found_next.Statement.{statement}
 use Rattle.cabinet.proofs.found.found_next.Tie as tie
 
-returns : tie.Need-returns
+returns : tie.Need-returns-in-Nothing
 unfolding found_next
-returns c = simp (c.before.enum_told.given.1, sym c.first_found.ensures)
+returns c = simp (c.in-Nothing.is, sym c.first_found.ensures)
 
-returns-2 : tie.Need-returns-2
+returns-2 : tie.Need-returns-in-Hit
 unfolding found_next
 returns-2 c =
-    let at-found : tie.After-found = search in
-    simp (at-found.found.given.1, sym c.nearer-found.ensures)
+    let at-found : tie.In-Hit = search in
+    simp (at-found.in-Hit.is, sym c.nearer_found.ensures)
 
-returns-3 : tie.Need-returns-3
+returns-3 : tie.Need-returns-in-Refused
 unfolding found_next
-returns-3 c = simp c.before.found2.given.1
+returns-3 c = simp c.in-Refused.is
 
-pub found-next-spec : {M : Type 1} → statement M
-found-next-spec =
+pub found_next_spec : {M : Type 1} → statement M
+found_next_spec =
     tie.close
     (tie.spec
-    (search rules)  -- enum_told
-    (search rules)  -- first-found-requires
+    (search rules)  -- enum_told-1
+    (search rules)  -- first_found-requires
     returns
-    (search rules)  -- enum-known-found
-    (search rules)  -- nearer-found-requires
+    (search rules)  -- enum_known-found
+    (search rules)  -- nearer_found-requires
     returns-2
-    (search rules)  -- enum-known-found-2
+    (search rules)  -- enum_known-found-in-Refused-1
     returns-3)

@@ -4,27 +4,34 @@ use borrow.Author.Rules.{rules}
 use Rattle.cabinet.proofs.found.nearer_found.Statement.{statement}
 use Rattle.cabinet.proofs.found.nearer_found.Tie as tie
 
-returns : tie.Need-returns
+returns : tie.Need-returns-then-reach-distance
 unfolding found_next
 returns c =
-    let at-cast : tie.After-cast = search in
-    simp (at-cast.cast.given.1, c.if1.true)
+    let at-cast : tie.In-Hit = search in
+    simp (at-cast.in-Hit.is, c.if-reach-distance.true)
 
-returns-2 : tie.Need-returns-2
+returns-2 : tie.Need-returns-in-Hit
 unfolding found_next
 returns-2 c =
-    let at-cast : tie.After-cast = search in
-    simp (at-cast.cast.given.1, c.if1.false)
+    let at-cast : tie.In-Hit = search in
+    simp (at-cast.in-Hit.is, c.if-reach-distance.false)
 
-returns-3 : tie.Need-returns-3
+returns-3 : tie.Need-returns-in-None
 unfolding found_next
-returns-3 c = simp c.enum_told.given.1
+returns-3 c = simp c.in-None.is
 
-returns-4 : tie.Need-returns-4
+returns-4 : tie.Need-returns-in-Refused
 unfolding found_next
-returns-4 c = simp c.before.cast2.given.1
+returns-4 c = simp c.in-Refused.is
 
-pub nearer-found-spec : {M : Type 1} → statement M
-nearer-found-spec =
+pub nearer_found_spec : {M : Type 1} → statement M
+nearer_found_spec =
     tie.close
-    (tie.spec (search rules) returns returns-2 (search rules) returns-3 (search rules) returns-4)
+    (tie.spec
+    (search rules)  -- enum_known-cast
+    returns
+    returns-2
+    (search rules)  -- enum_told-1
+    returns-3
+    (search rules)  -- enum_known-cast-in-Refused-1
+    returns-4)

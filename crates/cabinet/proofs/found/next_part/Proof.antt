@@ -4,11 +4,14 @@ use borrow.Author.Rules.{rules}
 use Rattle.cabinet.proofs.found.next_part.Statement.{statement}
 use Rattle.cabinet.proofs.found.next_part.Tie as tie
 
-returns : tie.Need-returns
-returns c = simp (lt-ltb _ _ c.if1.true)
+returns : tie.Need-returns-then-part-lt18446744073709551615
+returns c = simp (lt-ltb _ _ c.if-part-lt18446744073709551615.true)
 
-returns-2 : tie.Need-returns-2
-returns-2 c = simp (le-ltb _ _ c.if1.false)
+returns-2 : tie.Need-returns
+returns-2 c = simp (le-ltb _ _ c.if-part-lt18446744073709551615.false)
 
-pub next-part-spec : {M : Type 1} → statement M
-next-part-spec = tie.close (tie.spec (search rules) returns returns-2)
+pub next_part_spec : {M : Type 1} → statement M
+next_part_spec = tie.close (tie.spec
+    (search rules)  -- overflow_add-result
+    returns
+    returns-2)

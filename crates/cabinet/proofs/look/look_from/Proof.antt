@@ -8,8 +8,10 @@ use Rattle.cabinet.proofs.look.look_from.Tie as tie
 returns : tie.Need-returns
 unfolding look_from
 returns c =
-    let n : tie.After-number-of = search in
-    simp n.number_of.ensures
+    let n : tie.After-number_of-number = search in
+    simp n.number_of-number.ensures
 
-pub look-from-spec : {M : Type 1} → statement M
-look-from-spec = tie.close (tie.spec (search rules) returns)
+pub look_from_spec : {M : Type 1} → statement M
+look_from_spec = tie.close (tie.spec
+    (search rules)  -- number_of-number-requires
+    returns)

@@ -6,29 +6,36 @@ use Rattle.cabinet.proofs.look.look_part.Statement.{statement}
 use Rattle.cabinet.proofs.look.look_part.Tie as tie
 
 -- 2
-returns : tie.Need-returns
+returns : tie.Need-returns-then-not-shape_fits
 returns c =
-    let t : tie.Then1 = search in
-    look_bad _ _ (test_failed t.before.shape-fits.ensures t.if1.taken) _ c.lower.ensures
+    let t : tie.Then-not-shape_fits = search in
+    look_bad _ _ (test_failed t.shape_fits.ensures t.if-not-shape_fits.true) _ c.lower.ensures
 
-room-fits-requires : tie.Need-room-fits-requires
+room-fits-requires : tie.Need-room_fits-requires
 room-fits-requires c κs =
-    let e : tie.Else1 = search in
-    look_few _ _ (test_passed e.before.shape-fits.ensures e.if1.left)
+    let e : tie.Else-not-shape_fits = search in
+    look_few _ _ (test_passed e.shape_fits.ensures e.if-not-shape_fits.false)
 
 -- 3
-returns-2 : tie.Need-returns-2
+returns-2 : tie.Need-returns-then-not-room_fits
 returns-2 c =
-    let (e, t) : tie.Else1 × tie.Then2 = search in
-    look_short _ _ (test_passed e.before.shape-fits.ensures e.if1.left) (test_failed t.before.room-fits.ensures
-    t.if2.taken) _ c.lower2.ensures
+    let (e, t) : tie.Else-not-shape_fits × tie.Then-not-room_fits = search in
+    look_short _ _ (test_passed e.shape_fits.ensures e.if-not-shape_fits.false) (test_failed t.room_fits.ensures
+    t.if-not-room_fits.true) _ c.lower-then-not-room_fits.ensures
 
 -- neither
-returns-3 : tie.Need-returns-3
+returns-3 : tie.Need-returns
 returns-3 c =
-    let (e, f) : tie.Else1 × tie.Else2 = search in
-    look_passes _ _ (test_passed e.before.shape-fits.ensures e.if1.left) (test_passed f.before.room-fits.ensures
-    f.if2.left)
+    let (e, f) : tie.Else-not-shape_fits × tie.Else-not-room_fits = search in
+    look_passes _ _ (test_passed e.shape_fits.ensures e.if-not-shape_fits.false) (test_passed f.room_fits.ensures
+    f.if-not-room_fits.false)
 
-pub look-part-spec : {M : Type 1} → statement M
-look-part-spec = tie.close (tie.spec (search rules) (search rules) returns room-fits-requires (search rules) returns-2 returns-3)
+pub look_part_spec : {M : Type 1} → statement M
+look_part_spec = tie.close (tie.spec
+    (search rules)  -- shape_fits-requires
+    (search rules)  -- lower-requires
+    returns
+    room-fits-requires
+    (search rules)  -- lower-requires-then-not-room_fits
+    returns-2
+    returns-3)

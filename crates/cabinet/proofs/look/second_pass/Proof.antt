@@ -8,8 +8,10 @@ use Rattle.cabinet.proofs.look.second_pass.Tie as tie
 returns : tie.Need-returns
 unfolding second_pass
 returns c =
-    let f : tie.After-found-by = search in
-    simp f.found-by.ensures
+    let f : tie.After-found_by-found = search in
+    simp f.found_by-found.ensures
 
-pub second-pass-spec : {M : Type 1} → statement M
-second-pass-spec = tie.close (tie.spec (search rules) returns)
+pub second_pass_spec : {M : Type 1} → statement M
+second_pass_spec = tie.close (tie.spec
+    (search rules)  -- found_by-found-requires
+    returns)

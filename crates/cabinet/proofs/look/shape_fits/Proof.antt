@@ -7,19 +7,23 @@ use Rattle.cabinet.proofs.look.shape_fits.Statement.{statement}
 use Rattle.cabinet.proofs.look.shape_fits.Tie as tie
 
 -- a range leaves its area
-returns : tie.Need-returns
+returns : tie.Need-returns-then-not-ranges_inside
 unfolding look_shape
 returns c =
-    let f = c.before.ranges-inside in
-    rw (sym f.ensures, not-true f.result c.if1.true) refl
+    let f = c.ranges_inside in
+    rw (sym f.ensures, c.if-not-ranges_inside.true) refl
 
 -- the lengths decide
-returns-2 : tie.Need-returns-2
+returns-2 : tie.Need-returns
 unfolding look_shape
 returns-2 c =
-    let (a, e) : tie.After-ranges-inside × tie.Else1 = search in
-    let f = a.ranges-inside in
-    rw (sym f.ensures, not-false f.result e.if1.left) c.shape_admitted_lem.ensures
+    let (a, e) : tie.After-ranges_inside × tie.Else-not-ranges_inside = search in
+    let f = a.ranges_inside in
+    rw (sym f.ensures, e.if-not-ranges_inside.false) c.shape_admitted.ensures
 
-pub shape-fits-spec : {M : Type 1} → statement M
-shape-fits-spec = tie.close (tie.spec (search rules) returns (search rules) returns-2)
+pub shape_fits_spec : {M : Type 1} → statement M
+shape_fits_spec = tie.close (tie.spec
+    (search rules)  -- ranges_inside-requires
+    returns
+    (search rules)  -- shape_admitted-requires
+    returns-2)

@@ -5,11 +5,15 @@ use borrow.Author.Rules.{rules}
 use Rattle.cabinet.proofs.ranges.shape_admitted.Statement.{statement}
 use Rattle.cabinet.proofs.ranges.shape_admitted.Tie as tie
 
-returns : tie.Need-returns
-returns c = simp (sym c.before.lengths-admitted.ensures, not-true c.before.lengths-admitted.result c.if1.taken)
+returns : tie.Need-returns-then-not-lengths_admitted
+returns c = simp (sym c.lengths_admitted.ensures, c.if-not-lengths_admitted.true)
 
-returns-2 : tie.Need-returns-2
-returns-2 c = simp (sym c.before.lengths-admitted.ensures, not-false c.before.lengths-admitted.result c.if1.left)
+returns-2 : tie.Need-returns
+returns-2 c = simp (sym c.lengths_admitted.ensures, c.if-not-lengths_admitted.false)
 
-pub shape-admitted-spec : {M : Type 1} → statement M
-shape-admitted-spec = tie.close (tie.spec (search rules) returns (search rules) returns-2)
+pub shape_admitted_spec : {M : Type 1} → statement M
+shape_admitted_spec = tie.close (tie.spec
+    (search rules)  -- lengths_admitted-requires
+    returns
+    (search rules)  -- overflow_mul-result
+    returns-2)

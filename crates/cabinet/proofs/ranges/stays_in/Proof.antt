@@ -3,11 +3,11 @@ use Rattle.cabinet.proofs.PartSteps.{stays_out, stays_by_rest}
 use Rattle.cabinet.proofs.ranges.stays_in.Statement.{statement}
 use Rattle.cabinet.proofs.ranges.stays_in.Tie as tie
 
-returns : tie.Need-returns
-returns c = stays_out c.before.args.span.start c.before.args.span.length _ c.if1.taken
+returns : tie.Need-returns-then-long-start
+returns c = stays_out c.args.span.start c.args.span.length _ c.if-long-start.true
 
-returns-2 : tie.Need-returns-2
-returns-2 c = stays_by_rest _ _ _ c.before.if1.left
+returns-2 : tie.Need-returns
+returns-2 c = stays_by_rest _ _ _ c.if-long-start.false
 
-pub stays-in-spec : {M : Type 1} → statement M
-stays-in-spec = tie.close (tie.spec returns returns-2)
+pub stays_in_spec : {M : Type 1} → statement M
+stays_in_spec = tie.close (tie.spec returns returns-2)

@@ -5,16 +5,19 @@ use borrow.Author.Rules.{rules}
 use Rattle.cabinet.proofs.refusing.is_over.Statement.{statement}
 use Rattle.cabinet.proofs.refusing.is_over.Tie as tie
 
-returns : tie.Need-returns
+returns : tie.Need-returns-then-not-s
 returns c =
     let start : tie.Start = search in
-    not_over _ (not-true start.args.s.casting c.if1.true)
+    not_over _ c.if-not-s.true
 
-returns-2 : tie.Need-returns-2
+returns-2 : tie.Need-returns
 returns-2 c =
-    let (start, else1) : tie.Start × tie.Else1 = search in
-    over_if_refused _ (not-false start.args.s.casting else1.if1.left) _
-    c.is-refused.ensures
+    let (start, else1) : tie.Start × tie.Else-not-s = search in
+    over_if_refused _ else1.if-not-s.false _
+    c.is_refused.ensures
 
-pub is-over-spec : {M : Type 1} → statement M
-is-over-spec = tie.close (tie.spec returns (search rules) returns-2)
+pub is_over_spec : {M : Type 1} → statement M
+is_over_spec = tie.close (tie.spec
+    returns
+    (search rules)  -- is_refused-requires
+    returns-2)

@@ -8,7 +8,9 @@ returns : tie.Need-returns
 returns c =
     let start : tie.Start = search in
     refuses_lower start.args.number start.args.s _
-    c.before.lower-refusal.ensures
+    c.lower_refusal-lower.ensures
 
-pub refuse-with-spec : {M : Type 1} → statement M
-refuse-with-spec = tie.close (tie.spec (search rules) returns)
+pub refuse_with_spec : {M : Type 1} → statement M
+refuse_with_spec = tie.close (tie.spec
+    (search rules)  -- lower_refusal-lower-requires
+    returns)

@@ -6,32 +6,34 @@ use borrow.Author.Rules.{rules}
 use Rattle.cabinet_passes.proofs.pass.begin.Statement.{statement}
 use Rattle.cabinet_passes.proofs.pass.begin.Tie as tie
 
-returns : tie.Need-returns
+returns : tie.Need-returns-then-not-validate
 unfolding begun
-returns c = simp (sym c.before.validate.ensures, not-true c.before.validate.result c.if1.true)
+returns c = simp (sym c.validate.ensures, c.if-not-validate.true)
 
 -- short result slices
-returns-2 : tie.Need-returns-2
+returns-2 : tie.Need-returns-then-not-fits
 unfolding begun
 returns-2 c =
-    let (s, e) : tie.Start × tie.Else1 = search in
+    let (s, e) : tie.Start × tie.Else-not-validate = search in
     simp (
-      sym e.before.validate.ensures,
-      not-false e.before.validate.result e.if1.left,
-      not-true s.args.fits
-          c.if2.true,
+      sym e.validate.ensures,
+      e.if-not-validate.false,
+      c.if-not-fits.true,
     )
 
-returns-3 : tie.Need-returns-3
+returns-3 : tie.Need-returns
 unfolding begun
 returns-3 c =
-    let (s, e) : tie.Start × tie.Else1 = search in
+    let (s, e) : tie.Start × tie.Else-not-validate = search in
     simp (
-      sym e.before.validate.ensures,
-      not-false e.before.validate.result e.if1.left,
-      not-false s.args.fits
-          c.if2.false,
+      sym e.validate.ensures,
+      e.if-not-validate.false,
+      c.if-not-fits.false,
     )
 
-pub begin-spec : {M : Type 1} → statement M
-begin-spec = tie.close (tie.spec (search rules) returns returns-2 returns-3)
+pub begin_spec : {M : Type 1} → statement M
+begin_spec = tie.close (tie.spec
+    (search rules)  -- validate-requires
+    returns
+    returns-2
+    returns-3)

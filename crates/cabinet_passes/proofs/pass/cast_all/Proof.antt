@@ -306,7 +306,7 @@ module _ {M : Type 1} {𝓤 : Ura M} (𝓛 : Logic 𝓤) (mem : Memory → SProp
           unchains 𝓛 Shared $ owned ! R (Is R) (LL.makes S.the_type S'.the_plain 𝓛) s _ is $
           owned ! P (Is P) (LL.makes T.the_type T'.the_plain 𝓛) elem _ g $ move ! (0 ∷ row 6 2 ++ 12 ∷ 9 ∷ 1 ∷ []) $
           chains 𝓛 (Given-to ν0 ν1 δ0 δ1) $ move ! (row 6 50 ++ 5 ∷ 3 ∷ []) $ chains 𝓛 (Tokens ν0 ν1 δ0 δ1) $
-          asks 𝓛 (‵ (chained (Tokens ν0 ν1 δ0 δ1))) (‵ (chained (Given-to ν0 ν1 δ0 δ1))) ((StepC 𝓛 mem run).pre (to ν0 ν1 δ0 δ1))
+          asks 𝓛 (‵ (chained (Tokens ν0 ν1 δ0 δ1))) (‵ (chained (Given-to ν0 ν1 δ0 δ1))) ((StepC 𝓛 mem run).requires (to ν0 ν1 δ0 δ1))
           (id⊢ 𝓤 _) $
           calls_at ! (fm_of 𝓤 H 𝓛.laws 𝓣) (StepC 𝓛 mem run) known (to ν0 ν1 δ0 δ1) (arg ! 22 refl (arg ! 8 refl (arg ! 9 refl
           (arg ! 10 refl (arg ! 11 refl (arg ! 12 refl (arg ! 13 refl (arg ! 24 refl (arg ! 26 refl (arg ! 17 refl (no_more !)))))))))))
@@ -495,9 +495,9 @@ module _ {M : Type 1} {𝓤 : Ura M} (𝓛 : Logic 𝓤) (mem : Memory → SProp
       ▸ Goes-none 𝓛 9 (λ _. R) yes (λ κs x f. refl) ▸ tt) (this.clauses 𝓛 mem run)
       (WpFn 𝓤 H 𝓣.C 𝓣.Λ code.function) (WpFn-mono 𝓤 H 𝓛.laws 𝓣 code.function) walks
 
-pub cast-all-spec : {M : Type 1} → stated.statement M
+pub cast_all_spec : {M : Type 1} → stated.statement M
 unfolding code.routine tables_of
-cast-all-spec 𝓤 𝓛 𝓜 𝓡 =
+cast_all_spec 𝓤 𝓛 𝓜 𝓡 =
     entered 𝓤 𝓛.H (triple_of 𝓛 this.signature (this.spec 𝓛 𝓜.mem 𝓡.run))
     (tables 𝓤 𝓛.H 𝓜 𝓡 code.env).C (tables 𝓤 𝓛.H 𝓜 𝓡 code.env).Λ #this code.function (code.unfolded 𝓤 𝓛.H 𝓜 𝓡)
     (meets 𝓛 𝓜.mem 𝓡.run (tables_of 𝓤 𝓛.H 𝓜 (tables 𝓤 𝓛.H 𝓜 𝓡 code.env))

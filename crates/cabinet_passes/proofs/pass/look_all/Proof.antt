@@ -205,7 +205,7 @@ module _ {M : Type 1} {𝓤 : Ura M} (𝓛 : Logic 𝓤) (mem : Memory → SProp
           elem_back ! P share ys i no_part (vals_p elem) b o l $ shuts_slice ! tt P share ys b o $
           -- what the callee asks
           made 𝓛 (P ∷ R ∷ []) (LL.makes T.the_type T'.the_plain 𝓛 ▸ LL.makes S.the_type S'.the_plain 𝓛 ▸ tt) given_to passed
-          (g ▸ is ▸ tt) $ nothing ! $ asks 𝓛 (‵ ftrue) (‵ (owns (P ∷ R ∷ []) given_to passed)) ((StepC 𝓛 mem run).pre to) (id⊢ 𝓤 _) $
+          (g ▸ is ▸ tt) $ nothing ! $ asks 𝓛 (‵ ftrue) (‵ (owns (P ∷ R ∷ []) given_to passed)) ((StepC 𝓛 mem run).requires to) (id⊢ 𝓤 _) $
           calls_at ! (fm_of 𝓤 H 𝓛.laws 𝓣) (StepC 𝓛 mem run) known to (arg ! 11 refl (arg ! 6 refl (no_more !))) (λ u.
           answers 𝓛 step.ended (step.clauses 𝓛 mem run) tt given_to tt ftrue u (λ r ls. r ≡ look_part s elem) (λ r ls. id⊢ 𝓤 _) $
           pick ! (λ r. pick ! (λ ls. learn ! (λ e. learn ! (λ ir. split ! $ drop ! $ drop ! $
@@ -306,9 +306,9 @@ module _ {M : Type 1} {𝓤 : Ura M} (𝓛 : Logic 𝓤) (mem : Memory → SProp
       ▸ Goes-none 𝓛 1 (λ _. R) yes (λ κs x f. refl) ▸ tt) (this.clauses 𝓛 mem run) (WpFn 𝓤 H 𝓣.C 𝓣.Λ code.function)
       (WpFn-mono 𝓤 H 𝓛.laws 𝓣 code.function) walks
 
-pub look-all-spec : {M : Type 1} → stated.statement M
+pub look_all_spec : {M : Type 1} → stated.statement M
 unfolding code.routine tables_of
-look-all-spec 𝓤 𝓛 𝓜 𝓡 =
+look_all_spec 𝓤 𝓛 𝓜 𝓡 =
     entered 𝓤 𝓛.H (triple_of 𝓛 this.signature (this.spec 𝓛 𝓜.mem 𝓡.run))
     (tables 𝓤 𝓛.H 𝓜 𝓡 code.env).C (tables 𝓤 𝓛.H 𝓜 𝓡 code.env).Λ #this code.function (code.unfolded 𝓤 𝓛.H 𝓜 𝓡)
     (meets 𝓛 𝓜.mem 𝓡.run (tables_of 𝓤 𝓛.H 𝓜 (tables 𝓤 𝓛.H 𝓜 𝓡 code.env))

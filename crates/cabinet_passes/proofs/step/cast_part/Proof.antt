@@ -11,87 +11,87 @@ use Rattle.cabinet_passes.proofs.step.cast_part.Statement.{statement}
 use Rattle.cabinet_passes.proofs.step.cast_part.Tie as tie
 
 -- after a refusal nothing is done
-returns : tie.Need-returns
-returns c = (part_over _ _ _ _ _ (sym c.before.is-over.ensures ∙ c.if1.true), λ _. (refl, refl))
+returns : tie.Need-returns-then-is_over
+returns c = (part_over _ _ _ _ _ (sym c.is_over.ensures ∙ c.if-is_over.true), λ _. (refl, refl))
 
 -- a range that leaves its area: 2
-returns-2 : tie.Need-returns-2
+returns-2 : tie.Need-returns-then-not-ranges_inside
 returns-2 c =
-    let (e, t) : tie.Else1 × tie.Then2 = search in (
-      part_leaves _ _ _ _ _ (sym e.before.is-over.ensures ∙ e.if1.left) (test_failed t.before.ranges-inside.ensures
-          t.if2.taken) _ c.refuse-with.ensures,
+    let (e, t) : tie.Else-is_over × tie.Then-not-ranges_inside = search in (
+      part_leaves _ _ _ _ _ (sym e.is_over.ensures ∙ e.if-is_over.false) (test_failed t.ranges_inside.ensures
+          t.if-not-ranges_inside.true) _ c.refuse_with.ensures,
       λ _. (refl, refl),
     )
 
 -- past the second test: what it and the first say, and that every range stays in its area
 abbrev Past : Type 0
-Past = tie.Start × tie.Else2
+Past = tie.Start × tie.Else-not-ranges_inside
 
-places : tie.Else2 → tie.Start × tie.Else1
+places : tie.Else-not-ranges_inside → tie.Start × tie.Else-is_over
 places f = search
 
-passed : (e : tie.Else2) → let a = (places e).0.args in ranges_inside a.p (length a.vertices.now) (length a.triangles.now)
-    (length a.node_boxes_lem.now) (length a.triangle_boxes_lem.now) (length a.node_words_lem.now) (length a.order.now) ≡ true
+passed : (e : tie.Else-not-ranges_inside) → let a = (places e).0.args in ranges_inside a.p (length a.vertices.now) (length a.triangles.now)
+    (length a.node_boxes.now) (length a.triangle_boxes.now) (length a.node_words.now) (length a.order.now) ≡ true
 unfolding places
-passed e = test_passed e.before.ranges-inside.ensures e.if2.false
+passed e = test_passed e.ranges_inside.ensures e.if-not-ranges_inside.false
 
-tested : tie.After-origin → tie.Else2
+tested : tie.After-origin-1 → tie.Else-not-ranges_inside
 tested o = search
 
 -- the step over the part's own areas, which writes to no work area where the pass looks only
-returns-3 : tie.Need-returns-3
+returns-3 : tie.Need-returns
 unfolding places tested
 returns-3 c =
-    let (t, o) : tie.After-origin × tie.After-own-step = search in
+    let (t, o) : tie.After-origin-1 × tie.After-own_step = search in
     let f = tested t in
     let (s, e) = places f in
-    let goes = sym e.before.is-over.ensures ∙ e.if1.left in
-    let told = o.own-step.ensures in (
+    let goes = sym e.is_over.ensures ∙ e.if-is_over.false in
+    let told = o.own_step.ensures in (
       part_steps _ _ _ _ _ goes (passed f) _ (own_areas _ _ _ _ s.args.p _ told.0),
       λ idle. told.1 (idle_looks s.args.s idle goes),
     )
 
-pub cast-part-spec : {M : Type 1} → statement M
+pub cast_part_spec : {M : Type 1} → statement M
 unfolding places
-cast-part-spec =
+cast_part_spec =
     tie.close
     (tie.spec
-    (search rules)  -- is-over-requires
+    (search rules)  -- is_over-requires
     returns
-    (search rules)  -- ranges-inside-requires
-    (search rules)  -- refuse-with-requires
+    (search rules)  -- ranges_inside-requires
+    (search rules)  -- refuse_with-requires
     returns-2
-    (λ c. let (s, e) : Past = search in omega (arith, (inside_is _ _ _ _ _ _ _ (passed e)).vertices, s.good))  -- add-last-vertex
-    (λ c. let (s, e) : Past = search in omega (arith, (inside_is _ _ _ _ _ _ _ (passed e)).triangles, s.good))  -- add-last-triangle
-    (λ c. let (s, e) : Past = search in omega (arith, (inside_is _ _ _ _ _ _ _ (passed e)).node_boxes, s.good))  -- add-last-node
-    (λ c. let (s, e) : Past = search in omega (arith, (inside_is _ _ _ _ _ _ _ (passed e)).triangle_boxes, s.good))  -- add-last-box
-    (λ c. let (s, e) : Past = search in omega (arith, (inside_is _ _ _ _ _ _ _ (passed e)).node_words, s.good))  -- add-last-word
-    (λ c. let (s, e) : Past = search in omega (arith, (inside_is _ _ _ _ _ _ _ (passed e)).order, s.good))  -- add-last-place
-    (λ c. let (s, e) : Past = search in omega (arith, (inside_is _ _ _ _ _ _ _ (passed e)).vertices, s.good))  -- mul-own-step
-    (search rules)  -- sub-own-step
-    (search rules)  -- part-own-step-start
-    (λ c. let e : tie.Else2 = search in search (rules, (inside_is _ _ _ _ _ _ _ (passed e)).vertices))  -- part-own-step-end
-    (λ c. let (s, e) : Past = search in omega (arith, (inside_is _ _ _ _ _ _ _ (passed e)).triangles, s.good))  -- mul-own-step-2
-    (search rules)  -- sub-own-step-2
-    (search rules)  -- part-own-step-start-2
-    (λ c. let e : tie.Else2 = search in search (rules, (inside_is _ _ _ _ _ _ _ (passed e)).triangles))  -- part-own-step-end-2
-    (λ c. let (s, e) : Past = search in omega (arith, (inside_is _ _ _ _ _ _ _ (passed e)).node_boxes, s.good))  -- mul-own-step-3
-    (search rules)  -- sub-own-step-3
-    (search rules)  -- part-own-step-start-3
-    (λ c. let e : tie.Else2 = search in search (rules, (inside_is _ _ _ _ _ _ _ (passed e)).node_boxes))  -- part-own-step-end-3
-    (λ c. let (s, e) : Past = search in omega (arith, (inside_is _ _ _ _ _ _ _ (passed e)).triangle_boxes, s.good))  -- mul-own-step-4
-    (search rules)  -- sub-own-step-4
-    (search rules)  -- part-own-step-start-4
-    (λ c. let e : tie.Else2 = search in search (rules, (inside_is _ _ _ _ _ _ _ (passed e)).triangle_boxes))  -- part-own-step-end-4
-    (λ c. let (s, e) : Past = search in omega (arith, (inside_is _ _ _ _ _ _ _ (passed e)).node_words, s.good))  -- mul-own-step-5
-    (search rules)  -- sub-own-step-5
-    (search rules)  -- part-own-step-start-5
-    (λ c. let e : tie.Else2 = search in search (rules, (inside_is _ _ _ _ _ _ _ (passed e)).node_words))  -- part-own-step-end-5
-    (λ c. let (s, e) : Past = search in omega (arith, (inside_is _ _ _ _ _ _ _ (passed e)).order, s.good))  -- mul-own-step-6
-    (search rules)  -- sub-own-step-6
-    (search rules)  -- part-own-step-start-6
-    (λ c. let e : tie.Else2 = search in search (rules, (inside_is _ _ _ _ _ _ _ (passed e)).order))  -- part-own-step-end-6
-    (search rules)  -- own-step-requires
-    (λ c. search rules)  -- same-length
-    (λ c. search rules)  -- same-length-2
+    (λ c. let (s, e) : Past = search in omega (arith, (inside_is _ _ _ _ _ _ _ (passed e)).vertices, s.well_formed))  -- overflow_add-last_vertex
+    (λ c. let (s, e) : Past = search in omega (arith, (inside_is _ _ _ _ _ _ _ (passed e)).triangles, s.well_formed))  -- overflow_add-last_triangle
+    (λ c. let (s, e) : Past = search in omega (arith, (inside_is _ _ _ _ _ _ _ (passed e)).node_boxes, s.well_formed))  -- overflow_add-last_node
+    (λ c. let (s, e) : Past = search in omega (arith, (inside_is _ _ _ _ _ _ _ (passed e)).triangle_boxes, s.well_formed))  -- overflow_add-last_box
+    (λ c. let (s, e) : Past = search in omega (arith, (inside_is _ _ _ _ _ _ _ (passed e)).node_words, s.well_formed))  -- overflow_add-last_word
+    (λ c. let (s, e) : Past = search in omega (arith, (inside_is _ _ _ _ _ _ _ (passed e)).order, s.well_formed))  -- overflow_add-last_place
+    (λ c. let (s, e) : Past = search in omega (arith, (inside_is _ _ _ _ _ _ _ (passed e)).vertices, s.well_formed))  -- offset_bounds-vertices-first_vertex
+    (search rules)  -- slice_bounds-own_step-count
+    (search rules)  -- slice_bounds-own_step-start
+    (λ c. let e : tie.Else-not-ranges_inside = search in search (rules, (inside_is _ _ _ _ _ _ _ (passed e)).vertices))  -- slice_bounds-own_step-end
+    (λ c. let (s, e) : Past = search in omega (arith, (inside_is _ _ _ _ _ _ _ (passed e)).triangles, s.well_formed))  -- offset_bounds-triangles-first_triangle
+    (search rules)  -- slice_bounds-own_step-count-2
+    (search rules)  -- slice_bounds-own_step-start-2
+    (λ c. let e : tie.Else-not-ranges_inside = search in search (rules, (inside_is _ _ _ _ _ _ _ (passed e)).triangles))  -- slice_bounds-own_step-end-2
+    (λ c. let (s, e) : Past = search in omega (arith, (inside_is _ _ _ _ _ _ _ (passed e)).node_boxes, s.well_formed))  -- offset_bounds-node_boxes-first_node
+    (search rules)  -- slice_bounds-own_step-count-3
+    (search rules)  -- slice_bounds-own_step-start-3
+    (λ c. let e : tie.Else-not-ranges_inside = search in search (rules, (inside_is _ _ _ _ _ _ _ (passed e)).node_boxes))  -- slice_bounds-own_step-end-3
+    (λ c. let (s, e) : Past = search in omega (arith, (inside_is _ _ _ _ _ _ _ (passed e)).triangle_boxes, s.well_formed))  -- offset_bounds-triangle_boxes-first_box
+    (search rules)  -- slice_bounds-own_step-count-4
+    (search rules)  -- slice_bounds-own_step-start-4
+    (λ c. let e : tie.Else-not-ranges_inside = search in search (rules, (inside_is _ _ _ _ _ _ _ (passed e)).triangle_boxes))  -- slice_bounds-own_step-end-4
+    (λ c. let (s, e) : Past = search in omega (arith, (inside_is _ _ _ _ _ _ _ (passed e)).node_words, s.well_formed))  -- offset_bounds-node_words-first_word
+    (search rules)  -- slice_bounds-own_step-count-5
+    (search rules)  -- slice_bounds-own_step-start-5
+    (λ c. let e : tie.Else-not-ranges_inside = search in search (rules, (inside_is _ _ _ _ _ _ _ (passed e)).node_words))  -- slice_bounds-own_step-end-5
+    (λ c. let (s, e) : Past = search in omega (arith, (inside_is _ _ _ _ _ _ _ (passed e)).order, s.well_formed))  -- offset_bounds-order-first_place
+    (search rules)  -- slice_bounds-own_step-count-6
+    (search rules)  -- slice_bounds-own_step-start-6
+    (λ c. let e : tie.Else-not-ranges_inside = search in search (rules, (inside_is _ _ _ _ _ _ _ (passed e)).order))  -- slice_bounds-own_step-end-6
+    (search rules)  -- own_step-requires
+    (λ c. search rules)  -- shape_of-list
+    (λ c. search rules)  -- shape_of-stack
     returns-3)

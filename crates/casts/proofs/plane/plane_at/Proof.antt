@@ -6,36 +6,42 @@ use borrow.Author.Rules.{rules}
 use Rattle.casts.proofs.plane.plane_at.Statement.{statement}
 use Rattle.casts.proofs.plane.plane_at.Tie as tie
 
-returns : tie.Need-returns
+returns : tie.Need-returns-then-not-is_finite
 unfolding plane_at
-returns c = simp (sym c.before.is_finite.ensures, not-true c.before.is_finite.result c.if1.true)
+returns c = simp (sym c.is_finite.ensures, c.if-not-is_finite.true)
 
-returns-2 : tie.Need-returns-2
+returns-2 : tie.Need-returns-then-off_segment
 unfolding plane_at
 returns-2 c =
-    let (at-is-finite, else1) : tie.After-is-finite × tie.Else1 = search in
+    let (at-is-finite, else1) : tie.After-is_finite × tie.Else-not-is_finite = search in
     simp (
       sym at-is-finite.is_finite.ensures,
-      not-false at-is-finite.is_finite.result else1.if1.left,
+      else1.if-not-is_finite.false,
       sym
-          c.before.off-segment.ensures,
-      c.if2.true,
+          c.off_segment.ensures,
+      c.if-off_segment.true,
     )
 
-returns-3 : tie.Need-returns-3
+returns-3 : tie.Need-returns
 unfolding plane_at
 returns-3 c =
-    let (at-is-finite, else1, at-off-segment) : tie.After-is-finite × tie.Else1 × tie.After-off-segment = search in
+    let (at-is-finite, else1, at-off-segment) : tie.After-is_finite × tie.Else-not-is_finite × tie.After-off_segment = search in
     simp (
       sym at-is-finite.is_finite.ensures,
-      not-false at-is-finite.is_finite.result else1.if1.left,
+      else1.if-not-is_finite.false,
       sym
-          at-off-segment.off-segment.ensures,
-      c.before.if2.false,
+          at-off-segment.off_segment.ensures,
+      c.if-off_segment.false,
       sym c.facing.ensures,
     )
 
-pub plane-at-spec : {M : Type 1} → statement M
-plane-at-spec =
+pub plane_at_spec : {M : Type 1} → statement M
+plane_at_spec =
     tie.close
-    (tie.spec (search rules) returns (search rules) returns-2 (search rules) returns-3)
+    (tie.spec
+    (search rules)  -- is_finite-requires
+    returns
+    (search rules)  -- off_segment-requires
+    returns-2
+    (search rules)  -- facing-requires
+    returns-3)

@@ -6,43 +6,43 @@ use borrow.Author.Rules.{rules}
 use Rattle.casts.proofs.plane.ray_plane.Statement.{statement}
 use Rattle.casts.proofs.plane.ray_plane.Tie as tie
 
-returns : tie.Need-returns
+returns : tie.Need-returns-then-not-validate
 unfolding ray_plane
-returns c = simp (sym c.before.validate.ensures, not-true c.before.validate.result c.if1.true)
+returns c = simp (sym c.validate.ensures, c.if-not-validate.true)
 
-returns-2 : tie.Need-returns-2
+returns-2 : tie.Need-returns-then-not-is_admitted
 unfolding ray_plane
 returns-2 c =
-    let (at-validate, else1) : tie.After-validate × tie.Else1 = search in
+    let (at-validate, else1) : tie.After-validate × tie.Else-not-validate = search in
     simp (
       sym at-validate.validate.ensures,
-      not-false at-validate.validate.result else1.if1.left,
+      else1.if-not-validate.false,
       sym
-          c.before.is-admitted.ensures,
-      not-true c.before.is-admitted.result c.if2.true,
+          c.is_admitted.ensures,
+      c.if-not-is_admitted.true,
     )
 
-returns-3 : tie.Need-returns-3
+returns-3 : tie.Need-returns
 unfolding ray_plane
 returns-3 c =
-    let (at-validate, else1, at-is-admitted) : tie.After-validate × tie.Else1 × tie.After-is-admitted = search in
+    let (at-validate, else1, at-is-admitted) : tie.After-validate × tie.Else-not-validate × tie.After-is_admitted = search in
     simp (
       sym at-validate.validate.ensures,
-      not-false at-validate.validate.result else1.if1.left,
+      else1.if-not-validate.false,
       sym
-          at-is-admitted.is-admitted.ensures,
-      not-false at-is-admitted.is-admitted.result c.before.if2.false,
+          at-is-admitted.is_admitted.ensures,
+      c.if-not-is_admitted.false,
       sym
-          c.plane-cast.ensures,
+          c.plane_cast.ensures,
     )
 
-pub ray-plane-spec : {M : Type 1} → statement M
-ray-plane-spec =
+pub ray_plane_spec : {M : Type 1} → statement M
+ray_plane_spec =
     tie.close
     (tie.spec
     (search rules)  -- validate-requires
     returns
-    (search rules)  -- is-admitted-requires
+    (search rules)  -- is_admitted-requires
     returns-2
-    (search rules)  -- plane-cast-requires
+    (search rules)  -- plane_cast-requires
     returns-3)

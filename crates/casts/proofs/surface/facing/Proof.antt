@@ -10,11 +10,11 @@ use Rattle.casts.proofs.surface.facing.Tie as tie
 returns : tie.Need-returns
 unfolding facing
 returns c =
-    let (s, x, y) : tie.Start × tie.After-flipped × tie.After-flipped2 = search in
-    rw (x.flipped.ensures, y.flipped2.ensures, c.flipped3.ensures) (flipped_each s.args.normal (lt zeroᶠ s.args.along))
+    let (s, x, y) : tie.Start × tie.After-flipped × tie.After-flipped-2 = search in
+    rw (x.flipped.ensures, y.flipped-2.ensures, c.flipped-3.ensures) (flipped_each s.args.normal (lt zeroᶠ s.args.along))
 
-pub facing-spec : {M : Type 1} → statement M
-facing-spec =
+pub facing_spec : {M : Type 1} → statement M
+facing_spec =
     tie.close
     (tie.spec
     (λ c κs. search rules)  -- flipped-requires

@@ -11,26 +11,27 @@ use Rattle.casts.proofs.surface.facing_as.Statement.{statement}
 use Rattle.casts.proofs.surface.facing_as.Tie as tie
 
 -- flipped, as was told
-returns : tie.Need-returns
+returns : tie.Need-returns-then-flips
 unfolding facing neg_of
 returns c =
-    let (s, then1, then2) : tie.Start × tie.Then1 × tie.Then2 = search in
-    let h : lt zeroᶠ s.args.along ≡ true = same_tests _ s.args.flips true then1.if1.taken then2.if2.taken in
+    let (s, then1, then2) : tie.Start × tie.Then-along-flips × tie.Then-flips = search in
+    let h : lt zeroᶠ s.args.along ≡ true = same_tests _ s.args.flips true then1.if-along-flips.true then2.if-flips.true in
     simp h
 
 -- not flipped, as was told
-returns-2 : tie.Need-returns-2
+returns-2 : tie.Need-returns-then-along-flips
 unfolding facing
 returns-2 c =
-    let (s, then1) : tie.Start × tie.Then1 = search in
-    let h : lt zeroᶠ s.args.along ≡ false = same_tests _ s.args.flips false then1.if1.taken c.if2.false in
+    let (s, then1) : tie.Start × tie.Then-along-flips = search in
+    let h : lt zeroᶠ s.args.along ≡ false = same_tests _ s.args.flips false then1.if-along-flips.true c.if-flips.false in
     simp h
 
-pub facing-as-spec : {M : Type 1} → statement M
-facing-as-spec =
+pub facing_as_spec : {M : Type 1} → statement M
+facing_as_spec =
     tie.close
     (tie.spec
     returns
     returns-2
     (search rules)  -- facing-requires
-    (λ c. search rules))  -- returns-3
+    (λ c. search rules)  -- returns
+    )

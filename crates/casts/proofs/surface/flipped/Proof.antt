@@ -12,10 +12,10 @@ returns : tie.Need-returns
 returns c =
     let s : tie.Start = search in
     let x = s.args.x in
-    ap (λ (y : Float). x *ᶠ y) c.side.ensures ∙ times_side x (subst T (sym s.good.0.1) tt) (lt zeroᶠ s.args.along)
+    ap (λ (y : Float). x *ᶠ y) c.side.ensures ∙ times_side x (subst T (sym s.well_formed.0.1) tt) (lt zeroᶠ s.args.along)
 
-pub flipped-spec : {M : Type 1} → statement M
-flipped-spec =
+pub flipped_spec : {M : Type 1} → statement M
+flipped_spec =
     tie.close
     (tie.spec
     (λ c κs. search rules)  -- side-requires

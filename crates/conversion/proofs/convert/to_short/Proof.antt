@@ -4,10 +4,11 @@ use borrow.Author.Rules.{rules}
 use Rattle.conversion.proofs.convert.to_short.Statement.{statement}
 use Rattle.conversion.proofs.convert.to_short.Tie as tie
 
-pub to-short-spec : {M : Type 1} → statement M
-to-short-spec =
+pub to_short_spec : {M : Type 1} → statement M
+to_short_spec =
     tie.close
     (tie.spec
     (λ c κs. refl)  -- convert-requires
-    (search rules)  -- same-length
-    (λ c. search rules))
+    (search rules)  -- shape_of-out
+    (λ c. search rules)  -- returns
+    )

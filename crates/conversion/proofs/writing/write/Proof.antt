@@ -20,24 +20,24 @@ as-many-floats : (s : tie.Start) → rays_of s.args.p ≡ rays_of s.args.q
 as-many-floats s = s.requires.1.1.1
 
 -- the area as each part leaves it
-abbrev after-head : tie.After-write-head → List ℕ
-after-head h = h.write-head.new.1.1.1.0
+abbrev after-head : tie.After-write_head → List ℕ
+after-head h = h.write_head.new.out
 
-abbrev after-ray : tie.After-write-ray → List ℕ
-after-ray r = r.write-ray.new.1.1.1.1.0
+abbrev after-ray : tie.After-write_ray → List ℕ
+after-ray r = r.write_ray.new.out
 
-numbers-place-requires : tie.Need-numbers-place-requires
+numbers-place-requires : tie.Need-numbers_place-from-requires
 numbers-place-requires c κs = let s : tie.Start = search in (sizes-of s).few
 
-numbers-place-requires-2 : tie.Need-numbers-place-requires-2
+numbers-place-requires-2 : tie.Need-numbers_place-to-requires
 numbers-place-requires-2 c κs = let s : tie.Start = search in (sizes-of s).few
 
-write-head-requires : tie.Need-write-head-requires
+write-head-requires : tie.Need-write_head-requires
 write-head-requires c κs =
     let s : tie.Start = search in
     let a = s.args in
-    head_room a.p a.q a.source.now a.plan (as-many-floats s) (sizes-of s) a.body (length a.out.now) s.pre.1.0.0
-    s.pre.1.0.1
+    head_room a.p a.q a.source.now a.plan (as-many-floats s) (sizes-of s) a.body (length a.out.now) s.requires.1.0.0
+    s.requires.1.0.1
 
 -- the ray and the counts have room
 ray-fits : (s : tie.Start) → counts_place s.args.q + 4 * s.args.plan.counts ≤ length s.args.out.now
@@ -46,42 +46,42 @@ ray-fits s =
     ray_room a.p a.q a.source.now a.plan (as-many-floats s) (sizes-of s) a.body (length a.out.now) s.requires.1.0.0
     s.requires.1.0.1
 
-write-ray-requires : tie.Need-write-ray-requires
+write-ray-requires : tie.Need-write_ray-requires
 write-ray-requires c κs =
-    let (s, h) : tie.Start × tie.After-write-head = search in
+    let (s, h) : tie.Start × tie.After-write_head = search in
     let a = s.args in (
       ((sizes-of s).few, omega (arith, (sizes-of s).whole)),
       (
-        kept_by a.out.now (after-head h) _ h.write-head.kept.1.1.1.0 (ray-fits s),
-        (ray_passes a.p (fits_in a.q) a.source.now s.pre.1.1.0, as-many-floats s),
+        kept_by a.out.now (after-head h) _ h.write_head.auto.out (ray-fits s),
+        (ray_passes a.p (fits_in a.q) a.source.now s.requires.1.1.0, as-many-floats s),
       ),
     )
 
-write-shape-requires : tie.Need-write-shape-requires
+write-shape-requires : tie.Need-write_shape-requires
 write-shape-requires c κs =
-    let (s, n, m, h, r) : tie.Start × tie.After-numbers-place × tie.After-numbers-place2 × tie.After-write-head × tie.After-write-ray =
+    let (s, n, m, h, r) : tie.Start × tie.After-numbers_place-from × tie.After-numbers_place-to × tie.After-write_head × tie.After-write_ray =
     search in
     let a = s.args in
-    let end = m.numbers-place2.result + size_of a.q * a.plan.numbers + 4 * a.plan.indices in
+    let end = m.numbers_place-to.result + size_of a.q * a.plan.numbers + 4 * a.plan.indices in
     let fits = shape_room a.p a.q a.source.now a.plan (as-many-floats s) (sizes-of s) a.body (length a.out.now)
-    s.pre.1.0.0 s.pre.1.0.1 m.numbers-place2.result m.numbers-place2.ensures.0 in (
-      (omega (arith, (sizes-of s).small), omega (arith, (sizes-of s).whole, n.numbers-place.ensures.0)),
+    s.requires.1.0.0 s.requires.1.0.1 m.numbers_place-to.result m.numbers_place-to.ensures.0 in (
+      (omega (arith, (sizes-of s).small), omega (arith, (sizes-of s).whole, n.numbers_place-from.ensures.0)),
       (
-        kept_by (after-head h) (after-ray r) end r.write-ray.kept.1.1.1.1.0
-            (kept_by a.out.now (after-head h) end h.write-head.kept.1.1.1.0 fits),
-        numbers_pass a.p (fits_in a.q) a.source.now s.pre.1.1.0 a.plan n.numbers-place.result (sizes-of s)
-            n.numbers-place.ensures.0,
+        kept_by (after-head h) (after-ray r) end r.write_ray.auto.out
+            (kept_by a.out.now (after-head h) end h.write_head.auto.out fits),
+        numbers_pass a.p (fits_in a.q) a.source.now s.requires.1.1.0 a.plan n.numbers_place-from.result (sizes-of s)
+            n.numbers_place-from.ensures.0,
       ),
     )
 
 returns : tie.Need-returns
 returns c =
-    let (s, n, m, h, r, w) : tie.Start × tie.After-numbers-place × tie.After-numbers-place2 × tie.After-write-head × tie.After-write-ray ×
-    tie.After-write-shape = search in
+    let (s, n, m, h, r, w) : tie.Start × tie.After-numbers_place-from × tie.After-numbers_place-to × tie.After-write_head × tie.After-write_ray ×
+    tie.After-write_shape = search in
     let a = s.args in
     all_written a.p a.q a.source.now a.out.now a.plan (as-many-floats s) (sizes-of s) (after-head h) (after-ray r)
-    w.write_shape.last.1.1.1.1.1.1.0 a.body n.numbers-place.result m.numbers-place2.result s.pre.1.0.0
-    n.numbers-place.ensures.0 m.numbers-place2.ensures.0 h.write-head.ensures r.write-ray.ensures
+    w.write_shape.new.out a.body n.numbers_place-from.result m.numbers_place-to.result s.requires.1.0.0
+    n.numbers_place-from.ensures.0 m.numbers_place-to.ensures.0 h.write_head.ensures r.write_ray.ensures
     w.write_shape.ensures
 
 pub write_spec : {M : Type 1} → statement M
@@ -93,5 +93,5 @@ write_spec =
     write-head-requires
     write-ray-requires
     write-shape-requires
-    (λ c. search rules)  -- same-length
+    (λ c. search rules)  -- shape_of-out
     returns)

@@ -7,18 +7,18 @@ use Rattle.conversion.proofs.writing.write_head.Tie as tie
 
 returns : tie.Need-returns
 returns c =
-    let (start, at-put-word) : tie.Start × tie.After-put-word = search in
+    let (start, at-put-word) : tie.Start × tie.After-put_word = search in
     rw c.version_of.ensures
-    (head_written start.args.out.now at-put-word.put_word.last.0 start.args.body (version_of start.args.q)
+    (head_written start.args.out.now at-put-word.put_word.new.out start.args.body (version_of start.args.q)
     start.args.kind at-put-word.put_word.ensures)
 
-pub write-head-spec : {M : Type 1} → statement M
-write-head-spec =
+pub write_head_spec : {M : Type 1} → statement M
+write_head_spec =
     tie.close
     (tie.spec
-    (λ c κs. search rules)  -- put-word-requires
-    (λ c κs. search rules)  -- version-of-requires
-    (λ c. search rules)  -- slice-write-out
-    (λ c. search rules)  -- slice-write-out-2
-    (λ c. search rules)  -- same-length
+    (λ c κs. search rules)  -- put_word-requires
+    (λ c κs. search rules)  -- version_of-requires
+    (λ c. search rules)  -- bounds-out-4
+    (λ c. search rules)  -- bounds-out-5
+    (λ c. search rules)  -- shape_of-out
     returns)

@@ -17,39 +17,39 @@ use Rattle.conversion.proofs.writing.write_ray.Tie as tie
 ray-length : (s : tie.Start) → size_of s.args.q * rays_of s.args.p ≡ size_of s.args.q * rays_of s.args.q
 ray-length s = ap (λ (n : ℕ). size_of s.args.q * n) s.requires.1.1.1
 
-put-floats-requires : tie.Need-put-floats-requires
+put-floats-requires : tie.Need-put_floats-requires
 put-floats-requires c κs =
-    let (s, k) : tie.Start × tie.After-ray-count = search in
-    rw k.ray-count.ensures (omega (arith, s.pre.0.1), (omega (arith, s.pre.1.0, ray-length s), s.pre.1.1.0))
+    let (s, k) : tie.Start × tie.After-ray_count = search in
+    rw k.ray_count.ensures (omega (arith, s.requires.0.1), (omega (arith, s.requires.1.0, ray-length s), s.requires.1.1.0))
 
 -- the area once the ray is written, and once the counts are
-abbrev after-ray : tie.After-put-floats → List ℕ
-after-ray w = w.put-floats.new.1.1.1.1.1.0
+abbrev after-ray : tie.After-put_floats → List ℕ
+after-ray w = w.put_floats.new.out
 
 returns : tie.Need-returns
 returns c =
-    let (s, n, m, k, w, v) : tie.Start × tie.After-numbers-place × tie.After-numbers-place2 × tie.After-ray-count × tie.After-put-floats ×
-    tie.After-put-words = search in
+    let (s, n, m, k, w, v) : tie.Start × tie.After-numbers_place-from × tie.After-numbers_place-to × tie.After-ray_count × tie.After-put_floats ×
+    tie.After-put_words = search in
     let a = s.args in
     let l = a.source.now in
-    let to = m.numbers-place2.result in
-    let from : n.numbers-place.result ≡ counts_place a.p = omega (arith, n.numbers-place.ensures.0) in
-    two_parts a.out.now (after-ray w) v.put-words.last.1.1.1.0
+    let to = m.numbers_place-to.result in
+    let from : n.numbers_place-from.result ≡ counts_place a.p = omega (arith, n.numbers_place-from.ensures.0) in
+    two_parts a.out.now (after-ray w) v.put_words.new.out
     (numbers_bytes a.q (numbers_of a.p (rays_of a.p) (drop 6 l)))
     (words_bytes (words_of a.counts (drop (counts_place a.p) l))) 6 to
-    (w.put-floats.ensures ∙ ap (λ (i : ℕ). sets a.out.now 6 (numbers_bytes a.q (numbers_of a.p i (drop 6 l))))
-    k.ray-count.ensures)
-    (v.put-words.ensures ∙ ap (λ (i : ℕ). sets (after-ray w) to (words_bytes (words_of a.counts (drop i l)))) from)
-    (run_behind a.p a.q (rays_of a.p) 6 to (drop 6 l) (omega (arith, m.numbers-place2.ensures.0, ray-length s)))
+    (w.put_floats.ensures ∙ ap (λ (i : ℕ). sets a.out.now 6 (numbers_bytes a.q (numbers_of a.p i (drop 6 l))))
+    k.ray_count.ensures)
+    (v.put_words.ensures ∙ ap (λ (i : ℕ). sets (after-ray w) to (words_bytes (words_of a.counts (drop i l)))) from)
+    (run_behind a.p a.q (rays_of a.p) 6 to (drop 6 l) (omega (arith, m.numbers_place-to.ensures.0, ray-length s)))
 
-pub write-ray-spec : {M : Type 1} → statement M
-write-ray-spec =
+pub write_ray_spec : {M : Type 1} → statement M
+write_ray_spec =
     tie.close
     (tie.spec
-    (λ c κs. search rules)  -- numbers-place-requires
-    (λ c κs. search rules)  -- numbers-place-requires-2
-    (λ c κs. search rules)  -- ray-count-requires
+    (λ c κs. search rules)  -- numbers_place-from-requires
+    (λ c κs. search rules)  -- numbers_place-to-requires
+    (λ c κs. search rules)  -- ray_count-requires
     put-floats-requires
-    (λ c κs. search rules)  -- put-words-requires
-    (λ c. search rules)  -- same-length
+    (λ c κs. search rules)  -- put_words-requires
+    (λ c. search rules)  -- shape_of-out
     returns)

@@ -8,5 +8,5 @@ returns : tie.Need-returns
 unfolding cubic_of cubic_by
 returns c = refl
 
-pub cubic-of-spec : {M : Type 1} → statement M
-cubic-of-spec = tie.close (tie.spec returns)
+pub cubic_of_spec : {M : Type 1} → statement M
+cubic_of_spec = tie.close (tie.spec returns)

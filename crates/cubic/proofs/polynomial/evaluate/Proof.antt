@@ -8,5 +8,5 @@ returns : tie.Need-returns
 unfolding evaluate
 returns c = refl
 
-pub evaluate-spec : {M : Type 1} → statement M
-evaluate-spec = tie.close (tie.spec returns)
+pub evaluate_spec : {M : Type 1} → statement M
+evaluate_spec = tie.close (tie.spec returns)

@@ -5,47 +5,47 @@ use Rattle.lists.proofs.JoinedTests.{test_passed, test_failed}
 use Rattle.cubic.proofs.polynomial.finite_cubic.Statement.{statement}
 use Rattle.cubic.proofs.polynomial.finite_cubic.Tie as tie
 
-returns : tie.Need-returns
+returns : tie.Need-returns-then-not-is_finite
 unfolding finite_cubic
-returns c = simp (test_failed c.before.is_finite.ensures c.if1.true)
+returns c = simp (test_failed c.is_finite.ensures c.if-not-is_finite.true)
 
-returns-2 : tie.Need-returns-2
+returns-2 : tie.Need-returns-then-not-is_finite-2
 unfolding finite_cubic
 returns-2 c =
-    let e1 : tie.Else1 = search in
-    simp (test_passed e1.before.is_finite.ensures e1.if1.left, test_failed c.before.is-finite2.ensures c.if2.true)
+    let e1 : tie.Else-not-is_finite = search in
+    simp (test_passed e1.is_finite.ensures e1.if-not-is_finite.false, test_failed c.is_finite-2.ensures c.if-not-is_finite-2.true)
 
-returns-3 : tie.Need-returns-3
+returns-3 : tie.Need-returns-then-not-is_finite-3
 unfolding finite_cubic
 returns-3 c =
-    let (e1, e2) : tie.Else1 × tie.Else2 = search in
+    let (e1, e2) : tie.Else-not-is_finite × tie.Else-not-is_finite-2 = search in
     simp (
-      test_passed e1.before.is_finite.ensures e1.if1.left,
-      test_passed e2.before.is-finite2.ensures e2.if2.left,
-      test_failed c.before.is-finite3.ensures c.if3.true,
+      test_passed e1.is_finite.ensures e1.if-not-is_finite.false,
+      test_passed e2.is_finite-2.ensures e2.if-not-is_finite-2.false,
+      test_failed c.is_finite-3.ensures c.if-not-is_finite-3.true,
     )
 
 -- they all pass
-returns-4 : tie.Need-returns-4
+returns-4 : tie.Need-returns
 unfolding finite_cubic
 returns-4 c =
-    let (e1, e2, e3) : tie.Else1 × tie.Else2 × tie.Else3 = search in
+    let (e1, e2, e3) : tie.Else-not-is_finite × tie.Else-not-is_finite-2 × tie.Else-not-is_finite-3 = search in
     simp (
-      test_passed e1.before.is_finite.ensures e1.if1.left,
-      test_passed e2.before.is-finite2.ensures e2.if2.left,
-      test_passed e3.before.is-finite3.ensures e3.if3.left,
-      sym c.is-finite4.ensures,
+      test_passed e1.is_finite.ensures e1.if-not-is_finite.false,
+      test_passed e2.is_finite-2.ensures e2.if-not-is_finite-2.false,
+      test_passed e3.is_finite-3.ensures e3.if-not-is_finite-3.false,
+      sym c.is_finite-4.ensures,
     )
 
-pub finite-cubic-spec : {M : Type 1} → statement M
-finite-cubic-spec =
+pub finite_cubic_spec : {M : Type 1} → statement M
+finite_cubic_spec =
     tie.close
     (tie.spec
-    (λ c κs. tt)  -- is-finite-requires
+    (λ c κs. tt)  -- is_finite-requires
     returns
-    (λ c κs. tt)  -- is-finite-requires-2
+    (λ c κs. tt)  -- is_finite-requires-2
     returns-2
-    (λ c κs. tt)  -- is-finite-requires-3
+    (λ c κs. tt)  -- is_finite-requires-3
     returns-3
-    (λ c κs. tt)  -- is-finite-requires-4
+    (λ c κs. tt)  -- is_finite-requires-4
     returns-4)

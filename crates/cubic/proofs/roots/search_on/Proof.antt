@@ -5,29 +5,29 @@ use borrow.Author.Rules.{rules}
 use Rattle.cubic.proofs.roots.search_on.Statement.{statement}
 use Rattle.cubic.proofs.roots.search_on.Tie as tie
 
-root-between-requires : tie.Need-root-between-requires
+root-between-requires : tie.Need-root_between-requires
 root-between-requires c κs = tt
 
-returns : tie.Need-returns
+returns : tie.Need-returns-in-At
 unfolding search_on
-returns c = simp c.before.found.given.1
+returns c = simp c.in-At.is
 
-returns-2 : tie.Need-returns-2
+returns-2 : tie.Need-returns-in-None
 unfolding search_on
-returns-2 c = simp (c.before.enum_told.given.1, sym c.root-between.ensures)
+returns-2 c = simp (c.in-None.is, sym c.root_between.ensures)
 
-returns-3 : tie.Need-returns-3
+returns-3 : tie.Need-returns-in-Overflow
 unfolding search_on
-returns-3 c = simp c.enum-told2.given.1
+returns-3 c = simp c.in-Overflow.is
 
-pub search-on-spec : {M : Type 1} → statement M
-search-on-spec =
+pub search_on_spec : {M : Type 1} → statement M
+search_on_spec =
     tie.close
     (tie.spec
-    (search rules)  -- enum-known-found
-    (search rules)  -- enum_told
+    (search rules)  -- enum_known-found
+    (search rules)  -- enum_told-1
     root-between-requires
-    (search rules)  -- enum-told-2
+    (search rules)  -- enum_told-in-Overflow
     returns
     returns-2
     returns-3)

@@ -16,35 +16,35 @@ maximum-requires c κs = tt
 vertex-requires : tie.Need-vertex-requires
 vertex-requires c κs = tt
 
-returns : tie.Need-returns
+returns : tie.Need-returns-then-abs-maximum
 unfolding extrema
 returns c =
-    let (at-abs, at-abs2, at_maximum) : tie.After-abs × tie.After-abs2 × tie.After-maximum = search in
+    let (at-abs, at-abs2, at_maximum) : tie.After-abs × tie.After-abs-2 × tie.After-maximum = search in
     simp (
       sym at-abs.abs.ensures,
-      sym at-abs2.abs2.ensures,
+      sym at-abs2.abs-2.ensures,
       sym at_maximum.maximum.ensures,
-      c.before.if1.true,
+      c.if-abs-maximum.true,
       sym c.vertex.ensures,
     )
 
-turning-points-requires : tie.Need-turning-points-requires
+turning-points-requires : tie.Need-turning_points-requires
 turning-points-requires c κs = tt
 
-returns-2 : tie.Need-returns-2
+returns-2 : tie.Need-returns
 unfolding extrema
 returns-2 c =
-    let (at-abs, at-abs2, at_maximum) : tie.After-abs × tie.After-abs2 × tie.After-maximum = search in
+    let (at-abs, at-abs2, at_maximum) : tie.After-abs × tie.After-abs-2 × tie.After-maximum = search in
     simp (
       sym at-abs.abs.ensures,
-      sym at-abs2.abs2.ensures,
+      sym at-abs2.abs-2.ensures,
       sym at_maximum.maximum.ensures,
-      c.before.if1.false,
-      sym c.turning-points.ensures,
+      c.if-abs-maximum.false,
+      sym c.turning_points.ensures,
     )
 
-pub extrema-spec : {M : Type 1} → statement M
-extrema-spec =
+pub extrema_spec : {M : Type 1} → statement M
+extrema_spec =
     tie.close
     (tie.spec
     abs-requires

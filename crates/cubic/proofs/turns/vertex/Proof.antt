@@ -4,24 +4,28 @@ use mathlib.Core.Path.{sym}
 use Rattle.cubic.proofs.turns.vertex.Statement.{statement}
 use Rattle.cubic.proofs.turns.vertex.Tie as tie
 
-between-ends-requires : tie.Need-between-ends-requires
+between-ends-requires : tie.Need-between_ends-requires
 between-ends-requires c κs = tt
 
-returns : tie.Need-returns
+returns : tie.Need-returns-then-between_ends
 unfolding vertex kept_point
 returns c =
-    let then1 : tie.Then1 = search in
-    simp (then1.if1.taken, sym c.before.between_ends.ensures, c.if2.true)
+    let then1 : tie.Then-derivative_b = search in
+    simp (then1.if-derivative_b.true, sym c.between_ends.ensures, c.if-between_ends.true)
 
-returns-2 : tie.Need-returns-2
+returns-2 : tie.Need-returns-then-derivative_b
 unfolding vertex kept_point
 returns-2 c =
-    let then1 : tie.Then1 = search in
-    simp (then1.if1.taken, sym c.before.between_ends.ensures, c.if2.false)
+    let then1 : tie.Then-derivative_b = search in
+    simp (then1.if-derivative_b.true, sym c.between_ends.ensures, c.if-between_ends.false)
 
-returns-3 : tie.Need-returns-3
+returns-3 : tie.Need-returns
 unfolding vertex kept_point
-returns-3 c = simp c.if1.false
+returns-3 c = simp c.if-derivative_b.false
 
-pub vertex-spec : {M : Type 1} → statement M
-vertex-spec = tie.close (tie.spec between-ends-requires returns returns-2 returns-3)
+pub vertex_spec : {M : Type 1} → statement M
+vertex_spec = tie.close (tie.spec
+    between-ends-requires
+    returns
+    returns-2
+    returns-3)

@@ -8,24 +8,24 @@ use Rattle.distance_grid.proofs.faces.face_at.Tie as tie
 returns : tie.Need-returns
 unfolding face_at
 returns c =
-    let (at-value-at, at-value-at2) : tie.After-value-at × tie.After-value-at2 = search in
+    let (at-value-at, at-value-at2) : tie.After-value_at × tie.After-value_at-2 = search in
     simp (
-      sym at-value-at.value-at.ensures,
-      sym at-value-at2.value-at2.ensures,
-      sym c.before.value-at3.ensures,
-      sym c.value-at4.ensures,
+      sym at-value-at.value_at.ensures,
+      sym at-value-at2.value_at-2.ensures,
+      sym c.value_at-3.ensures,
+      sym c.value_at-4.ensures,
     )
 
-pub face-at-spec : {M : Type 1} → statement M
-face-at-spec =
+pub face_at_spec : {M : Type 1} → statement M
+face_at_spec =
     tie.close
     (tie.spec
-    (search rules)  -- value-at-requires
-    (search rules)  -- add-value-at
-    (search rules)  -- value-at-requires-2
-    (search rules)  -- add-value-at-2
-    (search rules)  -- value-at-requires-3
-    (search rules)  -- add-value-at-3
-    (search rules)  -- add-value-at-4
-    (search rules)  -- value-at-requires-4
+    (search rules)  -- value_at-requires
+    (search rules)  -- overflow_add-x
+    (search rules)  -- value_at-requires-2
+    (search rules)  -- overflow_add-y
+    (search rules)  -- value_at-requires-3
+    (search rules)  -- overflow_add-x-2
+    (search rules)  -- overflow_add-y-2
+    (search rules)  -- value_at-requires-4
     returns)

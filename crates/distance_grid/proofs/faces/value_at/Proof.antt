@@ -7,64 +7,64 @@ use borrow.Author.Rules.{rules}
 use Rattle.distance_grid.proofs.faces.value_at.Statement.{statement}
 use Rattle.distance_grid.proofs.faces.value_at.Tie as tie
 
-mul-index : tie.Need-overflow-mul-index
+mul-index : tie.Need-overflow_mul-index
 mul-index c = omega (
   arith,
-  (node_placed c.before.args.grid c.before.args.values.now c.before.args.x c.before.args.y
-      c.before.args.z c.before.requires),
+  (node_placed c.args.grid c.args.values.now c.args.x c.args.y
+      c.args.z c.requires),
 )
 
-add-index : tie.Need-overflow-add-index
+add-index : tie.Need-overflow_add-index
 add-index c = omega (
   arith,
-  (node_placed c.before.args.grid c.before.args.values.now c.before.args.x c.before.args.y
-      c.before.args.z c.before.requires),
+  (node_placed c.args.grid c.args.values.now c.args.x c.args.y
+      c.args.z c.requires),
 )
 
-mul-index-2 : tie.Need-overflow-mul-index-2
+mul-index-2 : tie.Need-overflow_mul-index-2
 mul-index-2 c =
     let start : tie.Start = search in
     omega (
       arith,
-      (node_placed start.args.grid start.args.values.now start.args.x start.args.y start.args.z start.pre),
+      (node_placed start.args.grid start.args.values.now start.args.x start.args.y start.args.z start.requires),
     )
 
-add-index-2 : tie.Need-overflow-add-index-2
+add-index-2 : tie.Need-overflow_add-index-2
 add-index-2 c =
     let start : tie.Start = search in
     omega (
       arith,
-      (node_placed start.args.grid start.args.values.now start.args.x start.args.y start.args.z start.pre),
+      (node_placed start.args.grid start.args.values.now start.args.x start.args.y start.args.z start.requires),
     )
 
-mul-result : tie.Need-overflow-mul-result
+mul-result : tie.Need-offset_bounds-values-index
 mul-result c =
     let start : tie.Start = search in
     omega (
       arith,
-      (node_placed start.args.grid start.args.values.now start.args.x start.args.y start.args.z start.pre),
+      (node_placed start.args.grid start.args.values.now start.args.x start.args.y start.args.z start.requires),
     )
 
-shared-slice-read-result : tie.Need-shared-slice-read-result
+shared-slice-read-result : tie.Need-bounds-values-index
 shared-slice-read-result c =
     let start : tie.Start = search in
     omega (
       arith,
-      (node_placed start.args.grid start.args.values.now start.args.x start.args.y start.args.z start.pre),
+      (node_placed start.args.grid start.args.values.now start.args.x start.args.y start.args.z start.requires),
     )
 
 returns : tie.Need-returns
 unfolding value_at
 returns c = refl
 
-pub value-at-spec : {M : Type 1} → statement M
-value-at-spec =
+pub value_at_spec : {M : Type 1} → statement M
+value_at_spec =
     tie.close
     (tie.spec
-    (search rules)  -- cast-index
+    (search rules)  -- overflow_cast-index-2
     mul-index
     add-index
-    (search rules)  -- cast-index-2
+    (search rules)  -- overflow_cast-index-4
     mul-index-2
     add-index-2
     mul-result

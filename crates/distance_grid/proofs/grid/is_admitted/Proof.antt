@@ -5,64 +5,64 @@ use Rattle.lists.proofs.JoinedTests.{test_passed, test_failed}
 use Rattle.distance_grid.proofs.grid.is_admitted.Statement.{statement}
 use Rattle.distance_grid.proofs.grid.is_admitted.Tie as tie
 
-returns : tie.Need-returns
+returns : tie.Need-returns-then-not-sides_admitted
 unfolding grid_admitted
-returns c = simp (test_failed c.before.sides-admitted.ensures c.if1.true)
+returns c = simp (test_failed c.sides_admitted.ensures c.if-not-sides_admitted.true)
 
-returns-2 : tie.Need-returns-2
+returns-2 : tie.Need-returns-then-not-spacing_admitted
 unfolding grid_admitted
 returns-2 c =
-    let e1 : tie.Else1 = search in
+    let e1 : tie.Else-not-sides_admitted = search in
     simp (
-      test_passed e1.before.sides-admitted.ensures e1.if1.left,
-      test_failed c.before.spacing_admitted_lem.ensures c.if2.true,
+      test_passed e1.sides_admitted.ensures e1.if-not-sides_admitted.false,
+      test_failed c.spacing_admitted.ensures c.if-not-spacing_admitted.true,
     )
 
-returns-3 : tie.Need-returns-3
+returns-3 : tie.Need-returns-then-not-spacing_admitted-2
 unfolding grid_admitted
 returns-3 c =
-    let (e1, e2) : tie.Else1 × tie.Else2 = search in
+    let (e1, e2) : tie.Else-not-sides_admitted × tie.Else-not-spacing_admitted = search in
     simp (
-      test_passed e1.before.sides-admitted.ensures e1.if1.left,
-      test_passed e2.before.spacing_admitted_lem.ensures e2.if2.left,
-      test_failed c.before.spacing-admitted2.ensures c.if3.true,
+      test_passed e1.sides_admitted.ensures e1.if-not-sides_admitted.false,
+      test_passed e2.spacing_admitted.ensures e2.if-not-spacing_admitted.false,
+      test_failed c.spacing_admitted-2.ensures c.if-not-spacing_admitted-2.true,
     )
 
-returns-4 : tie.Need-returns-4
+returns-4 : tie.Need-returns-then-not-spacing_admitted-3
 unfolding grid_admitted
 returns-4 c =
-    let (e1, e2, e3) : tie.Else1 × tie.Else2 × tie.Else3 = search in
+    let (e1, e2, e3) : tie.Else-not-sides_admitted × tie.Else-not-spacing_admitted × tie.Else-not-spacing_admitted-2 = search in
     simp (
-      test_passed e1.before.sides-admitted.ensures e1.if1.left,
-      test_passed e2.before.spacing_admitted_lem.ensures e2.if2.left,
-      test_passed e3.before.spacing-admitted2.ensures e3.if3.left,
-      test_failed c.before.spacing-admitted3.ensures c.if4.true,
+      test_passed e1.sides_admitted.ensures e1.if-not-sides_admitted.false,
+      test_passed e2.spacing_admitted.ensures e2.if-not-spacing_admitted.false,
+      test_passed e3.spacing_admitted-2.ensures e3.if-not-spacing_admitted-2.false,
+      test_failed c.spacing_admitted-3.ensures c.if-not-spacing_admitted-3.true,
     )
 
 -- they all pass
-returns-5 : tie.Need-returns-5
+returns-5 : tie.Need-returns
 unfolding grid_admitted
 returns-5 c =
-    let (e1, e2, e3, e4) : tie.Else1 × tie.Else2 × tie.Else3 × tie.Else4 = search in
+    let (e1, e2, e3, e4) : tie.Else-not-sides_admitted × tie.Else-not-spacing_admitted × tie.Else-not-spacing_admitted-2 × tie.Else-not-spacing_admitted-3 = search in
     simp (
-      test_passed e1.before.sides-admitted.ensures e1.if1.left,
-      test_passed e2.before.spacing_admitted_lem.ensures e2.if2.left,
-      test_passed e3.before.spacing-admitted2.ensures e3.if3.left,
-      test_passed e4.before.spacing-admitted3.ensures e4.if4.left,
+      test_passed e1.sides_admitted.ensures e1.if-not-sides_admitted.false,
+      test_passed e2.spacing_admitted.ensures e2.if-not-spacing_admitted.false,
+      test_passed e3.spacing_admitted-2.ensures e3.if-not-spacing_admitted-2.false,
+      test_passed e4.spacing_admitted-3.ensures e4.if-not-spacing_admitted-3.false,
       sym c.is_finite.ensures,
     )
 
-pub is-admitted-spec : {M : Type 1} → statement M
-is-admitted-spec =
+pub is_admitted_spec : {M : Type 1} → statement M
+is_admitted_spec =
     tie.close
     (tie.spec
-    (λ c κs. tt)  -- sides-admitted-requires
+    (λ c κs. tt)  -- sides_admitted-requires
     returns
-    (λ c κs. tt)  -- spacing-admitted-requires
+    (λ c κs. tt)  -- spacing_admitted-requires
     returns-2
-    (λ c κs. tt)  -- spacing-admitted-requires-2
+    (λ c κs. tt)  -- spacing_admitted-requires-2
     returns-3
-    (λ c κs. tt)  -- spacing-admitted-requires-3
+    (λ c κs. tt)  -- spacing_admitted-requires-3
     returns-4
-    (λ c κs. tt)  -- is-finite-requires
+    (λ c κs. tt)  -- is_finite-requires
     returns-5)

@@ -8,9 +8,13 @@ use Rattle.distance_grid.proofs.grid.last_corner.Tie as tie
 returns : tie.Need-returns
 unfolding last_corner
 returns c =
-    let at-last-node : tie.After-last-node = search in
-    simp (sym at-last-node.last-node.ensures, sym c.before.last-node2.ensures, sym c.last-node3.ensures)
+    let at-last-node : tie.After-last_node = search in
+    simp (sym at-last-node.last_node.ensures, sym c.last_node-2.ensures, sym c.last_node-3.ensures)
 
-pub last-corner-spec : {M : Type 1} → statement M
-last-corner-spec =
-    tie.close (tie.spec (search rules) (search rules) (search rules) returns)
+pub last_corner_spec : {M : Type 1} → statement M
+last_corner_spec =
+    tie.close (tie.spec
+    (search rules)  -- last_node-requires
+    (search rules)  -- last_node-requires-2
+    (search rules)  -- last_node-requires-3
+    returns)

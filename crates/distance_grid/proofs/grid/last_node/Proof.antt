@@ -9,5 +9,8 @@ returns : tie.Need-returns
 unfolding last_node
 returns c = refl
 
-pub last-node-spec : {M : Type 1} → statement M
-last-node-spec = tie.close (tie.spec (search rules) (search rules) returns)
+pub last_node_spec : {M : Type 1} → statement M
+last_node_spec = tie.close (tie.spec
+    (search rules)  -- overflow_sub-result
+    (search rules)  -- int_to_float-result
+    returns)

@@ -14,8 +14,12 @@ max-requires c κs = tt
 returns : tie.Need-returns
 unfolding grid_box
 returns c =
-    let at-last-corner : tie.After-last-corner = search in
-    simp (sym at-last-corner.last-corner.ensures, sym c.before.min.ensures, sym c.max.ensures)
+    let at-last-corner : tie.After-last_corner-last = search in
+    simp (sym at-last-corner.last_corner-last.ensures, sym c.min.ensures, sym c.max.ensures)
 
-pub local-bounds-spec : {M : Type 1} → statement M
-local-bounds-spec = tie.close (tie.spec (search rules) min-requires max-requires returns)
+pub local_bounds_spec : {M : Type 1} → statement M
+local_bounds_spec = tie.close (tie.spec
+    (search rules)  -- last_corner-last-requires
+    min-requires
+    max-requires
+    returns)

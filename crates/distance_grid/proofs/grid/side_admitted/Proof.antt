@@ -4,13 +4,13 @@ use borrow.Author.Tests.{le-leb, lt-leb}
 use Rattle.distance_grid.proofs.grid.side_admitted.Statement.{statement}
 use Rattle.distance_grid.proofs.grid.side_admitted.Tie as tie
 
-returns : tie.Need-returns
+returns : tie.Need-returns-then-side-ge2
 unfolding side_admitted
-returns c = simp (le-leb _ _ c.if1.true)
+returns c = simp (le-leb _ _ c.if-side-ge2.true)
 
-returns-2 : tie.Need-returns-2
+returns-2 : tie.Need-returns
 unfolding side_admitted
-returns-2 c = simp (lt-leb _ _ c.if1.false)
+returns-2 c = simp (lt-leb _ _ c.if-side-ge2.false)
 
-pub side-admitted-spec : {M : Type 1} → statement M
-side-admitted-spec = tie.close (tie.spec returns returns-2)
+pub side_admitted_spec : {M : Type 1} → statement M
+side_admitted_spec = tie.close (tie.spec returns returns-2)

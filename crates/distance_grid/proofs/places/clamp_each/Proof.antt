@@ -9,10 +9,10 @@ returns : tie.Need-returns
 unfolding clamped_point
 returns c =
     let d : tie.After-clamp = search in
-    simp (sym d.clamp.ensures, sym c.before.clamp2.ensures, sym c.clamp3.ensures)
+    simp (sym d.clamp.ensures, sym c.clamp-2.ensures, sym c.clamp-3.ensures)
 
-pub clamp-each-spec : {M : Type 1} → statement M
-clamp-each-spec =
+pub clamp_each_spec : {M : Type 1} → statement M
+clamp_each_spec =
     tie.close
     (tie.spec
     (search rules)  -- clamp-requires

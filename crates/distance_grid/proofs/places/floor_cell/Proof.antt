@@ -6,12 +6,12 @@ use Rattle.distance_grid.specs.Places.{floor_cell}
 use Rattle.distance_grid.proofs.places.floor_cell.Statement.{statement}
 use Rattle.distance_grid.proofs.places.floor_cell.Tie as tie
 
-to-u64-requires : tie.Need-to-u64-requires
+to-u64-requires : tie.Need-to_u64-requires
 to-u64-requires c κs = tt
 
 returns : tie.Need-returns
 unfolding floor_cell
-returns c = c.to-u64.ensures ∙ sym (cast_of_floor c.before.args.coordinate (subst T (sym c.before.well-formed.0.1) tt))
+returns c = c.to_u64.ensures ∙ sym (cast_of_floor c.args.coordinate (subst T (sym c.well_formed.0.1) tt))
 
-pub floor-cell-spec : {M : Type 1} → statement M
-floor-cell-spec = tie.close (tie.spec to-u64-requires returns)
+pub floor_cell_spec : {M : Type 1} → statement M
+floor_cell_spec = tie.close (tie.spec to-u64-requires returns)

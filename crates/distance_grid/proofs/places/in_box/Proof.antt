@@ -6,30 +6,30 @@ use borrow.Author.Rules.{rules}
 use Rattle.distance_grid.proofs.places.in_box.Statement.{statement}
 use Rattle.distance_grid.proofs.places.in_box.Tie as tie
 
-returns : tie.Need-returns
+returns : tie.Need-returns-then-not-stays
 unfolding in_box
 returns c =
     let x : tie.After-stays = search in
-    simp (test_failed x.stays.ensures c.if1.true)
+    simp (test_failed x.stays.ensures c.if-not-stays.true)
 
-returns-2 : tie.Need-returns-2
+returns-2 : tie.Need-returns-then-not-stays-2
 unfolding in_box
 returns-2 c =
-    let (x, e, y) : tie.After-stays × tie.Else1 × tie.After-stays2 = search in
-    simp (test_passed x.stays.ensures e.if1.left, test_failed y.stays2.ensures c.if2.true)
+    let (x, e, y) : tie.After-stays × tie.Else-not-stays × tie.After-stays-2 = search in
+    simp (test_passed x.stays.ensures e.if-not-stays.false, test_failed y.stays-2.ensures c.if-not-stays-2.true)
 
-returns-3 : tie.Need-returns-3
+returns-3 : tie.Need-returns
 unfolding in_box
 returns-3 c =
-    let (x, e, y, f) : tie.After-stays × tie.Else1 × tie.After-stays2 × tie.Else2 = search in
+    let (x, e, y, f) : tie.After-stays × tie.Else-not-stays × tie.After-stays-2 × tie.Else-not-stays-2 = search in
     simp (
-      test_passed x.stays.ensures e.if1.left,
-      test_passed y.stays2.ensures f.if2.left,
-      sym c.stays3.ensures,
+      test_passed x.stays.ensures e.if-not-stays.false,
+      test_passed y.stays-2.ensures f.if-not-stays-2.false,
+      sym c.stays-3.ensures,
     )
 
-pub in-box-spec : {M : Type 1} → statement M
-in-box-spec =
+pub in_box_spec : {M : Type 1} → statement M
+in_box_spec =
     tie.close
     (tie.spec
     (search rules)  -- stays-requires

@@ -7,28 +7,28 @@ use Rattle.distance_grid.proofs.places.locate.Statement.{statement}
 use Rattle.distance_grid.proofs.places.locate.Tie as tie
 
 -- a point that is not finite
-returns : tie.Need-returns
+returns : tie.Need-returns-then-not-is_finite
 unfolding locate
-returns c = simp (sym c.before.is_finite.ensures, not-true c.before.is_finite.result c.if1.true)
+returns c = simp (sym c.is_finite.ensures, c.if-not-is_finite.true)
 
 -- a finite point, clamped to the box
-returns-2 : tie.Need-returns-2
+returns-2 : tie.Need-returns
 unfolding locate
 returns-2 c =
-    let (f, e) : tie.After-is-finite × tie.Else1 = search in
+    let (f, e) : tie.After-is_finite × tie.Else-not-is_finite = search in
     simp (
       sym f.is_finite.ensures,
-      not-false f.is_finite.result e.if1.left,
-      sym c.before.clamp-point.ensures,
-      sym c.locate-inside.ensures,
+      e.if-not-is_finite.false,
+      sym c.clamp_point.ensures,
+      sym c.locate_inside.ensures,
     )
 
-pub locate-spec : {M : Type 1} → statement M
-locate-spec =
+pub locate_spec : {M : Type 1} → statement M
+locate_spec =
     tie.close
     (tie.spec
-    (λ c κs. tt)  -- is-finite-requires
+    (λ c κs. tt)  -- is_finite-requires
     returns
-    (search rules)  -- clamp-point-requires
-    (search rules)  -- locate-inside-requires
+    (search rules)  -- clamp_point-requires
+    (search rules)  -- locate_inside-requires
     returns-2)

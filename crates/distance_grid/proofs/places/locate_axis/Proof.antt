@@ -10,24 +10,24 @@ use Rattle.distance_grid.proofs.places.locate_axis.Statement.{statement}
 use Rattle.distance_grid.proofs.places.locate_axis.Tie as tie
 
 -- in the guessed cell
-returns : tie.Need-returns
+returns : tie.Need-returns-then-guess_holds
 unfolding locate_axis
 returns c =
-    let (s, g, t) : tie.Start × tie.After-guess-holds × tie.Then1 = search in
+    let (s, g, t) : tie.Start × tie.After-guess_holds × tie.Then-guess_holds = search in
     ap (At s.args.near) c.clamp.ensures
-    ∙ guessed_place _ s.args.near s.args.side (div-fits binary64 _ _) (sym g.guess-holds.ensures ∙ t.if1.taken)
+    ∙ guessed_place _ s.args.near s.args.side (div-fits binary64 _ _) (sym g.guess_holds.ensures ∙ t.if-guess_holds.true)
 
-returns-2 : tie.Need-returns-2
+returns-2 : tie.Need-returns
 unfolding locate_axis
 returns-2 c = c.place_at.ensures
 
-pub locate-axis-spec : {M : Type 1} → statement M
-locate-axis-spec =
+pub locate_axis_spec : {M : Type 1} → statement M
+locate_axis_spec =
     tie.close
     (tie.spec
-    (λ c κs. tt)  -- guess-holds-requires
-    (search rules)  -- int-to-float-clamp
+    (λ c κs. tt)  -- guess_holds-requires
+    (search rules)  -- int_to_float-near
     (λ c κs. tt)  -- clamp-requires
     returns
-    (search rules)  -- place-at-requires
+    (search rules)  -- place_at-requires
     returns-2)

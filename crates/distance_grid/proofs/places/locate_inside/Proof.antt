@@ -5,65 +5,65 @@ use borrow.Author.Rules.{rules}
 use Rattle.distance_grid.proofs.places.locate_inside.Statement.{statement}
 use Rattle.distance_grid.proofs.places.locate_inside.Tie as tie
 
-returns : tie.Need-returns
+returns : tie.Need-returns-in_default
 unfolding locate_inside
 returns c =
-    let at-locate-axis : tie.After-locate-axis = search in
-    simp (sym at-locate-axis.locate-axis.ensures, c.enum_told.given.1)
+    let at-locate-axis : tie.After-locate_axis-first = search in
+    simp (sym at-locate-axis.locate_axis-first.ensures, c.in_default.is)
 
-returns-2 : tie.Need-returns-2
+returns-2 : tie.Need-returns-in_default-second
 unfolding locate_inside
 returns-2 c =
-    let (at-locate-axis, at_first, at-locate-axis2) : tie.After-locate-axis × tie.After-first × tie.After-locate-axis2 = search in
+    let (at-locate-axis, at_first, at-locate-axis2) : tie.After-locate_axis-first × tie.In-At × tie.After-locate_axis-second = search in
     simp (
-      sym at-locate-axis.locate-axis.ensures,
-      at_first.first.given.1,
-      sym at-locate-axis2.locate-axis2.ensures,
-      c.enum-told2.given.1,
+      sym at-locate-axis.locate_axis-first.ensures,
+      at_first.in-At.is,
+      sym at-locate-axis2.locate_axis-second.ensures,
+      c.in_default-second.is,
     )
 
-returns-3 : tie.Need-returns-3
+returns-3 : tie.Need-returns-in_default-third
 unfolding locate_inside
 returns-3 c =
     let (at-locate-axis, at_first, at-locate-axis2, at_second, at-locate-axis3) :
-    tie.After-locate-axis × tie.After-first × tie.After-locate-axis2 × tie.After-second × tie.After-locate-axis3 = search in
+    tie.After-locate_axis-first × tie.In-At × tie.After-locate_axis-second × tie.In-At-second × tie.After-locate_axis-third = search in
     simp (
-      sym at-locate-axis.locate-axis.ensures,
-      at_first.first.given.1,
-      sym at-locate-axis2.locate-axis2.ensures,
-      at_second.second.given.1,
-      sym at-locate-axis3.locate-axis3.ensures,
-      c.enum-told3.given.1,
+      sym at-locate-axis.locate_axis-first.ensures,
+      at_first.in-At.is,
+      sym at-locate-axis2.locate_axis-second.ensures,
+      at_second.in-At-second.is,
+      sym at-locate-axis3.locate_axis-third.ensures,
+      c.in_default-third.is,
     )
 
-returns-4 : tie.Need-returns-4
+returns-4 : tie.Need-returns
 unfolding locate_inside
 returns-4 c =
     let (at-locate-axis, at_first, at-locate-axis2, at_second, at-locate-axis3) :
-    tie.After-locate-axis × tie.After-first × tie.After-locate-axis2 × tie.After-second × tie.After-locate-axis3 = search in
+    tie.After-locate_axis-first × tie.In-At × tie.After-locate_axis-second × tie.In-At-second × tie.After-locate_axis-third = search in
     simp (
-      sym at-locate-axis.locate-axis.ensures,
-      at_first.first.given.1,
-      sym at-locate-axis2.locate-axis2.ensures,
-      at_second.second.given.1,
-      sym at-locate-axis3.locate-axis3.ensures,
-      c.before.third.given.1,
+      sym at-locate-axis.locate_axis-first.ensures,
+      at_first.in-At.is,
+      sym at-locate-axis2.locate_axis-second.ensures,
+      at_second.in-At-second.is,
+      sym at-locate-axis3.locate_axis-third.ensures,
+      c.in-At-third.is,
     )
 
-pub locate-inside-spec : {M : Type 1} → statement M
-locate-inside-spec =
+pub locate_inside_spec : {M : Type 1} → statement M
+locate_inside_spec =
     tie.close
     (tie.spec
-    (search rules)  -- locate-axis-requires
-    (search rules)  -- enum-known-first
-    (search rules)  -- enum_told
+    (search rules)  -- locate_axis-first-requires
+    (search rules)  -- enum_known-first
+    (search rules)  -- enum_told-1
     returns
-    (search rules)  -- locate-axis-requires-2
-    (search rules)  -- enum-known-second
-    (search rules)  -- enum-told-2
+    (search rules)  -- locate_axis-second-requires
+    (search rules)  -- enum_known-second
+    (search rules)  -- enum_told-in_default-second
     returns-2
-    (search rules)  -- locate-axis-requires-3
-    (search rules)  -- enum-known-third
-    (search rules)  -- enum-told-3
+    (search rules)  -- locate_axis-third-requires
+    (search rules)  -- enum_known-third
+    (search rules)  -- enum_told-in_default-third
     returns-3
     returns-4)

@@ -5,13 +5,18 @@ use borrow.Author.Rules.{rules}
 use Rattle.distance_grid.proofs.places.up_to_last.Statement.{statement}
 use Rattle.distance_grid.proofs.places.up_to_last.Tie as tie
 
-returns : tie.Need-returns
+returns : tie.Need-returns-then-whole-last
 unfolding up_to
-returns c = simp (lt-ltb _ _ c.if1.true)
+returns c = simp (lt-ltb _ _ c.if-whole-last.true)
 
-returns-2 : tie.Need-returns-2
+returns-2 : tie.Need-returns
 unfolding up_to
-returns-2 c = simp (le-ltb _ _ c.if1.false)
+returns-2 c = simp (le-ltb _ _ c.if-whole-last.false)
 
-pub up-to-last-spec : {M : Type 1} → statement M
-up-to-last-spec = tie.close (tie.spec (search rules) (search rules) (search rules) returns returns-2)
+pub up_to_last_spec : {M : Type 1} → statement M
+up_to_last_spec = tie.close (tie.spec
+    (search rules)  -- overflow_sub-last
+    (search rules)  -- overflow_cast-last
+    (search rules)  -- overflow_cast-result
+    returns
+    returns-2)

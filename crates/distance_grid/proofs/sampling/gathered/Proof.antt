@@ -6,72 +6,72 @@ use borrow.Author.Rules.{rules}
 use Rattle.distance_grid.proofs.sampling.gathered.Statement.{statement}
 use Rattle.distance_grid.proofs.sampling.gathered.Tie as tie
 
-returns : tie.Need-returns
+returns : tie.Need-returns-in_default
 unfolding gathered
-returns c = simp c.enum_told.given.1
+returns c = simp c.in_default.is
 
-returns-2 : tie.Need-returns-2
+returns-2 : tie.Need-returns-in_default-on_x
 unfolding gathered
 returns-2 c =
-    let at_value : tie.After-value = search in
-    simp (at_value.value.given.1, c.enum-told2.given.1)
+    let at_value : tie.In-Value = search in
+    simp (at_value.in-Value.is, c.in_default-on_x.is)
 
-returns-3 : tie.Need-returns-3
+returns-3 : tie.Need-returns-in_default-on_y
 unfolding gathered
 returns-3 c =
-    let (at_value, at-on-x) : tie.After-value × tie.After-on-x = search in
-    simp (at_value.value.given.1, at-on-x.on_x_lem.given.1, c.enum-told3.given.1)
+    let (at_value, at-on-x) : tie.In-Value × tie.In-Value-on_x = search in
+    simp (at_value.in-Value.is, at-on-x.in-Value-on_x.is, c.in_default-on_y.is)
 
-returns-4 : tie.Need-returns-4
+returns-4 : tie.Need-returns-in_default-on_z
 unfolding gathered
 returns-4 c =
-    let (at_value, at-on-x, at-on-y) : tie.After-value × tie.After-on-x × tie.After-on-y = search in
-    simp (at_value.value.given.1, at-on-x.on_x_lem.given.1, at-on-y.on_y_lem.given.1, c.enum-told4.given.1)
+    let (at_value, at-on-x, at-on-y) : tie.In-Value × tie.In-Value-on_x × tie.In-Value-on_y = search in
+    simp (at_value.in-Value.is, at-on-x.in-Value-on_x.is, at-on-y.in-Value-on_y.is, c.in_default-on_z.is)
 
-is-finite-requires : tie.Need-is-finite-requires
+is-finite-requires : tie.Need-is_finite-requires
 is-finite-requires c κs = tt
 
-returns-5 : tie.Need-returns-5
+returns-5 : tie.Need-returns-then-not-is_finite
 unfolding gathered
 returns-5 c =
-    let (at_value, at-on-x, at-on-y, at-on-z) : tie.After-value × tie.After-on-x × tie.After-on-y × tie.After-on-z = search in
+    let (at_value, at-on-x, at-on-y, at-on-z) : tie.In-Value × tie.In-Value-on_x × tie.In-Value-on_y × tie.In-Value-on_z = search in
     simp (
-      at_value.value.given.1,
-      at-on-x.on_x_lem.given.1,
-      at-on-y.on_y_lem.given.1,
-      at-on-z.on_z_lem.given.1,
-      sym c.before.is_finite.ensures,
-      not-true c.before.is_finite.result c.if1.true,
+      at_value.in-Value.is,
+      at-on-x.in-Value-on_x.is,
+      at-on-y.in-Value-on_y.is,
+      at-on-z.in-Value-on_z.is,
+      sym c.is_finite.ensures,
+      c.if-not-is_finite.true,
     )
 
-returns-6 : tie.Need-returns-6
+returns-6 : tie.Need-returns
 unfolding gathered
 returns-6 c =
-    let (at_value, at-on-x, at-on-y, at-on-z) : tie.After-value × tie.After-on-x × tie.After-on-y × tie.After-on-z = search in
+    let (at_value, at-on-x, at-on-y, at-on-z) : tie.In-Value × tie.In-Value-on_x × tie.In-Value-on_y × tie.In-Value-on_z = search in
     simp (
-      at_value.value.given.1,
-      at-on-x.on_x_lem.given.1,
-      at-on-y.on_y_lem.given.1,
-      at-on-z.on_z_lem.given.1,
-      sym c.before.is_finite.ensures,
-      not-false c.before.is_finite.result c.if1.false,
+      at_value.in-Value.is,
+      at-on-x.in-Value-on_x.is,
+      at-on-y.in-Value-on_y.is,
+      at-on-z.in-Value-on_z.is,
+      sym c.is_finite.ensures,
+      c.if-not-is_finite.false,
     )
 
-pub gathered-spec : {M : Type 1} → statement M
-gathered-spec =
+pub gathered_spec : {M : Type 1} → statement M
+gathered_spec =
     tie.close
     (tie.spec
-    (search rules)  -- enum-known-value
-    (search rules)  -- enum_told
+    (search rules)  -- enum_known-value
+    (search rules)  -- enum_told-1
     returns
-    (search rules)  -- enum-known-on-x
-    (search rules)  -- enum-told-2
+    (search rules)  -- enum_known-on_x
+    (search rules)  -- enum_told-in_default-on_x
     returns-2
-    (search rules)  -- enum-known-on-y
-    (search rules)  -- enum-told-3
+    (search rules)  -- enum_known-on_y
+    (search rules)  -- enum_told-in_default-on_y
     returns-3
-    (search rules)  -- enum-known-on-z
-    (search rules)  -- enum-told-4
+    (search rules)  -- enum_known-on_z
+    (search rules)  -- enum_told-in_default-on_z
     returns-4
     is-finite-requires
     returns-5

@@ -5,16 +5,21 @@ use borrow.Author.Rules.{rules}
 use Rattle.distance_grid.proofs.sampling.sample_cell.Statement.{statement}
 use Rattle.distance_grid.proofs.sampling.sample_cell.Tie as tie
 
-sample-faces-requires : tie.Need-sample-faces-requires
+sample-faces-requires : tie.Need-sample_faces-requires
 sample-faces-requires c κs = tt
 
 returns : tie.Need-returns
 unfolding sample_cell
 returns c =
-    let at-face-at : tie.After-face-at = search in
-    simp (sym at-face-at.face-at.ensures, sym c.before.face-at2.ensures, sym c.sample-faces.ensures)
+    let at-face-at : tie.After-face_at-low = search in
+    simp (sym at-face-at.face_at-low.ensures, sym c.face_at-high.ensures, sym c.sample_faces.ensures)
 
-pub sample-cell-spec : {M : Type 1} → statement M
-sample-cell-spec =
+pub sample_cell_spec : {M : Type 1} → statement M
+sample_cell_spec =
     tie.close
-    (tie.spec (search rules) (search rules) (search rules) sample-faces-requires returns)
+    (tie.spec
+    (search rules)  -- face_at-low-requires
+    (search rules)  -- overflow_add-z
+    (search rules)  -- face_at-high-requires
+    sample-faces-requires
+    returns)

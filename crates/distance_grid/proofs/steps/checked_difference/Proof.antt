@@ -11,5 +11,5 @@ returns : tie.Need-returns
 unfolding checked_difference
 returns c = simp (sym c.checked.ensures)
 
-pub checked-difference-spec : {M : Type 1} → statement M
-checked-difference-spec = tie.close (tie.spec checked-requires returns)
+pub checked_difference_spec : {M : Type 1} → statement M
+checked_difference_spec = tie.close (tie.spec checked-requires returns)

@@ -5,15 +5,15 @@ use borrow.Author.Rules.{rules}
 use Rattle.distance_grid.proofs.steps.lerp.Statement.{statement}
 use Rattle.distance_grid.proofs.steps.lerp.Tie as tie
 
-returns : tie.Need-returns
+returns : tie.Need-returns-in_default
 unfolding lerp
-returns c = simp c.enum_told.given.1
+returns c = simp c.in_default.is
 
-returns-2 : tie.Need-returns-2
+returns-2 : tie.Need-returns-in_default-b
 unfolding lerp
 returns-2 c =
-    let at_a : tie.After-a = search in
-    simp (at_a.a.given.1, c.enum-told2.given.1)
+    let at_a : tie.In-Value = search in
+    simp (at_a.in-Value.is, c.in_default-b.is)
 
 blend-requires : tie.Need-blend-requires
 blend-requires c κs = tt
@@ -21,21 +21,21 @@ blend-requires c κs = tt
 checked-requires : tie.Need-checked-requires
 checked-requires c κs = tt
 
-returns-3 : tie.Need-returns-3
+returns-3 : tie.Need-returns
 unfolding lerp
 returns-3 c =
-    let (at_a, at_b) : tie.After-a × tie.After-b = search in
-    simp (at_a.a.given.1, at_b.b.given.1, sym c.before.blend.ensures, sym c.checked.ensures)
+    let (at_a, at_b) : tie.In-Value × tie.In-Value-b = search in
+    simp (at_a.in-Value.is, at_b.in-Value-b.is, sym c.blend.ensures, sym c.checked.ensures)
 
-pub lerp-spec : {M : Type 1} → statement M
-lerp-spec =
+pub lerp_spec : {M : Type 1} → statement M
+lerp_spec =
     tie.close
     (tie.spec
-    (search rules)  -- enum-known-a
-    (search rules)  -- enum_told
+    (search rules)  -- enum_known-a
+    (search rules)  -- enum_told-1
     returns
-    (search rules)  -- enum-known-b
-    (search rules)  -- enum-told-2
+    (search rules)  -- enum_known-b
+    (search rules)  -- enum_told-in_default-b
     returns-2
     blend-requires
     checked-requires

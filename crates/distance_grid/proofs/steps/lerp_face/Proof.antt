@@ -17,7 +17,11 @@ returns : tie.Need-returns
 unfolding lerp_face
 returns c =
     let at-lerp : tie.After-lerp = search in
-    simp (sym at-lerp.lerp.ensures, sym c.before.lerp2.ensures, sym c.lerp3.ensures)
+    simp (sym at-lerp.lerp.ensures, sym c.lerp-2.ensures, sym c.lerp-3.ensures)
 
-pub lerp-face-spec : {M : Type 1} → statement M
-lerp-face-spec = tie.close (tie.spec lerp-requires lerp-requires-2 lerp-requires-3 returns)
+pub lerp_face_spec : {M : Type 1} → statement M
+lerp_face_spec = tie.close (tie.spec
+    lerp-requires
+    lerp-requires-2
+    lerp-requires-3
+    returns)

@@ -4,13 +4,17 @@ use borrow.Author.Rules.{rules}
 use Rattle.distance_grid.proofs.steps.over.Statement.{statement}
 use Rattle.distance_grid.proofs.steps.over.Tie as tie
 
-returns : tie.Need-returns
+returns : tie.Need-returns-in_default
 unfolding over
-returns c = simp c.enum_told.given.1
+returns c = simp c.in_default.is
 
-returns-2 : tie.Need-returns-2
+returns-2 : tie.Need-returns
 unfolding over
-returns-2 c = simp c.before.a.given.1
+returns-2 c = simp c.in-Value.is
 
-pub over-spec : {M : Type 1} → statement M
-over-spec = tie.close (tie.spec (search rules) (search rules) returns returns-2)
+pub over_spec : {M : Type 1} → statement M
+over_spec = tie.close (tie.spec
+    (search rules)  -- enum_known-a
+    (search rules)  -- enum_told-1
+    returns
+    returns-2)

@@ -4,12 +4,12 @@ use mathlib.Core.Path.{sym}
 use Rattle.distance_grid.proofs.steps.value_on.Statement.{statement}
 use Rattle.distance_grid.proofs.steps.value_on.Tie as tie
 
-lerp-face-requires : tie.Need-lerp-face-requires
+lerp-face-requires : tie.Need-lerp_face-requires
 lerp-face-requires c κs = tt
 
 returns : tie.Need-returns
 unfolding value_on
-returns c = simp (sym c.lerp-face.ensures)
+returns c = simp (sym c.lerp_face.ensures)
 
-pub value-on-spec : {M : Type 1} → statement M
-value-on-spec = tie.close (tie.spec lerp-face-requires returns)
+pub value_on_spec : {M : Type 1} → statement M
+value_on_spec = tie.close (tie.spec lerp-face-requires returns)

@@ -17,7 +17,11 @@ returns : tie.Need-returns
 unfolding across
 returns c =
     let at-blend : tie.After-blend = search in
-    simp (sym at-blend.blend.ensures, sym c.before.blend2.ensures, sym c.blend3.ensures)
+    simp (sym at-blend.blend.ensures, sym c.blend-2.ensures, sym c.blend-3.ensures)
 
-pub across-spec : {M : Type 1} → statement M
-across-spec = tie.close (tie.spec blend-requires blend-requires-2 blend-requires-3 returns)
+pub across_spec : {M : Type 1} → statement M
+across_spec = tie.close (tie.spec
+    blend-requires
+    blend-requires-2
+    blend-requires-3
+    returns)

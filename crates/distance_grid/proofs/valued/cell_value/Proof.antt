@@ -17,7 +17,11 @@ returns : tie.Need-returns
 unfolding cell_value
 returns c =
     let at-across : tie.After-across = search in
-    simp (sym at-across.across.ensures, sym c.before.across2.ensures, sym c.blend.ensures)
+    simp (sym at-across.across.ensures, sym c.across-2.ensures, sym c.blend.ensures)
 
-pub cell-value-spec : {M : Type 1} → statement M
-cell-value-spec = tie.close (tie.spec across-requires across-requires-2 blend-requires returns)
+pub cell_value_spec : {M : Type 1} → statement M
+cell_value_spec = tie.close (tie.spec
+    across-requires
+    across-requires-2
+    blend-requires
+    returns)

@@ -5,44 +5,44 @@ use borrow.Author.Tests.{not-true, not-false}
 use Rattle.distance_grid.proofs.valued.fair_spacing.Statement.{statement}
 use Rattle.distance_grid.proofs.valued.fair_spacing.Tie as tie
 
-fair-side-requires : tie.Need-fair-side-requires
+fair-side-requires : tie.Need-fair_side-requires
 fair-side-requires c κs = tt
 
-returns : tie.Need-returns
+returns : tie.Need-returns-then-not-fair_side
 unfolding fair_spacing
-returns c = simp (sym c.before.fair-side.ensures, not-true c.before.fair-side.result c.if1.true)
+returns c = simp (sym c.fair_side.ensures, c.if-not-fair_side.true)
 
-fair-side-requires-2 : tie.Need-fair-side-requires-2
+fair-side-requires-2 : tie.Need-fair_side-requires-2
 fair-side-requires-2 c κs = tt
 
-returns-2 : tie.Need-returns-2
+returns-2 : tie.Need-returns-then-not-fair_side-2
 unfolding fair_spacing
 returns-2 c =
-    let (at-fair-side, else1) : tie.After-fair-side × tie.Else1 = search in
+    let (at-fair-side, else1) : tie.After-fair_side × tie.Else-not-fair_side = search in
     simp (
-      sym at-fair-side.fair-side.ensures,
-      not-false at-fair-side.fair-side.result else1.if1.left,
-      sym c.before.fair-side2.ensures,
-      not-true c.before.fair-side2.result c.if2.true,
+      sym at-fair-side.fair_side.ensures,
+      else1.if-not-fair_side.false,
+      sym c.fair_side-2.ensures,
+      c.if-not-fair_side-2.true,
     )
 
-fair-side-requires-3 : tie.Need-fair-side-requires-3
+fair-side-requires-3 : tie.Need-fair_side-requires-3
 fair-side-requires-3 c κs = tt
 
-returns-3 : tie.Need-returns-3
+returns-3 : tie.Need-returns
 unfolding fair_spacing
 returns-3 c =
-    let (at-fair-side, else1, at-fair-side2) : tie.After-fair-side × tie.Else1 × tie.After-fair-side2 = search in
+    let (at-fair-side, else1, at-fair-side2) : tie.After-fair_side × tie.Else-not-fair_side × tie.After-fair_side-2 = search in
     simp (
-      sym at-fair-side.fair-side.ensures,
-      not-false at-fair-side.fair-side.result else1.if1.left,
-      sym at-fair-side2.fair-side2.ensures,
-      not-false at-fair-side2.fair-side2.result c.before.if2.false,
-      sym c.fair-side3.ensures,
+      sym at-fair-side.fair_side.ensures,
+      else1.if-not-fair_side.false,
+      sym at-fair-side2.fair_side-2.ensures,
+      c.if-not-fair_side-2.false,
+      sym c.fair_side-3.ensures,
     )
 
-pub fair-spacing-spec : {M : Type 1} → statement M
-fair-spacing-spec =
+pub fair_spacing_spec : {M : Type 1} → statement M
+fair_spacing_spec =
     tie.close
     (tie.spec
     fair-side-requires

@@ -3,13 +3,13 @@ use Rattle.distance_grid.specs.Valued.{small_value}
 use Rattle.distance_grid.proofs.valued.small_value.Statement.{statement}
 use Rattle.distance_grid.proofs.valued.small_value.Tie as tie
 
-returns : tie.Need-returns
+returns : tie.Need-returns-then-x
 unfolding small_value
-returns c = simp c.if1.true
+returns c = simp c.if-x.true
 
-returns-2 : tie.Need-returns-2
+returns-2 : tie.Need-returns
 unfolding small_value
-returns-2 c = simp c.if1.false
+returns-2 c = simp c.if-x.false
 
-pub small-value-spec : {M : Type 1} → statement M
-small-value-spec = tie.close (tie.spec returns returns-2)
+pub small_value_spec : {M : Type 1} → statement M
+small_value_spec = tie.close (tie.spec returns returns-2)

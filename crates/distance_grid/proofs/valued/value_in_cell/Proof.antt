@@ -8,15 +8,15 @@ use Rattle.distance_grid.proofs.valued.value_in_cell.Tie as tie
 returns : tie.Need-returns
 unfolding sample_cell
 returns c =
-    let at-face-at : tie.After-face-at = search in
-    simp (sym at-face-at.face-at.ensures, sym c.before.face-at2.ensures, sym c.value-of-faces.ensures)
+    let at-face-at : tie.After-face_at-low = search in
+    simp (sym at-face-at.face_at-low.ensures, sym c.face_at-high.ensures, sym c.value_of_faces.ensures)
 
-pub value-in-cell-spec : {M : Type 1} → statement M
-value-in-cell-spec =
+pub value_in_cell_spec : {M : Type 1} → statement M
+value_in_cell_spec =
     tie.close
     (tie.spec
-    (search rules)  -- face-at-requires
-    (search rules)  -- add-face-at
-    (search rules)  -- face-at-requires-2
-    (λ c κs. search rules)  -- value-of-faces-requires
+    (search rules)  -- face_at-low-requires
+    (search rules)  -- overflow_add-z
+    (search rules)  -- face_at-high-requires
+    (λ c κs. search rules)  -- value_of_faces-requires
     returns)

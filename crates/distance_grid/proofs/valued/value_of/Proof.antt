@@ -6,11 +6,11 @@ use borrow.Author.Rules.{rules}
 use Rattle.distance_grid.proofs.valued.value_of.Statement.{statement}
 use Rattle.distance_grid.proofs.valued.value_of.Tie as tie
 
-value-in-cell-requires : tie.Need-value-in-cell-requires
+value-in-cell-requires : tie.Need-value_in_cell-requires
 value-in-cell-requires c κs =
-    let (start, at-locate) : tie.Start × tie.After-locate = search in
-    let stands = start.pre in
-    let located = sym at-locate.locate.ensures ∙ c.before.place2.given.1 in
+    let (start, at-locate) : tie.Start × tie.After-locate-place = search in
+    let stands = start.requires in
+    let located = sym at-locate.locate-place.ensures ∙ c.in-At.is in
     let below = located_below start.args.grid start.args.point stands.sides_stand located in (
       stands,
       (
@@ -26,25 +26,25 @@ value-in-cell-requires c κs =
       ),
     )
 
-returns : tie.Need-returns
+returns : tie.Need-returns-in-Refused
 unfolding sample
 returns c =
-    let at-locate : tie.After-locate = search in
-    simp (sym at-locate.locate.ensures, c.before.place.given.1)
+    let at-locate : tie.After-locate-place = search in
+    simp (sym at-locate.locate-place.ensures, c.in-Refused.is)
 
-returns-2 : tie.Need-returns-2
+returns-2 : tie.Need-returns-in-At
 unfolding sample
 returns-2 c =
-    let (at-locate, at-place2) : tie.After-locate × tie.After-place2 = search in
-    simp (sym at-locate.locate.ensures, at-place2.place2.given.1, sym c.value-in-cell.ensures)
+    let (at-locate, at-place2) : tie.After-locate-place × tie.In-At = search in
+    simp (sym at-locate.locate-place.ensures, at-place2.in-At.is, sym c.value_in_cell.ensures)
 
-pub value-of-spec : {M : Type 1} → statement M
-value-of-spec =
+pub value_of_spec : {M : Type 1} → statement M
+value_of_spec =
     tie.close
     (tie.spec
-    (search rules)  -- locate-requires
-    (search rules)  -- enum-known-place
-    (search rules)  -- enum-known-place-2
+    (search rules)  -- locate-place-requires
+    (search rules)  -- enum_known-place
+    (search rules)  -- enum_known-place-in-At-1
     value-in-cell-requires
     returns
     returns-2)

@@ -22,7 +22,7 @@ known : (k : tie.After-product) → let v = (begun k).args in
     value k.product.result -ℤ value v.near ≡ pos parts *ℤ v.height -ℤ value v.near
 known k =
     let s : tie.Start = search in
-    let e = word_times (pos parts) s.fits.height k.product.ensures in
+    let e = word_times (pos parts) s.ranges.height k.product.ensures in
     λ i. e i -ℤ value s.args.near
 
 size : (s : tie.Start) → let v = s.args in Sized (2 ^ 94) (pos parts *ℤ v.height -ℤ value v.near)
@@ -36,8 +36,8 @@ returns c =
     let (s, k) : tie.Start × tie.After-product = search in
     let e = c.difference.ensures ∙ known k in (e, sized_as e (size s))
 
-pub above-spec : {M : Type 1} → statement M
-above-spec =
+pub above_spec : {M : Type 1} → statement M
+above_spec =
     tie.close
     (tie.spec
     (λ c κs. search rules)  -- product-requires

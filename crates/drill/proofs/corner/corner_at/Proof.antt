@@ -31,31 +31,31 @@ from-axis-is l p at moment height low high near far e f g n m u v =
 
 returns : tie.Need-returns
 returns c =
-    let (s, a, x, h, b, u) : tie.Start × tie.After-from × tie.After-cross × tie.After-height × tie.After-above × tie.After-under = search in
+    let (s, a, x, h, b, u) : tie.Start × tie.After-from-at × tie.After-cross-moment × tie.After-height-height × tie.After-above-low × tie.After-under-high = search in
     let k = s.args.drill in
-    let hs = h.height.ensures.1 in
+    let hs = h.height-height.ensures.1 in
     let back = plain (widen hs (lit≤ tt)) in (
       record {
-        at = a.from.ensures.1;
-        moment = x.cross.ensures.1;
+        at = a.from-at.ensures.1;
+        moment = x.cross-moment.ensures.1;
         height = sized_bits hs (lit≤ tt);
-        low = b.above.ensures.1;
-        high = u.under.ensures.1;
+        low = b.above-low.ensures.1;
+        high = u.under-high.ensures.1;
       },
       (λ l ρ d. from-axis-is l (from l.origin s.args.p) _ _ _ _ _ (value k.near) (value k.far)
-          (a.from.ensures.0 ∙ ap (λ (z : Point). from z s.args.p) d.origin)
-          (x.cross.ensures.0 ∙ ap (λ (z : Point). cross a.from.result z) d.direction)
-          (back ∙ h.height.ensures.0 ∙ ap (λ (z : Point). dot a.from.result z) d.direction) d.near d.far
-          b.above.ensures.0 u.under.ensures.0),
+          (a.from-at.ensures.0 ∙ ap (λ (z : Point). from z s.args.p) d.origin)
+          (x.cross-moment.ensures.0 ∙ ap (λ (z : Point). cross a.from-at.result z) d.direction)
+          (back ∙ h.height-height.ensures.0 ∙ ap (λ (z : Point). dot a.from-at.result z) d.direction) d.near d.far
+          b.above-low.ensures.0 u.under-high.ensures.0),
     )
 
-pub corner-at-spec : {M : Type 1} → statement M
-corner-at-spec =
+pub corner_at_spec : {M : Type 1} → statement M
+corner_at_spec =
     tie.close
     (tie.spec
-    (λ c κs. search rules)  -- from-requires
-    (λ c κs. search rules)  -- cross-requires
-    (λ c κs. search rules)  -- height-requires
-    (λ c κs. search rules)  -- above-requires
-    (λ c κs. search rules)  -- under-requires
+    (λ c κs. search rules)  -- from-at-requires
+    (λ c κs. search rules)  -- cross-moment-requires
+    (λ c κs. search rules)  -- height-height-requires
+    (λ c κs. search rules)  -- above-low-requires
+    (λ c κs. search rules)  -- under-high-requires
     returns)

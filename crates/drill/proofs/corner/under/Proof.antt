@@ -22,7 +22,7 @@ known : (k : tie.After-product) → let v = (begun k).args in
     value v.far -ℤ value k.product.result ≡ value v.far -ℤ pos parts *ℤ v.height
 known k =
     let s : tie.Start = search in
-    let e = word_times (pos parts) s.fits.height k.product.ensures in
+    let e = word_times (pos parts) s.ranges.height k.product.ensures in
     λ i. value s.args.far -ℤ e i
 
 size : (s : tie.Start) → let v = s.args in Sized (2 ^ 94) (value v.far -ℤ pos parts *ℤ v.height)

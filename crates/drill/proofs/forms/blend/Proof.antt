@@ -12,20 +12,20 @@ use Rattle.drill.proofs.forms.blend.Statement.{statement}
 use Rattle.drill.proofs.forms.blend.Tie as tie
 
 times-requires : tie.Need-times-requires
-times-requires c κs = let s : tie.Start = search in middling s.pre.0 (lit< tt)
+times-requires c κs = let s : tie.Start = search in middling s.requires.0 (lit< tt)
 
 times-requires-2 : tie.Need-times-requires-2
-times-requires-2 c κs = let s : tie.Start = search in middling s.pre.1 (lit< tt)
+times-requires-2 c κs = let s : tie.Start = search in middling s.requires.1 (lit< tt)
 
-abbrev begun : tie.After-times2 → tie.Start
+abbrev begun : tie.After-times-2 → tie.Start
 begun k = search
 
-known : (k : tie.After-times2) → let v = (begun k).args in
-    value k.before.times.result -ℤ value k.times2.result ≡ value v.f *ℤ v.w -ℤ value v.g *ℤ v.v
+known : (k : tie.After-times-2) → let v = (begun k).args in
+    value k.times.result -ℤ value k.times-2.result ≡ value v.f *ℤ v.w -ℤ value v.g *ℤ v.v
 known k =
     let s : tie.Start = search in
-    let e = word_times (value s.args.f) s.fits.w k.before.times.ensures in
-    let f = word_times (value s.args.g) s.fits.v k.times2.ensures in
+    let e = word_times (value s.args.f) s.ranges.w k.times.ensures in
+    let f = word_times (value s.args.g) s.ranges.v k.times-2.ensures in
     (λ i. e i -ℤ f i)
 
 size : (s : tie.Start) → Sized (2 ^ 158) (value s.args.f *ℤ s.args.w -ℤ value s.args.g *ℤ s.args.v)
@@ -40,11 +40,11 @@ difference-requires c κs =
 
 returns : tie.Need-returns
 returns c =
-    let (s, k) : tie.Start × tie.After-times2 = search in
+    let (s, k) : tie.Start × tie.After-times-2 = search in
     let e = c.difference.ensures ∙ known k in (e, sized_as e (size s))
 
-pub blend-spec : {M : Type 1} → statement M
-blend-spec =
+pub blend_spec : {M : Type 1} → statement M
+blend_spec =
     tie.close
     (tie.spec
     times-requires

@@ -20,23 +20,23 @@ as-come ha hb hc hd e =
 
 returns : tie.Need-returns
 returns c =
-    let (s, t, u, v) : tie.Start × tie.After-minor × tie.After-minor2 × tie.After-minor3 = search in
-    let p = s.pre.0 in
-    let q = s.pre.1 in (
+    let (s, t, u, v) : tie.Start × tie.After-minor × tie.After-minor-2 × tie.After-minor-3 = search in
+    let p = s.requires.0 in
+    let q = s.requires.1 in (
       (λ i. record {
         x = as-come p.y p.z q.y q.z t.minor.ensures i;
-        y = as-come p.z p.x q.z q.x u.minor2.ensures i;
-        z = as-come p.x p.y q.x q.y v.minor3.ensures i;
+        y = as-come p.z p.x q.z q.x u.minor-2.ensures i;
+        z = as-come p.x p.y q.x q.y v.minor-3.ensures i;
       }),
       record {
         x = told_sized t.minor.ensures.1 (lit≤ tt);
-        y = told_sized u.minor2.ensures.1 (lit≤ tt);
-        z = told_sized v.minor3.ensures.1 (lit≤ tt);
+        y = told_sized u.minor-2.ensures.1 (lit≤ tt);
+        z = told_sized v.minor-3.ensures.1 (lit≤ tt);
       },
     )
 
-pub cross-spec : {M : Type 1} → statement M
-cross-spec =
+pub cross_spec : {M : Type 1} → statement M
+cross_spec =
     tie.close
     (tie.spec
     (λ c κs. search rules)  -- minor-requires

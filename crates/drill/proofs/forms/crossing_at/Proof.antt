@@ -26,18 +26,18 @@ module _ (s : tie.Start) where
   wz : SFits w64 s.args.w.z
   wz = search rules
 
-abbrev second : tie.After-blend3 → tie.After-blend2
+abbrev second : tie.After-blend-z → tie.After-blend-y
 second k = search
 
-abbrev first : tie.After-blend2 → tie.After-blend
+abbrev first : tie.After-blend-y → tie.After-blend-x
 first k = search
 
-abbrev begun : tie.After-blend → tie.Start
+abbrev begun : tie.After-blend-x → tie.Start
 begun k = search
 
 returns : tie.Need-returns
 returns c =
-    let z : tie.After-blend3 = search in
+    let z : tie.After-blend-z = search in
     let y = second z in
     let x = first y in
     let s = begun x in
@@ -45,18 +45,18 @@ returns c =
     let f = value v.f in
     let g = value v.g in (
       (λ i. record {
-        x = blend_as f g (wx s) (vx s) x.blend.ensures.0 i;
-        y = blend_as f g (wy s) (vy s) y.blend2.ensures.0 i;
-        z = blend_as f g (wz s) (vz s) z.blend3.ensures.0 i;
+        x = blend_as f g (wx s) (vx s) x.blend-x.ensures.0 i;
+        y = blend_as f g (wy s) (vy s) y.blend-y.ensures.0 i;
+        z = blend_as f g (wz s) (vz s) z.blend-z.ensures.0 i;
       }),
-      record { x = x.blend.ensures.1; y = y.blend2.ensures.1; z = z.blend3.ensures.1 },
+      record { x = x.blend-x.ensures.1; y = y.blend-y.ensures.1; z = z.blend-z.ensures.1 },
     )
 
-pub crossing-at-spec : {M : Type 1} → statement M
-crossing-at-spec =
+pub crossing_at_spec : {M : Type 1} → statement M
+crossing_at_spec =
     tie.close
     (tie.spec
-    (λ c κs. search rules)  -- blend-requires
-    (λ c κs. search rules)  -- blend-requires-2
-    (λ c κs. search rules)  -- blend-requires-3
+    (λ c κs. search rules)  -- blend-x-requires
+    (λ c κs. search rules)  -- blend-y-requires
+    (λ c κs. search rules)  -- blend-z-requires
     returns)

@@ -10,25 +10,25 @@ use borrow.Author.Rules.{rules}
 use Rattle.drill.proofs.forms.crossing_limit.Statement.{statement}
 use Rattle.drill.proofs.forms.crossing_limit.Tie as tie
 
-difference-requires : tie.Need-difference-requires
-difference-requires c κs = let s : tie.Start = search in held (difference_size s.pre.0 s.pre.1) (lit< tt)
+difference-requires : tie.Need-difference-step-requires
+difference-requires c κs = let s : tie.Start = search in held (difference_size s.requires.0 s.requires.1) (lit< tt)
 
-short-pair-product-requires : tie.Need-short-pair-product-requires
+short-pair-product-requires : tie.Need-short_pair_product-requires
 short-pair-product-requires c κs =
-    let (s, d) : tie.Start × tie.After-difference = search in
-    let e = d.difference.ensures in
-    let h = difference_size s.pre.0 s.pre.1 in
+    let (s, d) : tie.Start × tie.After-difference-step = search in
+    let e = d.difference-step.ensures in
+    let h = difference_size s.requires.0 s.requires.1 in
     let k = widen (sized_as e h) (lit≤ tt) in
     ((k, k), fits_wide (λ i. e i *ℤ e i) (product_size h h) (lit< tt))
 
 returns : tie.Need-returns
 returns c =
-    let (s, d, m) : tie.Start × tie.After-difference × tie.After-short-pair-product = search in
-    let e = d.difference.ensures in
-    c.product.ensures ∙ (λ j. value s.args.k *ℤ ((m.short-pair-product.ensures ∙ (λ i. e i *ℤ e i)) j))
+    let (s, d, m) : tie.Start × tie.After-difference-step × tie.After-short_pair_product = search in
+    let e = d.difference-step.ensures in
+    c.product.ensures ∙ (λ j. value s.args.k *ℤ ((m.short_pair_product.ensures ∙ (λ i. e i *ℤ e i)) j))
 
-pub crossing-limit-spec : {M : Type 1} → statement M
-crossing-limit-spec =
+pub crossing_limit_spec : {M : Type 1} → statement M
+crossing_limit_spec =
     tie.close
     (tie.spec
     difference-requires

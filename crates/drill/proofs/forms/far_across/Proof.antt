@@ -8,26 +8,26 @@ use borrow.Author.Rules.{rules}
 use Rattle.drill.proofs.forms.far_across.Statement.{statement}
 use Rattle.drill.proofs.forms.far_across.Tie as tie
 
-returns : tie.Need-returns
+returns : tie.Need-returns-then-outside
 returns c =
     let (s, k) : tie.Start × tie.After-outside = search in
     let m = value s.args.m in
     let p = s.args.p in
-    or_hit (outside m (value p.y) || outside m (value p.z)) (sym k.outside.ensures ∙ c.if1.true)
+    or_hit (outside m (value p.y) || outside m (value p.z)) (sym k.outside.ensures ∙ c.if-outside.true)
 
-returns-2 : tie.Need-returns-2
+returns-2 : tie.Need-returns-then-outside-2
 returns-2 c =
-    let (s, k, t, n) : tie.Start × tie.After-outside × tie.Else1 × tie.After-outside2 = search in
-    or_miss (sym k.outside.ensures ∙ t.if1.left)
-    (or_hit (outside (value s.args.m) (value s.args.p.z)) (sym n.outside2.ensures ∙ c.if2.true))
+    let (s, k, t, n) : tie.Start × tie.After-outside × tie.Else-outside × tie.After-outside-2 = search in
+    or_miss (sym k.outside.ensures ∙ t.if-outside.false)
+    (or_hit (outside (value s.args.m) (value s.args.p.z)) (sym n.outside-2.ensures ∙ c.if-outside-2.true))
 
-returns-3 : tie.Need-returns-3
+returns-3 : tie.Need-returns
 returns-3 c =
-    let (s, k, t, n, u, o) : tie.Start × tie.After-outside × tie.Else1 × tie.After-outside2 × tie.Else2 × tie.After-outside3 = search in
-    or_miss (sym k.outside.ensures ∙ t.if1.left) (or_miss (sym n.outside2.ensures ∙ u.if2.left) o.outside3.ensures)
+    let (s, k, t, n, u, o) : tie.Start × tie.After-outside × tie.Else-outside × tie.After-outside-2 × tie.Else-outside-2 × tie.After-outside-3 = search in
+    or_miss (sym k.outside.ensures ∙ t.if-outside.false) (or_miss (sym n.outside-2.ensures ∙ u.if-outside-2.false) o.outside-3.ensures)
 
-pub far-across-spec : {M : Type 1} → statement M
-far-across-spec =
+pub far_across_spec : {M : Type 1} → statement M
+far_across_spec =
     tie.close
     (tie.spec
     (λ c κs. search rules)  -- outside-requires

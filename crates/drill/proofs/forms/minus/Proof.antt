@@ -4,20 +4,20 @@ use lib.Dec.{lit≤}
 use Rattle.drill.proofs.forms.minus.Statement.{statement}
 use Rattle.drill.proofs.forms.minus.Tie as tie
 
-sub-t3 : tie.Need-overflow-sub-t3
-sub-t3 c = let s : tie.Start = search in minus_fits s.pre.0.x s.pre.1.x (lit≤ tt) (lit≤ tt)
+sub-t3 : tie.Need-overflow_sub-result
+sub-t3 c = let s : tie.Start = search in minus_fits s.requires.0.x s.requires.1.x (lit≤ tt) (lit≤ tt)
 
-sub-t4 : tie.Need-overflow-sub-t4
-sub-t4 c = let s : tie.Start = search in minus_fits s.pre.0.y s.pre.1.y (lit≤ tt) (lit≤ tt)
+sub-t4 : tie.Need-overflow_sub-result-2
+sub-t4 c = let s : tie.Start = search in minus_fits s.requires.0.y s.requires.1.y (lit≤ tt) (lit≤ tt)
 
-sub-t5 : tie.Need-overflow-sub-t5
-sub-t5 c = let s : tie.Start = search in minus_fits s.pre.0.z s.pre.1.z (lit≤ tt) (lit≤ tt)
+sub-t5 : tie.Need-overflow_sub-result-3
+sub-t5 c = let s : tie.Start = search in minus_fits s.requires.0.z s.requires.1.z (lit≤ tt) (lit≤ tt)
 
 returns : tie.Need-returns
 returns c =
     let s : tie.Start = search in
-    let p = s.pre.0 in
-    let q = s.pre.1 in (
+    let p = s.requires.0 in
+    let q = s.requires.1 in (
       (λ i. record {
         x = minus_read p.x q.x (lit≤ tt) (lit≤ tt) i;
         y = minus_read p.y q.y (lit≤ tt) (lit≤ tt) i;
@@ -30,8 +30,8 @@ returns c =
       },
     )
 
-pub minus-spec : {M : Type 1} → statement M
-minus-spec =
+pub minus_spec : {M : Type 1} → statement M
+minus_spec =
     tie.close
     (tie.spec
     sub-t3

@@ -12,8 +12,8 @@ use borrow.Author.Rules.{rules}
 use Rattle.drill.proofs.forms.outside.Statement.{statement}
 use Rattle.drill.proofs.forms.outside.Tie as tie
 
-negate-requires : tie.Need-negate-requires
-negate-requires c κs = let s : tie.Start = search in held (negated_size s.pre) (lit< tt)
+negate-requires : tie.Need-negate-n-requires
+negate-requires c κs = let s : tie.Start = search in held (negated_size s.requires) (lit< tt)
 
 -- the three answers
 module _ (m x : ℤ) where
@@ -33,36 +33,36 @@ module _ (m x : ℤ) where
   unfolding outside
   third-arm e f = sym (ap (λ (b : Bool). cond b (lt_z (neg_ℤ m) x) lower) e ∙ ap (λ (b : Bool). cond b (lt_z x (neg_ℤ m)) false) f)
 
-returns : tie.Need-returns
+returns : tie.Need-returns-then-below
 returns c =
-    let (s, n, b, t, d) : tie.Start × tie.After-negate × tie.After-below × tie.Then1 × tie.After-below2 = search in
+    let (s, n, b, t, d) : tie.Start × tie.After-negate-n × tie.After-below × tie.Then-below × tie.After-below-then-below = search in
     let m = value s.args.m in
     let x = value s.args.x in
-    first-arm m x (sym b.below.ensures ∙ t.if1.taken) (d.below2.ensures ∙ ap (λ (z : ℤ). lt_z z x) n.negate.ensures)
+    first-arm m x (sym b.below.ensures ∙ t.if-below.true) (d.below-then-below.ensures ∙ ap (λ (z : ℤ). lt_z z x) n.negate-n.ensures)
 
-returns-2 : tie.Need-returns-2
+returns-2 : tie.Need-returns-then-below-2
 returns-2 c =
-    let (s, n, b, t, d) : tie.Start × tie.After-negate × tie.After-below × tie.Else1 × tie.After-below3 = search in
-    let (u, g) : tie.Then2 × tie.After-below4 = search in
+    let (s, n, b, t, d) : tie.Start × tie.After-negate-n × tie.After-below × tie.Else-below × tie.After-below-2 = search in
+    let (u, g) : tie.Then-below-2 × tie.After-below-then-below-2 = search in
     let m = value s.args.m in
     let x = value s.args.x in
-    second-arm m x (sym b.below.ensures ∙ t.if1.left) (sym d.below3.ensures ∙ u.if2.taken)
-    (g.below4.ensures ∙ ap (λ (z : ℤ). lt_z x z) n.negate.ensures)
+    second-arm m x (sym b.below.ensures ∙ t.if-below.false) (sym d.below-2.ensures ∙ u.if-below-2.true)
+    (g.below-then-below-2.ensures ∙ ap (λ (z : ℤ). lt_z x z) n.negate-n.ensures)
 
-returns-3 : tie.Need-returns-3
+returns-3 : tie.Need-returns
 returns-3 c =
-    let (s, b, t, d) : tie.Start × tie.After-below × tie.Else1 × tie.After-below3 = search in
-    third-arm (value s.args.m) (value s.args.x) (sym b.below.ensures ∙ t.if1.left) (sym d.below3.ensures ∙ c.if2.false)
+    let (s, b, t, d) : tie.Start × tie.After-below × tie.Else-below × tie.After-below-2 = search in
+    third-arm (value s.args.m) (value s.args.x) (sym b.below.ensures ∙ t.if-below.false) (sym d.below-2.ensures ∙ c.if-below-2.false)
 
-pub outside-spec : {M : Type 1} → statement M
-outside-spec =
+pub outside_spec : {M : Type 1} → statement M
+outside_spec =
     tie.close
     (tie.spec
     negate-requires
     (λ c κs. search rules)  -- below-requires
-    (λ c κs. search rules)  -- below-requires-2
+    (λ c κs. search rules)  -- below-requires-then-below
     returns
-    (λ c κs. search rules)  -- below-requires-3
-    (λ c κs. search rules)  -- below-requires-4
+    (λ c κs. search rules)  -- below-requires-2
+    (λ c κs. search rules)  -- below-requires-then-below-2
     returns-2
     returns-3)

@@ -30,16 +30,16 @@ returns : tie.Need-returns
 returns c =
     let s : tie.Start = search in
     let g = way_of s.args.g in
-    let p = s.pre.0 in
-    let q = s.pre.1 in
+    let p = s.requires.0 in
+    let q = s.requires.1 in
     let e = c.weighted.ensures ∙ (λ i. ordered g.x (px s) i +ℤ ordered g.y (py s) i +ℤ ordered g.z (pz s) i) in (
       e,
       widen (sized_as e (sum_size (sum_size (product_size p.x q.x) (product_size p.y q.y)) (product_size p.z q.z)))
           (lit≤ tt),
     )
 
-pub along-spec : {M : Type 1} → statement M
-along-spec =
+pub along_spec : {M : Type 1} → statement M
+along_spec =
     tie.close
     (tie.spec
     (λ c κs. search rules)  -- weighted-requires

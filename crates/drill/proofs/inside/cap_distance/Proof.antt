@@ -10,19 +10,19 @@ use borrow.Author.Rules.{rules}
 use Rattle.drill.proofs.inside.cap_distance.Statement.{statement}
 use Rattle.drill.proofs.inside.cap_distance.Tie as tie
 
-short-pair-product-requires : tie.Need-short-pair-product-requires
+short-pair-product-requires : tie.Need-short_pair_product-requires
 short-pair-product-requires c κs = let s : tie.Start = search in
-    ((s.pre.0, widen s.pre.1 (lit≤ tt)), held (product_size s.pre.0 s.pre.1) (lit< tt))
+    ((s.requires.0, widen s.requires.1 (lit≤ tt)), held (product_size s.requires.0 s.requires.1) (lit< tt))
 
 returns : tie.Need-returns
 returns c =
-    let (s, m) : tie.Start × tie.After-short-pair-product = search in
+    let (s, m) : tie.Start × tie.After-short_pair_product = search in
     let k = value s.args.k in
     let l = value s.args.length in
-    c.product.ensures ∙ ap (λ (z : ℤ). z *ℤ k) m.short-pair-product.ensures ∙ times_comm (k *ℤ l) k ∙ sym (times_assoc k k l)
+    c.product.ensures ∙ ap (λ (z : ℤ). z *ℤ k) m.short_pair_product.ensures ∙ times_comm (k *ℤ l) k ∙ sym (times_assoc k k l)
 
-pub cap-distance-spec : {M : Type 1} → statement M
-cap-distance-spec =
+pub cap_distance_spec : {M : Type 1} → statement M
+cap_distance_spec =
     tie.close
     (tie.spec
     short-pair-product-requires

@@ -11,12 +11,12 @@ use Rattle.drill.proofs.inside.cap_limit.Tie as tie
 returns : tie.Need-returns
 returns c =
     let (s, m) : tie.Start × tie.After-product = search in
-    c.product2.ensures
+    c.product-2.ensures
     ∙ ap (λ (z : ℤ). z *ℤ value s.args.whole)
-    (m.product.ensures ∙ ap (λ (z : ℤ). z *ℤ (pos parts *ℤ pos parts)) (bits_back s.fits.area))
+    (m.product.ensures ∙ ap (λ (z : ℤ). z *ℤ (pos parts *ℤ pos parts)) (bits_back s.ranges.area))
 
-pub cap-limit-spec : {M : Type 1} → statement M
-cap-limit-spec =
+pub cap_limit_spec : {M : Type 1} → statement M
+cap_limit_spec =
     tie.close
     (tie.spec
     (λ c κs. search rules)  -- product-requires

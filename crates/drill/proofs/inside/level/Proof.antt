@@ -34,39 +34,39 @@ module _ {p q r a b c : ℤ} (h : Tall p × (Tall q × Tall r)) (ha : Short a) (
       let ec = plain (widen hc (lit≤ tt)) in
       e ∙ (λ i. (eq i -ℤ er i) *ℤ ea i +ℤ (er i -ℤ ep i) *ℤ eb i +ℤ (ep i -ℤ eq i) *ℤ ec i)
 
-abbrev begun₁ : tie.After-level-at → tie.Start
+abbrev begun₁ : tie.After-level_at → tie.Start
 begun₁ k = search
 
-abbrev begun₂ : tie.After-level-at2 → tie.After-level-at
+abbrev begun₂ : tie.After-level_at-2 → tie.After-level_at
 begun₂ k = search
 
-level-at-requires : tie.Need-level-at-requires
+level-at-requires : tie.Need-level_at-requires
 level-at-requires c κs =
     let s : tie.Start = search in
-    asked s.pre.0 s.pre.1.0.x s.pre.1.1.0.x s.pre.1.1.1.x
+    asked s.requires.0 s.requires.1.0.x s.requires.1.1.0.x s.requires.1.1.1.x
 
-level-at-requires-2 : tie.Need-level-at-requires-2
+level-at-requires-2 : tie.Need-level_at-requires-2
 level-at-requires-2 c κs =
-    let k : tie.After-level-at = search in
+    let k : tie.After-level_at = search in
     let s = begun₁ k in
-    asked s.pre.0 s.pre.1.0.y s.pre.1.1.0.y s.pre.1.1.1.y
+    asked s.requires.0 s.requires.1.0.y s.requires.1.1.0.y s.requires.1.1.1.y
 
-level-at-requires-3 : tie.Need-level-at-requires-3
+level-at-requires-3 : tie.Need-level_at-requires-3
 level-at-requires-3 c κs =
-    let k : tie.After-level-at2 = search in
+    let k : tie.After-level_at-2 = search in
     let s = begun₁ (begun₂ k) in
-    asked s.pre.0 s.pre.1.0.z s.pre.1.1.0.z s.pre.1.1.1.z
+    asked s.requires.0 s.requires.1.0.z s.requires.1.1.0.z s.requires.1.1.1.z
 
 returns : tie.Need-returns
 returns c =
-    let y : tie.After-level-at2 = search in
+    let y : tie.After-level_at-2 = search in
     let x = begun₂ y in
     let s = begun₁ x in
-    let h = s.pre.0 in
-    let g = s.pre.1 in
-    let ex = x.level-at.ensures in
-    let ey = y.level-at2.ensures in
-    let ez = c.level-at3.ensures in (
+    let h = s.requires.0 in
+    let g = s.requires.1 in
+    let ex = x.level_at.ensures in
+    let ey = y.level_at-2.ensures in
+    let ez = c.level_at-3.ensures in (
       (λ i. record {
         x = as-come h g.0.x g.1.0.x g.1.1.x ex.0 i;
         y = as-come h g.0.y g.1.0.y g.1.1.y ey.0 i;
@@ -75,8 +75,8 @@ returns c =
       record { x = ex.1; y = ey.1; z = ez.1 },
     )
 
-pub level-spec : {M : Type 1} → statement M
-level-spec =
+pub level_spec : {M : Type 1} → statement M
+level_spec =
     tie.close
     (tie.spec
     level-at-requires

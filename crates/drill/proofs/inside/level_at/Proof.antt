@@ -11,14 +11,14 @@ use borrow.Author.Rules.{rules}
 use Rattle.drill.proofs.inside.level_at.Statement.{statement}
 use Rattle.drill.proofs.inside.level_at.Tie as tie
 
-sub-product : tie.Need-overflow-sub-product
-sub-product c = let s : tie.Start = search in apart_fits s.pre.0.1.0 s.pre.0.1.1 (lit≤ tt) (lit≤ tt) (lit≤ tt)
+sub-product : tie.Need-overflow_sub-q
+sub-product c = let s : tie.Start = search in apart_fits s.requires.0.1.0 s.requires.0.1.1 (lit≤ tt) (lit≤ tt) (lit≤ tt)
 
-sub-product-2 : tie.Need-overflow-sub-product-2
-sub-product-2 c = let s : tie.Start = search in apart_fits s.pre.0.1.1 s.pre.0.0 (lit≤ tt) (lit≤ tt) (lit≤ tt)
+sub-product-2 : tie.Need-overflow_sub-r
+sub-product-2 c = let s : tie.Start = search in apart_fits s.requires.0.1.1 s.requires.0.0 (lit≤ tt) (lit≤ tt) (lit≤ tt)
 
-sub-product-3 : tie.Need-overflow-sub-product-3
-sub-product-3 c = let s : tie.Start = search in apart_fits s.pre.0.0 s.pre.0.1.0 (lit≤ tt) (lit≤ tt) (lit≤ tt)
+sub-product-3 : tie.Need-overflow_sub-p
+sub-product-3 c = let s : tie.Start = search in apart_fits s.requires.0.0 s.requires.0.1.0 (lit≤ tt) (lit≤ tt) (lit≤ tt)
 
 -- one product, as the call gives it, and its size
 module _ {p q a v : ℤ} (hp : Sized (3 * 2 ^ 60) p) (hq : Sized (3 * 2 ^ 60) q) (ha : Sized (2 ^ 29) a)
@@ -35,30 +35,30 @@ module _ {p q a v : ℤ} (hp : Sized (3 * 2 ^ 60) p) (hq : Sized (3 * 2 ^ 60) q)
 
 total-requires : tie.Need-total-requires
 total-requires c κs =
-    let (s, x, y, z) : tie.Start × tie.After-product × tie.After-product2 × tie.After-product3 = search in
-    let h = s.pre.0 in
-    let g = s.pre.1 in (
+    let (s, x, y, z) : tie.Start × tie.After-product × tie.After-product-2 × tie.After-product-3 = search in
+    let h = s.requires.0 in
+    let g = s.requires.1 in (
       one-weight h.1.0 h.1.1 g.0 x.product.ensures,
-      (one-weight h.1.1 h.0 g.1.0 y.product2.ensures, one-weight h.0 h.1.0 g.1.1 z.product3.ensures),
+      (one-weight h.1.1 h.0 g.1.0 y.product-2.ensures, one-weight h.0 h.1.0 g.1.1 z.product-3.ensures),
     )
 
 returns : tie.Need-returns
 returns c =
-    let (s, x, y, z) : tie.Start × tie.After-product × tie.After-product2 × tie.After-product3 = search in
-    let h = s.pre.0 in
-    let g = s.pre.1 in
+    let (s, x, y, z) : tie.Start × tie.After-product × tie.After-product-2 × tie.After-product-3 = search in
+    let h = s.requires.0 in
+    let g = s.requires.1 in
     let ex = one-is h.1.0 h.1.1 g.0 x.product.ensures in
-    let ey = one-is h.1.1 h.0 g.1.0 y.product2.ensures in
-    let ez = one-is h.0 h.1.0 g.1.1 z.product3.ensures in
+    let ey = one-is h.1.1 h.0 g.1.0 y.product-2.ensures in
+    let ez = one-is h.0 h.1.0 g.1.1 z.product-3.ensures in
     let e = c.total.ensures ∙ (λ i. ex i +ℤ ey i +ℤ ez i) in (
       e,
       widen (sized_as e (sum_size (sum_size (one_size h.1.0 h.1.1 g.0 x.product.ensures)
-          (one_size h.1.1 h.0 g.1.0 y.product2.ensures)) (one_size h.0 h.1.0 g.1.1 z.product3.ensures)))
+          (one_size h.1.1 h.0 g.1.0 y.product-2.ensures)) (one_size h.0 h.1.0 g.1.1 z.product-3.ensures)))
           (lit≤ tt),
     )
 
-pub level-at-spec : {M : Type 1} → statement M
-level-at-spec =
+pub level_at_spec : {M : Type 1} → statement M
+level_at_spec =
     tie.close
     (tie.spec
     sub-product

@@ -13,11 +13,11 @@ returns : tie.Need-returns
 returns c =
     let (s, x) : tie.Start × tie.After-cross = search in (
       c.dot.ensures ∙ ap (λ (z : Point). dot z s.args.d) x.cross.ensures.0,
-      widen (sized_as c.dot.ensures (dot_size x.cross.ensures.1 s.pre.1)) (lit≤ tt),
+      widen (sized_as c.dot.ensures (dot_size x.cross.ensures.1 s.requires.1)) (lit≤ tt),
     )
 
-pub weight-spec : {M : Type 1} → statement M
-weight-spec =
+pub weight_spec : {M : Type 1} → statement M
+weight_spec =
     tie.close
     (tie.spec
     (λ c κs. search rules)  -- cross-requires

@@ -7,32 +7,29 @@ use mathlib.Core.Bool.{◌&&◌}
 use Rattle.drill.proofs.reject.all_below.Statement.{statement}
 use Rattle.drill.proofs.reject.all_below.Tie as tie
 
-returns : tie.Need-returns
+returns : tie.Need-returns-then-not-x-m
 returns c =
     let s : tie.Start = search in
     let v = s.args in
     and_off (lt_z v.y v.m && lt_z v.z v.m)
-    (below_read (bits_back s.fits.x) (bits_back s.fits.m) (not-true _ c.if1.true))
+    (below_read (bits_back s.ranges.x) (bits_back s.ranges.m) c.if-not-x-m.true)
 
-returns-2 : tie.Need-returns-2
+returns-2 : tie.Need-returns-then-not-y-m
 returns-2 c =
-    let (s, t) : tie.Start × tie.Else1 = search in
+    let (s, t) : tie.Start × tie.Else-not-x-m = search in
     let v = s.args in
-    and_on (below_read (bits_back s.fits.x) (bits_back s.fits.m) (not-false _ t.if1.left))
-    (and_off (lt_z v.z v.m) (below_read (bits_back s.fits.y) (bits_back s.fits.m) (not-true _ c.if2.true)))
+    and_on (below_read (bits_back s.ranges.x) (bits_back s.ranges.m) t.if-not-x-m.false)
+    (and_off (lt_z v.z v.m) (below_read (bits_back s.ranges.y) (bits_back s.ranges.m) c.if-not-y-m.true))
 
-returns-3 : tie.Need-returns-3
+returns-3 : tie.Need-returns
 returns-3 c =
-    let (s, t, u) : tie.Start × tie.Else1 × tie.Else2 = search in
+    let (s, t, u) : tie.Start × tie.Else-not-x-m × tie.Else-not-y-m = search in
     let v = s.args in
-    and_on (below_read (bits_back s.fits.x) (bits_back s.fits.m) (not-false _ t.if1.left))
-    (and_on (below_read (bits_back s.fits.y) (bits_back s.fits.m) (not-false _ u.if2.left))
-    (λ i. lt_z (bits_back s.fits.z i) (bits_back s.fits.m i)))
+    and_on (below_read (bits_back s.ranges.x) (bits_back s.ranges.m) t.if-not-x-m.false)
+    (and_on (below_read (bits_back s.ranges.y) (bits_back s.ranges.m) u.if-not-y-m.false)
+    (λ i. lt_z (bits_back s.ranges.z i) (bits_back s.ranges.m i)))
 
-pub all-below-spec : {M : Type 1} → statement M
-all-below-spec =
+pub all_below_spec : {M : Type 1} → statement M
+all_below_spec =
     tie.close
-    (tie.spec
-    returns
-    returns-2
-    returns-3)
+    (tie.spec returns returns-2 returns-3)

@@ -45,83 +45,83 @@ as-come hl hx hy hz e =
     sym (e ∙ (λ i. one_side_of (plain (widen hl (lit≤ tt)) i) (plain (widen hx (lit≤ tt)) i) (plain (widen hy (lit≤ tt)) i)
     (plain (widen hz (lit≤ tt)) i)))
 
-returns : tie.Need-returns
+returns : tie.Need-returns-then-all_negative
 unfolding beyond
 returns c =
-    let (s, k) : tie.Start × tie.After-all-negative = search in
-    or_hit (high s || (on-x s || (on-y s || on-z s))) (sym k.all-negative.ensures ∙ c.if1.true)
+    let (s, k) : tie.Start × tie.After-all_negative = search in
+    or_hit (high s || (on-x s || (on-y s || on-z s))) (sym k.all_negative.ensures ∙ c.if-all_negative.true)
 
-returns-2 : tie.Need-returns-2
+returns-2 : tie.Need-returns-then-all_negative-2
 unfolding beyond
 returns-2 c =
-    let (s, k, t, m) : tie.Start × tie.After-all-negative × tie.Else1 × tie.After-all-negative2 = search in
-    or_miss (sym k.all-negative.ensures ∙ t.if1.left)
-    (or_hit (on-x s || (on-y s || on-z s)) (sym m.all-negative2.ensures ∙ c.if2.true))
+    let (s, k, t, m) : tie.Start × tie.After-all_negative × tie.Else-all_negative × tie.After-all_negative-2 = search in
+    or_miss (sym k.all_negative.ensures ∙ t.if-all_negative.false)
+    (or_hit (on-x s || (on-y s || on-z s)) (sym m.all_negative-2.ensures ∙ c.if-all_negative-2.true))
 
 -- past the caps' tests
-abbrev begun : tie.Else2 → tie.Start
+abbrev begun : tie.Else-all_negative-2 → tie.Start
 begun u = search
 
-between-caps : (u : tie.Else2) {r b : Bool} → r ≡ b → let s = begun u in r ≡ (low s || (high s || b))
+between-caps : (u : tie.Else-all_negative-2) {r b : Bool} → r ≡ b → let s = begun u in r ≡ (low s || (high s || b))
 between-caps u e =
-    let (k, t, m) : tie.After-all-negative × tie.Else1 × tie.After-all-negative2 = search in
-    or_miss (sym k.all-negative.ensures ∙ t.if1.left) (or_miss (sym m.all-negative2.ensures ∙ u.if2.false) e)
+    let (k, t, m) : tie.After-all_negative × tie.Else-all_negative × tie.After-all_negative-2 = search in
+    or_miss (sym k.all_negative.ensures ∙ t.if-all_negative.false) (or_miss (sym m.all_negative-2.ensures ∙ u.if-all_negative-2.false) e)
 
-abbrev caps : tie.After-one-side → tie.Else2
+abbrev caps : tie.After-one_side → tie.Else-all_negative-2
 caps k = search
 
-x-is : (k : tie.After-one-side) → let s = begun (caps k) in on-x s ≡ k.one_side.result
+x-is : (k : tie.After-one_side) → let s = begun (caps k) in on-x s ≡ k.one_side.result
 x-is k =
     let s = begun (caps k) in
-    as-come s.pre.0 s.pre.1.0.moment.x s.pre.1.1.0.moment.x s.pre.1.1.1.moment.x k.one_side.ensures
+    as-come s.requires.0 s.requires.1.0.moment.x s.requires.1.1.0.moment.x s.requires.1.1.1.moment.x k.one_side.ensures
 
-returns-3 : tie.Need-returns-3
+returns-3 : tie.Need-returns-then-one_side
 unfolding beyond
 returns-3 c =
-    let k : tie.After-one-side = search in
+    let k : tie.After-one_side = search in
     let u = caps k in
     let s = begun u in
-    between-caps u (or_hit (on-y s || on-z s) (x-is k ∙ c.if3.true))
+    between-caps u (or_hit (on-y s || on-z s) (x-is k ∙ c.if-one_side.true))
 
-abbrev first_of : tie.After-one-side2 → tie.After-one-side
+abbrev first_of : tie.After-one_side-2 → tie.After-one_side
 first_of k = search
 
-y-is : (k : tie.After-one-side2) → let s = begun (caps (first_of k)) in on-y s ≡ k.one-side2.result
+y-is : (k : tie.After-one_side-2) → let s = begun (caps (first_of k)) in on-y s ≡ k.one_side-2.result
 y-is k =
     let s = begun (caps (first_of k)) in
-    as-come s.pre.0 s.pre.1.0.moment.y s.pre.1.1.0.moment.y s.pre.1.1.1.moment.y k.one-side2.ensures
+    as-come s.requires.0 s.requires.1.0.moment.y s.requires.1.1.0.moment.y s.requires.1.1.1.moment.y k.one_side-2.ensures
 
-returns-4 : tie.Need-returns-4
+returns-4 : tie.Need-returns-then-one_side-2
 unfolding beyond
 returns-4 c =
-    let (t, m) : tie.Else3 × tie.After-one-side2 = search in
+    let (t, m) : tie.Else-one_side × tie.After-one_side-2 = search in
     let k = first_of m in
     let u = caps k in
     let s = begun u in
-    between-caps u (or_miss (x-is k ∙ t.if3.left) (or_hit (on-z s) (y-is m ∙ c.if4.true)))
+    between-caps u (or_miss (x-is k ∙ t.if-one_side.false) (or_hit (on-z s) (y-is m ∙ c.if-one_side-2.true)))
 
-returns-5 : tie.Need-returns-5
+returns-5 : tie.Need-returns
 unfolding beyond
 returns-5 c =
-    let (t, m, v, n) : tie.Else3 × tie.After-one-side2 × tie.Else4 × tie.After-one-side3 = search in
+    let (t, m, v, n) : tie.Else-one_side × tie.After-one_side-2 × tie.Else-one_side-2 × tie.After-one_side-3 = search in
     let k = first_of m in
     let u = caps k in
     let s = begun u in
-    between-caps u (or_miss (x-is k ∙ t.if3.left) (or_miss (y-is m ∙ v.if4.left)
-    (sym (as-come s.pre.0 s.pre.1.0.moment.z s.pre.1.1.0.moment.z s.pre.1.1.1.moment.z
-    n.one-side3.ensures))))
+    between-caps u (or_miss (x-is k ∙ t.if-one_side.false) (or_miss (y-is m ∙ v.if-one_side-2.false)
+    (sym (as-come s.requires.0 s.requires.1.0.moment.z s.requires.1.1.0.moment.z s.requires.1.1.1.moment.z
+    n.one_side-3.ensures))))
 
-pub beyond-spec : {M : Type 1} → statement M
-beyond-spec =
+pub beyond_spec : {M : Type 1} → statement M
+beyond_spec =
     tie.close
     (tie.spec
-    (λ c κs. search rules)  -- all-negative-requires
+    (λ c κs. search rules)  -- all_negative-requires
     returns
-    (λ c κs. search rules)  -- all-negative-requires-2
+    (λ c κs. search rules)  -- all_negative-requires-2
     returns-2
-    (λ c κs. search rules)  -- one-side-requires
+    (λ c κs. search rules)  -- one_side-requires
     returns-3
-    (λ c κs. search rules)  -- one-side-requires-2
+    (λ c κs. search rules)  -- one_side-requires-2
     returns-4
-    (λ c κs. search rules)  -- one-side-requires-3
+    (λ c κs. search rules)  -- one_side-requires-3
     returns-5)

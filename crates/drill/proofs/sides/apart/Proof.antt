@@ -9,28 +9,28 @@ use borrow.Author.Rules.{rules}
 use Rattle.drill.proofs.sides.apart.Statement.{statement}
 use Rattle.drill.proofs.sides.apart.Tie as tie
 
-returns : tie.Need-returns
+returns : tie.Need-returns-then-is_negative
 returns c =
-    let (s, n, t, m) : tie.Start × tie.After-is-negative × tie.Then1 × tie.After-is-negative2 = search in
+    let (s, n, t, m) : tie.Start × tie.After-is_negative × tie.Then-is_negative × tie.After-is_negative-then-is_negative = search in
     let f = value s.args.f in
     let g = value s.args.g in
-    ap not m.is-negative2.ensures ∙ at_most_told (pos 0) g
-    ∙ sym (ap (λ (b : Bool). cond b (le_z (pos 0) g) (lt_z g (pos 0))) (sym n.is_negative.ensures ∙ t.if1.taken))
+    ap not m.is_negative-then-is_negative.ensures ∙ at_most_told (pos 0) g
+    ∙ sym (ap (λ (b : Bool). cond b (le_z (pos 0) g) (lt_z g (pos 0))) (sym n.is_negative.ensures ∙ t.if-is_negative.true))
 
-returns-2 : tie.Need-returns-2
+returns-2 : tie.Need-returns
 returns-2 c =
-    let (s, n, t, m) : tie.Start × tie.After-is-negative × tie.Else1 × tie.After-is-negative3 = search in
+    let (s, n, t, m) : tie.Start × tie.After-is_negative × tie.Else-is_negative × tie.After-is_negative-2 = search in
     let f = value s.args.f in
     let g = value s.args.g in
-    m.is-negative3.ensures
-    ∙ sym (ap (λ (b : Bool). cond b (le_z (pos 0) g) (lt_z g (pos 0))) (sym n.is_negative.ensures ∙ t.if1.left))
+    m.is_negative-2.ensures
+    ∙ sym (ap (λ (b : Bool). cond b (le_z (pos 0) g) (lt_z g (pos 0))) (sym n.is_negative.ensures ∙ t.if-is_negative.false))
 
-pub apart-spec : {M : Type 1} → statement M
-apart-spec =
+pub apart_spec : {M : Type 1} → statement M
+apart_spec =
     tie.close
     (tie.spec
-    (λ c κs. search rules)  -- is-negative-requires
-    (λ c κs. search rules)  -- is-negative-requires-2
+    (λ c κs. search rules)  -- is_negative-requires
+    (λ c κs. search rules)  -- is_negative-requires-then-is_negative
     returns
-    (λ c κs. search rules)  -- is-negative-requires-3
+    (λ c κs. search rules)  -- is_negative-requires-2
     returns-2)

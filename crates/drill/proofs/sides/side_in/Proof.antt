@@ -12,37 +12,37 @@ use Rattle.drill.proofs.sides.side_in.Tie as tie
 back : (s : tie.Start) → SideOf (value s.args.reach) s.args.side → SideOf (value s.args.reach) (bits s.args.side)
 back s h = subst (SideOf (value s.args.reach)) (sym (bits_back s.ranges.side)) h
 
-returns : tie.Need-returns
+returns : tie.Need-returns-then-crossing_in
 returns c =
-    let (s, a) : tie.Start × tie.After-crossing-in = search in
+    let (s, a) : tie.Start × tie.After-crossing_in = search in
     let v = s.args in
     λ ρ e h. side_near ρ v.d (value v.reach) (from_axis_of v.p) (from_axis_of v.q)
-    (sym (a.crossing-in.ensures (back s h)) ∙ c.if1.true)
+    (sym (a.crossing_in.ensures (back s h)) ∙ c.if-crossing_in.true)
 
-returns-2 : tie.Need-returns-2
+returns-2 : tie.Need-returns-then-crossing_in-2
 returns-2 c =
-    let (s, a, t, b) : tie.Start × tie.After-crossing-in × tie.Else1 × tie.After-crossing-in2 = search in
+    let (s, a, t, b) : tie.Start × tie.After-crossing_in × tie.Else-crossing_in × tie.After-crossing_in-2 = search in
     let v = s.args in
     λ ρ e h. side_far ρ v.d (value v.reach) (from_axis_of v.p) (from_axis_of v.q)
-    (sym (a.crossing-in.ensures (back s h)) ∙ t.if1.left)
-    (sym (b.crossing-in2.ensures (back s h)) ∙ c.if2.true)
+    (sym (a.crossing_in.ensures (back s h)) ∙ t.if-crossing_in.false)
+    (sym (b.crossing_in-2.ensures (back s h)) ∙ c.if-crossing_in-2.true)
 
-returns-3 : tie.Need-returns-3
+returns-3 : tie.Need-returns
 returns-3 c =
-    let (s, a, t, b, u, f) : tie.Start × tie.After-crossing-in × tie.Else1 × tie.After-crossing-in2 × tie.Else2
-    × tie.After-foot-in = search in
+    let (s, a, t, b, u, f) : tie.Start × tie.After-crossing_in × tie.Else-crossing_in × tie.After-crossing_in-2 × tie.Else-crossing_in-2
+    × tie.After-foot_in = search in
     let v = s.args in
     λ ρ e h. side_is ρ v.d (value v.reach) (from_axis_of v.p) (from_axis_of v.q)
-    (sym (a.crossing-in.ensures (back s h)) ∙ t.if1.left)
-    (sym (b.crossing-in2.ensures (back s h)) ∙ u.if2.left) (f.foot_in_lem.ensures ρ (bits_back s.fits.area ∙ e))
+    (sym (a.crossing_in.ensures (back s h)) ∙ t.if-crossing_in.false)
+    (sym (b.crossing_in-2.ensures (back s h)) ∙ u.if-crossing_in-2.false) (f.foot_in.ensures ρ (bits_back s.ranges.area ∙ e))
 
-pub side-in-spec : {M : Type 1} → statement M
-side-in-spec =
+pub side_in_spec : {M : Type 1} → statement M
+side_in_spec =
     tie.close
     (tie.spec
-    (λ c κs. search rules)  -- crossing-in-requires
+    (λ c κs. search rules)  -- crossing_in-requires
     returns
-    (λ c κs. search rules)  -- crossing-in-requires-2
+    (λ c κs. search rules)  -- crossing_in-requires-2
     returns-2
-    (λ c κs. search rules)  -- foot-in-requires
+    (λ c κs. search rules)  -- foot_in-requires
     returns-3)

@@ -13,7 +13,7 @@ use Rattle.drill.proofs.touch.above_near.Statement.{statement}
 use Rattle.drill.proofs.touch.above_near.Tie as tie
 
 times-requires : tie.Need-times-requires
-times-requires c κs = let s : tie.Start = search in middling s.pre.1.1 (lit< tt)
+times-requires c κs = let s : tie.Start = search in middling s.requires.1.1 (lit< tt)
 
 abbrev begun : tie.After-times → tie.Start
 begun k = search
@@ -22,7 +22,7 @@ known : (k : tie.After-times) → let v = (begun k).args in value v.t -ℤ value
 known k =
     let s : tie.Start = search in
     let w = value s.args.w in
-    let e = word_times w s.fits.near k.times.ensures ∙ times_comm w s.args.near in
+    let e = word_times w s.ranges.near k.times.ensures ∙ times_comm w s.args.near in
     λ i. value s.args.t -ℤ e i
 
 size : (s : tie.Start) → let v = s.args in Sized (2 ^ 126) (value v.t -ℤ v.near *ℤ value v.w)
@@ -36,10 +36,7 @@ returns c =
     let (s, k) : tie.Start × tie.After-times = search in
     let e = c.difference.ensures ∙ known k in (e, sized_as e (size s))
 
-pub above-near-spec : {M : Type 1} → statement M
-above-near-spec =
+pub above_near_spec : {M : Type 1} → statement M
+above_near_spec =
     tie.close
-    (tie.spec
-    times-requires
-    difference-requires
-    returns)
+    (tie.spec times-requires difference-requires returns)

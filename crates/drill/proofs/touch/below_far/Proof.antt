@@ -13,7 +13,7 @@ use Rattle.drill.proofs.touch.below_far.Statement.{statement}
 use Rattle.drill.proofs.touch.below_far.Tie as tie
 
 times-requires : tie.Need-times-requires
-times-requires c κs = let s : tie.Start = search in middling s.pre.1.1 (lit< tt)
+times-requires c κs = let s : tie.Start = search in middling s.requires.1.1 (lit< tt)
 
 abbrev begun : tie.After-times → tie.Start
 begun k = search
@@ -22,7 +22,7 @@ known : (k : tie.After-times) → let v = (begun k).args in value k.times.result
 known k =
     let s : tie.Start = search in
     let w = value s.args.w in
-    let e = word_times w s.fits.far k.times.ensures ∙ times_comm w s.args.far in
+    let e = word_times w s.ranges.far k.times.ensures ∙ times_comm w s.args.far in
     λ i. e i -ℤ value s.args.t
 
 size : (s : tie.Start) → let v = s.args in Sized (2 ^ 126) (v.far *ℤ value v.w -ℤ value v.t)
@@ -36,10 +36,7 @@ returns c =
     let (s, k) : tie.Start × tie.After-times = search in
     let e = c.difference.ensures ∙ known k in (e, sized_as e (size s))
 
-pub below-far-spec : {M : Type 1} → statement M
-below-far-spec =
+pub below_far_spec : {M : Type 1} → statement M
+below_far_spec =
     tie.close
-    (tie.spec
-    times-requires
-    difference-requires
-    returns)
+    (tie.spec times-requires difference-requires returns)

@@ -22,61 +22,61 @@ module _ (s : tie.Start) (l : Line) (ρ : ℕ) where
   abbrev far : Bool
   far = far_of l ρ (from_axis_of s.args.a) (from_axis_of s.args.b) (from_axis_of s.args.c)
 
-returns : tie.Need-returns
+returns : tie.Need-returns-then-is_positive
 returns c =
-    let (s, t, e, n) : tie.Start × tie.After-is-positive × tie.Then1 × tie.After-near-cap = search in
+    let (s, t, e, n) : tie.Start × tie.After-is_positive × tie.Then-is_positive × tie.After-near_cap = search in
     let p = s.args.p in
     λ l ρ o low high.
     nearest_low (near s l ρ) (far s l ρ) (neg_ℤ (value p.i)) (neg_ℤ (value p.j)) (neg_ℤ (value p.k)) (neg_ℤ (value p.low))
     (neg_ℤ (value p.high))
-    (sym (t.is_positive.ensures ∙ sym (negated_below (value p.low))) ∙ e.if1.taken) (n.near-cap.ensures l ρ o low)
+    (sym (t.is_positive.ensures ∙ sym (negated_below (value p.low))) ∙ e.if-is_positive.true) (n.near_cap.ensures l ρ o low)
 
-returns-2 : tie.Need-returns-2
+returns-2 : tie.Need-returns-then-is_positive-2
 returns-2 c =
-    let (s, t, e, u, x, n) : tie.Start × tie.After-is-positive × tie.Else1 × tie.After-is-positive2 × tie.Then2
-    × tie.After-far-cap = search in
+    let (s, t, e, u, x, n) : tie.Start × tie.After-is_positive × tie.Else-is_positive × tie.After-is_positive-2 × tie.Then-is_positive-2
+    × tie.After-far_cap = search in
     let p = s.args.p in
     λ l ρ o low high.
     nearest_high (near s l ρ) (far s l ρ) (neg_ℤ (value p.i)) (neg_ℤ (value p.j)) (neg_ℤ (value p.k)) (neg_ℤ (value p.low))
     (neg_ℤ (value p.high))
-    (sym (t.is_positive.ensures ∙ sym (negated_below (value p.low))) ∙ e.if1.left)
-    (sym (u.is-positive2.ensures ∙ sym (negated_below (value p.high))) ∙ x.if2.taken)
-    (n.far-cap.ensures l ρ o high)
+    (sym (t.is_positive.ensures ∙ sym (negated_below (value p.low))) ∙ e.if-is_positive.false)
+    (sym (u.is_positive-2.ensures ∙ sym (negated_below (value p.high))) ∙ x.if-is_positive-2.true)
+    (n.far_cap.ensures l ρ o high)
 
-returns-3 : tie.Need-returns-3
+returns-3 : tie.Need-returns
 returns-3 c =
-    let (s, t, e, u, x) : tie.Start × tie.After-is-positive × tie.Else1 × tie.After-is-positive2 × tie.Else2 = search in
-    let (i, j, k, w) : tie.After-negate × tie.After-negate2 × tie.After-negate3 × tie.After-weights-in = search in
+    let (s, t, e, u, x) : tie.Start × tie.After-is_positive × tie.Else-is_positive × tie.After-is_positive-2 × tie.Else-is_positive-2 = search in
+    let (i, j, k, w) : tie.After-negate-i × tie.After-negate-j × tie.After-negate-k × tie.After-weights_in = search in
     let p = s.args.p in
     λ l ρ o low high.
     nearest_crossing (near s l ρ) (far s l ρ) (neg_ℤ (value p.i)) (neg_ℤ (value p.j)) (neg_ℤ (value p.k)) (neg_ℤ (value p.low))
     (neg_ℤ (value p.high))
-    (sym (t.is_positive.ensures ∙ sym (negated_below (value p.low))) ∙ e.if1.left)
-    (sym (u.is-positive2.ensures ∙ sym (negated_below (value p.high))) ∙ x.if2.left)
-    (w.weights-in.ensures
-    ∙ (λ z. le_z (pos 0) (i.negate.ensures z) && (le_z (pos 0) (j.negate2.ensures z) && le_z (pos 0) (k.negate3.ensures z))))
+    (sym (t.is_positive.ensures ∙ sym (negated_below (value p.low))) ∙ e.if-is_positive.false)
+    (sym (u.is_positive-2.ensures ∙ sym (negated_below (value p.high))) ∙ x.if-is_positive-2.false)
+    (w.weights_in.ensures
+    ∙ (λ z. le_z (pos 0) (i.negate-i.ensures z) && (le_z (pos 0) (j.negate-j.ensures z) && le_z (pos 0) (k.negate-k.ensures z))))
 
-negate-requires : tie.Need-negate-requires
-negate-requires c κs = let s : tie.Start = search in held (negated_size s.pre.1.i) (lit< tt)
+negate-requires : tie.Need-negate-i-requires
+negate-requires c κs = let s : tie.Start = search in held (negated_size s.requires.1.i) (lit< tt)
 
-negate-requires-2 : tie.Need-negate-requires-2
-negate-requires-2 c κs = let s : tie.Start = search in held (negated_size s.pre.1.j) (lit< tt)
+negate-requires-2 : tie.Need-negate-j-requires
+negate-requires-2 c κs = let s : tie.Start = search in held (negated_size s.requires.1.j) (lit< tt)
 
-negate-requires-3 : tie.Need-negate-requires-3
-negate-requires-3 c κs = let s : tie.Start = search in held (negated_size s.pre.1.k) (lit< tt)
+negate-requires-3 : tie.Need-negate-k-requires
+negate-requires-3 c κs = let s : tie.Start = search in held (negated_size s.requires.1.k) (lit< tt)
 
-pub crossed-backward-spec : {M : Type 1} → statement M
-crossed-backward-spec =
+pub crossed_backward_spec : {M : Type 1} → statement M
+crossed_backward_spec =
     tie.close
     (tie.spec
-    (λ c κs. search rules)  -- is-positive-requires
-    (λ c κs. search rules)  -- near-cap-requires
+    (λ c κs. search rules)  -- is_positive-requires
+    (λ c κs. search rules)  -- near_cap-requires
     returns
-    (λ c κs. search rules)  -- is-positive-requires-2
-    (λ c κs. search rules)  -- far-cap-requires
+    (λ c κs. search rules)  -- is_positive-requires-2
+    (λ c κs. search rules)  -- far_cap-requires
     returns-2
     negate-requires
     negate-requires-2
     negate-requires-3
-    (λ c κs. search rules)  -- weights-in-requires
+    (λ c κs. search rules)  -- weights_in-requires
     returns-3)

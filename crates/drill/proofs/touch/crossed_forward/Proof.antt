@@ -17,43 +17,43 @@ module _ (s : tie.Start) (l : Line) (ρ : ℕ) where
   abbrev far : Bool
   far = far_of l ρ (from_axis_of s.args.a) (from_axis_of s.args.b) (from_axis_of s.args.c)
 
-returns : tie.Need-returns
+returns : tie.Need-returns-then-is_negative
 returns c =
-    let (s, t, e, n) : tie.Start × tie.After-is-negative × tie.Then1 × tie.After-near-cap = search in
+    let (s, t, e, n) : tie.Start × tie.After-is_negative × tie.Then-is_negative × tie.After-near_cap = search in
     let p = s.args.p in
     λ l ρ o low high.
     nearest_low (near s l ρ) (far s l ρ) (value p.i) (value p.j) (value p.k) (value p.low) (value p.high)
-    (sym t.is_negative.ensures ∙ e.if1.taken) (n.near-cap.ensures l ρ o low)
+    (sym t.is_negative.ensures ∙ e.if-is_negative.true) (n.near_cap.ensures l ρ o low)
 
-returns-2 : tie.Need-returns-2
+returns-2 : tie.Need-returns-then-is_negative-2
 returns-2 c =
-    let (s, t, e, u, x, n) : tie.Start × tie.After-is-negative × tie.Else1 × tie.After-is-negative2 × tie.Then2
-    × tie.After-far-cap = search in
+    let (s, t, e, u, x, n) : tie.Start × tie.After-is_negative × tie.Else-is_negative × tie.After-is_negative-2 × tie.Then-is_negative-2
+    × tie.After-far_cap = search in
     let p = s.args.p in
     λ l ρ o low high.
     nearest_high (near s l ρ) (far s l ρ) (value p.i) (value p.j) (value p.k) (value p.low) (value p.high)
-    (sym t.is_negative.ensures ∙ e.if1.left) (sym u.is-negative2.ensures ∙ x.if2.taken)
-    (n.far-cap.ensures l ρ o high)
+    (sym t.is_negative.ensures ∙ e.if-is_negative.false) (sym u.is_negative-2.ensures ∙ x.if-is_negative-2.true)
+    (n.far_cap.ensures l ρ o high)
 
-returns-3 : tie.Need-returns-3
+returns-3 : tie.Need-returns
 returns-3 c =
-    let (s, t, e, u, x, w) : tie.Start × tie.After-is-negative × tie.Else1 × tie.After-is-negative2 × tie.Else2
-    × tie.After-weights-in = search in
+    let (s, t, e, u, x, w) : tie.Start × tie.After-is_negative × tie.Else-is_negative × tie.After-is_negative-2 × tie.Else-is_negative-2
+    × tie.After-weights_in = search in
     let p = s.args.p in
     λ l ρ o low high.
     nearest_crossing (near s l ρ) (far s l ρ) (value p.i) (value p.j) (value p.k) (value p.low) (value p.high)
-    (sym t.is_negative.ensures ∙ e.if1.left) (sym u.is-negative2.ensures ∙ x.if2.left)
-    w.weights-in.ensures
+    (sym t.is_negative.ensures ∙ e.if-is_negative.false) (sym u.is_negative-2.ensures ∙ x.if-is_negative-2.false)
+    w.weights_in.ensures
 
-pub crossed-forward-spec : {M : Type 1} → statement M
-crossed-forward-spec =
+pub crossed_forward_spec : {M : Type 1} → statement M
+crossed_forward_spec =
     tie.close
     (tie.spec
-    (λ c κs. search rules)  -- is-negative-requires
-    (λ c κs. search rules)  -- near-cap-requires
+    (λ c κs. search rules)  -- is_negative-requires
+    (λ c κs. search rules)  -- near_cap-requires
     returns
-    (λ c κs. search rules)  -- is-negative-requires-2
-    (λ c κs. search rules)  -- far-cap-requires
+    (λ c κs. search rules)  -- is_negative-requires-2
+    (λ c κs. search rules)  -- far_cap-requires
     returns-2
-    (λ c κs. search rules)  -- weights-in-requires
+    (λ c κs. search rules)  -- weights_in-requires
     returns-3)

@@ -24,15 +24,15 @@ module _ (s : tie.Start) where
 area : (s : tie.Start) → bits s.args.drill.area ≡ s.args.drill.area
 area s = plain (widen s.requires.0.0.area (lit≤ tt))
 
-abbrev begun : tie.After-frame-of → tie.Start
+abbrev begun : tie.After-frame_of-frame → tie.Start
 begun k = search
 
 returns : tie.Need-returns
 unfolding far_of
 returns c =
-    let (k, r, n) : tie.After-frame-of × tie.After-reversed × tie.After-highs = search in
+    let (k, r, n) : tie.After-frame_of-frame × tie.After-reversed-back × tie.After-highs = search in
     let s = begun k in
-    let f = k.frame-of.ensures in
+    let f = k.frame_of-frame.ensures in
     let m = n.highs.ensures.0 in
     let a = A s in
     let b = B s in
@@ -40,21 +40,21 @@ returns c =
     let g = level (neg_ℤ a.height) (neg_ℤ b.height) (neg_ℤ d.height) a.at b.at d.at in
     let e = f.steps.is in
     λ l ρ o high.
-    c.cap_in_lem.ensures ρ l.direction g a.at b.at d.at (area s ∙ o.area) o.length
+    c.cap_in.ensures ρ l.direction g a.at b.at d.at (area s ∙ o.area) o.length
     (f.whole ∙ sym (reversed_square a.height b.height d.height a.at b.at d.at))
-    (r.reversed.ensures.is ∙ (λ i. record {
+    (r.reversed-back.ensures.is ∙ (λ i. record {
       x = (ap (λ (z : Point). neg_ℤ z.x) e ∙ sym (reversed_dot a.height b.height d.height a.at b.at d.at a.at)) i;
       y = (ap (λ (z : Point). neg_ℤ z.y) e ∙ sym (reversed_dot a.height b.height d.height a.at b.at d.at b.at)) i;
       z = (ap (λ (z : Point). neg_ℤ z.z) e ∙ sym (reversed_dot a.height b.height d.height a.at b.at d.at d.at)) i;
     }))
     ∙ (λ i. cap_in ρ l.direction g (high i) a.at b.at d.at (m i).x (m i).y (m i).z)
 
-pub far-cap-spec : {M : Type 1} → statement M
-far-cap-spec =
+pub far_cap_spec : {M : Type 1} → statement M
+far_cap_spec =
     tie.close
     (tie.spec
-    (λ c κs. search rules)  -- frame-of-requires
-    (λ c κs. search rules)  -- reversed-requires
+    (λ c κs. search rules)  -- frame_of-frame-requires
+    (λ c κs. search rules)  -- reversed-back-requires
     (λ c κs. search rules)  -- highs-requires
-    (λ c κs. search rules)  -- cap-in-requires
+    (λ c κs. search rules)  -- cap_in-requires
     returns)

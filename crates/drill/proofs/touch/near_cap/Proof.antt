@@ -21,26 +21,26 @@ module _ (s : tie.Start) where
 area : (s : tie.Start) → bits s.args.drill.area ≡ s.args.drill.area
 area s = plain (widen s.requires.0.0.area (lit≤ tt))
 
-abbrev begun : tie.After-frame-of → tie.Start
+abbrev begun : tie.After-frame_of-frame → tie.Start
 begun k = search
 
 returns : tie.Need-returns
 unfolding near_of
 returns c =
-    let (k, n) : tie.After-frame-of × tie.After-lows = search in
+    let (k, n) : tie.After-frame_of-frame × tie.After-lows = search in
     let s = begun k in
-    let f = k.frame-of.ensures in
+    let f = k.frame_of-frame.ensures in
     let m = n.lows.ensures.0 in
     let g = level_of (A s) (B s) (C s) in
     λ l ρ o low.
-    c.cap_in_lem.ensures ρ l.direction g (A s).at (B s).at (C s).at (area s ∙ o.area) o.length f.whole f.steps.is
+    c.cap_in.ensures ρ l.direction g (A s).at (B s).at (C s).at (area s ∙ o.area) o.length f.whole f.steps.is
     ∙ (λ i. cap_in ρ l.direction g (low i) (A s).at (B s).at (C s).at (m i).x (m i).y (m i).z)
 
-pub near-cap-spec : {M : Type 1} → statement M
-near-cap-spec =
+pub near_cap_spec : {M : Type 1} → statement M
+near_cap_spec =
     tie.close
     (tie.spec
-    (λ c κs. search rules)  -- frame-of-requires
+    (λ c κs. search rules)  -- frame_of-frame-requires
     (λ c κs. search rules)  -- lows-requires
-    (λ c κs. search rules)  -- cap-in-requires
+    (λ c κs. search rules)  -- cap_in-requires
     returns)

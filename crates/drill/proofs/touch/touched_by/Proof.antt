@@ -18,23 +18,23 @@ module _ (s : tie.Start) where
   abbrev C : FromAxis
   C = from_axis_of s.args.c
 
-returns : tie.Need-returns
+returns : tie.Need-returns-then-outline_in
 returns c =
-    let (s, k) : tie.Start × tie.After-outline-in = search in
-    λ l ρ o. or_hit (plane_of l ρ (A s) (B s) (C s)) (sym (k.outline-in.ensures l ρ o) ∙ c.if1.true)
+    let (s, k) : tie.Start × tie.After-outline_in = search in
+    λ l ρ o. or_hit (plane_of l ρ (A s) (B s) (C s)) (sym (k.outline_in.ensures l ρ o) ∙ c.if-outline_in.true)
     ∙ sym (touched_parts l ρ (A s) (B s) (C s))
 
-returns-2 : tie.Need-returns-2
+returns-2 : tie.Need-returns
 returns-2 c =
-    let (s, k, t, n) : tie.Start × tie.After-outline-in × tie.Else1 × tie.After-plane-in = search in
-    λ l ρ o. or_miss (sym (k.outline-in.ensures l ρ o) ∙ t.if1.left) (n.plane-in.ensures l ρ o)
+    let (s, k, t, n) : tie.Start × tie.After-outline_in × tie.Else-outline_in × tie.After-plane_in = search in
+    λ l ρ o. or_miss (sym (k.outline_in.ensures l ρ o) ∙ t.if-outline_in.false) (n.plane_in.ensures l ρ o)
     ∙ sym (touched_parts l ρ (A s) (B s) (C s))
 
-pub touched-by-spec : {M : Type 1} → statement M
-touched-by-spec =
+pub touched_by_spec : {M : Type 1} → statement M
+touched_by_spec =
     tie.close
     (tie.spec
-    (λ c κs. search rules)  -- outline-in-requires
+    (λ c κs. search rules)  -- outline_in-requires
     returns
-    (λ c κs. search rules)  -- plane-in-requires
+    (λ c κs. search rules)  -- plane_in-requires
     returns-2)

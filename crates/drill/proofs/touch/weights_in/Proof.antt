@@ -10,36 +10,36 @@ use borrow.Author.Rules.{rules}
 use Rattle.drill.proofs.touch.weights_in.Statement.{statement}
 use Rattle.drill.proofs.touch.weights_in.Tie as tie
 
-returns : tie.Need-returns
+returns : tie.Need-returns-then-is_negative
 returns c =
-    let (s, n) : tie.Start × tie.After-is-negative = search in
+    let (s, n) : tie.Start × tie.After-is_negative = search in
     let v = s.args in
     and_off (le_z (pos 0) (value v.j) && le_z (pos 0) (value v.k))
-    (negative_off (value v.i) n.is_negative.ensures c.if1.true)
+    (negative_off (value v.i) n.is_negative.ensures c.if-is_negative.true)
 
-returns-2 : tie.Need-returns-2
+returns-2 : tie.Need-returns-then-is_negative-2
 returns-2 c =
-    let (s, n, t, m) : tie.Start × tie.After-is-negative × tie.Else1 × tie.After-is-negative2 = search in
+    let (s, n, t, m) : tie.Start × tie.After-is_negative × tie.Else-is_negative × tie.After-is_negative-2 = search in
     let v = s.args in
-    and_on (negative_on (value v.i) n.is_negative.ensures t.if1.left)
-    (and_off (le_z (pos 0) (value v.k)) (negative_off (value v.j) m.is-negative2.ensures c.if2.true))
+    and_on (negative_on (value v.i) n.is_negative.ensures t.if-is_negative.false)
+    (and_off (le_z (pos 0) (value v.k)) (negative_off (value v.j) m.is_negative-2.ensures c.if-is_negative-2.true))
 
-returns-3 : tie.Need-returns-3
+returns-3 : tie.Need-returns
 returns-3 c =
-    let (s, n, t, m, u, k) : tie.Start × tie.After-is-negative × tie.Else1 × tie.After-is-negative2 × tie.Else2 × tie.After-is-negative3 =
+    let (s, n, t, m, u, k) : tie.Start × tie.After-is_negative × tie.Else-is_negative × tie.After-is_negative-2 × tie.Else-is_negative-2 × tie.After-is_negative-3 =
     search in
     let v = s.args in
-    and_on (negative_on (value v.i) n.is_negative.ensures t.if1.left)
-    (and_on (negative_on (value v.j) m.is-negative2.ensures u.if2.left)
-    (ap not k.is-negative3.ensures ∙ at_most_told (pos 0) (value v.k)))
+    and_on (negative_on (value v.i) n.is_negative.ensures t.if-is_negative.false)
+    (and_on (negative_on (value v.j) m.is_negative-2.ensures u.if-is_negative-2.false)
+    (ap not k.is_negative-3.ensures ∙ at_most_told (pos 0) (value v.k)))
 
-pub weights-in-spec : {M : Type 1} → statement M
-weights-in-spec =
+pub weights_in_spec : {M : Type 1} → statement M
+weights_in_spec =
     tie.close
     (tie.spec
-    (λ c κs. search rules)  -- is-negative-requires
+    (λ c κs. search rules)  -- is_negative-requires
     returns
-    (λ c κs. search rules)  -- is-negative-requires-2
+    (λ c κs. search rules)  -- is_negative-requires-2
     returns-2
-    (λ c κs. search rules)  -- is-negative-requires-3
+    (λ c κs. search rules)  -- is_negative-requires-3
     returns-3)

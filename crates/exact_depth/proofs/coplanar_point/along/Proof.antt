@@ -30,39 +30,39 @@ fits-c : (s : tie.Start) → SFits w64 s.args.c.depth
 fits-c s = search rules
 
 -- the sides, as the code has them
-bounded₁ : (c : tie.After-side-of) → Bounded c.side-of.result
+bounded₁ : (c : tie.After-side_of-first) → Bounded c.side_of-first.result
 bounded₁ c =
     let s : tie.Start = search in
-    side_bounded (fits-b s) (fits-c s) s.pre.1.0 s.pre.1.1 c.side-of.ensures
+    side_bounded (fits-b s) (fits-c s) s.requires.1.0 s.requires.1.1 c.side_of-first.ensures
 
-bounded₂ : (c : tie.After-side-of2) → Bounded c.side-of2.result
+bounded₂ : (c : tie.After-side_of-second) → Bounded c.side_of-second.result
 bounded₂ c =
     let s : tie.Start = search in
-    side_bounded (fits-c s) (fits-a s) s.pre.1.1 s.pre.0 c.side-of2.ensures
+    side_bounded (fits-c s) (fits-a s) s.requires.1.1 s.requires.0 c.side_of-second.ensures
 
-bounded₃ : (c : tie.After-side-of3) → Bounded c.side-of3.result
+bounded₃ : (c : tie.After-side_of-third) → Bounded c.side_of-third.result
 bounded₃ c =
     let s : tie.Start = search in
-    side_bounded (fits-a s) (fits-b s) s.pre.0 s.pre.1.0 c.side-of3.ensures
+    side_bounded (fits-a s) (fits-b s) s.requires.0 s.requires.1.0 c.side_of-third.ensures
 
 -- the depths, as they are put off
-shallow₀ : (c : tie.After-of-i64) → Shallow (record { t = c.of-i64.result; w = pos 1 })
-shallow₀ c = let s : tie.Start = search in start_shallow s.fits.near c.of-i64.ensures
+shallow₀ : (c : tie.After-of_i64) → Shallow (record { t = c.of_i64.result; w = pos 1 })
+shallow₀ c = let s : tie.Start = search in start_shallow s.ranges.near c.of_i64.ensures
 
-shallow₁ : (c : tie.After-entering) → Shallow c.entering.result
+shallow₁ : (c : tie.After-entering-once) → Shallow c.entering-once.result
 shallow₁ c =
-    let (d, o) : tie.After-side-of × tie.After-of-i64 = search in
-    entering_shallow (shallow₀ o) (bounded₁ d) c.entering.ensures
+    let (d, o) : tie.After-side_of-first × tie.After-of_i64 = search in
+    entering_shallow (shallow₀ o) (bounded₁ d) c.entering-once.ensures
 
-shallow₂ : (c : tie.After-entering2) → Shallow c.entering2.result
+shallow₂ : (c : tie.After-entering-twice) → Shallow c.entering-twice.result
 shallow₂ c =
-    let (k, d) : tie.After-entering × tie.After-side-of2 = search in
-    entering_shallow (shallow₁ k) (bounded₂ d) c.entering2.ensures
+    let (k, d) : tie.After-entering-once × tie.After-side_of-second = search in
+    entering_shallow (shallow₁ k) (bounded₂ d) c.entering-twice.ensures
 
-shallow₃ : (c : tie.After-entering3) → Shallow c.entering3.result
+shallow₃ : (c : tie.After-entering-at) → Shallow c.entering-at.result
 shallow₃ c =
-    let (k, d) : tie.After-entering2 × tie.After-side-of3 = search in
-    entering_shallow (shallow₂ k) (bounded₃ d) c.entering3.ensures
+    let (k, d) : tie.After-entering-twice × tie.After-side_of-third = search in
+    entering_shallow (shallow₂ k) (bounded₃ d) c.entering-at.ensures
 
 -- which is the entry
 entered : (a b c : PlanePoint) (near : ℤ) (d e g : Side) (f₀ f₁ f₂ f₃ : Fraction)
@@ -76,42 +76,42 @@ entered a b c near d e g f₀ f₁ f₂ f₃ n p q r x y z =
 abbrev entry_of : tie.Start → Fraction
 entry_of s = entry (point_of s.args.a) (point_of s.args.b) (point_of s.args.c) s.args.near
 
-abbrev begun : tie.After-entering3 → tie.Start
+abbrev begun : tie.After-entering-at → tie.Start
 begun m = search
 
-entry-is : (m : tie.After-entering3) → plane_depth_of m.entering3.result ≡ entry_of (begun m)
+entry-is : (m : tie.After-entering-at) → plane_depth_of m.entering-at.result ≡ entry_of (begun m)
 entry-is m =
-    let (s, d, e, g, o, k, l) : tie.Start × tie.After-side-of × tie.After-side-of2 × tie.After-side-of3 × tie.After-of-i64
-    × tie.After-entering × tie.After-entering2 = search in
+    let (s, d, e, g, o, k, l) : tie.Start × tie.After-side_of-first × tie.After-side_of-second × tie.After-side_of-third × tie.After-of_i64
+    × tie.After-entering-once × tie.After-entering-twice = search in
     let v = s.args in
-    entered (point_of v.a) (point_of v.b) (point_of v.c) v.near _ _ _ (record { t = value o.of-i64.result; w = pos 1 }) _ _ _
-    (λ i. record { t = (o.of-i64.ensures ∙ bits_back s.fits.near) i; w = pos 1 }) d.side-of.ensures e.side-of2.ensures
-    g.side-of3.ensures k.entering.ensures l.entering2.ensures m.entering3.ensures
+    entered (point_of v.a) (point_of v.b) (point_of v.c) v.near _ _ _ (record { t = value o.of_i64.result; w = pos 1 }) _ _ _
+    (λ i. record { t = (o.of_i64.ensures ∙ bits_back s.ranges.near) i; w = pos 1 }) d.side_of-first.ensures e.side_of-second.ensures
+    g.side_of-third.ensures k.entering-once.ensures l.entering-twice.ensures m.entering-at.ensures
 
-entering-requires : tie.Need-entering-requires
+entering-requires : tie.Need-entering-once-requires
 entering-requires c κs =
-    let (d, o) : tie.After-side-of × tie.After-of-i64 = search in
+    let (d, o) : tie.After-side_of-first × tie.After-of_i64 = search in
     (bounded₁ d, shallow₀ o)
 
-entering-requires-2 : tie.Need-entering-requires-2
+entering-requires-2 : tie.Need-entering-twice-requires
 entering-requires-2 c κs =
-    let (d, k) : tie.After-side-of2 × tie.After-entering = search in
+    let (d, k) : tie.After-side_of-second × tie.After-entering-once = search in
     (bounded₂ d, shallow₁ k)
 
-entering-requires-3 : tie.Need-entering-requires-3
+entering-requires-3 : tie.Need-entering-at-requires
 entering-requires-3 c κs =
-    let (d, k) : tie.After-side-of3 × tie.After-entering2 = search in
+    let (d, k) : tie.After-side_of-third × tie.After-entering-twice = search in
     (bounded₃ d, shallow₂ k)
 
 inside-requires : tie.Need-inside-requires
 inside-requires c κs =
-    let (d, e, g, k) : tie.After-side-of × tie.After-side-of2 × tie.After-side-of3 × tie.After-entering3 = search in
+    let (d, e, g, k) : tie.After-side_of-first × tie.After-side_of-second × tie.After-side_of-third × tie.After-entering-at = search in
     ((bounded₁ d, (bounded₂ e, bounded₃ g)), shallow₃ k)
 
 kept-requires : tie.Need-kept-requires
 kept-requires c κs =
-    let (k, o) : tie.After-entering3 × tie.After-of-i642 = search in
-    word_middling (shallow₃ k).w o.of-i642.ensures
+    let (k, o) : tie.After-entering-at × tie.After-of_i64-2 = search in
+    word_middling (shallow₃ k).w o.of_i64-2.ensures
 
 -- the test of the three sides
 tested : (a b c : PlanePoint) (near : ℤ) (d e g : Side) (f : Fraction) (r x : Bool) → d ≡ side_of b c → e ≡ side_of c a → g ≡ side_of a b
@@ -122,40 +122,40 @@ test-told : (i : tie.After-inside) (x : Bool) → i.inside.result ≡ x → let 
     inside (side_of (point_of s.args.b) (point_of s.args.c)) (side_of (point_of s.args.c) (point_of s.args.a))
     (side_of (point_of s.args.a) (point_of s.args.b)) (entry_of s) ≡ x
 test-told i x t =
-    let (s, d, e, g, m) : tie.Start × tie.After-side-of × tie.After-side-of2 × tie.After-side-of3 × tie.After-entering3 = search in
+    let (s, d, e, g, m) : tie.Start × tie.After-side_of-first × tie.After-side_of-second × tie.After-side_of-third × tie.After-entering-at = search in
     let v = s.args in
-    tested (point_of v.a) (point_of v.b) (point_of v.c) v.near _ _ _ _ _ x d.side-of.ensures e.side-of2.ensures
-    g.side-of3.ensures (entry-is m) i.inside.ensures t
+    tested (point_of v.a) (point_of v.b) (point_of v.c) v.near _ _ _ _ _ x d.side_of-first.ensures e.side_of-second.ensures
+    g.side_of-third.ensures (entry-is m) i.inside.ensures t
 
-returns : tie.Need-returns
+returns : tie.Need-returns-then-not-inside
 unfolding along_plane
 returns c =
     let (s, i) : tie.Start × tie.After-inside = search in
-    missed (left (kept (entry_of s) s.args.near s.args.far) (test-told i false (not-true _ c.if1.true)) refl)
+    missed (left (kept (entry_of s) s.args.near s.args.far) (test-told i false c.if-not-inside.true) refl)
 
-returns-2 : tie.Need-returns-2
+returns-2 : tie.Need-returns
 unfolding along_plane
 returns-2 c =
-    let (s, m, i, e, o) : tie.Start × tie.After-entering3 × tie.After-inside × tie.Else1 × tie.After-of-i642 = search in
+    let (s, m, i, e, o) : tie.Start × tie.After-entering-at × tie.After-inside × tie.Else-not-inside × tie.After-of_i64-2 = search in
     finds_as c.kept.ensures
-    (taken Miss (test-told i true (not-false _ e.if1.left))
-    ((λ j. kept (record { t = value m.entering3.result.t; w = word_told (shallow₃ m).w o.of-i642.ensures j })
-    (bits_back s.fits.near j) (bits_back s.fits.far j))
+    (taken Miss (test-told i true e.if-not-inside.false)
+    ((λ j. kept (record { t = value m.entering-at.result.t; w = word_told (shallow₃ m).w o.of_i64-2.ensures j })
+    (bits_back s.ranges.near j) (bits_back s.ranges.far j))
     ∙ (λ j. kept (entry-is m j) s.args.near s.args.far)))
 
-pub along-spec : {M : Type 1} → statement M
-along-spec =
+pub along_spec : {M : Type 1} → statement M
+along_spec =
     tie.close
     (tie.spec
-    (search rules)  -- side-of-requires
-    (search rules)  -- side-of-requires-2
-    (search rules)  -- side-of-requires-3
-    (search rules)  -- of-i64-requires
+    (search rules)  -- side_of-first-requires
+    (search rules)  -- side_of-second-requires
+    (search rules)  -- side_of-third-requires
+    (search rules)  -- of_i64-requires
     entering-requires
     entering-requires-2
     entering-requires-3
     inside-requires
     returns
-    (search rules)  -- of-i64-requires-2
+    (search rules)  -- of_i64-requires-2
     kept-requires
     returns-2)

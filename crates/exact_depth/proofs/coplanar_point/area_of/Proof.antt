@@ -35,13 +35,13 @@ fits-c : (s : tie.Start) → SFits w64 s.args.c.depth
 fits-c s = search rules
 
 -- the three turns
-abbrev begun : tie.After-determinant3 → tie.Start
+abbrev begun : tie.After-determinant-third → tie.Start
 begun z = search
 
-abbrev first_of : tie.After-determinant3 → tie.After-determinant
+abbrev first_of : tie.After-determinant-third → tie.After-determinant-first
 first_of z = search
 
-abbrev second-of : tie.After-determinant3 → tie.After-determinant2
+abbrev second-of : tie.After-determinant-third → tie.After-determinant-second
 second-of z = search
 
 abbrev area-as : tie.Start → ℤ
@@ -49,37 +49,37 @@ area-as s = area (point_of s.args.a) (point_of s.args.b) (point_of s.args.c)
 
 total-requires : tie.Need-total-requires
 total-requires c κs =
-    let (s, x, y, z) : tie.Start × tie.After-determinant × tie.After-determinant2 × tie.After-determinant3 = search in
-    let h = s.pre in (
-      small h.1.0 h.1.1 (fits-b s) (fits-c s) x.determinant.ensures,
+    let (s, x, y, z) : tie.Start × tie.After-determinant-first × tie.After-determinant-second × tie.After-determinant-third = search in
+    let h = s.requires in (
+      small h.1.0 h.1.1 (fits-b s) (fits-c s) x.determinant-first.ensures,
       (
-        small h.1.1 h.0 (fits-c s) (fits-a s) y.determinant2.ensures,
-        small h.0 h.1.0 (fits-a s) (fits-b s) z.determinant3.ensures,
+        small h.1.1 h.0 (fits-c s) (fits-a s) y.determinant-second.ensures,
+        small h.0 h.1.0 (fits-a s) (fits-b s) z.determinant-third.ensures,
       ),
     )
 
-sum_is : (z : tie.After-determinant3)
-    → value (first_of z).determinant.result +ℤ value (second-of z).determinant2.result +ℤ value z.determinant3.result ≡ area-as
+sum_is : (z : tie.After-determinant-third)
+    → value (first_of z).determinant-first.result +ℤ value (second-of z).determinant-second.result +ℤ value z.determinant-third.result ≡ area-as
     (begun z)
 unfolding area
 sum_is z =
     let s = begun z in
-    let h = s.pre in
-    λ i. told h.1.0 h.1.1 (fits-b s) (fits-c s) (first_of z).determinant.ensures i
-    +ℤ told h.1.1 h.0 (fits-c s) (fits-a s) (second-of z).determinant2.ensures i
-    +ℤ told h.0 h.1.0 (fits-a s) (fits-b s) z.determinant3.ensures i
+    let h = s.requires in
+    λ i. told h.1.0 h.1.1 (fits-b s) (fits-c s) (first_of z).determinant-first.ensures i
+    +ℤ told h.1.1 h.0 (fits-c s) (fits-a s) (second-of z).determinant-second.ensures i
+    +ℤ told h.0 h.1.0 (fits-a s) (fits-b s) z.determinant-third.ensures i
 
 returns : tie.Need-returns
 returns c =
-    let z : tie.After-determinant3 = search in
+    let z : tie.After-determinant-third = search in
     c.total.ensures ∙ sum_is z
 
-pub area-of-spec : {M : Type 1} → statement M
-area-of-spec =
+pub area_of_spec : {M : Type 1} → statement M
+area_of_spec =
     tie.close
     (tie.spec
-    (search rules)  -- turn-requires
-    (search rules)  -- turn-requires-2
-    (search rules)  -- turn-requires-3
+    (search rules)  -- determinant-first-requires
+    (search rules)  -- determinant-second-requires
+    (search rules)  -- determinant-third-requires
     total-requires
     returns)

@@ -20,54 +20,54 @@ flat-across s h e = record { u = subst (λ (z : PlanePoint). Sized61 z.u) (sym e
 flat_up : (s : Projected) {p : Corner} → Close s → point_of p ≡ up_point s → Flat p
 flat_up s h e = record { u = subst (λ (z : PlanePoint). Sized61 z.u) (sym e) h.up }
 
-in-plane-requires : tie.Need-in-plane-requires
+in-plane-requires : tie.Need-in_plane-upright-requires
 in-plane-requires c κs =
-    let (s, x, y, z) : tie.Start × tie.After-up-point × tie.After-up-point2 × tie.After-up-point3 = search in (
+    let (s, x, y, z) : tie.Start × tie.After-up_point × tie.After-up_point-2 × tie.After-up_point-3 = search in (
       (
-        flat_up s.args.a s.pre.0 x.up-point.ensures,
-        (flat_up s.args.b s.pre.1.0 y.up-point2.ensures, flat_up s.args.c s.pre.1.1 z.up-point3.ensures),
+        flat_up s.args.a s.requires.0 x.up_point.ensures,
+        (flat_up s.args.b s.requires.1.0 y.up_point-2.ensures, flat_up s.args.c s.requires.1.1 z.up_point-3.ensures),
       ),
       tt,
     )
 
-in-plane-requires-2 : tie.Need-in-plane-requires-2
+in-plane-requires-2 : tie.Need-in_plane-requires
 in-plane-requires-2 c κs =
-    let (s, x, y, z, k) : tie.Start × tie.After-across-point × tie.After-across-point2 × tie.After-across-point3 × tie.After-in-plane =
+    let (s, x, y, z, k) : tie.Start × tie.After-across_point × tie.After-across_point-2 × tie.After-across_point-3 × tie.After-in_plane-upright =
     search
     in (
       (
-        flat-across s.args.a s.pre.0 x.across-point.ensures,
+        flat-across s.args.a s.requires.0 x.across_point.ensures,
         (
-          flat-across s.args.b s.pre.1.0 y.across-point2.ensures,
-          flat-across s.args.c s.pre.1.1 z.across-point3.ensures,
+          flat-across s.args.b s.requires.1.0 y.across_point-2.ensures,
+          flat-across s.args.c s.requires.1.1 z.across_point-3.ensures,
         ),
       ),
-      k.in_plane_lem.ensures.narrow,
+      k.in_plane-upright.ensures.narrow,
     )
 
 returns : tie.Need-returns
 unfolding coplanar
 returns c =
-    let (s, x, y, z, u, v, w, k) : tie.Start × tie.After-up-point × tie.After-up-point2 × tie.After-up-point3 × tie.After-across-point
-    × tie.After-across-point2 × tie.After-across-point3 × tie.After-in-plane = search in
-    let n = bits_back s.fits.near in
-    let f = bits_back s.fits.far in
-    finds_as c.in-plane2.ensures
-    ((λ i. in_plane (u.across-point.ensures i) (v.across-point2.ensures i) (w.across-point3.ensures i) (n i) (f i)
-    (k.in_plane_lem.ensures.is i))
+    let (s, x, y, z, u, v, w, k) : tie.Start × tie.After-up_point × tie.After-up_point-2 × tie.After-up_point-3 × tie.After-across_point
+    × tie.After-across_point-2 × tie.After-across_point-3 × tie.After-in_plane-upright = search in
+    let n = bits_back s.ranges.near in
+    let f = bits_back s.ranges.far in
+    finds_as c.in_plane.ensures
+    ((λ i. in_plane (u.across_point.ensures i) (v.across_point-2.ensures i) (w.across_point-3.ensures i) (n i) (f i)
+    (k.in_plane-upright.ensures.is i))
     ∙ (λ i. in_plane (across_point s.args.a) (across_point s.args.b) (across_point s.args.c) s.args.near s.args.far
-    (in_plane (x.up-point.ensures i) (y.up-point2.ensures i) (z.up-point3.ensures i) (n i) (f i) Miss)))
+    (in_plane (x.up_point.ensures i) (y.up_point-2.ensures i) (z.up_point-3.ensures i) (n i) (f i) Miss)))
 
-pub coplanar-spec : {M : Type 1} → statement M
-coplanar-spec =
+pub coplanar_spec : {M : Type 1} → statement M
+coplanar_spec =
     tie.close
     (tie.spec
-    (search rules)  -- up-plot-requires
-    (search rules)  -- up-plot-requires-2
-    (search rules)  -- up-plot-requires-3
+    (search rules)  -- up_point-requires
+    (search rules)  -- up_point-requires-2
+    (search rules)  -- up_point-requires-3
     in-plane-requires
-    (search rules)  -- across-plot-requires
-    (search rules)  -- across-plot-requires-2
-    (search rules)  -- across-plot-requires-3
+    (search rules)  -- across_point-requires
+    (search rules)  -- across_point-requires-2
+    (search rules)  -- across_point-requires-3
     in-plane-requires-2
     returns)

@@ -13,22 +13,22 @@ use Rattle.exact_depth.proofs.coplanar_point.entering.Tie as tie
 falls : (s : tie.Start) (b : Bool) → lt_z (bits s.args.side.fall) (pos 0) ≡ b → lt_z s.args.side.fall (pos 0) ≡ b
 falls s b h = below_read {Y = pos 0} (plain s.requires.0.fall) refl h
 
-returns : tie.Need-returns
+returns : tie.Need-returns-then-side-lt0
 unfolding entering
 returns c =
-    let (s, e) : tie.Start × tie.Then1 = search in
-    taken (plane_depth_of s.args.at) (falls s true e.if1.taken) c.enter-at.ensures
+    let (s, e) : tie.Start × tie.Then-side-lt0 = search in
+    taken (plane_depth_of s.args.at) (falls s true e.if-side-lt0.true) c.enter_at.ensures
 
-returns-2 : tie.Need-returns-2
+returns-2 : tie.Need-returns
 unfolding entering
 returns-2 c =
     let s : tie.Start = search in
-    left (enter_at (plane_depth_of s.args.at) (side_as s.args.side)) (falls s false c.if1.false) refl
+    left (enter_at (plane_depth_of s.args.at) (side_as s.args.side)) (falls s false c.if-side-lt0.false) refl
 
-pub entering-spec : {M : Type 1} → statement M
-entering-spec =
+pub entering_spec : {M : Type 1} → statement M
+entering_spec =
     tie.close
     (tie.spec
-    (search rules)  -- put-off-requires
+    (search rules)  -- enter_at-requires
     returns
     returns-2)

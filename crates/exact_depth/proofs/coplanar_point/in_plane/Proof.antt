@@ -16,15 +16,15 @@ use Rattle.exact_depth.proofs.coplanar_point.in_plane.Tie as tie
 abbrev area-as : tie.Start → ℤ
 area-as s = area (point_of s.args.a) (point_of s.args.b) (point_of s.args.c)
 
-above : (p : tie.After-is-positive) (b : Bool) → p.is_positive.result ≡ b → let s : tie.Start = search in lt_z (pos 0) (area-as s) ≡ b
+above : (p : tie.After-is_positive) (b : Bool) → p.is_positive.result ≡ b → let s : tie.Start = search in lt_z (pos 0) (area-as s) ≡ b
 above p b h =
-    let k : tie.After-area-of = search in
-    ap (λ (z : ℤ). lt_z (pos 0) z) (sym k.area_of.ensures) ∙ sym p.is_positive.ensures ∙ h
+    let k : tie.After-area_of-signed = search in
+    ap (λ (z : ℤ). lt_z (pos 0) z) (sym k.area_of-signed.ensures) ∙ sym p.is_positive.ensures ∙ h
 
-below : (n : tie.After-is-negative) (b : Bool) → n.is_negative.result ≡ b → let s : tie.Start = search in lt_z (area-as s) (pos 0) ≡ b
+below : (n : tie.After-is_negative) (b : Bool) → n.is_negative.result ≡ b → let s : tie.Start = search in lt_z (area-as s) (pos 0) ≡ b
 below n b h =
-    let k : tie.After-area-of = search in
-    ap (λ (z : ℤ). lt_z z (pos 0)) (sym k.area_of.ensures) ∙ sym n.is_negative.ensures ∙ h
+    let k : tie.After-area_of-signed = search in
+    ap (λ (z : ℤ). lt_z z (pos 0)) (sym k.area_of-signed.ensures) ∙ sym n.is_negative.ensures ∙ h
 
 -- the two ways round
 abbrev one_way : tie.Start → Depth
@@ -33,43 +33,43 @@ one_way s = along_plane (point_of s.args.a) (point_of s.args.b) (point_of s.args
 abbrev other_way : tie.Start → Depth
 other_way s = along_plane (point_of s.args.a) (point_of s.args.c) (point_of s.args.b) s.args.near s.args.far
 
-returns : tie.Need-returns
+returns : tie.Need-returns-then-is_positive
 unfolding in_plane
 returns c =
-    let (s, p, e) : tie.Start × tie.After-is-positive × tie.Then1 = search in
+    let (s, p, e) : tie.Start × tie.After-is_positive × tie.Then-is_positive = search in
     let v = s.args in
     finds_as c.along.ensures
-    (taken (cond (lt_z (area-as s) (pos 0)) (other_way s) (answer_of v.other)) (above p true e.if1.taken)
-    (λ i. along_plane (point_of v.a) (point_of v.b) (point_of v.c) (bits_back s.fits.near i) (bits_back s.fits.far i)))
+    (taken (cond (lt_z (area-as s) (pos 0)) (other_way s) (answer_of v.other)) (above p true e.if-is_positive.true)
+    (λ i. along_plane (point_of v.a) (point_of v.b) (point_of v.c) (bits_back s.ranges.near i) (bits_back s.ranges.far i)))
 
-returns-2 : tie.Need-returns-2
+returns-2 : tie.Need-returns-then-is_negative
 unfolding in_plane
 returns-2 c =
-    let (s, p, e, n, d) : tie.Start × tie.After-is-positive × tie.Else1 × tie.After-is-negative × tie.Then2 = search in
+    let (s, p, e, n, d) : tie.Start × tie.After-is_positive × tie.Else-is_positive × tie.After-is_negative × tie.Then-is_negative = search in
     let v = s.args in
-    finds_as c.along2.ensures
-    (left (one_way s) (above p false e.if1.left)
-    (taken (answer_of v.other) (below n true d.if2.taken)
-    (λ i. along_plane (point_of v.a) (point_of v.c) (point_of v.b) (bits_back s.fits.near i) (bits_back s.fits.far i))))
+    finds_as c.along-then-is_negative.ensures
+    (left (one_way s) (above p false e.if-is_positive.false)
+    (taken (answer_of v.other) (below n true d.if-is_negative.true)
+    (λ i. along_plane (point_of v.a) (point_of v.c) (point_of v.b) (bits_back s.ranges.near i) (bits_back s.ranges.far i))))
 
-returns-3 : tie.Need-returns-3
+returns-3 : tie.Need-returns
 unfolding in_plane
 returns-3 c =
-    let (s, p, e, n, d) : tie.Start × tie.After-is-positive × tie.Else1 × tie.After-is-negative × tie.Else2 = search in
+    let (s, p, e, n, d) : tie.Start × tie.After-is_positive × tie.Else-is_positive × tie.After-is_negative × tie.Else-is_negative = search in
     record {
-      is = left (one_way s) (above p false e.if1.left) (left (other_way s) (below n false d.if2.left) refl);
-      narrow = s.pre.1;
+      is = left (one_way s) (above p false e.if-is_positive.false) (left (other_way s) (below n false d.if-is_negative.false) refl);
+      narrow = s.requires.1;
     }
 
-pub in-plane-spec : {M : Type 1} → statement M
-in-plane-spec =
+pub in_plane_spec : {M : Type 1} → statement M
+in_plane_spec =
     tie.close
     (tie.spec
-    (search rules)  -- area-of-requires
-    (search rules)  -- is-positive-requires
+    (search rules)  -- area_of-signed-requires
+    (search rules)  -- is_positive-requires
     (search rules)  -- along-requires
     returns
-    (search rules)  -- is-negative-requires
-    (search rules)  -- along-requires-2
+    (search rules)  -- is_negative-requires
+    (search rules)  -- along-requires-then-is_negative
     returns-2
     returns-3)

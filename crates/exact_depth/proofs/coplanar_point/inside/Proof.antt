@@ -32,43 +32,43 @@ two s = height_of (side_as s.args.second) (plane_depth_of s.args.at)
 abbrev three : tie.Start → ℤ
 three s = height_of (side_as s.args.third) (plane_depth_of s.args.at)
 
-returns : tie.Need-returns
+returns : tie.Need-returns-then-is_negative
 unfolding inside
 returns c =
-    let (s, h, n) : tie.Start × tie.After-height × tie.After-is-negative = search in
+    let (s, h, n) : tie.Start × tie.After-height-one × tie.After-is_negative = search in
     first-fails (lt_z (one s) (pos 0)) (lt_z (two s) (pos 0)) (le_z (pos 0) (three s))
-    (below (one s) h.height.ensures n.is_negative.ensures c.if1.true)
+    (below (one s) h.height-one.ensures n.is_negative.ensures c.if-is_negative.true)
 
-returns-2 : tie.Need-returns-2
+returns-2 : tie.Need-returns-then-is_negative-2
 unfolding inside
 returns-2 c =
-    let (s, h, n, e, k, m) : tie.Start × tie.After-height × tie.After-is-negative × tie.Else1 × tie.After-height2
-    × tie.After-is-negative2 = search in
+    let (s, h, n, e, k, m) : tie.Start × tie.After-height-one × tie.After-is_negative × tie.Else-is_negative × tie.After-height-two
+    × tie.After-is_negative-2 = search in
     second-fails (lt_z (one s) (pos 0)) (lt_z (two s) (pos 0)) (le_z (pos 0) (three s))
-    (below (one s) h.height.ensures n.is_negative.ensures e.if1.left)
-    (below (two s) k.height2.ensures m.is-negative2.ensures c.if2.true)
+    (below (one s) h.height-one.ensures n.is_negative.ensures e.if-is_negative.false)
+    (below (two s) k.height-two.ensures m.is_negative-2.ensures c.if-is_negative-2.true)
 
-returns-3 : tie.Need-returns-3
+returns-3 : tie.Need-returns
 unfolding inside
 returns-3 c =
-    let (s, h, n, e, k, m, d, l, z) : tie.Start × tie.After-height × tie.After-is-negative × tie.Else1 × tie.After-height2
-    × tie.After-is-negative2 × tie.Else2 × tie.After-height3 × tie.After-zero = search in
+    let (s, h, n, e, k, m, d, l, z) : tie.Start × tie.After-height-one × tie.After-is_negative × tie.Else-is_negative × tie.After-height-two
+    × tie.After-is_negative-2 × tie.Else-is_negative-2 × tie.After-height-three × tie.After-zero = search in
     third-tells (lt_z (one s) (pos 0)) (lt_z (two s) (pos 0)) (le_z (pos 0) (three s)) _
-    (below (one s) h.height.ensures n.is_negative.ensures e.if1.left)
-    (below (two s) k.height2.ensures m.is-negative2.ensures d.if2.left)
-    (c.at_most.ensures ∙ (λ i. le_z (z.zero.ensures i) (l.height3.ensures i)))
+    (below (one s) h.height-one.ensures n.is_negative.ensures e.if-is_negative.false)
+    (below (two s) k.height-two.ensures m.is_negative-2.ensures d.if-is_negative-2.false)
+    (c.at_most.ensures ∙ (λ i. le_z (z.zero.ensures i) (l.height-three.ensures i)))
 
-pub inside-spec : {M : Type 1} → statement M
-inside-spec =
+pub inside_spec : {M : Type 1} → statement M
+inside_spec =
     tie.close
     (tie.spec
-    (search rules)  -- height-requires
-    (search rules)  -- is-negative-requires
+    (search rules)  -- height-one-requires
+    (search rules)  -- is_negative-requires
     returns
-    (search rules)  -- height-requires-2
-    (search rules)  -- is-negative-requires-2
+    (search rules)  -- height-two-requires
+    (search rules)  -- is_negative-requires-2
     returns-2
-    (search rules)  -- height-requires-3
+    (search rules)  -- height-three-requires
     (search rules)  -- zero-requires
-    (search rules)  -- at-most-requires
+    (search rules)  -- at_most-requires
     returns-3)

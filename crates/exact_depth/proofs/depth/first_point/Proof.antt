@@ -23,45 +23,45 @@ module _ {p q : Projected} (h : Close p) (g : Close q) {x : ℤ}
   small = subst Weight (sym read) (seen_weight h g)
 
 -- the three determinants
-abbrev begun : tie.After-determinant3 → tie.Start
+abbrev begun : tie.After-determinant-gamma → tie.Start
 begun z = search
 
-abbrev first_of : tie.After-determinant3 → tie.After-determinant
+abbrev first_of : tie.After-determinant-gamma → tie.After-determinant-alpha
 first_of z = search
 
-abbrev second-of : tie.After-determinant3 → tie.After-determinant2
+abbrev second-of : tie.After-determinant-gamma → tie.After-determinant-beta
 second-of z = search
 
-by-weights-requires : tie.Need-by-weights-requires
+by-weights-requires : tie.Need-by_weights-requires
 by-weights-requires c κs =
-    let z : tie.After-determinant3 = search in
-    let h = (begun z).pre in (
+    let z : tie.After-determinant-gamma = search in
+    let h = (begun z).requires in (
       h,
       (
-        small h.1.0 h.1.1 (first_of z).determinant.ensures,
-        (small h.1.1 h.0 (second-of z).determinant2.ensures, small h.0 h.1.0 z.determinant3.ensures),
+        small h.1.0 h.1.1 (first_of z).determinant-alpha.ensures,
+        (small h.1.1 h.0 (second-of z).determinant-beta.ensures, small h.0 h.1.0 z.determinant-gamma.ensures),
       ),
     )
 
 returns : tie.Need-returns
 unfolding first_point
 returns c =
-    let z : tie.After-determinant3 = search in
+    let z : tie.After-determinant-gamma = search in
     let s = begun z in
     let v = s.args in
-    let h = s.pre in
+    let h = s.requires in
     finds_as c.by_weights.ensures
-    (λ i. by_weights v.a v.b v.c (read h.1.0 h.1.1 (first_of z).determinant.ensures i)
-    (read h.1.1 h.0 (second-of z).determinant2.ensures i) (read h.0 h.1.0 z.determinant3.ensures i)
-    (bits_back s.fits.near i)
-    (bits_back s.fits.far i))
+    (λ i. by_weights v.a v.b v.c (read h.1.0 h.1.1 (first_of z).determinant-alpha.ensures i)
+    (read h.1.1 h.0 (second-of z).determinant-beta.ensures i) (read h.0 h.1.0 z.determinant-gamma.ensures i)
+    (bits_back s.ranges.near i)
+    (bits_back s.ranges.far i))
 
-pub first-point-spec : {M : Type 1} → statement M
-first-point-spec =
+pub first_point_spec : {M : Type 1} → statement M
+first_point_spec =
     tie.close
     (tie.spec
-    (search rules)  -- determinant-requires
-    (search rules)  -- determinant-requires-2
-    (search rules)  -- determinant-requires-3
+    (search rules)  -- determinant-alpha-requires
+    (search rules)  -- determinant-beta-requires
+    (search rules)  -- determinant-gamma-requires
     by-weights-requires
     returns)

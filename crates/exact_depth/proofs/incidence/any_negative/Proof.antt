@@ -19,24 +19,24 @@ abbrev z-test : tie.Start → Bool
 z-test s = lt_z s.args.z (pos 0)
 
 -- the first is negative
-returns : tie.Need-returns
+returns : tie.Need-returns-then-x-lt0
 returns c =
     let s : tie.Start = search in
-    first_some (x-test s) (y-test s) (z-test s) (below_read {Y = pos 0} (bits_back s.fits.x) refl c.if1.true)
+    first_some (x-test s) (y-test s) (z-test s) (below_read {Y = pos 0} (bits_back s.ranges.x) refl c.if-x-lt0.true)
 
 -- the second
-returns-2 : tie.Need-returns-2
+returns-2 : tie.Need-returns-then-y-lt0
 returns-2 c =
-    let (s, e) : tie.Start × tie.Else1 = search in
-    second_some (x-test s) (y-test s) (z-test s) (below_read {Y = pos 0} (bits_back s.fits.x) refl e.if1.left)
-    (below_read {Y = pos 0} (bits_back s.fits.y) refl c.if2.true)
+    let (s, e) : tie.Start × tie.Else-x-lt0 = search in
+    second_some (x-test s) (y-test s) (z-test s) (below_read {Y = pos 0} (bits_back s.ranges.x) refl e.if-x-lt0.false)
+    (below_read {Y = pos 0} (bits_back s.ranges.y) refl c.if-y-lt0.true)
 
 -- the third decides
-returns-3 : tie.Need-returns-3
+returns-3 : tie.Need-returns
 returns-3 c =
-    let (s, e) : tie.Start × tie.Else1 = search in
-    third_some (x-test s) (y-test s) (z-test s) (below_read {Y = pos 0} (bits_back s.fits.x) refl e.if1.left)
-    (below_read {Y = pos 0} (bits_back s.fits.y) refl c.if2.false) (sym (below_read {Y = pos 0} (bits_back s.fits.z) refl refl))
+    let (s, e) : tie.Start × tie.Else-x-lt0 = search in
+    third_some (x-test s) (y-test s) (z-test s) (below_read {Y = pos 0} (bits_back s.ranges.x) refl e.if-x-lt0.false)
+    (below_read {Y = pos 0} (bits_back s.ranges.y) refl c.if-y-lt0.false) (sym (below_read {Y = pos 0} (bits_back s.ranges.z) refl refl))
 
-pub any-negative-spec : {M : Type 1} → statement M
-any-negative-spec = tie.close (tie.spec returns returns-2 returns-3)
+pub any_negative_spec : {M : Type 1} → statement M
+any_negative_spec = tie.close (tie.spec returns returns-2 returns-3)

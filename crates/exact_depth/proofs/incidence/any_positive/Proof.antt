@@ -19,24 +19,24 @@ abbrev z-test : tie.Start → Bool
 z-test s = lt_z (pos 0) s.args.z
 
 -- the first is positive
-returns : tie.Need-returns
+returns : tie.Need-returns-then-x-gt0
 returns c =
     let s : tie.Start = search in
-    first_some (x-test s) (y-test s) (z-test s) (below_read {X = pos 0} refl (bits_back s.fits.x) c.if1.true)
+    first_some (x-test s) (y-test s) (z-test s) (below_read {X = pos 0} refl (bits_back s.ranges.x) c.if-x-gt0.true)
 
 -- the second
-returns-2 : tie.Need-returns-2
+returns-2 : tie.Need-returns-then-y-gt0
 returns-2 c =
-    let (s, e) : tie.Start × tie.Else1 = search in
-    second_some (x-test s) (y-test s) (z-test s) (below_read {X = pos 0} refl (bits_back s.fits.x) e.if1.left)
-    (below_read {X = pos 0} refl (bits_back s.fits.y) c.if2.true)
+    let (s, e) : tie.Start × tie.Else-x-gt0 = search in
+    second_some (x-test s) (y-test s) (z-test s) (below_read {X = pos 0} refl (bits_back s.ranges.x) e.if-x-gt0.false)
+    (below_read {X = pos 0} refl (bits_back s.ranges.y) c.if-y-gt0.true)
 
 -- the third decides
-returns-3 : tie.Need-returns-3
+returns-3 : tie.Need-returns
 returns-3 c =
-    let (s, e) : tie.Start × tie.Else1 = search in
-    third_some (x-test s) (y-test s) (z-test s) (below_read {X = pos 0} refl (bits_back s.fits.x) e.if1.left)
-    (below_read {X = pos 0} refl (bits_back s.fits.y) c.if2.false) (sym (below_read {X = pos 0} refl (bits_back s.fits.z) refl))
+    let (s, e) : tie.Start × tie.Else-x-gt0 = search in
+    third_some (x-test s) (y-test s) (z-test s) (below_read {X = pos 0} refl (bits_back s.ranges.x) e.if-x-gt0.false)
+    (below_read {X = pos 0} refl (bits_back s.ranges.y) c.if-y-gt0.false) (sym (below_read {X = pos 0} refl (bits_back s.ranges.z) refl))
 
-pub any-positive-spec : {M : Type 1} → statement M
-any-positive-spec = tie.close (tie.spec returns returns-2 returns-3)
+pub any_positive_spec : {M : Type 1} → statement M
+any_positive_spec = tie.close (tie.spec returns returns-2 returns-3)

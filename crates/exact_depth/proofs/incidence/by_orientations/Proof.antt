@@ -32,41 +32,41 @@ sign_read {p} {q} {r} h g k =
     (subst (λ (z : ℤ). SignOf z (determinant (bits p.across) (bits p.up) (bits q.across) (bits q.up)))
     (sym (term k.1 (lit≤ tt)).is) k.0)
 
-abbrev begun : tie.After-sign-of-determinant3 → tie.Start
+abbrev begun : tie.After-sign_of_determinant-gamma → tie.Start
 begun z = search
 
-abbrev first_of : tie.After-sign-of-determinant3 → tie.After-sign-of-determinant
+abbrev first_of : tie.After-sign_of_determinant-gamma → tie.After-sign_of_determinant-alpha
 first_of z = search
 
-abbrev second-of : tie.After-sign-of-determinant3 → tie.After-sign-of-determinant2
+abbrev second-of : tie.After-sign_of_determinant-gamma → tie.After-sign_of_determinant-beta
 second-of z = search
 
-sign-of-determinant-requires : tie.Need-sign-of-determinant-requires
-sign-of-determinant-requires c κs = let s : tie.Start = search in corners s.pre.1.0 s.pre.1.1
+sign-of-determinant-requires : tie.Need-sign_of_determinant-alpha-requires
+sign-of-determinant-requires c κs = let s : tie.Start = search in corners s.requires.1.0 s.requires.1.1
 
-sign-of-determinant-requires-2 : tie.Need-sign-of-determinant-requires-2
-sign-of-determinant-requires-2 c κs = let s : tie.Start = search in corners s.pre.1.1 s.pre.0
+sign-of-determinant-requires-2 : tie.Need-sign_of_determinant-beta-requires
+sign-of-determinant-requires-2 c κs = let s : tie.Start = search in corners s.requires.1.1 s.requires.0
 
-sign-of-determinant-requires-3 : tie.Need-sign-of-determinant-requires-3
-sign-of-determinant-requires-3 c κs = let s : tie.Start = search in corners s.pre.0 s.pre.1.0
+sign-of-determinant-requires-3 : tie.Need-sign_of_determinant-gamma-requires
+sign-of-determinant-requires-3 c κs = let s : tie.Start = search in corners s.requires.0 s.requires.1.0
 
 returns : tie.Need-returns
 returns c =
-    let z : tie.After-sign-of-determinant3 = search in
+    let z : tie.After-sign_of_determinant-gamma = search in
     let s = begun z in
     let v = s.args in
-    let h = s.pre in
-    incident_by v.a v.b v.c (sign_read h.1.0 h.1.1 (first_of z).sign-of-determinant.ensures)
-    (sign_read h.1.1 h.0 (second-of z).sign-of-determinant2.ensures)
-    (sign_read h.0 h.1.0 z.sign-of-determinant3.ensures) c.by-signs.result
-    c.by-signs.ensures
+    let h = s.requires in
+    incident_by v.a v.b v.c (sign_read h.1.0 h.1.1 (first_of z).sign_of_determinant-alpha.ensures)
+    (sign_read h.1.1 h.0 (second-of z).sign_of_determinant-beta.ensures)
+    (sign_read h.0 h.1.0 z.sign_of_determinant-gamma.ensures) c.by_signs.result
+    c.by_signs.ensures
 
-pub by-orientations-spec : {M : Type 1} → statement M
-by-orientations-spec =
+pub by_orientations_spec : {M : Type 1} → statement M
+by_orientations_spec =
     tie.close
     (tie.spec
     sign-of-determinant-requires
     sign-of-determinant-requires-2
     sign-of-determinant-requires-3
-    (search rules)  -- by-signs-requires
+    (search rules)  -- by_signs-requires
     returns)

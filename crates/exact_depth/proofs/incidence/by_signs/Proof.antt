@@ -8,50 +8,51 @@ use borrow.Author.Rules.{rules}
 use Rattle.exact_depth.proofs.incidence.by_signs.Statement.{statement}
 use Rattle.exact_depth.proofs.incidence.by_signs.Tie as tie
 
-below : (k : tie.After-any-negative) (b : Bool) → k.any-negative.result ≡ b → let s : tie.Start = search in
+below : (k : tie.After-any_negative) (b : Bool) → k.any_negative.result ≡ b → let s : tie.Start = search in
     any_negative s.args.x s.args.y s.args.z ≡ b
 below k b h =
     let s : tie.Start = search in
-    (λ i. any_negative (sym (bits_back s.fits.x) i) (sym (bits_back s.fits.y) i) (sym (bits_back s.fits.z) i))
-    ∙ sym k.any-negative.ensures ∙ h
+    (λ i. any_negative (sym (bits_back s.ranges.x) i) (sym (bits_back s.ranges.y) i) (sym (bits_back s.ranges.z) i))
+    ∙ sym k.any_negative.ensures ∙ h
 
-above : (k : tie.After-any-positive) (b : Bool) → k.any_positive_lem.result ≡ b → let s : tie.Start = search in
+above : (k : tie.After-any_positive) (b : Bool) → k.any_positive.result ≡ b → let s : tie.Start = search in
     any_positive s.args.x s.args.y s.args.z ≡ b
 above k b h =
     let s : tie.Start = search in
-    (λ i. any_positive (sym (bits_back s.fits.x) i) (sym (bits_back s.fits.y) i) (sym (bits_back s.fits.z) i))
-    ∙ sym k.any_positive_lem.ensures ∙ h
+    (λ i. any_positive (sym (bits_back s.ranges.x) i) (sym (bits_back s.ranges.y) i) (sym (bits_back s.ranges.z) i))
+    ∙ sym k.any_positive.ensures ∙ h
 
-above-2 : (k : tie.After-any-positive2) (b : Bool) → k.any-positive2.result ≡ b → let s : tie.Start = search in
+above-2 : (k : tie.After-any_positive-2) (b : Bool) → k.any_positive-2.result ≡ b → let s : tie.Start = search in
     any_positive s.args.x s.args.y s.args.z ≡ b
 above-2 k b h =
     let s : tie.Start = search in
-    (λ i. any_positive (sym (bits_back s.fits.x) i) (sym (bits_back s.fits.y) i) (sym (bits_back s.fits.z) i))
-    ∙ sym k.any-positive2.ensures ∙ h
+    (λ i. any_positive (sym (bits_back s.ranges.x) i) (sym (bits_back s.ranges.y) i) (sym (bits_back s.ranges.z) i))
+    ∙ sym k.any_positive-2.ensures ∙ h
 
-returns : tie.Need-returns
+returns : tie.Need-returns-then-any_positive
 returns c =
-    let (k, e, j) : tie.After-any-negative × tie.Then1 × tie.After-any-positive = search in
-    (below k _ e.if1.taken, above j _ c.if2.true)
+    let (k, e, j) : tie.After-any_negative × tie.Then-any_negative × tie.After-any_positive = search in
+    (below k _ e.if-any_negative.true, above j _ c.if-any_positive.true)
 
-returns-2 : tie.Need-returns-2
+returns-2 : tie.Need-returns-then-any_negative
 returns-2 c =
-    let (k, e, j) : tie.After-any-negative × tie.Then1 × tie.After-any-positive = search in
-    inl (below k _ e.if1.taken, above j _ c.if2.false)
+    let (k, e, j) : tie.After-any_negative × tie.Then-any_negative × tie.After-any_positive = search in
+    inl (below k _ e.if-any_negative.true, above j _ c.if-any_positive.false)
 
-returns-3 : tie.Need-returns-3
+returns-3 : tie.Need-returns-then-any_positive-2
 returns-3 c =
-    let (k, e, j) : tie.After-any-negative × tie.Else1 × tie.After-any-positive2 = search in
-    inr (below k _ e.if1.left, above-2 j _ c.if3.true)
+    let (k, e, j) : tie.After-any_negative × tie.Else-any_negative × tie.After-any_positive-2 = search in
+    inr (below k _ e.if-any_negative.false, above-2 j _ c.if-any_positive-2.true)
 
-pub by-signs-spec : {M : Type 1} → statement M
-by-signs-spec =
+pub by_signs_spec : {M : Type 1} → statement M
+by_signs_spec =
     tie.close
     (tie.spec
-    (search rules)  -- any-negative-requires
-    (search rules)  -- any-positive-requires
+    (search rules)  -- any_negative-requires
+    (search rules)  -- any_positive-requires
     returns
     returns-2
-    (search rules)  -- any-positive-requires-2
+    (search rules)  -- any_positive-requires-2
     returns-3
-    (λ c. tt))
+    (λ c. tt)  -- returns
+    )

@@ -22,49 +22,49 @@ abbrev both : {p q : Limbs} → LimbsSized p → LimbsSized q
     (p.high *ℤ q.low +ℤ p.low *ℤ q.high) 4611686016279904256
 both h g = plus (first h g) (second h g) (lit≤ tt)
 
-mul-result : tie.Need-overflow-mul-result
+mul-result : tie.Need-overflow_mul-result
 mul-result c =
     let s : tie.Start = search in
-    times_fits (term s.pre.0.0.high (lit≤ tt)) (term s.pre.1.1.low (lit≤ tt)) (lit≤ tt)
+    times_fits (term s.requires.0.0.high (lit≤ tt)) (term s.requires.1.1.low (lit≤ tt)) (lit≤ tt)
 
-mul-result-2 : tie.Need-overflow-mul-result-2
+mul-result-2 : tie.Need-overflow_mul-result-2
 mul-result-2 c =
     let s : tie.Start = search in
-    times_fits (term s.pre.0.0.low (lit≤ tt)) (term s.pre.1.1.high (lit≤ tt)) (lit≤ tt)
+    times_fits (term s.requires.0.0.low (lit≤ tt)) (term s.requires.1.1.high (lit≤ tt)) (lit≤ tt)
 
-add-result : tie.Need-overflow-add-result
+add-result : tie.Need-overflow_add-result
 add-result c =
     let s : tie.Start = search in
-    plus_fits (first s.pre.0.0 s.pre.1.1) (second s.pre.0.0 s.pre.1.1) (lit≤ tt)
+    plus_fits (first s.requires.0.0 s.requires.1.1) (second s.requires.0.0 s.requires.1.1) (lit≤ tt)
 
-mul-result-3 : tie.Need-overflow-mul-result-3
+mul-result-3 : tie.Need-overflow_mul-result-3
 mul-result-3 c =
     let s : tie.Start = search in
-    times_fits (term s.pre.0.1.high (lit≤ tt)) (term s.pre.1.0.low (lit≤ tt)) (lit≤ tt)
+    times_fits (term s.requires.0.1.high (lit≤ tt)) (term s.requires.1.0.low (lit≤ tt)) (lit≤ tt)
 
-mul-result-4 : tie.Need-overflow-mul-result-4
+mul-result-4 : tie.Need-overflow_mul-result-4
 mul-result-4 c =
     let s : tie.Start = search in
-    times_fits (term s.pre.0.1.low (lit≤ tt)) (term s.pre.1.0.high (lit≤ tt)) (lit≤ tt)
+    times_fits (term s.requires.0.1.low (lit≤ tt)) (term s.requires.1.0.high (lit≤ tt)) (lit≤ tt)
 
-add-result-2 : tie.Need-overflow-add-result-2
+add-result-2 : tie.Need-overflow_add-result-2
 add-result-2 c =
     let s : tie.Start = search in
-    plus_fits (first s.pre.0.1 s.pre.1.0) (second s.pre.0.1 s.pre.1.0) (lit≤ tt)
+    plus_fits (first s.requires.0.1 s.requires.1.0) (second s.requires.0.1 s.requires.1.0) (lit≤ tt)
 
-sub-result : tie.Need-overflow-sub-result
+sub-result : tie.Need-overflow_sub-result
 sub-result c =
     let s : tie.Start = search in
-    minus_fits (both s.pre.0.0 s.pre.1.1) (both s.pre.0.1 s.pre.1.0) (lit≤ tt)
+    minus_fits (both s.requires.0.0 s.requires.1.1) (both s.requires.0.1 s.requires.1.0) (lit≤ tt)
 
 returns : tie.Need-returns
 returns c =
     let s : tie.Start = search in
-    let t = minus (both s.pre.0.0 s.pre.1.1) (both s.pre.0.1 s.pre.1.0) (lit≤ tt) in
+    let t = minus (both s.requires.0.0 s.requires.1.1) (both s.requires.0.1 s.requires.1.0) (lit≤ tt) in
     (t.is, read_sized t)
 
-pub middle-part-spec : {M : Type 1} → statement M
-middle-part-spec =
+pub middle_part_spec : {M : Type 1} → statement M
+middle_part_spec =
     tie.close
     (tie.spec
     mul-result

@@ -33,167 +33,167 @@ high_small B K {x} {h} s k f =
 low-sized : {x : ℤ} {h : Limbs} → LimbsOf x h → Sized 2147483647 h.low
 low-sized {x} {h} k = subst (Sized 2147483647) (sym k.low) (record { size = let m = k.small in omega (arith, m) })
 
-limbs-of-requires : tie.Need-limbs-of-requires
-limbs-of-requires c κs = let s : tie.Start = search in as-it-comes s.pre.0.0
+limbs-of-requires : tie.Need-limbs_of-p-requires
+limbs-of-requires c κs = let s : tie.Start = search in as-it-comes s.requires.0.0
 
-limbs-of-requires-2 : tie.Need-limbs-of-requires-2
-limbs-of-requires-2 c κs = let s : tie.Start = search in as-it-comes s.pre.0.1
+limbs-of-requires-2 : tie.Need-limbs_of-q-requires
+limbs-of-requires-2 c κs = let s : tie.Start = search in as-it-comes s.requires.0.1
 
-limbs-of-requires-3 : tie.Need-limbs-of-requires-3
-limbs-of-requires-3 c κs = let s : tie.Start = search in as-it-comes s.pre.1.0
+limbs-of-requires-3 : tie.Need-limbs_of-r-requires
+limbs-of-requires-3 c κs = let s : tie.Start = search in as-it-comes s.requires.1.0
 
-limbs-of-requires-4 : tie.Need-limbs-of-requires-4
-limbs-of-requires-4 c κs = let s : tie.Start = search in as-it-comes s.pre.1.1
+limbs-of-requires-4 : tie.Need-limbs_of-s-requires
+limbs-of-requires-4 c κs = let s : tie.Start = search in as-it-comes s.requires.1.1
 
 -- the limbs of the four
-first : (k : tie.After-limbs-of) → let s : tie.Start = search in LimbsOf s.args.a k.limbs-of.result
-first k = let s : tie.Start = search in plainly s.pre.0.0 k.limbs-of.ensures
+first : (k : tie.After-limbs_of-p) → let s : tie.Start = search in LimbsOf s.args.a k.limbs_of-p.result
+first k = let s : tie.Start = search in plainly s.requires.0.0 k.limbs_of-p.ensures
 
-second : (k : tie.After-limbs-of2) → let s : tie.Start = search in LimbsOf s.args.b k.limbs-of2.result
-second k = let s : tie.Start = search in plainly s.pre.0.1 k.limbs-of2.ensures
+second : (k : tie.After-limbs_of-q) → let s : tie.Start = search in LimbsOf s.args.b k.limbs_of-q.result
+second k = let s : tie.Start = search in plainly s.requires.0.1 k.limbs_of-q.ensures
 
-third : (k : tie.After-limbs-of3) → let s : tie.Start = search in LimbsOf s.args.c k.limbs-of3.result
-third k = let s : tie.Start = search in plainly s.pre.1.0 k.limbs-of3.ensures
+third : (k : tie.After-limbs_of-r) → let s : tie.Start = search in LimbsOf s.args.c k.limbs_of-r.result
+third k = let s : tie.Start = search in plainly s.requires.1.0 k.limbs_of-r.ensures
 
-fourth : (k : tie.After-limbs-of4) → let s : tie.Start = search in LimbsOf s.args.d k.limbs-of4.result
-fourth k = let s : tie.Start = search in plainly s.pre.1.1 k.limbs-of4.ensures
+fourth : (k : tie.After-limbs_of-s) → let s : tie.Start = search in LimbsOf s.args.d k.limbs_of-s.result
+fourth k = let s : tie.Start = search in plainly s.requires.1.1 k.limbs_of-s.ensures
 
-sized : (k : tie.After-limbs-of4) → let (p, q, r) : tie.After-limbs-of × tie.After-limbs-of2 × tie.After-limbs-of3 = search in
-    (LimbsSized p.limbs-of.result × LimbsSized q.limbs-of2.result)
-    × (LimbsSized r.limbs-of3.result × LimbsSized k.limbs-of4.result)
+sized : (k : tie.After-limbs_of-s) → let (p, q, r) : tie.After-limbs_of-p × tie.After-limbs_of-q × tie.After-limbs_of-r = search in
+    (LimbsSized p.limbs_of-p.result × LimbsSized q.limbs_of-q.result)
+    × (LimbsSized r.limbs_of-r.result × LimbsSized k.limbs_of-s.result)
 sized k =
-    let (s, p, q, r) : tie.Start × tie.After-limbs-of × tie.After-limbs-of2 × tie.After-limbs-of3 = search in (
-      (limbs_sized s.pre.0.0 (first p), limbs_sized s.pre.0.1 (second q)),
-      (limbs_sized s.pre.1.0 (third r), limbs_sized s.pre.1.1 (fourth k)),
+    let (s, p, q, r) : tie.Start × tie.After-limbs_of-p × tie.After-limbs_of-q × tie.After-limbs_of-r = search in (
+      (limbs_sized s.requires.0.0 (first p), limbs_sized s.requires.0.1 (second q)),
+      (limbs_sized s.requires.1.0 (third r), limbs_sized s.requires.1.1 (fourth k)),
     )
 
-low-part-requires : tie.Need-low-part-requires
-low-part-requires c κs = let k : tie.After-limbs-of4 = search in sized k
+low-part-requires : tie.Need-low_part-requires
+low-part-requires c κs = let k : tie.After-limbs_of-s = search in sized k
 
 -- the low part
-low-term : (l : tie.After-low-part) → Term (bits l.low_part.result) l.low_part.result 4611686014132420609
+low-term : (l : tie.After-low_part) → Term (bits l.low_part.result) l.low_part.result 4611686014132420609
 low-term l = term l.low_part.ensures.1 (lit≤ tt)
 
-limbs-of-requires-5 : tie.Need-limbs-of-requires-5
-limbs-of-requires-5 c κs = let l : tie.After-low-part = search in widen (read_sized (low-term l)) (lit≤ tt)
+limbs-of-requires-5 : tie.Need-limbs_of-low-requires
+limbs-of-requires-5 c κs = let l : tie.After-low_part = search in widen (read_sized (low-term l)) (lit≤ tt)
 
-fifth : (k : tie.After-limbs-of5) → let l : tie.After-low-part = search in LimbsOf l.low_part.result k.limbs-of5.result
+fifth : (k : tie.After-limbs_of-low) → let l : tie.After-low_part = search in LimbsOf l.low_part.result k.limbs_of-low.result
 fifth k =
-    let l : tie.After-low-part = search in
-    subst (λ (z : ℤ). LimbsOf z k.limbs-of5.result) (low-term l).is k.limbs-of5.ensures
+    let l : tie.After-low_part = search in
+    subst (λ (z : ℤ). LimbsOf z k.limbs_of-low.result) (low-term l).is k.limbs_of-low.ensures
 
-carry-sized : (k : tie.After-limbs-of5) → Sized 2147483648 k.limbs-of5.result.high
+carry-sized : (k : tie.After-limbs_of-low) → Sized 2147483648 k.limbs_of-low.result.high
 carry-sized k =
-    let l : tie.After-low-part = search in
+    let l : tie.After-low_part = search in
     high_small 4611686014132420609 2147483648 l.low_part.ensures.1 (fifth k) (λ n h. omega (arith, h))
 
-middle-part-requires : tie.Need-middle-part-requires
-middle-part-requires c κs = let k : tie.After-limbs-of4 = search in sized k
+middle-part-requires : tie.Need-middle_part-requires
+middle-part-requires c κs = let k : tie.After-limbs_of-s = search in sized k
 
-carry-term : (i : tie.After-middle-part) → let k : tie.After-limbs-of5 = search in
-    Term (bits k.limbs-of5.result.high) k.limbs-of5.result.high 2147483648
-carry-term i = let k : tie.After-limbs-of5 = search in term (carry-sized k) (lit≤ tt)
+carry-term : (i : tie.After-middle_part) → let k : tie.After-limbs_of-low = search in
+    Term (bits k.limbs_of-low.result.high) k.limbs_of-low.result.high 2147483648
+carry-term i = let k : tie.After-limbs_of-low = search in term (carry-sized k) (lit≤ tt)
 
-middle-term : (i : tie.After-middle-part) → Term (bits i.middle-part.result) i.middle-part.result 9223372032559808512
-middle-term i = term i.middle-part.ensures.1 (lit≤ tt)
+middle-term : (i : tie.After-middle_part) → Term (bits i.middle_part.result) i.middle_part.result 9223372032559808512
+middle-term i = term i.middle_part.ensures.1 (lit≤ tt)
 
-add-limbs-of : tie.Need-overflow-add-limbs-of
-add-limbs-of c = let i : tie.After-middle-part = search in plus_fits (middle-term i) (carry-term i) (lit≤ tt)
+add-limbs-of : tie.Need-overflow_add-middle_part
+add-limbs-of c = let i : tie.After-middle_part = search in plus_fits (middle-term i) (carry-term i) (lit≤ tt)
 
-sum-term : (i : tie.After-middle-part) → let k : tie.After-limbs-of5 = search in
-    Term (bits (bits i.middle-part.result +ℤ bits k.limbs-of5.result.high))
-    (i.middle-part.result +ℤ k.limbs-of5.result.high) 9223372034707292160
+sum-term : (i : tie.After-middle_part) → let k : tie.After-limbs_of-low = search in
+    Term (bits (bits i.middle_part.result +ℤ bits k.limbs_of-low.result.high))
+    (i.middle_part.result +ℤ k.limbs_of-low.result.high) 9223372034707292160
 sum-term i = plus (middle-term i) (carry-term i) (lit≤ tt)
 
-limbs-of-requires-6 : tie.Need-limbs-of-requires-6
-limbs-of-requires-6 c κs = let i : tie.After-middle-part = search in read_sized (sum-term i)
+limbs-of-requires-6 : tie.Need-limbs_of-middle-requires
+limbs-of-requires-6 c κs = let i : tie.After-middle_part = search in read_sized (sum-term i)
 
-sixth : (k : tie.After-limbs-of6) → let (i, j) : tie.After-middle-part × tie.After-limbs-of5 = search in
-    LimbsOf (i.middle-part.result +ℤ j.limbs-of5.result.high) k.limbs-of6.result
+sixth : (k : tie.After-limbs_of-middle) → let (i, j) : tie.After-middle_part × tie.After-limbs_of-low = search in
+    LimbsOf (i.middle_part.result +ℤ j.limbs_of-low.result.high) k.limbs_of-middle.result
 sixth k =
-    let i : tie.After-middle-part = search in
-    subst (λ (z : ℤ). LimbsOf z k.limbs-of6.result) (sum-term i).is k.limbs-of6.ensures
+    let i : tie.After-middle_part = search in
+    subst (λ (z : ℤ). LimbsOf z k.limbs_of-middle.result) (sum-term i).is k.limbs_of-middle.ensures
 
-high-part-requires : tie.Need-high-part-requires
-high-part-requires c κs = let k : tie.After-limbs-of4 = search in sized k
+high-part-requires : tie.Need-high_part-requires
+high-part-requires c κs = let k : tie.After-limbs_of-s = search in sized k
 
-own-high-term : (o : tie.After-high-part) → Term (bits o.high_part.result) o.high_part.result 2305843009213693952
+own-high-term : (o : tie.After-high_part) → Term (bits o.high_part.result) o.high_part.result 2305843009213693952
 own-high-term o = term o.high_part.ensures.1 (lit≤ tt)
 
-over-term : (o : tie.After-high-part) → let k : tie.After-limbs-of6 = search in
-    Term (bits k.limbs-of6.result.high) k.limbs-of6.result.high 4294967296
+over-term : (o : tie.After-high_part) → let k : tie.After-limbs_of-middle = search in
+    Term (bits k.limbs_of-middle.result.high) k.limbs_of-middle.result.high 4294967296
 over-term o =
-    let (k, i) : tie.After-limbs-of6 × tie.After-middle-part = search in
+    let (k, i) : tie.After-limbs_of-middle × tie.After-middle_part = search in
     term (high_small 9223372034707292160 4294967296 (sum-term i).sized (sixth k) (λ n h. omega (arith, h))) (lit≤ tt)
 
-add-high : tie.Need-overflow-add-high
-add-high c = let o : tie.After-high-part = search in plus_fits (own-high-term o) (over-term o) (lit≤ tt)
+add-high : tie.Need-overflow_add-high
+add-high c = let o : tie.After-high_part = search in plus_fits (own-high-term o) (over-term o) (lit≤ tt)
 
-add-result : tie.Need-overflow-add-result
+add-result : tie.Need-overflow_add-result
 add-result c =
-    let (k, j) : tie.After-limbs-of6 × tie.After-limbs-of5 = search in
+    let (k, j) : tie.After-limbs_of-middle × tie.After-limbs_of-low = search in
     plus_fits (term (low-sized (sixth k)) (lit≤ tt)) (term (low-sized (fifth j)) (lit≤ tt)) (lit≤ tt)
 
 -- the highest part, and what the limbs say of the determinant
-high-term : (o : tie.After-high-part) → let k : tie.After-limbs-of6 = search in
-    Term (bits (bits o.high_part.result +ℤ bits k.limbs-of6.result.high))
-    (o.high_part.result +ℤ k.limbs-of6.result.high) 2305843013508661248
+high-term : (o : tie.After-high_part) → let k : tie.After-limbs_of-middle = search in
+    Term (bits (bits o.high_part.result +ℤ bits k.limbs_of-middle.result.high))
+    (o.high_part.result +ℤ k.limbs_of-middle.result.high) 2305843013508661248
 high-term o = plus (own-high-term o) (over-term o) (lit≤ tt)
 
-sum_is : (o : tie.After-high-part) → let k : tie.After-limbs-of6 = search in
-    bits o.high_part.result +ℤ bits k.limbs-of6.result.high ≡ o.high_part.result +ℤ k.limbs-of6.result.high
+sum_is : (o : tie.After-high_part) → let k : tie.After-limbs_of-middle = search in
+    bits o.high_part.result +ℤ bits k.limbs_of-middle.result.high ≡ o.high_part.result +ℤ k.limbs_of-middle.result.high
 sum_is o = λ i. (own-high-term o).is i +ℤ (over-term o).is i
 
-low-limbs : (o : tie.After-high-part)
-    → let (j, p, q, r, s) : tie.After-limbs-of5 × tie.After-limbs-of × tie.After-limbs-of2 × tie.After-limbs-of3
-    × tie.After-limbs-of4 = search in
-    LimbsOf (low_part p.limbs-of.result q.limbs-of2.result r.limbs-of3.result s.limbs-of4.result) j.limbs-of5.result
+low-limbs : (o : tie.After-high_part)
+    → let (j, p, q, r, s) : tie.After-limbs_of-low × tie.After-limbs_of-p × tie.After-limbs_of-q × tie.After-limbs_of-r
+    × tie.After-limbs_of-s = search in
+    LimbsOf (low_part p.limbs_of-p.result q.limbs_of-q.result r.limbs_of-r.result s.limbs_of-s.result) j.limbs_of-low.result
 low-limbs o =
-    let (l, j) : tie.After-low-part × tie.After-limbs-of5 = search in
-    subst (λ (z : ℤ). LimbsOf z j.limbs-of5.result) l.low_part.ensures.0 (fifth j)
+    let (l, j) : tie.After-low_part × tie.After-limbs_of-low = search in
+    subst (λ (z : ℤ). LimbsOf z j.limbs_of-low.result) l.low_part.ensures.0 (fifth j)
 
-middle-limbs : (o : tie.After-high-part)
-    → let (k, j, p, q, r, s) : tie.After-limbs-of6 × tie.After-limbs-of5 × tie.After-limbs-of × tie.After-limbs-of2 × tie.After-limbs-of3
-    × tie.After-limbs-of4 = search in
-    LimbsOf (middle_part p.limbs-of.result q.limbs-of2.result r.limbs-of3.result s.limbs-of4.result
-    +ℤ j.limbs-of5.result.high) k.limbs-of6.result
+middle-limbs : (o : tie.After-high_part)
+    → let (k, j, p, q, r, s) : tie.After-limbs_of-middle × tie.After-limbs_of-low × tie.After-limbs_of-p × tie.After-limbs_of-q × tie.After-limbs_of-r
+    × tie.After-limbs_of-s = search in
+    LimbsOf (middle_part p.limbs_of-p.result q.limbs_of-q.result r.limbs_of-r.result s.limbs_of-s.result
+    +ℤ j.limbs_of-low.result.high) k.limbs_of-middle.result
 middle-limbs o =
-    let (k, i, j) : tie.After-limbs-of6 × tie.After-middle-part × tie.After-limbs-of5 = search in
-    subst (λ (z : ℤ). LimbsOf (z +ℤ j.limbs-of5.result.high) k.limbs-of6.result) i.middle-part.ensures.0 (sixth k)
+    let (k, i, j) : tie.After-limbs_of-middle × tie.After-middle_part × tie.After-limbs_of-low = search in
+    subst (λ (z : ℤ). LimbsOf (z +ℤ j.limbs_of-low.result.high) k.limbs_of-middle.result) i.middle_part.ensures.0 (sixth k)
 
 -- the high part is 0, so the two limbs below it, which are not negative, have the sign
-returns : tie.Need-returns
+returns : tie.Need-returns-then-high-eq0
 returns c =
-    let (e, o, k, j) : tie.Then1 × tie.After-high-part × tie.After-limbs-of6 × tie.After-limbs-of5 = search in
-    let (p, q, r, s) : tie.After-limbs-of × tie.After-limbs-of2 × tie.After-limbs-of3 × tie.After-limbs-of4 = search in
+    let (e, o, k, j) : tie.Then-high-eq0 × tie.After-high_part × tie.After-limbs_of-middle × tie.After-limbs_of-low = search in
+    let (p, q, r, s) : tie.After-limbs_of-p × tie.After-limbs_of-q × tie.After-limbs_of-r × tie.After-limbs_of-s = search in
     let x : tie.Start = search in
     let v = x.args in
     let t = plus (term (low-sized (sixth k)) (lit≤ tt)) (term (low-sized (fifth j)) (lit≤ tt)) (lit≤ tt) in
-    let w = e.if1.taken in (
+    let w = e.if-high-eq0.true in (
       subst (λ (z : ℤ). SignOf z (determinant v.a v.b v.c v.d)) (sym t.is)
           (sign_by_low (first p) (second q) (third r) (fourth s) (low-limbs o) (middle-limbs o)
-          (ap (λ (z : ℤ). z +ℤ k.limbs-of6.result.high) (sym o.high_part.ensures.0) ∙ sym (high-term o).is
+          (ap (λ (z : ℤ). z +ℤ k.limbs_of-middle.result.high) (sym o.high_part.ensures.0) ∙ sym (high-term o).is
           ∙ ap (λ (n : ℕ). to_z w64 n) w)),
       widen (read_sized t) (lit≤ tt),
     )
 
 -- the high part has the sign, since what is below it is less than one unit of it
-returns-2 : tie.Need-returns-2
+returns-2 : tie.Need-returns
 returns-2 c =
-    let (o, k, p, q, r, s) : tie.After-high-part × tie.After-limbs-of6 × tie.After-limbs-of × tie.After-limbs-of2 × tie.After-limbs-of3
-    × tie.After-limbs-of4 = search in
-    let (x, e) : tie.Start × tie.Else1 = search in
+    let (o, k, p, q, r, s) : tie.After-high_part × tie.After-limbs_of-middle × tie.After-limbs_of-p × tie.After-limbs_of-q × tie.After-limbs_of-r
+    × tie.After-limbs_of-s = search in
+    let (x, e) : tie.Start × tie.Else-high-eq0 = search in
     let v = x.args in
-    let w = e.if1.left in (
+    let w = e.if-high-eq0.false in (
       subst (λ (z : ℤ). SignOf z (determinant v.a v.b v.c v.d))
-          (ap (λ (z : ℤ). z +ℤ k.limbs-of6.result.high) (sym o.high_part.ensures.0) ∙ sym (high-term o).is)
+          (ap (λ (z : ℤ). z +ℤ k.limbs_of-middle.result.high) (sym o.high_part.ensures.0) ∙ sym (high-term o).is)
           (sign_by_high (first p) (second q) (third r) (fourth s) (low-limbs o) (middle-limbs o)
-          (λ z. w (ap (λ (y : ℤ). of_z w64 y) (sum_is o ∙ ap (λ (y : ℤ). y +ℤ k.limbs-of6.result.high) o.high_part.ensures.0 ∙ z)))),
+          (λ z. w (ap (λ (y : ℤ). of_z w64 y) (sum_is o ∙ ap (λ (y : ℤ). y +ℤ k.limbs_of-middle.result.high) o.high_part.ensures.0 ∙ z)))),
       read_sized (high-term o),
     )
 
-pub sign-of-determinant-spec : {M : Type 1} → statement M
-sign-of-determinant-spec =
+pub sign_of_determinant_spec : {M : Type 1} → statement M
+sign_of_determinant_spec =
     tie.close
     (tie.spec
     limbs-of-requires

@@ -8,30 +8,30 @@ use Rattle.exact_depth.proofs.sides.one_side.Statement.{statement}
 use Rattle.exact_depth.proofs.sides.one_side.Tie as tie
 
 -- two are above 0, and the third tells
-returns : tie.Need-returns
+returns : tie.Need-returns-then-y-gt0
 returns c =
-    let (s, t, u) : tie.Start × tie.Then1 × tie.Then2 = search in
-    λ e. above (below_read {X = pos 0} refl (bits_back s.fits.x) t.if1.taken)
-    (below_read {X = pos 0} refl (bits_back s.fits.y) u.if2.taken) (below_read {X = pos 0} refl (bits_back s.fits.z) e)
+    let (s, t, u) : tie.Start × tie.Then-x-gt0 × tie.Then-y-gt0 = search in
+    λ e. above (below_read {X = pos 0} refl (bits_back s.ranges.x) t.if-x-gt0.true)
+    (below_read {X = pos 0} refl (bits_back s.ranges.y) u.if-y-gt0.true) (below_read {X = pos 0} refl (bits_back s.ranges.z) e)
 
-returns-2 : tie.Need-returns-2
+returns-2 : tie.Need-returns-then-x-gt0
 returns-2 c = λ e. absurd (false≢true e)
 
 -- two are below 0, and the third tells
-returns-3 : tie.Need-returns-3
+returns-3 : tie.Need-returns-then-y-lt0
 returns-3 c =
-    let (s, t, u) : tie.Start × tie.Then3 × tie.Then4 = search in
-    λ e. below (below_read {Y = pos 0} (bits_back s.fits.x) refl t.if3.taken)
-    (below_read {Y = pos 0} (bits_back s.fits.y) refl u.if4.taken) (below_read {Y = pos 0} (bits_back s.fits.z) refl e)
+    let (s, t, u) : tie.Start × tie.Then-x-lt0 × tie.Then-y-lt0 = search in
+    λ e. below (below_read {Y = pos 0} (bits_back s.ranges.x) refl t.if-x-lt0.true)
+    (below_read {Y = pos 0} (bits_back s.ranges.y) refl u.if-y-lt0.true) (below_read {Y = pos 0} (bits_back s.ranges.z) refl e)
 
-returns-4 : tie.Need-returns-4
+returns-4 : tie.Need-returns-else-y-lt0
 returns-4 c = λ e. absurd (false≢true e)
 
-returns-5 : tie.Need-returns-5
+returns-5 : tie.Need-returns-else-x-lt0
 returns-5 c = λ e. absurd (false≢true e)
 
-pub one-side-spec : {M : Type 1} → statement M
-one-side-spec =
+pub one_side_spec : {M : Type 1} → statement M
+one_side_spec =
     tie.close
     (tie.spec
     returns

@@ -5,64 +5,64 @@ use borrow.Author.Rules.{rules}
 use Rattle.exact_hits.proofs.listing.exact_listing.Statement.{statement}
 use Rattle.exact_hits.proofs.listing.exact_listing.Tie as tie
 
-segment-box-requires : tie.Need-segment-box-requires
-segment-box-requires c κs = let s : tie.Start = search in s.pre.0.shown.admitted
+segment-box-requires : tie.Need-segment_box-requires
+segment-box-requires c κs = let s : tie.Start = search in s.requires.0.shown.admitted
 
-gather-line-requires : tie.Need-gather-line-requires
+gather-line-requires : tie.Need-gather_line-walked-requires
 gather-line-requires c κs =
     let s : tie.Start = search in
-    (s.pre.0.shown.view_sized, s.pre.1)
+    (s.requires.0.shown.view_sized, s.requires.1)
 
 -- the walk, and what is known before it
-begun : tie.After-gather-line → tie.Start
+begun : tie.After-gather_line-walked → tie.Start
 begun g = search
 
-boxed : tie.After-gather-line → tie.After-segment-box
+boxed : tie.After-gather_line-walked → tie.After-segment_box
 boxed g = search
 
 -- refusal 5
-returns : tie.Need-returns
+returns : tie.Need-returns-in_default
 unfolding begun boxed
 returns c =
-    let (g, k, r) : tie.After-gather-line × tie.After-enum-told × tie.After-refuse = search in
+    let (g, k, r) : tie.After-gather_line-walked × tie.In_default × tie.After-refuse = search in
     let s = begun g in
     listing_broken s.args.ray _ _ _ _ _ _
-    (g.gather-line.ensures.holds _ s.pre.0.shown.sees (boxed g).segment-box.ensures) k.enum_told.given.1 _
+    (g.gather_line-walked.ensures.holds _ s.requires.0.shown.sees (boxed g).segment_box.ensures) k.in_default.is _
     r.refuse.ensures
 
-list-met-requires : tie.Need-list-met-requires
+list-met-requires : tie.Need-list_met-requires
 unfolding begun
 list-met-requires c κs =
-    let (g, k) : tie.After-gather-line × tie.After-walked = search in
-    ((begun g).pre.0, list_inside _ _ _ _ _ g.gather-line.ensures.grown k.walked.given.1)
+    let (g, k) : tie.After-gather_line-walked × tie.In-Count = search in
+    ((begun g).requires.0, list_inside _ _ _ _ _ g.gather_line-walked.ensures.grown k.in-Count.is)
 
 -- the hits of the walk's list
-returns-2 : tie.Need-returns-2
+returns-2 : tie.Need-returns
 unfolding begun boxed
 returns-2 c =
-    let (g, k, h) : tie.After-gather-line × tie.After-walked × tie.After-list-met = search in
+    let (g, k, h) : tie.After-gather_line-walked × tie.In-Count × tie.After-list_met = search in
     let s = begun g in
     listing_walked s.args.ray _ _ _ _ _ _
-    (g.gather-line.ensures.holds _ s.pre.0.shown.sees (boxed g).segment-box.ensures) _ _ k.walked.given.1
-    h.list-met.ensures
+    (g.gather_line-walked.ensures.holds _ s.requires.0.shown.sees (boxed g).segment_box.ensures) _ _ k.in-Count.is
+    h.list_met.ensures
 
-pub exact-listing-spec : {M : Type 1} → statement M
-exact-listing-spec =
+pub exact_listing_spec : {M : Type 1} → statement M
+exact_listing_spec =
     tie.close
     (tie.spec
     segment-box-requires
     gather-line-requires
-    (search rules)  -- enum-known-walked
-    (search rules)  -- enum_told
+    (search rules)  -- enum_known-walked
+    (search rules)  -- enum_told-1
     (search rules)  -- refuse-requires
-    (search rules)  -- same-length
-    (search rules)  -- same-length-2
-    (search rules)  -- same-length-3
-    (search rules)  -- same-length-4
+    (search rules)  -- shape_of-list-in_default
+    (search rules)  -- shape_of-stack-in_default
+    (search rules)  -- shape_of-indices-in_default
+    (search rules)  -- shape_of-numbers-in_default
     returns
     list-met-requires
-    (search rules)  -- same-length-5
-    (search rules)  -- same-length-6
-    (search rules)  -- same-length-7
-    (search rules)  -- same-length-8
+    (search rules)  -- shape_of-list
+    (search rules)  -- shape_of-stack
+    (search rules)  -- shape_of-indices
+    (search rules)  -- shape_of-numbers
     returns-2)

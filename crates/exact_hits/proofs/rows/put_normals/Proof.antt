@@ -10,94 +10,94 @@ use borrow.Author.Rules.{rules}
 use Rattle.exact_hits.proofs.rows.put_normals.Statement.{statement}
 use Rattle.exact_hits.proofs.rows.put_normals.Tie as tie
 
-abbrev invariant-loop : tie.invariant-loop
+abbrev invariant-loop : tie.invariant-loop-i
 invariant-loop ray pose triangles indices count numbers₀ i₀ numbers i = Putting
     (exact_answer ray pose triangles) indices count numbers₀ numbers i
 
-abbrev decreases-loop : tie.decreases-loop
+abbrev decreases-loop : tie.decreases-loop-i
 decreases-loop ray pose triangles indices count numbers₀ i₀ numbers i = count - i
 
-loop-holds : tie.Need-loop-init invariant-loop decreases-loop
+loop-holds : tie.Need-loop-i-init invariant-loop decreases-loop
 loop-holds c =
     let start : tie.Start invariant-loop decreases-loop = search in
-    putting_begins _ _ _ _ _ start.pre.1
+    putting_begins _ _ _ _ _ start.requires.1
 
-cast-corners-of : tie.Need-overflow-cast-corners-of invariant-loop decreases-loop
+cast-corners-of : tie.Need-overflow_cast-index invariant-loop decreases-loop
 cast-corners-of c =
-    let at-loop : tie.At-loop invariant-loop decreases-loop = search in
-    omega (arith, c.shared-slice-known4.given at-loop.loop.i)
+    let at-loop : tie.At-loop-i invariant-loop decreases-loop = search in
+    omega (arith, c.shared_slice_known-in-loop-i-1.given at-loop.loop-i.i)
 
-corners-of-requires : tie.Need-corners-of-requires invariant-loop decreases-loop
+corners-of-requires : tie.Need-corners_of-corners-requires invariant-loop decreases-loop
 corners-of-requires c κs =
-    let (s, at-loop) : (tie.Start invariant-loop decreases-loop) × (tie.At-loop invariant-loop decreases-loop) = search in
-    let i = at-loop.loop.i in
-    let below = c.before.loop-test.true in (
-      omega (arith, s.pre.1.below i below),
-      hit_inside s.args.ray _ _ _ s.pre.0.0 s.pre.0.1 _
-          (s.pre.1.reached i below),
+    let (s, at-loop) : (tie.Start invariant-loop decreases-loop) × (tie.At-loop-i invariant-loop decreases-loop) = search in
+    let i = at-loop.loop-i.i in
+    let below = c.loop-i-test.true in (
+      omega (arith, s.requires.1.below i below),
+      hit_inside s.args.ray _ _ _ s.requires.0.0 s.requires.0.1 _
+          (s.requires.1.reached i below),
     )
 
-slice-read-hit-on : tie.Need-slice-read-hit-on invariant-loop decreases-loop
+slice-read-hit-on : tie.Need-bounds-numbers-i invariant-loop decreases-loop
 slice-read-hit-on c =
-    let (s, at-loop, in-loop) : (tie.Start invariant-loop decreases-loop) × (tie.At-loop invariant-loop decreases-loop) × (tie.In-loop invariant-loop decreases-loop) = search in
+    let (s, at-loop, in-loop) : (tie.Start invariant-loop decreases-loop) × (tie.At-loop-i invariant-loop decreases-loop) × (tie.In-loop-i invariant-loop decreases-loop) = search in
     omega (
       arith,
-      at-loop.loop.inv.long,
-      s.pre.1.fits,
-      in-loop.loop-test.taken,
+      at-loop.loop-i.invariant.long,
+      s.requires.1.fits,
+      in-loop.loop-i-test.true,
     )
 
-put-place-requires : tie.Need-put-place-requires invariant-loop decreases-loop
+put-place-requires : tie.Need-put_place-requires invariant-loop decreases-loop
 put-place-requires c κs =
-    let (s, at-loop) : (tie.Start invariant-loop decreases-loop) × (tie.At-loop invariant-loop decreases-loop) = search in
+    let (s, at-loop) : (tie.Start invariant-loop decreases-loop) × (tie.At-loop-i invariant-loop decreases-loop) = search in
     omega (
       arith,
-      at-loop.loop.inv.long,
-      s.pre.1.fits,
+      at-loop.loop-i.invariant.long,
+      s.requires.1.fits,
     )
 
-loop-again : tie.Need-loop-preserved invariant-loop decreases-loop
+loop-again : tie.Need-loop-i-preserved invariant-loop decreases-loop
 loop-again c =
     let (s, at-loop, in-loop, at-corners-of, at-hit-on, at-put-place) :
-    (tie.Start invariant-loop decreases-loop) × (tie.At-loop invariant-loop decreases-loop) × (tie.In-loop invariant-loop decreases-loop)
-    × (tie.After-corners-of invariant-loop decreases-loop) × (tie.After-hit-on invariant-loop decreases-loop)
-    × (tie.After-put-place invariant-loop decreases-loop) = search in
-    let l = at-loop.loop in
-    let below = in-loop.loop-test.taken in
-    let reached = s.pre.1.reached l.i below ∙ ap At (sym (distance_stands _ _ _ _ _ s.pre.1 _ _ l.inv below)) in
-    putting_goes _ _ _ _ _ s.pre.1 _ _ l.inv below _
-    (at-hit-on.hit-on.ensures
-    ∙ hit_answer s.args.ray _ _ _ s.pre.0.0 s.pre.0.1 _ reached _ at-corners-of.corners-of.ensures) _
-    at-put-place.put-place.kept.1.1.0 at-put-place.put-place.ensures
+    (tie.Start invariant-loop decreases-loop) × (tie.At-loop-i invariant-loop decreases-loop) × (tie.In-loop-i invariant-loop decreases-loop)
+    × (tie.After-corners_of-corners invariant-loop decreases-loop) × (tie.After-hit_on-hit invariant-loop decreases-loop)
+    × (tie.After-put_place invariant-loop decreases-loop) = search in
+    let l = at-loop.loop-i in
+    let below = in-loop.loop-i-test.true in
+    let reached = s.requires.1.reached l.i below ∙ ap At (sym (distance_stands _ _ _ _ _ s.requires.1 _ _ l.invariant below)) in
+    putting_goes _ _ _ _ _ s.requires.1 _ _ l.invariant below _
+    (at-hit-on.hit_on-hit.ensures
+    ∙ hit_answer s.args.ray _ _ _ s.requires.0.0 s.requires.0.1 _ reached _ at-corners-of.corners_of-corners.ensures) _
+    at-put-place.put_place.auto.numbers at-put-place.put_place.ensures
 
-same_length : tie.Need-same-length invariant-loop decreases-loop
-same_length c = c.before.loop.invariant.long
+same_length : tie.Need-shape_of-numbers invariant-loop decreases-loop
+same_length c = c.loop-i.invariant.long
 
 returns : tie.Need-returns invariant-loop decreases-loop
 returns c =
     let start : tie.Start invariant-loop decreases-loop = search in
-    putting_ends _ _ _ _ _ start.pre.1 _ _ c.before.loop.invariant
-    c.loop-test.false
+    putting_ends _ _ _ _ _ start.requires.1 _ _ c.loop-i.invariant
+    c.loop-i-test.false
 
-pub put-normals-spec : {M : Type 1} → statement M
-put-normals-spec =
+pub put_normals_spec : {M : Type 1} → statement M
+put_normals_spec =
     tie.close
     (tie.spec
     invariant-loop
     decreases-loop
     loop-holds
-    (search rules)  -- mul-index
-    (search rules)  -- shared-slice-read-index
+    (search rules)  -- offset_bounds-indices-i
+    (search rules)  -- bounds-indices-i
     cast-corners-of
     corners-of-requires
-    (search rules)  -- mul-hit-on
-    (search rules)  -- mul-hit-on-2
+    (search rules)  -- overflow_mul-i
+    (search rules)  -- offset_bounds-numbers-i
     slice-read-hit-on
-    (search rules)  -- hit-on-requires
-    (search rules)  -- mul-put-place
+    (search rules)  -- hit_on-hit-requires
+    (search rules)  -- overflow_mul-i-in-loop-i
     put-place-requires
-    (search rules)  -- add-i
-    (search rules)  -- loop-less
+    (search rules)  -- overflow_add-i
+    (search rules)  -- loop-i-smaller
     loop-again
     same_length
     returns)

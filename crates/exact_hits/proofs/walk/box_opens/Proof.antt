@@ -8,26 +8,26 @@ use Rattle.exact_hits.proofs.walk.box_opens.Statement.{statement}
 use Rattle.exact_hits.proofs.walk.box_opens.Tie as tie
 
 -- apart from the box that the walk goes by
-returns : tie.Need-returns
+returns : tie.Need-returns-then-not-touches
 unfolding box_opens
 returns c =
-    let (s, a, e) : tie.Start × tie.After-touches × tie.Then1 = search in
-    λ l sees. sym (ap (λ (b : Bool). b && line_meets l s.args.bounds) (test_failed a.touches.ensures e.if1.taken))
+    let (s, a, e) : tie.Start × tie.After-touches × tie.Then-not-touches = search in
+    λ l sees. sym (ap (λ (b : Bool). b && line_meets l s.args.bounds) (test_failed a.touches.ensures e.if-not-touches.true))
 
 -- the line decides
-returns-2 : tie.Need-returns-2
+returns-2 : tie.Need-returns
 unfolding box_opens
 returns-2 c =
-    let (s, a, e, m) : tie.Start × tie.After-touches × tie.Else1 × tie.After-line-meets = search in
+    let (s, a, e, m) : tie.Start × tie.After-touches × tie.Else-not-touches × tie.After-line_meets = search in
     λ l sees.
-    m.line-meets.ensures l sees
-    ∙ sym (ap (λ (b : Bool). b && line_meets l s.args.bounds) (test_passed a.touches.ensures e.if1.left))
+    m.line_meets.ensures l sees
+    ∙ sym (ap (λ (b : Bool). b && line_meets l s.args.bounds) (test_passed a.touches.ensures e.if-not-touches.false))
 
-pub box-opens-spec : {M : Type 1} → statement M
-box-opens-spec =
+pub box_opens_spec : {M : Type 1} → statement M
+box_opens_spec =
     tie.close
     (tie.spec
     (search rules)  -- touches-requires
     returns
-    (search rules)  -- line-meets-requires
+    (search rules)  -- line_meets-requires
     returns-2)

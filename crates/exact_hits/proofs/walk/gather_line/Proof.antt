@@ -8,33 +8,33 @@ use Rattle.exact_hits.proofs.walk.gather_line.Statement.{statement}
 use Rattle.exact_hits.proofs.walk.gather_line.Tie as tie
 
 -- with no node the list is empty
-returns : tie.Need-returns
-returns c = gathers_nothing _ _ _ _ _ c.if1.true
+returns : tie.Need-returns-then-nodes-eq0
+returns c = gathers_nothing _ _ _ _ _ c.if-nodes-eq0.true
 
-box-at-requires : tie.Need-box-at-requires
+box-at-requires : tie.Need-box_at-requires
 box-at-requires c κs =
-    let (s, e) : tie.Start × tie.Else1 = search in
-    omega (arith, s.pre.1.boxed, e.if1.left)
+    let (s, e) : tie.Start × tie.Else-nodes-eq0 = search in
+    omega (arith, s.requires.1.boxed, e.if-nodes-eq0.false)
 
-gather-opened-requires : tie.Need-gather-opened-requires
+gather-opened-requires : tie.Need-gather_opened-requires
 gather-opened-requires c κs =
-    let (s, e) : tie.Start × tie.Else1 = search in
-    ((s.pre.0, omega (arith, e.if1.left)), s.pre.1)
+    let (s, e) : tie.Start × tie.Else-nodes-eq0 = search in
+    ((s.requires.0, omega (arith, e.if-nodes-eq0.false)), s.requires.1)
 
-returns-2 : tie.Need-returns-2
+returns-2 : tie.Need-returns
 returns-2 c =
-    let (s, b, w, g) : tie.Start × tie.After-box-at × tie.After-walk-box × tie.After-gather-opened = search in
-    gathers_by s.args.line s.args.reach _ _ _ w.walk-box.result
-    (λ l e. w.walk-box.ensures l e ∙ ap (walk_box l) b.box-at.ensures) _ _ g.gather-opened.ensures
+    let (s, b, w, g) : tie.Start × tie.After-box_at × tie.After-walk_box-bounds × tie.After-gather_opened = search in
+    gathers_by s.args.line s.args.reach _ _ _ w.walk_box-bounds.result
+    (λ l e. w.walk_box-bounds.ensures l e ∙ ap (walk_box l) b.box_at.ensures) _ _ g.gather_opened.ensures
 
-pub gather-line-spec : {M : Type 1} → statement M
-gather-line-spec =
+pub gather_line_spec : {M : Type 1} → statement M
+gather_line_spec =
     tie.close
     (tie.spec
     returns
     box-at-requires
-    (search rules)  -- walk-box-requires
+    (search rules)  -- walk_box-bounds-requires
     gather-opened-requires
-    (search rules)  -- same-length
-    (search rules)  -- same-length-2
+    (search rules)  -- shape_of-list
+    (search rules)  -- shape_of-stack
     returns-2)

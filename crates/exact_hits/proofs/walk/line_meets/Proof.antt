@@ -16,31 +16,31 @@ far-plain : (s : tie.Start) → bits s.args.line.far ≡ s.args.line.far
 far-plain s = plain (widen s.requires.far (lit≤ tt))
 
 -- a short segment
-returns : tie.Need-returns
+returns : tie.Need-returns-then-is_short
 unfolding line_meets
 returns c =
-    let (k, f) : tie.After-is-short × tie.Then1 = search in
-    λ l sees. sym (simp (sym (k.is_short.ensures l sees) ∙ f.if1.taken))
+    let (k, f) : tie.After-is_short × tie.Then-is_short = search in
+    λ l sees. sym (simp (sym (k.is_short.ensures l sees) ∙ f.if-is_short.true))
 
-add-line-met : tie.Need-overflow-add-line-met
-add-line-met c = let s : tie.Start = search in past_fits (far-plain s) (gain-plain s) s.pre.far s.pre.gain
+add-line-met : tie.Need-overflow_add-line
+add-line-met c = let s : tie.Start = search in past_fits (far-plain s) (gain-plain s) s.requires.far s.requires.gain
 
 -- the line decides
-returns-2 : tie.Need-returns-2
+returns-2 : tie.Need-returns
 unfolding line_meets
 returns-2 c =
-    let (s, k, f, m) : tie.Start × tie.After-is-short × tie.Else1 × tie.After-line-met = search in
+    let (s, k, f, m) : tie.Start × tie.After-is_short × tie.Else-is_short × tie.After-line_met = search in
     λ l sees.
-    m.line-met.ensures l _ sees
-    (past_read (far-plain s) (gain-plain s) s.pre.far s.pre.gain ∙ past_none s.args.line l sees)
-    ∙ sym (simp (sym (k.is_short.ensures l sees) ∙ f.if1.left))
+    m.line_met.ensures l _ sees
+    (past_read (far-plain s) (gain-plain s) s.requires.far s.requires.gain ∙ past_none s.args.line l sees)
+    ∙ sym (simp (sym (k.is_short.ensures l sees) ∙ f.if-is_short.false))
 
-pub line-meets-spec : {M : Type 1} → statement M
-line-meets-spec =
+pub line_meets_spec : {M : Type 1} → statement M
+line_meets_spec =
     tie.close
     (tie.spec
-    (search rules)  -- is-short-requires
+    (search rules)  -- is_short-requires
     returns
     add-line-met
-    (search rules)  -- line-met-requires
+    (search rules)  -- line_met-requires
     returns-2)

@@ -6,16 +6,22 @@ use borrow.Author.Rules.{rules}
 use Rattle.exact_hits.proofs.walk.pop.Statement.{statement}
 use Rattle.exact_hits.proofs.walk.pop.Tie as tie
 
-returns : tie.Need-returns
-returns c = popped_none _ _ _ c.if1.true
+returns : tie.Need-returns-then-top-eq0
+returns c = popped_none _ _ _ c.if-top-eq0.true
 
-cast-t9 : tie.Need-overflow-cast-t9
+cast-t9 : tie.Need-overflow_cast-result
 cast-t9 c =
     let start : tie.Start = search in
-    omega (arith, c.shared-slice-known.given (start.args.top - 1))
+    omega (arith, c.shared_slice_known-1.given (start.args.top - 1))
 
-returns-2 : tie.Need-returns-2
-returns-2 c = popped_next _ _ _ c.before.if1.false
+returns-2 : tie.Need-returns
+returns-2 c = popped_next _ _ _ c.if-top-eq0.false
 
 pub pop_spec : {M : Type 1} → statement M
-pop_spec = tie.close (tie.spec returns (search rules) (search rules) (search rules) cast-t9 returns-2)
+pop_spec = tie.close (tie.spec
+    returns
+    (search rules)  -- overflow_sub-below
+    (search rules)  -- offset_bounds-stack-below
+    (search rules)  -- bounds-stack-below
+    cast-t9
+    returns-2)

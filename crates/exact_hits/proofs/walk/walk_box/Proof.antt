@@ -6,23 +6,23 @@ use Rattle.exact_hits.proofs.walk.walk_box.Statement.{statement}
 use Rattle.exact_hits.proofs.walk.walk_box.Tie as tie
 
 -- the tree's first box is in range
-returns : tie.Need-returns
+returns : tie.Need-returns-then-is_read
 unfolding walk_box
 returns c =
-    let (k, t) : tie.After-is-read × tie.Then1 = search in
-    λ l e. e ∙ sym (simp (sym k.is_read.ensures ∙ t.if1.taken))
+    let (k, t) : tie.After-is_read × tie.Then-is_read = search in
+    λ l e. e ∙ sym (simp (sym k.is_read.ensures ∙ t.if-is_read.true))
 
 -- it is not
-returns-2 : tie.Need-returns-2
+returns-2 : tie.Need-returns
 unfolding walk_box
 returns-2 c =
-    let (k, t) : tie.After-is-read × tie.Else1 = search in
-    λ l e. sym (simp (sym k.is_read.ensures ∙ t.if1.left))
+    let (k, t) : tie.After-is_read × tie.Else-is_read = search in
+    λ l e. sym (simp (sym k.is_read.ensures ∙ t.if-is_read.false))
 
-pub walk-box-spec : {M : Type 1} → statement M
-walk-box-spec =
+pub walk_box_spec : {M : Type 1} → statement M
+walk_box_spec =
     tie.close
     (tie.spec
-    (search rules)  -- is-read-requires
+    (search rules)  -- is_read-requires
     returns
     returns-2)

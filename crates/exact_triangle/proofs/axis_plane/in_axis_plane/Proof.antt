@@ -11,35 +11,36 @@ use Rattle.exact_triangle.proofs.axis_plane.in_axis_plane.Tie as tie
 one_number : {x y : ℤ} → Sized 268435456 x → Sized 268435456 y → of_z w64 x ≡ of_z w64 y → y ≡ x
 one_number h g e = sym (plain (widen g (lit≤ tt))) ∙ ap (λ (n : ℕ). to_z w64 n) (sym e) ∙ plain (widen h (lit≤ tt))
 
-sub-at-plane : tie.Need-overflow-sub-at-plane
+sub-at-plane : tie.Need-overflow_sub-a
 sub-at-plane c =
-    let s : tie.Start = search in minus_fits (term s.pre.0.0 (lit≤ tt)) (term s.pre.1.0 (lit≤ tt)) (lit≤ tt)
+    let s : tie.Start = search in minus_fits (term s.requires.0.0 (lit≤ tt)) (term s.requires.1.0 (lit≤ tt)) (lit≤ tt)
 
 away : (s : tie.Start) → Term (bits (bits s.args.a -ℤ bits s.args.o)) (s.args.a -ℤ s.args.o) 536870912
 away s = minus (term s.requires.0.0 (lit≤ tt)) (term s.requires.1.0 (lit≤ tt)) (lit≤ tt)
 
-at-plane-requires : tie.Need-at-plane-requires
-at-plane-requires c κs = let s : tie.Start = search in (read_sized (away s), sized_bits s.pre.1.1 (lit≤ tt))
+at-plane-requires : tie.Need-at_plane-requires
+at-plane-requires c κs = let s : tie.Start = search in (read_sized (away s), sized_bits s.requires.1.1 (lit≤ tt))
 
-returns : tie.Need-returns
+returns : tie.Need-returns-then-a-c
 returns c =
-    let (s, e, f) : tie.Start × tie.Then1 × tie.Then2 = search in
+    let (s, e, f) : tie.Start × tie.Then-a-b × tie.Then-a-c = search in
     let v = s.args in
     inr (record {
-      second = one_number s.pre.0.0 s.pre.0.1.0 e.if1.taken;
-      third = one_number s.pre.0.0 s.pre.0.1.1 f.if2.taken;
+      second = one_number s.requires.0.0 s.requires.0.1.0 e.if-a-b.true;
+      third = one_number s.requires.0.0 s.requires.0.1.1 f.if-a-c.true;
       across =
-          subst (λ (z : ℤ). AtPlane z v.d v.start v.finish c.at-plane.result) (away s).is
-          (subst (λ (z : ℤ). AtPlane (bits (bits v.a -ℤ bits v.o)) z v.start v.finish c.at-plane.result)
-          (plain (widen s.pre.1.1 (lit≤ tt))) c.at-plane.ensures);
+          subst (λ (z : ℤ). AtPlane z v.d v.start v.finish c.at_plane.result) (away s).is
+          (subst (λ (z : ℤ). AtPlane (bits (bits v.a -ℤ bits v.o)) z v.start v.finish c.at_plane.result)
+          (plain (widen s.requires.1.1 (lit≤ tt))) c.at_plane.ensures);
     })
 
-pub in-axis-plane-spec : {M : Type 1} → statement M
-in-axis-plane-spec =
+pub in_axis_plane_spec : {M : Type 1} → statement M
+in_axis_plane_spec =
     tie.close
     (tie.spec
     sub-at-plane
     at-plane-requires
     returns
-    (λ c. inl refl)
-    (λ c. inl refl))
+    (λ c. inl refl)  -- returns-else-a-c
+    (λ c. inl refl)  -- returns-else-a-b
+    )

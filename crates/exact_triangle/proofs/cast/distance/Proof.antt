@@ -7,11 +7,11 @@ use Rattle.exact_triangle.proofs.Laws.{fixed_fits, fixed_once}
 use Rattle.exact_triangle.proofs.cast.distance.Statement.{statement}
 use Rattle.exact_triangle.proofs.cast.distance.Tie as tie
 
-mul-times : tie.Need-overflow-mul-times
-mul-times c = let s : tie.Start = search in fixed_fits 32768 s.pre.1 (lit≤ tt) (lit≤ tt)
+mul-times : tie.Need-overflow_mul-gain
+mul-times c = let s : tie.Start = search in fixed_fits 32768 s.requires.1 (lit≤ tt) (lit≤ tt)
 
 times-requires : tie.Need-times-requires
-times-requires c κs = let s : tie.Start = search in s.pre.0
+times-requires c κs = let s : tie.Start = search in s.requires.0
 
 returns : tie.Need-returns
 returns c =
@@ -19,11 +19,11 @@ returns c =
     let v = s.args in
     c.nearest.ensures
     ∙ ap (fraction_of (value v.at.t))
-    (m.times.ensures ∙ ap (λ (z : ℤ). value v.at.w *ℤ z) (fixed_once 32768 s.pre.1 (lit≤ tt) (lit≤ tt))
+    (m.times.ensures ∙ ap (λ (z : ℤ). value v.at.w *ℤ z) (fixed_once 32768 s.requires.1 (lit≤ tt) (lit≤ tt))
     ∙ sym (times_assoc (value v.at.w) v.gain (pos 32768)))
 
-pub distance-spec : {M : Type 1} → statement M
-distance-spec =
+pub distance_spec : {M : Type 1} → statement M
+distance_spec =
     tie.close
     (tie.spec
     mul-times

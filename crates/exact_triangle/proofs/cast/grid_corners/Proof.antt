@@ -7,42 +7,42 @@ use Rattle.exact_triangle.proofs.cast.grid_corners.Statement.{statement}
 use Rattle.exact_triangle.proofs.cast.grid_corners.Tie as tie
 
 -- a corner is out of range
-returns : tie.Need-returns
-returns c = let k : tie.After-corners-read = search in test_failed k.corners_read_lem.ensures c.if1.true
+returns : tie.Need-returns-then-not-corners_read
+returns c = let k : tie.After-corners_read = search in test_failed k.corners_read.ensures c.if-not-corners_read.true
 
-passed : (e : tie.Else1) → let s : tie.Start = search in corners_read s.args.t1 ≡ true
-passed e = let k : tie.After-corners-read = search in test_passed k.corners_read_lem.ensures e.if1.false
+passed : (e : tie.Else-not-corners_read) → let s : tie.Start = search in corners_read s.args.corners ≡ true
+passed e = let k : tie.After-corners_read = search in test_passed k.corners_read.ensures e.if-not-corners_read.false
 
-grid-point-requires : tie.Need-grid-point-requires
-grid-point-requires c κs = let (s, e) : tie.Start × tie.Else1 = search in first_read s.args.t1 (passed e)
+grid-point-requires : tie.Need-grid_point-a-requires
+grid-point-requires c κs = let (s, e) : tie.Start × tie.Else-not-corners_read = search in first_read s.args.corners (passed e)
 
-grid-point-requires-2 : tie.Need-grid-point-requires-2
-grid-point-requires-2 c κs = let (s, e) : tie.Start × tie.Else1 = search in second_read s.args.t1 (passed e)
+grid-point-requires-2 : tie.Need-grid_point-b-requires
+grid-point-requires-2 c κs = let (s, e) : tie.Start × tie.Else-not-corners_read = search in second_read s.args.corners (passed e)
 
-grid-point-requires-3 : tie.Need-grid-point-requires-3
-grid-point-requires-3 c κs = let (s, e) : tie.Start × tie.Else1 = search in third_read s.args.t1 (passed e)
+grid-point-requires-3 : tie.Need-grid_point-c-requires
+grid-point-requires-3 c κs = let (s, e) : tie.Start × tie.Else-not-corners_read = search in third_read s.args.corners (passed e)
 
-returns-2 : tie.Need-returns-2
+returns-2 : tie.Need-returns
 returns-2 c =
-    let (e, a, b, d) : tie.Else1 × tie.After-grid-point × tie.After-grid-point2 × tie.After-grid-point3 = search in
+    let (e, a, b, d) : tie.Else-not-corners_read × tie.After-grid_point-a × tie.After-grid_point-b × tie.After-grid_point-c = search in
     record {
       read = passed e;
-      first = a.grid-point.ensures.0;
-      second = b.grid-point2.ensures.0;
-      third = d.grid-point3.ensures.0;
-      near = (a.grid-point.ensures.1, (b.grid-point2.ensures.1, d.grid-point3.ensures.1));
+      first = a.grid_point-a.ensures.0;
+      second = b.grid_point-b.ensures.0;
+      third = d.grid_point-c.ensures.0;
+      near = (a.grid_point-a.ensures.1, (b.grid_point-b.ensures.1, d.grid_point-c.ensures.1));
     }
 
-pub grid-corners-spec : {M : Type 1} → statement M
-grid-corners-spec =
+pub grid_corners_spec : {M : Type 1} → statement M
+grid_corners_spec =
     tie.close
     (tie.spec
-    (search rules)  -- corners-read-requires
+    (search rules)  -- corners_read-requires
     returns
-    (search rules)  -- array-copy-out-grid-point
+    (search rules)  -- bounds-corners-0
     grid-point-requires
-    (search rules)  -- array-copy-out-grid-point-2
+    (search rules)  -- bounds-corners-1
     grid-point-requires-2
-    (search rules)  -- array-copy-out-grid-point-3
+    (search rules)  -- bounds-corners-2
     grid-point-requires-3
     returns-2)

@@ -9,43 +9,43 @@ use Rattle.exact_triangle.proofs.cast.hit_on.Statement.{statement}
 use Rattle.exact_triangle.proofs.cast.hit_on.Tie as tie
 
 -- a corner is out of range
-returns : tie.Need-returns
+returns : tie.Need-returns-in_default
 unfolding grid_hit
 returns c =
-    let (s, b) : tie.Start × tie.After-grid-corners = search in
+    let (s, b) : tie.Start × tie.After-grid_corners-placed = search in
     left (grid_normal s.args.ray (cross_at s.args.corners) s.args.distance)
-    (subst (ReadOnGrid s.args.corners) c.enum_told.given.1 b.grid-corners.ensures) refl
+    (subst (ReadOnGrid s.args.corners) c.in_default.is b.grid_corners-placed.ensures) refl
 
 -- the three corners
-on-grid : (k : tie.After-placed) → let s : tie.Start = search in
-    CornersOnGrid s.args.corners k.placed.given.0.0 k.placed.given.0.1.0 k.placed.given.0.1.1.0
+on-grid : (k : tie.In-At) → let s : tie.Start = search in
+    CornersOnGrid s.args.corners k.in-At.a k.in-At.b k.in-At.c
 on-grid k =
-    let (s, b) : tie.Start × tie.After-grid-corners = search in
-    subst (ReadOnGrid s.args.corners) k.placed.given.1 b.grid-corners.ensures
+    let (s, b) : tie.Start × tie.After-grid_corners-placed = search in
+    subst (ReadOnGrid s.args.corners) k.in-At.is b.grid_corners-placed.ensures
 
-cross-of-requires : tie.Need-cross-of-requires
-cross-of-requires c κs = let k : tie.After-placed = search in (on-grid k).near
+cross-of-requires : tie.Need-cross_of-requires
+cross-of-requires c κs = let k : tie.In-At = search in (on-grid k).near
 
 -- the cross of the three corners, and its normal
-returns-2 : tie.Need-returns-2
+returns-2 : tie.Need-returns
 unfolding grid_hit
 returns-2 c =
-    let (s, k, n) : tie.Start × tie.After-placed × tie.After-cross-of = search in
+    let (s, k, n) : tie.Start × tie.In-At × tie.After-cross_of = search in
     let b = on-grid k in
     let v = s.args in
     taken (refused out_of_range) b.read
-    (c.normal-at.ensures
-    ∙ (λ i. grid_normal v.ray (n.cross-of.ensures.0 i) v.distance)
+    (c.normal_at.ensures
+    ∙ (λ i. grid_normal v.ray (n.cross_of.ensures.0 i) v.distance)
     ∙ (λ i. grid_normal v.ray (cross_of (b.first i) (b.second i) (b.third i)) v.distance))
 
-pub hit-on-spec : {M : Type 1} → statement M
-hit-on-spec =
+pub hit_on_spec : {M : Type 1} → statement M
+hit_on_spec =
     tie.close
     (tie.spec
-    (search rules)  -- grid-corners-requires
-    (search rules)  -- enum-known-placed
-    (search rules)  -- enum_told
+    (search rules)  -- grid_corners-placed-requires
+    (search rules)  -- enum_known-placed
+    (search rules)  -- enum_told-1
     returns
     cross-of-requires
-    (search rules)  -- normal-at-requires
+    (search rules)  -- normal_at-requires
     returns-2)

@@ -13,30 +13,30 @@ abbrev turned : tie.Start → Vec3 → Answer
 turned s v = hit (facing v (dot_of s.args.ray.direction v)) s.args.distance
 
 -- there is no normal
-returns : tie.Need-returns
+returns : tie.Need-returns-in_default
 unfolding grid_normal
 returns c =
-    let (s, u) : tie.Start × tie.After-unit-of = search in
+    let (s, u) : tie.Start × tie.After-unit_of-unit = search in
     sym (ap (λ (k : Normalized). with_normal k no_normal (turned s))
-    (sym u.unit-of.ensures ∙ c.enum_told.given.1))
+    (sym u.unit_of-unit.ensures ∙ c.in_default.is))
 
 -- it is turned
-returns-2 : tie.Need-returns-2
+returns-2 : tie.Need-returns
 unfolding grid_normal
 returns-2 c =
-    let (s, u, k, d) : tie.Start × tie.After-unit-of × tie.After-unit × tie.After-dot = search in
-    let v = k.unit.given.0.0 in
+    let (s, u, k, d) : tie.Start × tie.After-unit_of-unit × tie.In-Unit × tie.After-dot = search in
+    let v = k.in-Unit.v in
     (λ i. hit ((c.facing.ensures ∙ ap (facing v) d.dot.ensures) i) s.args.distance)
     ∙ sym (ap (λ (k : Normalized). with_normal k no_normal (turned s))
-    (sym u.unit-of.ensures ∙ k.unit.given.1))
+    (sym u.unit_of-unit.ensures ∙ k.in-Unit.is))
 
-pub normal-at-spec : {M : Type 1} → statement M
-normal-at-spec =
+pub normal_at_spec : {M : Type 1} → statement M
+normal_at_spec =
     tie.close
     (tie.spec
-    (search rules)  -- unit-of-requires
-    (search rules)  -- enum-known-unit
-    (search rules)  -- enum_told
+    (search rules)  -- unit_of-unit-requires
+    (search rules)  -- enum_known-unit
+    (search rules)  -- enum_told-1
     returns
     (search rules)  -- dot-requires
     (search rules)  -- facing-requires

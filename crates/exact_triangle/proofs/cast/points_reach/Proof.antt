@@ -14,56 +14,57 @@ use Rattle.exact_triangle.proofs.cast.points_reach.Statement.{statement}
 use Rattle.exact_triangle.proofs.cast.points_reach.Tie as tie
 
 -- outside of the triangle
-returns : tie.Need-returns
+returns : tie.Need-returns-in-Outside
 unfolding depth_of
 returns c =
-    let (s, p) : tie.Start × tie.After-incidence-at = search in
+    let (s, p) : tie.Start × tie.After-incidence_at-incidence = search in
     let v = s.args in
     λ l h.
     let m =
-    subst (Incident (projected_of l v.a) (projected_of l v.b) (projected_of l v.c)) c.enum_told.given.1
-    (p.incidence-at.ensures l h) in
+    subst (Incident (projected_of l v.a) (projected_of l v.b) (projected_of l v.c)) c.in-Outside.is
+    (p.incidence_at-incidence.ensures l h) in
     ap (λ (d : Depth). reach_at (in_units (gain l) d)) (m (pos (l.near * gain l)) (pos (l.far * gain l)))
 
 -- the line crosses it
-crosses : (k : tie.After-enum-told2) (l : Line) → let s : tie.Start = search in Sees s.args.line l
+crosses : (k : tie.In-Crossing) (l : Line) → let s : tie.Start = search in Sees s.args.line l
     → Crosses (projected_of l s.args.a) (projected_of l s.args.b) (projected_of l s.args.c)
 crosses k l h =
-    let (s, p) : tie.Start × tie.After-incidence-at = search in
+    let (s, p) : tie.Start × tie.After-incidence_at-incidence = search in
     let v = s.args in
-    subst (Incident (projected_of l v.a) (projected_of l v.b) (projected_of l v.c)) k.enum-told2.given.1
-    (p.incidence-at.ensures l h)
+    subst (Incident (projected_of l v.a) (projected_of l v.b) (projected_of l v.c)) k.in-Crossing.is
+    (p.incidence_at-incidence.ensures l h)
 
 -- on the segment
-returns-2 : tie.Need-returns-2
+returns-2 : tie.Need-returns-in-At
 returns-2 c =
-    let (s, t, d, k) : tie.Start × tie.After-enum-told2 × tie.After-crossing-distance × tie.After-crossed = search in
+    let (s, t, d, k) : tie.Start × tie.In-Crossing × tie.After-crossing_distance-crossed × tie.In-At = search in
     let v = s.args in
-    λ l h. subst (Decides (depth_of l v.a v.b v.c)) k.crossed.given.1 (d.crossing-distance.ensures l h (crosses t l h))
+    λ l h. subst (Decides (depth_of l v.a v.b v.c)) k.in-At.is (d.crossing_distance-crossed.ensures l h (crosses t l h))
 
 -- .. or off it
-returns-3 : tie.Need-returns-3
+returns-3 : tie.Need-returns-in-Miss
 returns-3 c =
-    let (s, t, d) : tie.Start × tie.After-enum-told2 × tie.After-crossing-distance = search in
+    let (s, t, d) : tie.Start × tie.In-Crossing × tie.After-crossing_distance-crossed = search in
     let v = s.args in
-    λ l h. subst (Decides (depth_of l v.a v.b v.c)) c.enum-told3.given.1 (d.crossing-distance.ensures l h (crosses t l h))
+    λ l h. subst (Decides (depth_of l v.a v.b v.c)) c.in-Miss.is (d.crossing_distance-crossed.ensures l h (crosses t l h))
 
-pub points-reach-spec : {M : Type 1} → statement M
-points-reach-spec =
+pub points_reach_spec : {M : Type 1} → statement M
+points_reach_spec =
     tie.close
     (tie.spec
-    (search rules)  -- incidence-at-requires
-    (search rules)  -- enum_told
+    (search rules)  -- incidence_at-incidence-requires
+    (search rules)  -- enum_told-1
     returns
-    (search rules)  -- enum-told-2
-    (search rules)  -- crossing-distance-requires
-    (search rules)  -- enum-known-crossed
+    (search rules)  -- enum_told-in-Crossing
+    (search rules)  -- crossing_distance-crossed-requires
+    (search rules)  -- enum_known-crossed
     returns-2
-    (search rules)  -- enum-told-3
+    (search rules)  -- enum_told-in-Miss
     returns-3
-    (search rules)  -- enum-told-4
-    (search rules)  -- wide-reach-requires
-    (λ c. c.wide-reach.ensures)
-    (search rules)  -- enum-told-5
-    (search rules)  -- wide-reach-requires-2
-    (λ c. c.wide-reach2.ensures))
+    (search rules)  -- enum_told-in-Undecided
+    (search rules)  -- wide_reach-requires
+    (λ c. c.wide_reach.ensures)  -- returns-in-Undecided
+    (search rules)  -- enum_told-in-Coplanar
+    (search rules)  -- wide_reach-requires-in-Coplanar
+    (λ c. c.wide_reach-in-Coplanar.ensures)  -- returns-in-Coplanar
+    )

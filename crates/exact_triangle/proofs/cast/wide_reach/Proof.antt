@@ -13,39 +13,39 @@ use Rattle.exact_triangle.proofs.cast.wide_reach.Statement.{statement}
 use Rattle.exact_triangle.proofs.cast.wide_reach.Tie as tie
 
 -- a miss
-returns : tie.Need-returns
+returns : tie.Need-returns-in_default
 unfolding depth_of
 returns c =
-    let d : tie.After-depth-of = search in
+    let d : tie.After-depth_of-depth = search in
     λ l h.
-    ap (λ (f : Found). reach_at (in_units (gain l) (answer_of f))) (sym c.enum_told.given.1)
-    ∙ ap (λ z. reach_at (in_units (gain l) z)) (d.depth-of.ensures.1 l h)
+    ap (λ (f : Found). reach_at (in_units (gain l) (answer_of f))) (sym c.in_default.is)
+    ∙ ap (λ z. reach_at (in_units (gain l) z)) (d.depth_of-depth.ensures.1 l h)
 
 distance-requires : tie.Need-distance-requires
 distance-requires c κs =
-    let (s, d, k) : tie.Start × tie.After-depth-of × tie.After-depth = search in
-    (subst Narrow k.depth.given.1 d.depth-of.ensures.0, sized_bits s.pre.0.gain (lit≤ tt))
+    let (s, d, k) : tie.Start × tie.After-depth_of-depth × tie.In-At = search in
+    (subst Narrow k.in-At.is d.depth_of-depth.ensures.0, sized_bits s.requires.0.gain (lit≤ tt))
 
 -- the first point
-returns-2 : tie.Need-returns-2
+returns-2 : tie.Need-returns
 unfolding depth_of
 returns-2 c =
-    let (s, d, k) : tie.Start × tie.After-depth-of × tie.After-depth = search in
-    let at = k.depth.given.0.0 in
+    let (s, d, k) : tie.Start × tie.After-depth_of-depth × tie.In-At = search in
+    let at = k.in-At.at in
     λ l h.
     ap (λ (x : Float). At x) c.distance.ensures
     ∙ ap (λ (z : ℤ). At (fraction_of (value at.t) (value at.w *ℤ z *ℤ pos 32768)))
-    (plain (widen s.pre.0.gain (lit≤ tt)) ∙ h.gain)
-    ∙ ap (λ (f : Found). reach_at (in_units (gain l) (answer_of f))) (sym k.depth.given.1)
-    ∙ ap (λ z. reach_at (in_units (gain l) z)) (d.depth-of.ensures.1 l h)
+    (plain (widen s.requires.0.gain (lit≤ tt)) ∙ h.gain)
+    ∙ ap (λ (f : Found). reach_at (in_units (gain l) (answer_of f))) (sym k.in-At.is)
+    ∙ ap (λ z. reach_at (in_units (gain l) z)) (d.depth_of-depth.ensures.1 l h)
 
-pub wide-reach-spec : {M : Type 1} → statement M
-wide-reach-spec =
+pub wide_reach_spec : {M : Type 1} → statement M
+wide_reach_spec =
     tie.close
     (tie.spec
-    (search rules)  -- depth-of-requires
-    (search rules)  -- enum-known-depth
-    (search rules)  -- enum_told
+    (search rules)  -- depth_of-depth-requires
+    (search rules)  -- enum_known-depth
+    (search rules)  -- enum_told-1
     returns
     distance-requires
     returns-2)

@@ -6,22 +6,22 @@ use Rattle.exact_triangle.proofs.crossing.between_ends.Statement.{statement}
 use Rattle.exact_triangle.proofs.crossing.between_ends.Tie as tie
 
 -- below 0
-returns : tie.Need-returns
-returns c = let n : tie.After-is-negative = search in below (sym n.is_negative.ensures ∙ c.if1.true) refl
+returns : tie.Need-returns-then-is_negative
+returns c = let n : tie.After-is_negative = search in below (sym n.is_negative.ensures ∙ c.if-is_negative.true) refl
 
 -- by the rounded distance
-returns-2 : tie.Need-returns-2
+returns-2 : tie.Need-returns
 returns-2 c =
     let (s, x) : tie.Start × tie.After-nearest = search in
-    rounded (subst (λ (y : Float). AgainstEnds y s.args.start s.args.finish c.against-ends.result) x.nearest.ensures
-    c.against-ends.ensures)
+    rounded (subst (λ (y : Float). AgainstEnds y s.args.start s.args.finish c.against_ends.result) x.nearest.ensures
+    c.against_ends.ensures)
 
-pub between-ends-spec : {M : Type 1} → statement M
-between-ends-spec =
+pub between_ends_spec : {M : Type 1} → statement M
+between_ends_spec =
     tie.close
     (tie.spec
-    (search rules)  -- is-negative-requires
+    (search rules)  -- is_negative-requires
     returns
     (search rules)  -- nearest-requires
-    (search rules)  -- against-ends-requires
+    (search rules)  -- against_ends-requires
     returns-2)

@@ -16,26 +16,26 @@ two s = within s.args.b s.args.v.y
 abbrev three : tie.Start → Bool
 three s = within s.args.b s.args.v.z
 
-returns : tie.Need-returns
+returns : tie.Need-returns-then-not-within
 returns c =
     let (s, w) : tie.Start × tie.After-within = search in
-    first_off (one s) (two s) (three s) (test_failed w.within.ensures c.if1.true)
+    first_off (one s) (two s) (three s) (test_failed w.within.ensures c.if-not-within.true)
 
-returns-2 : tie.Need-returns-2
+returns-2 : tie.Need-returns-then-not-within-2
 returns-2 c =
-    let (s, w, e, u) : tie.Start × tie.After-within × tie.Else1 × tie.After-within2 = search in
+    let (s, w, e, u) : tie.Start × tie.After-within × tie.Else-not-within × tie.After-within-2 = search in
     second_off (one s) (two s) (three s)
-    (test_passed w.within.ensures e.if1.left) (test_failed u.within2.ensures c.if2.true)
+    (test_passed w.within.ensures e.if-not-within.false) (test_failed u.within-2.ensures c.if-not-within-2.true)
 
-returns-3 : tie.Need-returns-3
+returns-3 : tie.Need-returns
 returns-3 c =
-    let (s, w, e, u, d) : tie.Start × tie.After-within × tie.Else1 × tie.After-within2 × tie.Else2 = search in
+    let (s, w, e, u, d) : tie.Start × tie.After-within × tie.Else-not-within × tie.After-within-2 × tie.Else-not-within-2 = search in
     third_tells (one s) (two s) (three s)
-    (test_passed w.within.ensures e.if1.left) (test_passed u.within2.ensures d.if2.left)
-    c.within3.ensures
+    (test_passed w.within.ensures e.if-not-within.false) (test_passed u.within-2.ensures d.if-not-within-2.false)
+    c.within-3.ensures
 
-pub all-within-spec : {M : Type 1} → statement M
-all-within-spec =
+pub all_within_spec : {M : Type 1} → statement M
+all_within_spec =
     tie.close
     (tie.spec
     (search rules)  -- within-requires

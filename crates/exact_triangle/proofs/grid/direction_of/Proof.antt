@@ -6,20 +6,20 @@ use Rattle.exact_triangle.proofs.grid.direction_of.Statement.{statement}
 use Rattle.exact_triangle.proofs.grid.direction_of.Tie as tie
 
 component-requires : tie.Need-component-requires
-component-requires c κs = let s : tie.Start = search in within_x two s.args.v s.pre
+component-requires c κs = let s : tie.Start = search in within_x two s.args.v s.requires
 
 component-requires-2 : tie.Need-component-requires-2
-component-requires-2 c κs = let s : tie.Start = search in within_y two s.args.v s.pre
+component-requires-2 c κs = let s : tie.Start = search in within_y two s.args.v s.requires
 
 component-requires-3 : tie.Need-component-requires-3
-component-requires-3 c κs = let s : tie.Start = search in within_z two s.args.v s.pre
+component-requires-3 c κs = let s : tie.Start = search in within_z two s.args.v s.requires
 
 returns : tie.Need-returns
 returns c =
-    let (x, y, z) : tie.After-component × tie.After-component2 × tie.After-component3 = search in
+    let (x, y, z) : tie.After-component × tie.After-component-2 × tie.After-component-3 = search in
     let a = x.component.ensures in
-    let b = y.component2.ensures in
-    let d = z.component3.ensures in (
+    let b = y.component-2.ensures in
+    let d = z.component-3.ensures in (
       (λ i. record {
         x = told_read a.0 a.1 (lit≤ tt) i;
         y = told_read b.0 b.1 (lit≤ tt) i;
@@ -28,8 +28,8 @@ returns c =
       record { x = told_sized a.1 (lit≤ tt); y = told_sized b.1 (lit≤ tt); z = told_sized d.1 (lit≤ tt) },
     )
 
-pub direction-of-spec : {M : Type 1} → statement M
-direction-of-spec =
+pub direction_of_spec : {M : Type 1} → statement M
+direction_of_spec =
     tie.close
     (tie.spec
     component-requires

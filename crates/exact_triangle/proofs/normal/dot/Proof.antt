@@ -25,38 +25,38 @@ module _ (s : tie.Start) where
   pz : SFits w64 s.args.p.z
   pz = search rules
 
-pair_is : (k : tie.After-product2) → let (s, x) : tie.Start × tie.After-product = search in
-    value x.product.result +ℤ value k.product2.result ≡ s.args.n.x *ℤ s.args.p.x +ℤ s.args.n.y *ℤ s.args.p.y
+pair_is : (k : tie.After-product-2) → let (s, x) : tie.Start × tie.After-product = search in
+    value x.product.result +ℤ value k.product-2.result ≡ s.args.n.x *ℤ s.args.p.x +ℤ s.args.n.y *ℤ s.args.p.y
 pair_is k =
     let (s, x) : tie.Start × tie.After-product = search in
     (λ i. (x.product.ensures ∙ (λ j. bits_back (nx s) j *ℤ bits_back (px s) j)) i
-    +ℤ (k.product2.ensures ∙ (λ j. bits_back (ny s) j *ℤ bits_back (py s) j)) i)
+    +ℤ (k.product-2.ensures ∙ (λ j. bits_back (ny s) j *ℤ bits_back (py s) j)) i)
 
 sum-requires : tie.Need-sum-requires
 sum-requires c κs =
-    let (s, k) : tie.Start × tie.After-product2 = search in
+    let (s, k) : tie.Start × tie.After-product-2 = search in
     subst FitsWide (sym (pair_is k))
     (held (sum_size (product_size (word_size (nx s)) (word_size (px s))) (product_size (word_size (ny s)) (word_size (py s)))) (lit< tt))
 
-all-is : (k : tie.After-product3) → let (s, t) : tie.Start × tie.After-sum = search in
-    value t.sum.result +ℤ value k.product3.result
+all-is : (k : tie.After-product-3) → let (s, t) : tie.Start × tie.After-sum = search in
+    value t.sum.result +ℤ value k.product-3.result
     ≡ s.args.n.x *ℤ s.args.p.x +ℤ s.args.n.y *ℤ s.args.p.y +ℤ s.args.n.z *ℤ s.args.p.z
 all-is k =
-    let (s, t, y) : tie.Start × tie.After-sum × tie.After-product2 = search in
-    (λ i. (t.sum.ensures ∙ pair_is y) i +ℤ (k.product3.ensures ∙ (λ j. bits_back (nz s) j *ℤ bits_back (pz s) j)) i)
+    let (s, t, y) : tie.Start × tie.After-sum × tie.After-product-2 = search in
+    (λ i. (t.sum.ensures ∙ pair_is y) i +ℤ (k.product-3.ensures ∙ (λ j. bits_back (nz s) j *ℤ bits_back (pz s) j)) i)
 
 sum-requires-2 : tie.Need-sum-requires-2
 sum-requires-2 c κs =
-    let (s, k) : tie.Start × tie.After-product3 = search in
+    let (s, k) : tie.Start × tie.After-product-3 = search in
     subst FitsWide (sym (all-is k))
     (held (sum_size (sum_size (product_size (word_size (nx s)) (word_size (px s))) (product_size (word_size (ny s)) (word_size (py s))))
     (product_size (word_size (nz s)) (word_size (pz s)))) (lit< tt))
 
 returns : tie.Need-returns
-returns c = let k : tie.After-product3 = search in c.sum2.ensures ∙ all-is k
+returns c = let k : tie.After-product-3 = search in c.sum-2.ensures ∙ all-is k
 
-pub dot-spec : {M : Type 1} → statement M
-dot-spec =
+pub dot_spec : {M : Type 1} → statement M
+dot_spec =
     tie.close
     (tie.spec
     (search rules)  -- product-requires

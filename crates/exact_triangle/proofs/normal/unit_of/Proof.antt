@@ -17,20 +17,20 @@ fits-z s = search rules
 
 returns : tie.Need-returns
 returns c =
-    let (s, x, y, z) : tie.Start × tie.After-nearest-i64-to-f64 × tie.After-nearest-i64-to-f642 × tie.After-nearest-i64-to-f643 = search in
+    let (s, x, y, z) : tie.Start × tie.After-nearest_i64_to_f64 × tie.After-nearest_i64_to_f64-2 × tie.After-nearest_i64_to_f64-3 = search in
     c.normalize.ensures
     ∙ (λ i. try_normalize (record {
-      x = (x.nearest-i64-to-f64.ensures ∙ ap (of_int binary64) (bits_back (fits-x s))) i;
-      y = (y.nearest-i64-to-f642.ensures ∙ ap (of_int binary64) (bits_back (fits-y s))) i;
-      z = (z.nearest-i64-to-f643.ensures ∙ ap (of_int binary64) (bits_back (fits-z s))) i;
+      x = (x.nearest_i64_to_f64.ensures ∙ ap (of_int binary64) (bits_back (fits-x s))) i;
+      y = (y.nearest_i64_to_f64-2.ensures ∙ ap (of_int binary64) (bits_back (fits-y s))) i;
+      z = (z.nearest_i64_to_f64-3.ensures ∙ ap (of_int binary64) (bits_back (fits-z s))) i;
     }))
 
-pub unit-of-spec : {M : Type 1} → statement M
-unit-of-spec =
+pub unit_of_spec : {M : Type 1} → statement M
+unit_of_spec =
     tie.close
     (tie.spec
-    (search rules)  -- nearest-i64-to-f64-requires
-    (search rules)  -- nearest-i64-to-f64-requires-2
-    (search rules)  -- nearest-i64-to-f64-requires-3
+    (search rules)  -- nearest_i64_to_f64-requires
+    (search rules)  -- nearest_i64_to_f64-requires-2
+    (search rules)  -- nearest_i64_to_f64-requires-3
     (search rules)  -- normalize-requires
     returns)

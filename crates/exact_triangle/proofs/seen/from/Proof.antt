@@ -4,20 +4,20 @@ use Rattle.exact_triangle.proofs.Laws.{minus_fits, minus_read, minus_sized}
 use Rattle.exact_triangle.proofs.seen.from.Statement.{statement}
 use Rattle.exact_triangle.proofs.seen.from.Tie as tie
 
-sub-t3 : tie.Need-overflow-sub-t3
-sub-t3 c = let s : tie.Start = search in minus_fits s.pre.1.x s.pre.0.x (lit≤ tt) (lit≤ tt)
+sub-t3 : tie.Need-overflow_sub-result
+sub-t3 c = let s : tie.Start = search in minus_fits s.requires.1.x s.requires.0.x (lit≤ tt) (lit≤ tt)
 
-sub-t4 : tie.Need-overflow-sub-t4
-sub-t4 c = let s : tie.Start = search in minus_fits s.pre.1.y s.pre.0.y (lit≤ tt) (lit≤ tt)
+sub-t4 : tie.Need-overflow_sub-result-2
+sub-t4 c = let s : tie.Start = search in minus_fits s.requires.1.y s.requires.0.y (lit≤ tt) (lit≤ tt)
 
-sub-t5 : tie.Need-overflow-sub-t5
-sub-t5 c = let s : tie.Start = search in minus_fits s.pre.1.z s.pre.0.z (lit≤ tt) (lit≤ tt)
+sub-t5 : tie.Need-overflow_sub-result-3
+sub-t5 c = let s : tie.Start = search in minus_fits s.requires.1.z s.requires.0.z (lit≤ tt) (lit≤ tt)
 
 returns : tie.Need-returns
 returns c =
     let s : tie.Start = search in
-    let o = s.pre.0 in
-    let h = s.pre.1 in (
+    let o = s.requires.0 in
+    let h = s.requires.1 in (
       (λ i. record {
         x = minus_read h.x o.x (lit≤ tt) (lit≤ tt) i;
         y = minus_read h.y o.y (lit≤ tt) (lit≤ tt) i;
@@ -30,8 +30,8 @@ returns c =
       },
     )
 
-pub from-spec : {M : Type 1} → statement M
-from-spec =
+pub from_spec : {M : Type 1} → statement M
+from_spec =
     tie.close
     (tie.spec
     sub-t3

@@ -15,7 +15,7 @@ plain-ahead s = plain (widen s.requires.0.heading_sized.ahead (lit≤ tt))
 sheared-requires : tie.Need-sheared-requires
 sheared-requires c κs =
     let (s, f, g) : tie.Start × tie.After-from × tie.After-facing = search in
-    let t = s.pre.0.heading_sized in (
+    let t = s.requires.0.heading_sized in (
       record { heading = t.heading; ahead = sized_bits t.ahead (lit≤ tt) },
       subst CornerSized (sym g.facing.ensures) (faced_size (main_as s.args.line.axis) f.from.ensures.1),
     )
@@ -32,8 +32,8 @@ returns c =
           ∙ (λ i. sheared_by (heading l) (ahead (heading l).depth) (facing (main_of l.direction) (from (h.origin i) s.args.p))),
     )
 
-pub projected-of-spec : {M : Type 1} → statement M
-projected-of-spec =
+pub projected_of_spec : {M : Type 1} → statement M
+projected_of_spec =
     tie.close
     (tie.spec
     (search rules)  -- from-requires

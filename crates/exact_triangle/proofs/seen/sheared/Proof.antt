@@ -22,44 +22,44 @@ module _ {a b c d : ℤ} (ha : Sized 536870912 a) (hb : Sized 2147483648 b) (hc 
   difference-sized =
       subst (Sized 2305843009213693952) (sym difference-told) (difference_size (product_size ha hb) (product_size hc hd))
 
-mul-t4 : tie.Need-overflow-mul-t4
-mul-t4 c = let s : tie.Start = search in times_fits s.pre.1.across s.pre.0.heading.depth (lit≤ tt) (lit≤ tt) (lit≤ tt)
+mul-t4 : tie.Need-overflow_mul-result
+mul-t4 c = let s : tie.Start = search in times_fits s.requires.1.across s.requires.0.heading.depth (lit≤ tt) (lit≤ tt) (lit≤ tt)
 
-mul-t5 : tie.Need-overflow-mul-t5
-mul-t5 c = let s : tie.Start = search in times_fits s.pre.1.depth s.pre.0.heading.across (lit≤ tt) (lit≤ tt) (lit≤ tt)
+mul-t5 : tie.Need-overflow_mul-result-2
+mul-t5 c = let s : tie.Start = search in times_fits s.requires.1.depth s.requires.0.heading.across (lit≤ tt) (lit≤ tt) (lit≤ tt)
 
-sub-t6 : tie.Need-overflow-sub-t6
+sub-t6 : tie.Need-overflow_sub-result
 sub-t6 c =
     let s : tie.Start = search in
-    let d = s.pre.0.heading in
-    let p = s.pre.1 in
+    let d = s.requires.0.heading in
+    let p = s.requires.1 in
     fits-difference p.across d.depth p.depth d.across
 
-mul-t7 : tie.Need-overflow-mul-t7
-mul-t7 c = let s : tie.Start = search in times_fits s.pre.1.up s.pre.0.heading.depth (lit≤ tt) (lit≤ tt) (lit≤ tt)
+mul-t7 : tie.Need-overflow_mul-result-3
+mul-t7 c = let s : tie.Start = search in times_fits s.requires.1.up s.requires.0.heading.depth (lit≤ tt) (lit≤ tt) (lit≤ tt)
 
-mul-t8 : tie.Need-overflow-mul-t8
-mul-t8 c = let s : tie.Start = search in times_fits s.pre.1.depth s.pre.0.heading.up (lit≤ tt) (lit≤ tt) (lit≤ tt)
+mul-t8 : tie.Need-overflow_mul-result-4
+mul-t8 c = let s : tie.Start = search in times_fits s.requires.1.depth s.requires.0.heading.up (lit≤ tt) (lit≤ tt) (lit≤ tt)
 
-sub-t9 : tie.Need-overflow-sub-t9
+sub-t9 : tie.Need-overflow_sub-result-2
 sub-t9 c =
     let s : tie.Start = search in
-    let d = s.pre.0.heading in
-    let p = s.pre.1 in
+    let d = s.requires.0.heading in
+    let p = s.requires.1 in
     fits-difference p.up d.depth p.depth d.up
 
-mul-t10 : tie.Need-overflow-mul-t10
-mul-t10 c = let s : tie.Start = search in times_fits s.pre.0.ahead s.pre.1.depth (lit≤ tt) (lit≤ tt) (lit≤ tt)
+mul-t10 : tie.Need-overflow_mul-result-5
+mul-t10 c = let s : tie.Start = search in times_fits s.requires.0.ahead s.requires.1.depth (lit≤ tt) (lit≤ tt) (lit≤ tt)
 
 returns : tie.Need-returns
 returns c =
     let s : tie.Start = search in
-    let d = s.pre.0.heading in
-    let p = s.pre.1 in (
+    let d = s.requires.0.heading in
+    let p = s.requires.1 in (
       (λ i. record {
         across = difference-told p.across d.depth p.depth d.across i;
         up = difference-told p.up d.depth p.depth d.up i;
-        depth = times_read s.pre.0.ahead p.depth (lit≤ tt) (lit≤ tt) (lit≤ tt) i;
+        depth = times_read s.requires.0.ahead p.depth (lit≤ tt) (lit≤ tt) (lit≤ tt) i;
       }),
       record {
         across = difference-sized p.across d.depth p.depth d.across;
@@ -67,8 +67,8 @@ returns c =
       },
     )
 
-pub sheared-spec : {M : Type 1} → statement M
-sheared-spec =
+pub sheared_spec : {M : Type 1} → statement M
+sheared_spec =
     tie.close
     (tie.spec
     mul-t4

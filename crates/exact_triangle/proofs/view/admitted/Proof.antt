@@ -19,44 +19,44 @@ third s = within longest s.args.ray.near
 abbrev fourth : tie.Start → Bool
 fourth s = within longest s.args.ray.max_distance
 
-returns : tie.Need-returns
+returns : tie.Need-returns-then-not-all_within
 unfolding grid_admitted
 returns c =
-    let (s, w) : tie.Start × tie.After-all-within = search in
+    let (s, w) : tie.Start × tie.After-all_within = search in
     first_fails (first s) (second s) (third s) (fourth s)
-    (test_failed w.all_within_lem.ensures c.if1.true)
+    (test_failed w.all_within.ensures c.if-not-all_within.true)
 
-returns-2 : tie.Need-returns-2
+returns-2 : tie.Need-returns-then-not-all_within-2
 unfolding grid_admitted
 returns-2 c =
-    let (s, w, e, u) : tie.Start × tie.After-all-within × tie.Else1 × tie.After-all-within2 = search in
+    let (s, w, e, u) : tie.Start × tie.After-all_within × tie.Else-not-all_within × tie.After-all_within-2 = search in
     second_fails (first s) (second s) (third s) (fourth s)
-    (test_passed w.all_within_lem.ensures e.if1.left) (test_failed u.all-within2.ensures c.if2.true)
+    (test_passed w.all_within.ensures e.if-not-all_within.false) (test_failed u.all_within-2.ensures c.if-not-all_within-2.true)
 
-returns-3 : tie.Need-returns-3
+returns-3 : tie.Need-returns-then-not-within
 unfolding grid_admitted
 returns-3 c =
-    let (s, w, e, u, d, n) : tie.Start × tie.After-all-within × tie.Else1 × tie.After-all-within2 × tie.Else2 × tie.After-within = search in
+    let (s, w, e, u, d, n) : tie.Start × tie.After-all_within × tie.Else-not-all_within × tie.After-all_within-2 × tie.Else-not-all_within-2 × tie.After-within = search in
     third_fails (first s) (second s) (third s) (fourth s)
-    (test_passed w.all_within_lem.ensures e.if1.left) (test_passed u.all-within2.ensures d.if2.left)
-    (test_failed n.within.ensures c.if3.true)
+    (test_passed w.all_within.ensures e.if-not-all_within.false) (test_passed u.all_within-2.ensures d.if-not-all_within-2.false)
+    (test_failed n.within.ensures c.if-not-within.true)
 
-returns-4 : tie.Need-returns-4
+returns-4 : tie.Need-returns
 unfolding grid_admitted
 returns-4 c =
-    let (s, w, e, u, d, n, g) : tie.Start × tie.After-all-within × tie.Else1 × tie.After-all-within2 × tie.Else2 × tie.After-within
-    × tie.Else3 = search in
+    let (s, w, e, u, d, n, g) : tie.Start × tie.After-all_within × tie.Else-not-all_within × tie.After-all_within-2 × tie.Else-not-all_within-2 × tie.After-within
+    × tie.Else-not-within = search in
     four_tells (first s) (second s) (third s) (fourth s)
-    (test_passed w.all_within_lem.ensures e.if1.left) (test_passed u.all-within2.ensures d.if2.left)
-    (test_passed n.within.ensures g.if3.left) c.within2.ensures
+    (test_passed w.all_within.ensures e.if-not-all_within.false) (test_passed u.all_within-2.ensures d.if-not-all_within-2.false)
+    (test_passed n.within.ensures g.if-not-within.false) c.within-2.ensures
 
-pub admitted-spec : {M : Type 1} → statement M
-admitted-spec =
+pub admitted_spec : {M : Type 1} → statement M
+admitted_spec =
     tie.close
     (tie.spec
-    (search rules)  -- all-within-requires
+    (search rules)  -- all_within-requires
     returns
-    (search rules)  -- all-within-requires-2
+    (search rules)  -- all_within-requires-2
     returns-2
     (search rules)  -- within-requires
     returns-3

@@ -11,7 +11,7 @@ use Rattle.exact_triangle.proofs.view.end_at.Statement.{statement}
 use Rattle.exact_triangle.proofs.view.end_at.Tie as tie
 
 distance-requires : tie.Need-distance-requires
-distance-requires c κs = let s : tie.Start = search in s.pre
+distance-requires c κs = let s : tie.Start = search in s.requires
 
 size-requires : tie.Need-size-requires
 size-requires c κs = widen (sized_bits c.distance.ensures.1 (lit≤ tt)) (lit≤ tt)
@@ -24,7 +24,7 @@ is-size k =
 sized : (k : tie.After-size) → Sized 1073741824 k.size.result
 sized k = let d : tie.After-distance = search in size_sized d.distance.ensures.1 (lit≤ tt) k.size.ensures
 
-int-to-float-result : tie.Need-int-to-float-result
+int-to-float-result : tie.Need-int_to_float-result
 int-to-float-result c = let k : tie.After-size = search in in_float_lem (sized k) (lit≤ tt)
 
 returns : tie.Need-returns
@@ -33,8 +33,8 @@ returns c =
     ap (λ (z : ℤ). mul binary64 (of_int binary64 z) (of_bits binary64 0x3f00_0000_0000_0000)) (plain (widen (sized k) (lit≤ tt)))
     ∙ in_millimetres_lem k.size.result (widen (sized k) (lit≤ tt)).size ∙ ap in_millimetres (is-size k)
 
-pub end-at-spec : {M : Type 1} → statement M
-end-at-spec =
+pub end_at_spec : {M : Type 1} → statement M
+end_at_spec =
     tie.close
     (tie.spec
     distance-requires

@@ -16,31 +16,31 @@ fits-y s = search rules
 fits-z : (s : tie.Start) → SFits w64 s.args.p.z
 fits-z s = search rules
 
-returns : tie.Need-returns
+returns : tie.Need-returns-in-X
 returns c =
-    let (s, e) : tie.Start × tie.After-enum-told = search in
+    let (s, e) : tie.Start × tie.In-X = search in
     (λ i. record { across = bits_back (fits-y s) i; up = bits_back (fits-z s) i; depth = bits_back (fits-x s) i })
-    ∙ sym (ap (λ (a : Axis). facing (main_as a) s.args.p) e.enum_told.given.1)
+    ∙ sym (ap (λ (a : Axis). facing (main_as a) s.args.p) e.in-X.is)
 
-returns-2 : tie.Need-returns-2
+returns-2 : tie.Need-returns-in-Y
 returns-2 c =
-    let (s, e) : tie.Start × tie.After-enum-told2 = search in
+    let (s, e) : tie.Start × tie.In-Y = search in
     (λ i. record { across = bits_back (fits-z s) i; up = bits_back (fits-x s) i; depth = bits_back (fits-y s) i })
-    ∙ sym (ap (λ (a : Axis). facing (main_as a) s.args.p) e.enum-told2.given.1)
+    ∙ sym (ap (λ (a : Axis). facing (main_as a) s.args.p) e.in-Y.is)
 
-returns-3 : tie.Need-returns-3
+returns-3 : tie.Need-returns-in-Z
 returns-3 c =
-    let (s, e) : tie.Start × tie.After-enum-told3 = search in
+    let (s, e) : tie.Start × tie.In-Z = search in
     (λ i. record { across = bits_back (fits-x s) i; up = bits_back (fits-y s) i; depth = bits_back (fits-z s) i })
-    ∙ sym (ap (λ (a : Axis). facing (main_as a) s.args.p) e.enum-told3.given.1)
+    ∙ sym (ap (λ (a : Axis). facing (main_as a) s.args.p) e.in-Z.is)
 
-pub facing-spec : {M : Type 1} → statement M
-facing-spec =
+pub facing_spec : {M : Type 1} → statement M
+facing_spec =
     tie.close
     (tie.spec
-    (search rules)  -- enum_told
+    (search rules)  -- enum_told-1
     returns
-    (search rules)  -- enum-told-2
+    (search rules)  -- enum_told-in-Y
     returns-2
-    (search rules)  -- enum-told-3
+    (search rules)  -- enum_told-in-Z
     returns-3)

@@ -6,25 +6,22 @@ use Rattle.exact_triangle.proofs.Laws.{size_below, size_above}
 use Rattle.exact_triangle.proofs.view.size.Statement.{statement}
 use Rattle.exact_triangle.proofs.view.size.Tie as tie
 
-sub-result : tie.Need-overflow-sub-result
-sub-result c = let s : tie.Start = search in negate_fits (widen s.pre (lit≤ tt))
+sub-result : tie.Need-overflow_sub-result
+sub-result c = let s : tie.Start = search in negate_fits (widen s.requires (lit≤ tt))
 
-returns : tie.Need-returns
+returns : tie.Need-returns-then-x-lt0
 returns c =
     let s : tie.Start = search in
-    let h = widen s.pre (lit≤ tt) in
-    negate_read h ∙ size_below s.args.x (below_read {Y = pos 0} {b = true} (plain h) refl c.if1.true)
+    let h = widen s.requires (lit≤ tt) in
+    negate_read h ∙ size_below s.args.x (below_read {Y = pos 0} {b = true} (plain h) refl c.if-x-lt0.true)
 
-returns-2 : tie.Need-returns-2
+returns-2 : tie.Need-returns
 returns-2 c =
     let s : tie.Start = search in
-    let h = widen s.pre (lit≤ tt) in
-    plain h ∙ size_above s.args.x (below_read {Y = pos 0} {b = false} (plain h) refl c.if1.false)
+    let h = widen s.requires (lit≤ tt) in
+    plain h ∙ size_above s.args.x (below_read {Y = pos 0} {b = false} (plain h) refl c.if-x-lt0.false)
 
-pub size-spec : {M : Type 1} → statement M
-size-spec =
+pub size_spec : {M : Type 1} → statement M
+size_spec =
     tie.close
-    (tie.spec
-    sub-result
-    returns
-    returns-2)
+    (tie.spec sub-result returns returns-2)

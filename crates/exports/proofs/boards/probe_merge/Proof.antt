@@ -12,86 +12,86 @@ abbrev one : tie.Start → Board
 one s =
     let p = s.args in
     board_of p.first-vertices.now p.first-triangles.now p.first_nodes p.first-node-boxes.now
-    p.first-triangle-boxes.now p.first-node-words.now p.first_order_lem.now
+    p.first-triangle-boxes.now p.first-node-words.now p.first_order.now
 
 abbrev other : tie.Start → Board
 other s =
     let p = s.args in
     board_of p.second-vertices.now p.second-triangles.now p.second_nodes p.second-node-boxes.now
-    p.second-triangle-boxes.now p.second-node-words.now p.second_order_lem.now
+    p.second-triangle-boxes.now p.second-node-words.now p.second_order.now
 
 abbrev old : tie.Start → Areas
 old s =
     let p = s.args in
-    areas_of p.vertices.now p.triangles.now p.node_boxes_lem.now p.triangle_boxes_lem.now p.node_words_lem.now p.order.now
+    areas_of p.vertices-1.now p.triangles-1.now p.node_boxes-1.now p.triangle_boxes-1.now p.node_words-1.now p.order-1.now
 
 -- from each place to the one before it that the answers speak of
-start_of : tie.Else1 → tie.Start
+start_of : tie.Else-not-shapes_fit → tie.Start
 start_of e = search
 
-shaped : tie.Else2 → tie.Else1
+shaped : tie.Else-nodes-lt1 → tie.Else-not-shapes_fit
 shaped e = search
 
-placed : tie.After-merge → tie.Else2
+placed : tie.After-merge-merged → tie.Else-nodes-lt1
 placed m = search
 
-merged : tie.After-put-merged → tie.After-merge
+merged : tie.After-put_merged → tie.After-merge-merged
 merged p = search
 
 -- what the test of the shapes says once it is passed
-shapes : (e : tie.Else1) → shapes_admitted (one (start_of e)) (other (start_of e)) ≡ true
+shapes : (e : tie.Else-not-shapes_fit) → shapes_admitted (one (start_of e)) (other (start_of e)) ≡ true
 unfolding start_of shapes_admitted
-shapes e = test_passed e.before.shapes-fit.ensures e.if1.false
+shapes e = test_passed e.shapes_fit.ensures e.if-not-shapes_fit.false
 
 -- 2
-returns : tie.Need-returns
+returns : tie.Need-returns-then-not-shapes_fit
 unfolding shapes_admitted
 returns c =
     let s : tie.Start = search in
     let returned = returned_bad (one s) (other s) (old s) _ s.args.nodes.now
-    (test_failed c.before.shapes-fit.ensures c.if1.true) in
+    (test_failed c.shapes_fit.ensures c.if-not-shapes_fit.true) in
     (returned.0, (λ _. refl, returned.1))
 
 -- 3, the place of the node count
-returns-2 : tie.Need-returns-2
+returns-2 : tie.Need-returns-then-nodes-lt1
 unfolding start_of
 returns-2 c =
-    let e : tie.Else1 = search in
+    let e : tie.Else-not-shapes_fit = search in
     let s = start_of e in
-    let returned = returned_short (one s) (other s) (old s) _ s.args.nodes.now (shapes e) c.if2.true in
+    let returned = returned_short (one s) (other s) (old s) _ s.args.nodes.now (shapes e) c.if-nodes-lt1.true in
     (returned.0, (λ _. refl, returned.1))
 
 -- the merge's answer, told
-returns-3 : tie.Need-returns-3
+returns-3 : tie.Need-returns
 unfolding start_of shaped placed merged
 returns-3 c =
-    let p : tie.After-put-merged = search in
+    let p : tie.After-put_merged = search in
     let m = merged p in
     let f = placed m in
     let e = shaped f in
     let s = start_of e in
     let place = s.args.nodes.now in
     let returned =
-    returned_merged_lem (one s) (other s) (old s) _ place (shapes e) f.if2.left _ _ _ m.merge.ensures.0 p.put-merged.ensures in (
+    returned_merged_lem (one s) (other s) (old s) _ place (shapes e) f.if-nodes-lt1.false _ _ _ m.merge.ensures.0 p.put_merged.ensures in (
       returned.0,
-      (λ failed. m.merge.ensures.1 (marks_kept (one s) (other s) (old s) _ place (shapes e) failed f.if2.left), returned.1),
+      (λ failed. m.merge.ensures.1 (marks_kept (one s) (other s) (old s) _ place (shapes e) failed f.if-nodes-lt1.false), returned.1),
     )
 
-pub probe-merge-spec : {M : Type 1} → statement M
-probe-merge-spec =
+pub probe_merge_spec : {M : Type 1} → statement M
+probe_merge_spec =
     tie.close
     (tie.spec
-    (λ c κs. search rules)  -- shapes-fit-requires
+    (λ c κs. search rules)  -- shapes_fit-requires
     returns
     returns-2
-    (λ c κs. search rules)  -- merge-requires
-    (λ c κs. search rules)  -- put-merged-requires
-    (search rules)  -- same-length
-    (search rules)  -- same-length-2
-    (search rules)  -- same-length-3
-    (search rules)  -- same-length-4
-    (search rules)  -- same-length-5
-    (search rules)  -- same-length-6
-    (search rules)  -- same-length-7
-    (search rules)  -- same-length-8
+    (λ c κs. search rules)  -- merge-merged-requires
+    (λ c κs. search rules)  -- put_merged-requires
+    (search rules)  -- shape_of-vertices
+    (search rules)  -- shape_of-triangles
+    (search rules)  -- shape_of-node_boxes
+    (search rules)  -- shape_of-triangle_boxes
+    (search rules)  -- shape_of-node_words
+    (search rules)  -- shape_of-order
+    (search rules)  -- shape_of-marks
+    (search rules)  -- shape_of-nodes
     returns-3)

@@ -4,21 +4,21 @@ use borrow.Author.Rules.{rules}
 use Rattle.exports.proofs.boards.put_merged.Statement.{statement}
 use Rattle.exports.proofs.boards.put_merged.Tie as tie
 
-returns : tie.Need-returns
+returns : tie.Need-returns-in-Nodes
 unfolding returned_merged
-returns c = simp c.before.merged.given.1
+returns c = simp c.in-Nodes.is
 
-returns-2 : tie.Need-returns-2
+returns-2 : tie.Need-returns-in-Refused
 unfolding returned_merged
-returns-2 c = simp c.before.merged2.given.1
+returns-2 c = simp c.in-Refused.is
 
-pub put-merged-spec : {M : Type 1} → statement M
-put-merged-spec =
+pub put_merged_spec : {M : Type 1} → statement M
+put_merged_spec =
     tie.close
     (tie.spec
-    (search rules)  -- enum-known-merged
-    (search rules)  -- slice-write-nodes
-    (search rules)  -- same-length
+    (search rules)  -- enum_known-merged
+    (search rules)  -- bounds-nodes-0
+    (search rules)  -- shape_of-nodes-in-Nodes
     returns
-    (search rules)  -- enum-known-merged-2
+    (search rules)  -- enum_known-merged-in-Refused-1
     returns-2)

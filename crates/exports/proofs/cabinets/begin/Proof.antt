@@ -8,16 +8,16 @@ use Rattle.exports.proofs.cabinets.begin.Tie as tie
 
 returns : tie.Need-returns
 returns c =
-    let (s, f) : tie.Start × tie.After-results-fit = search in
+    let (s, f) : tie.Start × tie.After-results_fit-fits = search in
     let a = s.args in
     let ray = ray_from a.origin-x a.origin-y a.origin-z a.direction_x a.direction_y a.direction_z a.max-distance
     a.near-distance in
-    c.begin.ensures ∙ ap (begun ray a.limit) f.results_fit.ensures
+    c.begin.ensures ∙ ap (begun ray a.limit) f.results_fit-fits.ensures
 
-pub begin-spec : {M : Type 1} → statement M
-begin-spec =
+pub begin_spec : {M : Type 1} → statement M
+begin_spec =
     tie.close
     (tie.spec
-    (search rules)  -- results-fit-requires
+    (search rules)  -- results_fit-fits-requires
     (search rules)  -- begin-requires
     returns)

@@ -395,7 +395,7 @@ module _ {M : Type 1} {𝓤 : Ura M} (𝓛 : Logic 𝓤) (mem : Memory → SProp
           owned ! R (Is R) (LL.makes S.the_type S'.the_plain 𝓛) s _ is $ move ! (0 ∷ 10 ∷ 7 ∷ 4 ∷ 1 ∷ []) $
           chains 𝓛 (Owned-last s ν2 ν3 ν4 ν5 δ2 δ3 δ4 δ5) $ move ! (8 ∷ 6 ∷ 4 ∷ 2 ∷ []) $ chains 𝓛 (Lives-last s ν2 ν3 ν4 ν5 δ2 δ3 δ4 δ5) $
           asks 𝓛 (‵ (chained (Lives-last s ν2 ν3 ν4 ν5 δ2 δ3 δ4 δ5))) (‵ (chained (Owned-last s ν2 ν3 ν4 ν5 δ2 δ3 δ4 δ5)))
-          ((LastC 𝓛 mem run).pre (to_last s ν2 ν3 ν4 ν5 δ2 δ3 δ4 δ5)) (id⊢ 𝓤 _) $
+          ((LastC 𝓛 mem run).requires (to_last s ν2 ν3 ν4 ν5 δ2 δ3 δ4 δ5)) (id⊢ 𝓤 _) $
           calls_at ! (fm_of 𝓤 H 𝓛.laws 𝓣) (LastC 𝓛 mem run) known.to-put-cabinet (to_last s ν2 ν3 ν4 ν5 δ2 δ3 δ4 δ5)
           (arg ! 32 refl (arg ! 46 refl (arg ! 48 refl (arg ! 50 refl (arg ! 52 refl (no_more !)))))) (λ u.
           answers 𝓛 last.ended (last.clauses 𝓛 mem run) (νs-last s ν2 ν3 ν4 ν5 δ2 δ3 δ4 δ5) (args-last s ν2 ν3 ν4 ν5 δ2 δ3 δ4 δ5) tt
@@ -487,7 +487,7 @@ module _ {M : Type 1} {𝓤 : Ura M} (𝓛 : Logic 𝓤) (mem : Memory → SProp
           owned ! R (Is R) (LL.makes S.the_type S'.the_plain 𝓛) s _ is $ move ! (row 7 1 ++ 12 ∷ 9 ∷ 0 ∷ []) $
           chains 𝓛 (Owned-step s ν0 ν1 δ0 δ1) $ move ! (row 7 102 ++ 5 ∷ 3 ∷ []) $ chains 𝓛 (Lives-step s ν0 ν1 δ0 δ1) $
           asks 𝓛 (‵ (chained (Lives-step s ν0 ν1 δ0 δ1))) (‵ (chained (Owned-step s ν0 ν1 δ0 δ1)))
-          ((StepC 𝓛 mem run).pre (to_step s ν0 ν1 δ0 δ1)) (id⊢ 𝓤 _) $
+          ((StepC 𝓛 mem run).requires (to_step s ν0 ν1 δ0 δ1)) (id⊢ 𝓤 _) $
           calls_at ! (fm_of 𝓤 H 𝓛.laws 𝓣) (StepC 𝓛 mem run) known.to-cast-all (to_step s ν0 ν1 δ0 δ1)
           (arg ! 13 refl (arg ! 14 refl (arg ! 15 refl (arg ! 16 refl (arg ! 17 refl (arg ! 18 refl (arg ! 19 refl (arg ! 41 refl
           (arg ! 43 refl (arg ! 30 refl (no_more !))))))))))) (λ u.
@@ -538,7 +538,7 @@ module _ {M : Type 1} {𝓤 : Ura M} (𝓛 : Logic 𝓤) (mem : Memory → SProp
           made 𝓛 (R ∷ Q ∷ []) (LL.makes S.the_type S'.the_plain 𝓛 ▸ LL.makes B.the_type B'.the_plain 𝓛 ▸ tt) (args-second f l)
           (at_second f l) (isf ▸ isl ▸ tt) $ nothing ! $
           asks 𝓛 (‵ ftrue) (‵ (owns (R ∷ Q ∷ []) (args-second f l) (at_second f l)))
-          ((SecondC 𝓛 mem run).pre ((tt, tt, tt, args-second f l, at_second f l), tt)) (id⊢ 𝓤 _) $
+          ((SecondC 𝓛 mem run).requires ((tt, tt, tt, args-second f l, at_second f l), tt)) (id⊢ 𝓤 _) $
           calls_at ! (fm_of 𝓤 H 𝓛.laws 𝓣) (SecondC 𝓛 mem run) known.to-second ((tt, tt, tt, args-second f l, at_second f l), tt)
           (arg ! 24 refl (arg ! 26 refl (no_more !))) (λ u.
           answers 𝓛 second.ended (second.clauses 𝓛 mem run) tt (args-second f l) tt ftrue u (λ r ls. r ≡ second_pass f l)
@@ -562,7 +562,7 @@ module _ {M : Type 1} {𝓤 : Ura M} (𝓛 : Logic 𝓤) (mem : Memory → SProp
           owned ! Q (Is Q) (LL.makes B.the_type B'.the_plain 𝓛) i _ isi $ move ! (1 ∷ 0 ∷ []) $
           chains 𝓛 (shared 0 κ P xp ∷ Q.own i (machL i ∷ []) ∷ []) $ move ! (98 ∷ []) $ chains 𝓛 (flft κ q ∷ []) $
           asks 𝓛 (‵ (chained (flft κ q ∷ []))) (‵ (chained (shared 0 κ P xp ∷ Q.own i (machL i ∷ []) ∷ [])))
-          ((LookC 𝓛 mem run).pre ((κ ▸ tt, q ▸ tt, tt, xp ▸ i ▸ tt, at-looking i), tt)) (id⊢ 𝓤 _) $
+          ((LookC 𝓛 mem run).requires ((κ ▸ tt, q ▸ tt, tt, xp ▸ i ▸ tt, at-looking i), tt)) (id⊢ 𝓤 _) $
           calls_at ! (fm_of 𝓤 H 𝓛.laws 𝓣) (LookC 𝓛 mem run) known.to-look-all
           ((κ ▸ tt, q ▸ tt, tt, xp ▸ i ▸ tt, at-looking i), tt) (arg ! 11 refl (arg ! 26 refl (no_more !))) (λ u.
           answers 𝓛 looking.ended (looking.clauses 𝓛 mem run) (κ ▸ tt) (xp ▸ i ▸ tt) tt (chained (flft κ q ∷ [])) u
@@ -612,7 +612,7 @@ module _ {M : Type 1} {𝓤 : Ura M} (𝓛 : Logic 𝓤) (mem : Memory → SProp
           ▸ uint_Makes 𝓛 w64 ▸ tt) (args-opening f) (at-opening f) (isf ▸ (refl, gv0.0) ▸ (refl, gv1.0) ▸ (refl, gv2.0)
           ▸ (refl, gv3.0) ▸ (refl, gv4.0) ▸ (refl, gv5.0) ▸ (refl, gw0.0) ▸ (refl, gw1.0) ▸ tt) $ nothing ! $
           asks 𝓛 (‵ ftrue) (‵ (owns types-opening (args-opening f) (at-opening f)))
-          ((OpenC 𝓛 mem run).pre ((tt, tt, tt, args-opening f, at-opening f), tt)) (id⊢ 𝓤 _) $
+          ((OpenC 𝓛 mem run).requires ((tt, tt, tt, args-opening f, at-opening f), tt)) (id⊢ 𝓤 _) $
           calls_at ! (fm_of 𝓤 H 𝓛.laws 𝓣) (OpenC 𝓛 mem run) known.to-look-from ((tt, tt, tt, args-opening f, at-opening f), tt)
           (arg ! 24 refl (arg ! 29 refl (arg ! 32 refl (arg ! 31 refl (arg ! 30 refl (arg ! 33 refl (arg ! 34 refl (arg ! 35 refl
           (arg ! 36 refl (no_more !)))))))))) (λ u.
@@ -654,7 +654,7 @@ module _ {M : Type 1} {𝓤 : Ura M} (𝓛 : Logic 𝓤) (mem : Memory → SProp
           ▸ uint_Makes 𝓛 w64 ▸ uint_Makes 𝓛 w64 ▸ tt) args-first at_first (gd0 ▸ gd1 ▸ gd2 ▸ gd3 ▸ gd4 ▸ gd5 ▸ gd6 ▸ gd7
           ▸ gl ▸ (refl, gw2.0) ▸ (refl, gw3.0) ▸ (refl, gw4.0) ▸ (refl, gw5.0) ▸ tt) $ nothing ! $
           asks 𝓛 (‵ ftrue) (‵ (owns types-first args-first at_first))
-          ((FirstC 𝓛 mem run).pre ((tt, tt, tt, args-first, at_first), tt)) (id⊢ 𝓤 _) $
+          ((FirstC 𝓛 mem run).requires ((tt, tt, tt, args-first, at_first), tt)) (id⊢ 𝓤 _) $
           calls_at ! (fm_of 𝓤 H 𝓛.laws 𝓣) (FirstC 𝓛 mem run) known.to-begin ((tt, tt, tt, args-first, at_first), tt)
           (arg ! 2 refl (arg ! 3 refl (arg ! 4 refl (arg ! 5 refl (arg ! 6 refl (arg ! 7 refl (arg ! 8 refl (arg ! 9 refl (arg ! 17 refl
           (arg ! 29 refl (arg ! 30 refl (arg ! 31 refl (arg ! 32 refl (no_more !)))))))))))))) (λ u.
@@ -758,9 +758,9 @@ module _ {M : Type 1} {𝓤 : Ura M} (𝓛 : Logic 𝓤) (mem : Memory → SProp
       ▸ Goes-slice 𝓛 13 12 tt (plain (λ _. usize)) ▸ tt) (this.clauses 𝓛 mem run) (WpFn 𝓤 H 𝓣.C 𝓣.Λ code.function)
       (WpFn-mono 𝓤 H 𝓛.laws 𝓣 code.function) walks
 
-pub probe-ray-cabinet-spec : {M : Type 1} → stated.statement M
+pub probe_ray_cabinet_spec : {M : Type 1} → stated.statement M
 unfolding code.routine tables_of
-probe-ray-cabinet-spec 𝓤 𝓛 𝓜 𝓡 =
+probe_ray_cabinet_spec 𝓤 𝓛 𝓜 𝓡 =
     entered 𝓤 𝓛.H (triple_of 𝓛 this.signature (this.spec 𝓛 𝓜.mem 𝓡.run))
     (tables 𝓤 𝓛.H 𝓜 𝓡 code.env).C (tables 𝓤 𝓛.H 𝓜 𝓡 code.env).Λ #this code.function (code.unfolded 𝓤 𝓛.H 𝓜 𝓡)
     (meets 𝓛 𝓜.mem 𝓡.run (tables_of 𝓤 𝓛.H 𝓜 (tables 𝓤 𝓛.H 𝓜 𝓡 code.env)) (record {

@@ -6,29 +6,29 @@ use Rattle.exports.proofs.conversions.probe_record_to_long.Statement.{statement}
 use Rattle.exports.proofs.conversions.probe_record_to_long.Tie as tie
 
 -- the length has no place
-returns : tie.Need-returns
+returns : tie.Need-returns-then-written-lt1
 returns c =
-    let (s, t, k) : tie.Start × tie.Then1 × tie.After-without-place = search in
+    let (s, t, k) : tie.Start × tie.Then-written-lt1 × tie.After-without_place = search in
     let a = s.args in
-    no_place Short Long a.bytes.now a.out.now a.written.now k.without-place.result t.if1.taken
-    k.without-place.ensures
+    no_place Short Long a.bytes.now a.out.now a.written.now k.without_place.result t.if-written-lt1.true
+    k.without_place.ensures
 
 -- the converter's answer, told
-returns-2 : tie.Need-returns-2
+returns-2 : tie.Need-returns
 returns-2 c =
-    let (s, e, k, t) : tie.Start × tie.Else1 × tie.After-to-long × tie.After-put-converted = search in
+    let (s, e, k, t) : tie.Start × tie.Else-written-lt1 × tie.After-to_long-converted × tie.After-put_converted = search in
     let a = s.args in
-    has_place Short Long a.bytes.now a.out.now a.written.now _ _ _ e.if1.left k.to-long.ensures
-    t.put-converted.ensures
+    has_place Short Long a.bytes.now a.out.now a.written.now _ _ _ e.if-written-lt1.false k.to_long-converted.ensures
+    t.put_converted.ensures
 
-pub probe-record-to-long-spec : {M : Type 1} → statement M
-probe-record-to-long-spec =
+pub probe_record_to_long_spec : {M : Type 1} → statement M
+probe_record_to_long_spec =
     tie.close
     (tie.spec
-    (search rules)  -- without-place-requires
+    (search rules)  -- without_place-requires
     returns
-    (search rules)  -- to-long-requires
-    (search rules)  -- put-converted-requires
-    (search rules)  -- same-length
-    (search rules)  -- same-length-2
+    (search rules)  -- to_long-converted-requires
+    (search rules)  -- put_converted-requires
+    (search rules)  -- shape_of-out
+    (search rules)  -- shape_of-written
     returns-2)

@@ -4,21 +4,21 @@ use borrow.Author.Rules.{rules}
 use Rattle.exports.proofs.conversions.put_converted.Statement.{statement}
 use Rattle.exports.proofs.conversions.put_converted.Tie as tie
 
-returns : tie.Need-returns
+returns : tie.Need-returns-in-Written
 unfolding returned_converted
-returns c = simp c.before.converted.given.1
+returns c = simp c.in-Written.is
 
-returns-2 : tie.Need-returns-2
+returns-2 : tie.Need-returns-in-Refused
 unfolding returned_converted
-returns-2 c = simp c.before.converted2.given.1
+returns-2 c = simp c.in-Refused.is
 
-pub put-converted-spec : {M : Type 1} → statement M
-put-converted-spec =
+pub put_converted_spec : {M : Type 1} → statement M
+put_converted_spec =
     tie.close
     (tie.spec
-    (search rules)  -- enum-known-converted
-    (search rules)  -- slice-write-written
-    (search rules)  -- same-length
+    (search rules)  -- enum_known-converted
+    (search rules)  -- bounds-written-0
+    (search rules)  -- shape_of-written-in-Written
     returns
-    (search rules)  -- enum-known-converted-2
+    (search rules)  -- enum_known-converted-in-Refused-1
     returns-2)

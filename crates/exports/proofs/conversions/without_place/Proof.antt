@@ -5,22 +5,22 @@ use borrow.Author.Rules.{rules}
 use Rattle.exports.proofs.conversions.without_place.Statement.{statement}
 use Rattle.exports.proofs.conversions.without_place.Tie as tie
 
-returns : tie.Need-returns
+returns : tie.Need-returns-in-Is
 returns c =
-    let (s, k) : tie.Start × tie.After-plan-of = search in
-    place_room s.args.form s.args.bytes.now c.enum_told.given.0.0 (sym k.plan-of.ensures ∙ c.enum_told.given.1)
+    let (s, k) : tie.Start × tie.After-plan_of-planned = search in
+    place_room s.args.form s.args.bytes.now c.in-Is.field-0 (sym k.plan_of-planned.ensures ∙ c.in-Is.is)
 
-returns-2 : tie.Need-returns-2
+returns-2 : tie.Need-returns-in-Malformed
 returns-2 c =
-    let (s, k) : tie.Start × tie.After-plan-of = search in
-    place_shape s.args.form s.args.bytes.now (sym k.plan-of.ensures ∙ c.enum-told2.given.1)
+    let (s, k) : tie.Start × tie.After-plan_of-planned = search in
+    place_shape s.args.form s.args.bytes.now (sym k.plan_of-planned.ensures ∙ c.in-Malformed.is)
 
-pub without-place-spec : {M : Type 1} → statement M
-without-place-spec =
+pub without_place_spec : {M : Type 1} → statement M
+without_place_spec =
     tie.close
     (tie.spec
-    (search rules)  -- plan-of-requires
-    (search rules)  -- enum_told
-    (search rules)  -- enum-told-2
+    (search rules)  -- plan_of-planned-requires
+    (search rules)  -- enum_told-1
+    (search rules)  -- enum_told-in-Malformed
     returns
     returns-2)

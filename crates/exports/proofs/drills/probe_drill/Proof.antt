@@ -11,42 +11,42 @@ use Rattle.exports.proofs.drills.probe_drill.Tie as tie
 abbrev tree : tie.Start → Tree
 tree s =
     let a = s.args in
-    tree_of a.nodes a.node_boxes_lem.now a.triangle_boxes_lem.now a.node_words_lem.now a.order.now
+    tree_of a.nodes a.node_boxes.now a.triangle_boxes.now a.node_words.now a.order.now
 
 abbrev own : tie.Start → Mesh
 own s = mesh s.args.vertices.now s.args.triangles.now
 
 -- the index slice is too short
-returns : tie.Need-returns
+returns : tie.Need-returns-then-index-lt1
 returns c =
-    let (s, e) : tie.Start × tie.Then1 = search in
+    let (s, e) : tie.Start × tie.Then-index-lt1 = search in
     let a = s.args in
     with_reading a.index.now _ _ (own s) (tree s) _ _ _ _
     (tree_short a.index.now _ _ (own s) (tree s) _ _ _ _
-    (index_missing a.index.now e.if1.taken) c.before.shape_admitted_lem.ensures c.short-drill.ensures)
+    (index_missing a.index.now e.if-index-lt1.true) c.shape_admitted.ensures c.short_drill.ensures)
     (λ _. (refl, refl))
 
 -- the drill's answer
-returns-2 : tie.Need-returns-2
+returns-2 : tie.Need-returns
 returns-2 c =
-    let (s, e, k, p) : tie.Start × tie.Else1 × tie.After-drill-through × tie.After-put-drill = search in
+    let (s, e, k, p) : tie.Start × tie.Else-index-lt1 × tie.After-drill_through-found × tie.After-put_drill = search in
     let a = s.args in
-    let fits = index_there a.index.now e.if1.left in
-    let returned = k.drill-through.ensures in
+    let fits = index_there a.index.now e.if-index-lt1.false in
+    let returned = k.drill_through-found.ensures in
     with_reading a.index.now _ _ (own s) (tree s) _ _ _ _
-    (tree_returned_lem a.index.now _ _ (own s) (tree s) _ _ _ _ fits returned.0 p.put-drill.ensures)
+    (tree_returned_lem a.index.now _ _ (own s) (tree s) _ _ _ _ fits returned.0 p.put_drill.ensures)
     (λ failed. returned.1.0 (second_failed _ _ fits failed))
 
-pub probe-drill-spec : {M : Type 1} → statement M
-probe-drill-spec =
+pub probe_drill_spec : {M : Type 1} → statement M
+probe_drill_spec =
     tie.close
     (tie.spec
-    (search rules)  -- shape-admitted-requires
-    (search rules)  -- short-drill-requires
+    (search rules)  -- shape_admitted-requires
+    (search rules)  -- short_drill-requires
     returns
-    (search rules)  -- drill-through-requires
-    (search rules)  -- put-drill-requires
-    (search rules)  -- same-length
-    (search rules)  -- same-length-2
-    (search rules)  -- same-length-3
+    (search rules)  -- drill_through-found-requires
+    (search rules)  -- put_drill-requires
+    (search rules)  -- shape_of-list
+    (search rules)  -- shape_of-stack
+    (search rules)  -- shape_of-index
     returns-2)

@@ -7,17 +7,17 @@ use Rattle.exports.proofs.drills.probe_drill_many.Tie as tie
 -- the answer is the inner call's, and what is read at each drill's places keeps the single call's promises
 returns : tie.Need-returns
 returns c =
-    let k : tie.After-drill-many = search in
+    let k : tie.After-drill_many = search in
     let returned = k.drill_many.ensures in
     (returned, λ done. drill_each _ _ _ _ _ _ _ (returned.1.1 done))
 
-pub probe-drill-many-spec : {M : Type 1} → statement M
-probe-drill-many-spec =
+pub probe_drill_many_spec : {M : Type 1} → statement M
+probe_drill_many_spec =
     tie.close
     (tie.spec
-    (search rules)  -- drill-many-requires
-    (search rules)  -- same-length
-    (search rules)  -- same-length-2
-    (search rules)  -- same-length-3
-    (search rules)  -- same-length-4
+    (search rules)  -- drill_many-requires
+    (search rules)  -- shape_of-list
+    (search rules)  -- shape_of-stack
+    (search rules)  -- shape_of-codes
+    (search rules)  -- shape_of-indices
     returns)

@@ -9,31 +9,31 @@ abbrev own : tie.Start → Mesh
 own s = mesh s.args.vertices.now s.args.triangles.now
 
 -- the index slice is too short
-returns : tie.Need-returns
+returns : tie.Need-returns-then-index-lt1
 returns c =
-    let (s, e) : tie.Start × tie.Then1 = search in
+    let (s, e) : tie.Start × tie.Then-index-lt1 = search in
     let a = s.args in
     drill_plain_certain a.index.now _ _ (own s) _
-    (plain_short a.index.now _ _ (own s) _ _ (index_missing a.index.now e.if1.taken) c.before.lengths-admitted.ensures
-    c.short-drill.ensures)
+    (plain_short a.index.now _ _ (own s) _ _ (index_missing a.index.now e.if-index-lt1.true) c.lengths_admitted.ensures
+    c.short_drill.ensures)
 
 -- the drill's answer
-returns-2 : tie.Need-returns-2
+returns-2 : tie.Need-returns
 returns-2 c =
-    let (s, e, k, p) : tie.Start × tie.Else1 × tie.After-drill-plain × tie.After-put-drill = search in
+    let (s, e, k, p) : tie.Start × tie.Else-index-lt1 × tie.After-drill_plain-found × tie.After-put_drill = search in
     let a = s.args in
     drill_plain_certain a.index.now _ _ (own s) _
-    (plain_returned_lem a.index.now _ _ (own s) _ _ (index_there a.index.now e.if1.left) k.drill_plain_lem.ensures.0
-    p.put-drill.ensures)
+    (plain_returned_lem a.index.now _ _ (own s) _ _ (index_there a.index.now e.if-index-lt1.false) k.drill_plain-found.ensures.0
+    p.put_drill.ensures)
 
-pub probe-drill-plain-spec : {M : Type 1} → statement M
-probe-drill-plain-spec =
+pub probe_drill_plain_spec : {M : Type 1} → statement M
+probe_drill_plain_spec =
     tie.close
     (tie.spec
-    (search rules)  -- lengths-admitted-requires
-    (search rules)  -- short-drill-requires
+    (search rules)  -- lengths_admitted-requires
+    (search rules)  -- short_drill-requires
     returns
-    (search rules)  -- drill-plain-requires
-    (search rules)  -- put-drill-requires
-    (search rules)  -- same-length
+    (search rules)  -- drill_plain-found-requires
+    (search rules)  -- put_drill-requires
+    (search rules)  -- shape_of-index
     returns-2)

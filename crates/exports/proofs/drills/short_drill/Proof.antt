@@ -7,63 +7,63 @@ use Rattle.exports.proofs.drills.short_drill.Statement.{statement}
 use Rattle.exports.proofs.drills.short_drill.Tie as tie
 
 -- 1 of the ray
-returns : tie.Need-returns
+returns : tie.Need-returns-then-not-validate
 returns c =
     let s : tie.Start = search in
-    short_ray _ s.args.radius s.args.shape (test_failed c.before.validate.ensures c.if1.true)
+    short_ray _ s.args.radius s.args.shape (test_failed c.validate.ensures c.if-not-validate.true)
 
 -- and of the radius
-returns-2 : tie.Need-returns-2
+returns-2 : tie.Need-returns-then-not-radius_admitted
 returns-2 c =
-    let (s, v, e) : tie.Start × tie.After-validate × tie.Else1 = search in
-    short_radius _ _ s.args.shape (test_passed v.validate.ensures e.if1.left)
-    (test_failed c.before.radius-admitted.ensures c.if2.true)
+    let (s, v, e) : tie.Start × tie.After-validate × tie.Else-not-validate = search in
+    short_radius _ _ s.args.shape (test_passed v.validate.ensures e.if-not-validate.false)
+    (test_failed c.radius_admitted.ensures c.if-not-radius_admitted.true)
 
 -- 12 of the ray
-returns-3 : tie.Need-returns-3
+returns-3 : tie.Need-returns-then-not-admitted
 returns-3 c =
-    let (s, v, e, z, f) : tie.Start × tie.After-validate × tie.Else1 × tie.After-radius-admitted × tie.Else2 = search in
-    short_off _ _ s.args.shape (test_passed v.validate.ensures e.if1.left)
-    (test_passed z.radius-admitted.ensures f.if2.left) (test_failed c.before.admitted.ensures c.if3.true)
+    let (s, v, e, z, f) : tie.Start × tie.After-validate × tie.Else-not-validate × tie.After-radius_admitted × tie.Else-not-radius_admitted = search in
+    short_off _ _ s.args.shape (test_passed v.validate.ensures e.if-not-validate.false)
+    (test_passed z.radius_admitted.ensures f.if-not-radius_admitted.false) (test_failed c.admitted.ensures c.if-not-admitted.true)
 
 -- and of the radius
-returns-4 : tie.Need-returns-4
+returns-4 : tie.Need-returns-then-not-radius_read
 returns-4 c =
-    let (s, v, e, z, f) : tie.Start × tie.After-validate × tie.Else1 × tie.After-radius-admitted × tie.Else2 = search in
-    let (g, h) : tie.After-admitted × tie.Else3 = search in
-    short_wide _ _ s.args.shape (test_passed v.validate.ensures e.if1.left)
-    (test_passed z.radius-admitted.ensures f.if2.left) (test_passed g.admitted.ensures h.if3.left)
-    (test_failed c.before.radius-read.ensures c.if4.true)
+    let (s, v, e, z, f) : tie.Start × tie.After-validate × tie.Else-not-validate × tie.After-radius_admitted × tie.Else-not-radius_admitted = search in
+    let (g, h) : tie.After-admitted × tie.Else-not-admitted = search in
+    short_wide _ _ s.args.shape (test_passed v.validate.ensures e.if-not-validate.false)
+    (test_passed z.radius_admitted.ensures f.if-not-radius_admitted.false) (test_passed g.admitted.ensures h.if-not-admitted.false)
+    (test_failed c.radius_read.ensures c.if-not-radius_read.true)
 
 -- 2
-returns-5 : tie.Need-returns-5
+returns-5 : tie.Need-returns-then-not-shape
 returns-5 c =
-    let (s, v, e, z, f) : tie.Start × tie.After-validate × tie.Else1 × tie.After-radius-admitted × tie.Else2 = search in
-    let (g, h, w, k) : tie.After-admitted × tie.Else3 × tie.After-radius-read × tie.Else4 = search in
-    short_bad _ _ s.args.shape (test_passed v.validate.ensures e.if1.left)
-    (test_passed z.radius-admitted.ensures f.if2.left) (test_passed g.admitted.ensures h.if3.left)
-    (test_passed w.radius-read.ensures k.if4.left) (not-true s.args.shape c.if5.true)
+    let (s, v, e, z, f) : tie.Start × tie.After-validate × tie.Else-not-validate × tie.After-radius_admitted × tie.Else-not-radius_admitted = search in
+    let (g, h, w, k) : tie.After-admitted × tie.Else-not-admitted × tie.After-radius_read × tie.Else-not-radius_read = search in
+    short_bad _ _ s.args.shape (test_passed v.validate.ensures e.if-not-validate.false)
+    (test_passed z.radius_admitted.ensures f.if-not-radius_admitted.false) (test_passed g.admitted.ensures h.if-not-admitted.false)
+    (test_passed w.radius_read.ensures k.if-not-radius_read.false) c.if-not-shape.true
 
 -- 3
-returns-6 : tie.Need-returns-6
+returns-6 : tie.Need-returns
 returns-6 c =
-    let (s, v, e, z, f) : tie.Start × tie.After-validate × tie.Else1 × tie.After-radius-admitted × tie.Else2 = search in
-    let (g, h, w, k) : tie.After-admitted × tie.Else3 × tie.After-radius-read × tie.Else4 = search in
-    short_room _ _ s.args.shape (test_passed v.validate.ensures e.if1.left)
-    (test_passed z.radius-admitted.ensures f.if2.left) (test_passed g.admitted.ensures h.if3.left)
-    (test_passed w.radius-read.ensures k.if4.left) (not-false s.args.shape c.if5.false)
+    let (s, v, e, z, f) : tie.Start × tie.After-validate × tie.Else-not-validate × tie.After-radius_admitted × tie.Else-not-radius_admitted = search in
+    let (g, h, w, k) : tie.After-admitted × tie.Else-not-admitted × tie.After-radius_read × tie.Else-not-radius_read = search in
+    short_room _ _ s.args.shape (test_passed v.validate.ensures e.if-not-validate.false)
+    (test_passed z.radius_admitted.ensures f.if-not-radius_admitted.false) (test_passed g.admitted.ensures h.if-not-admitted.false)
+    (test_passed w.radius_read.ensures k.if-not-radius_read.false) c.if-not-shape.false
 
-pub short-drill-spec : {M : Type 1} → statement M
-short-drill-spec =
+pub short_drill_spec : {M : Type 1} → statement M
+short_drill_spec =
     tie.close
     (tie.spec
     (search rules)  -- validate-requires
     returns
-    (search rules)  -- radius-admitted-requires
+    (search rules)  -- radius_admitted-requires
     returns-2
     (search rules)  -- admitted-requires
     returns-3
-    (search rules)  -- radius-read-requires
+    (search rules)  -- radius_read-requires
     returns-4
     returns-5
     returns-6)

@@ -7,18 +7,18 @@ use Rattle.exports.proofs.many.probe_ray_mesh_many.Tie as tie
 -- the answer is the inner call's, and what is read at each ray's places keeps the single call's promises
 returns : tie.Need-returns
 returns c =
-    let k : tie.After-ray-mesh-many = search in
-    let returned = k.ray-mesh-many.ensures in
+    let k : tie.After-ray_mesh_many = search in
+    let returned = k.ray_mesh_many.ensures in
     (returned, λ done. mesh_each _ _ _ _ _ _ _ _ (returned.1.1 done))
 
-pub probe-ray-mesh-many-spec : {M : Type 1} → statement M
-probe-ray-mesh-many-spec =
+pub probe_ray_mesh_many_spec : {M : Type 1} → statement M
+probe_ray_mesh_many_spec =
     tie.close
     (tie.spec
-    (search rules)  -- ray-mesh-many-requires
-    (search rules)  -- same-length
-    (search rules)  -- same-length-2
-    (search rules)  -- same-length-3
-    (search rules)  -- same-length-4
-    (search rules)  -- same-length-5
+    (search rules)  -- ray_mesh_many-requires
+    (search rules)  -- shape_of-list
+    (search rules)  -- shape_of-stack
+    (search rules)  -- shape_of-codes
+    (search rules)  -- shape_of-hits
+    (search rules)  -- shape_of-indices
     returns)

@@ -9,33 +9,33 @@ use Rattle.exports.proofs.meshes.probe_query.Statement.{statement}
 use Rattle.exports.proofs.meshes.probe_query.Tie as tie
 
 -- the place of the list's length is not there
-returns : tie.Need-returns
+returns : tie.Need-returns-then-found-lt1
 returns c =
-    let e : tie.Then1 = search in
-    let returned = query_short _ _ _ _ _ _ _ e.if1.taken c.short-query.ensures in
+    let e : tie.Then-found-lt1 = search in
+    let returned = query_short _ _ _ _ _ _ _ e.if-found-lt1.true c.short_query.ensures in
     (returned, (λ _. refl, query_complete _ _ _ _ _ _ _ returned))
 
 -- the query's answer
-returns-2 : tie.Need-returns-2
+returns-2 : tie.Need-returns
 returns-2 c =
-    let (e, q, p) : tie.Else1 × tie.After-query × tie.After-put-found = search in
-    let returned = query_returned_lem _ _ _ _ _ _ _ _ _ e.if1.left q.query.ensures.0 p.put-found.ensures in (
+    let (e, q, p) : tie.Else-found-lt1 × tie.After-query-listed × tie.After-put_found = search in
+    let returned = query_returned_lem _ _ _ _ _ _ _ _ _ e.if-found-lt1.false q.query-listed.ensures.0 p.put_found.ensures in (
       returned,
       (
-        λ failed. q.query.ensures.1 (second_failed _ _ (le-leb _ _ e.if1.left) failed),
+        λ failed. q.query-listed.ensures.1 (second_failed _ _ (le-leb _ _ e.if-found-lt1.false) failed),
         query_complete _ _ _ _ _ _ _ returned,
       ),
     )
 
-pub probe-query-spec : {M : Type 1} → statement M
-probe-query-spec =
+pub probe_query_spec : {M : Type 1} → statement M
+probe_query_spec =
     tie.close
     (tie.spec
-    (λ c κs. search rules)  -- short-query-requires
+    (λ c κs. search rules)  -- short_query-requires
     returns
-    (λ c κs. search rules)  -- query-requires
-    (λ c κs. search rules)  -- put-found-requires
-    (search rules)  -- same-length
-    (search rules)  -- same-length-2
-    (search rules)  -- same-length-3
+    (λ c κs. search rules)  -- query-listed-requires
+    (λ c κs. search rules)  -- put_found-requires
+    (search rules)  -- shape_of-list
+    (search rules)  -- shape_of-stack
+    (search rules)  -- shape_of-found
     returns-2)

@@ -3,13 +3,14 @@ use borrow.Author.Rules.{rules}
 use Rattle.exports.proofs.meshes.probe_ray_mesh_near.Statement.{statement}
 use Rattle.exports.proofs.meshes.probe_ray_mesh_near.Tie as tie
 
-pub probe-ray-mesh-near-spec : {M : Type 1} → statement M
-probe-ray-mesh-near-spec =
+pub probe_ray_mesh_near_spec : {M : Type 1} → statement M
+probe_ray_mesh_near_spec =
     tie.close
     (tie.spec
-    (λ c κs. search rules)  -- told-mesh-requires
-    (search rules)  -- same-length
-    (search rules)  -- same-length-2
-    (search rules)  -- same-length-3
-    (search rules)  -- same-length-4
-    (λ c. search rules))
+    (λ c κs. search rules)  -- answer_mesh-requires
+    (search rules)  -- shape_of-list
+    (search rules)  -- shape_of-stack
+    (search rules)  -- shape_of-hit
+    (search rules)  -- shape_of-index
+    (λ c. search rules)  -- returns
+    )

@@ -10,14 +10,14 @@ use Rattle.exports.proofs.meshes.probe_tree_check.Tie as tie
 returns : tie.Need-returns
 returns c =
     let k : tie.After-check = search in
-    let returned = c.verdict-number.ensures ∙ ap returned_verdict k.check.ensures.0 in
+    let returned = c.verdict_number.ensures ∙ ap returned_verdict k.check.ensures.0 in
     (returned, (simp (sym k.check.ensures.0) k.check.ensures.1, yes_read _ _ _ _ returned))
 
-pub probe-tree-check-spec : {M : Type 1} → statement M
-probe-tree-check-spec =
+pub probe_tree_check_spec : {M : Type 1} → statement M
+probe_tree_check_spec =
     tie.close
     (tie.spec
     (λ c κs. search rules)  -- check-requires
-    (λ c κs. search rules)  -- verdict-number-requires
-    (search rules)  -- same-length
+    (λ c κs. search rules)  -- verdict_number-requires
+    (search rules)  -- shape_of-marks
     returns)

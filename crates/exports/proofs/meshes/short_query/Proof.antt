@@ -6,33 +6,33 @@ use Rattle.exports.proofs.meshes.short_query.Statement.{statement}
 use Rattle.exports.proofs.meshes.short_query.Tie as tie
 
 -- 1
-returns : tie.Need-returns
-returns c = simp (sym c.before.is-valid.ensures ∙ not-true c.before.is-valid.result c.if1.true)
+returns : tie.Need-returns-then-not-is_valid
+returns c = simp (sym c.is_valid.ensures ∙ c.if-not-is_valid.true)
 
 -- 2
-returns-2 : tie.Need-returns-2
+returns-2 : tie.Need-returns-then-not-counts_admitted
 returns-2 c =
-    let e : tie.Else1 = search in
+    let e : tie.Else-not-is_valid = search in
     simp (
-      sym e.before.is-valid.ensures ∙ not-false e.before.is-valid.result e.if1.left,
-      sym c.before.counts-admitted.ensures ∙ not-true c.before.counts-admitted.result c.if2.true,
+      sym e.is_valid.ensures ∙ e.if-not-is_valid.false,
+      sym c.counts_admitted.ensures ∙ c.if-not-counts_admitted.true,
     )
 
 -- 3
-returns-3 : tie.Need-returns-3
+returns-3 : tie.Need-returns
 returns-3 c =
-    let e : tie.Else1 = search in
+    let e : tie.Else-not-is_valid = search in
     simp (
-      sym e.before.is-valid.ensures ∙ not-false e.before.is-valid.result e.if1.left,
-      sym c.before.counts-admitted.ensures ∙ not-false c.before.counts-admitted.result c.if2.false,
+      sym e.is_valid.ensures ∙ e.if-not-is_valid.false,
+      sym c.counts_admitted.ensures ∙ c.if-not-counts_admitted.false,
     )
 
-pub short-query-spec : {M : Type 1} → statement M
-short-query-spec =
+pub short_query_spec : {M : Type 1} → statement M
+short_query_spec =
     tie.close
     (tie.spec
-    (λ c κs. search rules)  -- is-valid-requires
+    (λ c κs. search rules)  -- is_valid-requires
     returns
-    (λ c κs. search rules)  -- counts-admitted-requires
+    (λ c κs. search rules)  -- counts_admitted-requires
     returns-2
     returns-3)

@@ -6,23 +6,28 @@ use Rattle.casts.proofs.plane.ray_plane.Reads as ray-plane-reads
 use Rattle.results.proofs.put_answer.Reads as put-answer-reads
 use Rattle.results.proofs.ray_from.Reads as ray-from-reads
 
-ray-from-requires : tie.Need-ray-from-requires
+ray-from-requires : tie.Need-ray_from-ray-requires
 ray-from-requires c κs = search rules
 
-ray-plane-requires : tie.Need-ray-plane-requires
+ray-plane-requires : tie.Need-ray_plane-requires
 ray-plane-requires c κs = search rules
 
-put-answer-requires : tie.Need-put-answer-requires
+put-answer-requires : tie.Need-put_answer-requires
 put-answer-requires c κs = search rules
 
-same_length : tie.Need-same-length
+same_length : tie.Need-shape_of-hit
 same_length c = search rules
 
 returns : tie.Need-returns
 returns c =
-    let (f, k, a) : tie.After-ray-from × tie.After-ray-plane × tie.After-put-answer = search in
-    simp (a.put-answer.ensures, k.ray-plane.ensures, f.ray-from.ensures)
+    let (f, k, a) : tie.After-ray_from-ray × tie.After-ray_plane × tie.After-put_answer = search in
+    simp (a.put_answer.ensures, k.ray_plane.ensures, f.ray_from-ray.ensures)
 
-pub answer-plane-spec : {M : Type 1} → statement M
-answer-plane-spec =
-    tie.close (tie.spec ray-from-requires ray-plane-requires put-answer-requires same_length returns)
+pub answer_plane_spec : {M : Type 1} → statement M
+answer_plane_spec =
+    tie.close (tie.spec
+    ray-from-requires
+    ray-plane-requires
+    put-answer-requires
+    same_length
+    returns)

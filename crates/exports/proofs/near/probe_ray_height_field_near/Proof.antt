@@ -5,13 +5,13 @@ use Rattle.exports.proofs.near.probe_ray_height_field_near.Tie as tie
 
 returns : tie.Need-returns
 returns c =
-    let k : tie.After-answer-height-field = search in
-    k.answer-height-field.ensures
+    let k : tie.After-answer_height_field = search in
+    k.answer_height_field.ensures
 
-pub probe-ray-height-field-near-spec : {M : Type 1} → statement M
-probe-ray-height-field-near-spec =
+pub probe_ray_height_field_near_spec : {M : Type 1} → statement M
+probe_ray_height_field_near_spec =
     tie.close
     (tie.spec
-    (λ c κs. search rules)  -- told-height-field-requires
-    (search rules)  -- same-length
+    (λ c κs. search rules)  -- answer_height_field-requires
+    (search rules)  -- shape_of-hit
     returns)

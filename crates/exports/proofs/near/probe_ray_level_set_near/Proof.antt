@@ -5,13 +5,13 @@ use Rattle.exports.proofs.near.probe_ray_level_set_near.Tie as tie
 
 returns : tie.Need-returns
 returns c =
-    let k : tie.After-answer-level-set = search in
-    k.answer-level-set.ensures
+    let k : tie.After-answer_level_set = search in
+    k.answer_level_set.ensures
 
-pub probe-ray-level-set-near-spec : {M : Type 1} → statement M
-probe-ray-level-set-near-spec =
+pub probe_ray_level_set_near_spec : {M : Type 1} → statement M
+probe_ray_level_set_near_spec =
     tie.close
     (tie.spec
-    (λ c κs. search rules)  -- told-level-set-requires
-    (search rules)  -- same-length
+    (λ c κs. search rules)  -- answer_level_set-requires
+    (search rules)  -- shape_of-hit
     returns)

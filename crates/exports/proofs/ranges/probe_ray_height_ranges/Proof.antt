@@ -6,16 +6,16 @@ use Rattle.exports.proofs.ranges.probe_ray_height_ranges.Tie as tie
 
 returns : tie.Need-returns
 returns c =
-    let (f, h, p) : tie.After-ray-from × tie.After-ray-height-ranges × tie.After-put-cell = search in
-    tells _ _ _ _ _ _ _ _ f.ray-from.ensures h.ray-height-ranges.ensures.0 h.ray-height-ranges.ensures.1
-    p.put-cell.ensures
+    let (f, h, p) : tie.After-ray_from-ray × tie.After-ray_height_ranges × tie.After-put_cell = search in
+    tells _ _ _ _ _ _ _ _ f.ray_from-ray.ensures h.ray_height_ranges.ensures.0 h.ray_height_ranges.ensures.1
+    p.put_cell.ensures
 
-pub probe-ray-height-ranges-spec : {M : Type 1} → statement M
-probe-ray-height-ranges-spec =
+pub probe_ray_height_ranges_spec : {M : Type 1} → statement M
+probe_ray_height_ranges_spec =
     tie.close
     (tie.spec
-    (search rules)  -- ray-from-requires
-    (search rules)  -- ray-height-ranges-requires
-    (search rules)  -- put-cell-requires
-    (search rules)  -- same-length
+    (search rules)  -- ray_from-ray-requires
+    (search rules)  -- ray_height_ranges-requires
+    (search rules)  -- put_cell-requires
+    (search rules)  -- shape_of-cell
     returns)

@@ -7,44 +7,44 @@ use Rattle.exports.proofs.ranges.put_cell.Statement.{statement}
 use Rattle.exports.proofs.ranges.put_cell.Tie as tie
 
 -- no place
-returns : tie.Need-returns
+returns : tie.Need-returns-then-cell-lt1
 unfolding answered_cell
 returns c =
-    let t : tie.Then1 = search in
-    simp (lt-leb _ _ t.if1.taken, sym c.short-number.ensures)
+    let t : tie.Then-cell-lt1 = search in
+    simp (lt-leb _ _ t.if-cell-lt1.true, sym c.short_number.ensures)
 
 -- clear
-returns-2 : tie.Need-returns-2
+returns-2 : tie.Need-returns-in-Clear
 unfolding answered_cell returned_cell
 returns-2 c =
-    let e : tie.Else1 = search in
-    simp (le-leb _ _ e.if1.left, c.enum_told.given.1)
+    let e : tie.Else-cell-lt1 = search in
+    simp (le-leb _ _ e.if-cell-lt1.false, c.in-Clear.is)
 
 -- possible
-returns-3 : tie.Need-returns-3
+returns-3 : tie.Need-returns-in-Possible
 unfolding answered_cell returned_cell
 returns-3 c =
-    let e : tie.Else1 = search in
-    simp (le-leb _ _ e.if1.left, c.before.answer.given.1)
+    let e : tie.Else-cell-lt1 = search in
+    simp (le-leb _ _ e.if-cell-lt1.false, c.in-Possible.is)
 
 -- refused
-returns-4 : tie.Need-returns-4
+returns-4 : tie.Need-returns-in-Refused
 unfolding answered_cell returned_cell
 returns-4 c =
-    let e : tie.Else1 = search in
-    simp (le-leb _ _ e.if1.left, c.before.answer2.given.1)
+    let e : tie.Else-cell-lt1 = search in
+    simp (le-leb _ _ e.if-cell-lt1.false, c.in-Refused.is)
 
-pub put-cell-spec : {M : Type 1} → statement M
-put-cell-spec =
+pub put_cell_spec : {M : Type 1} → statement M
+put_cell_spec =
     tie.close
     (tie.spec
-    (search rules)  -- short-number-requires
+    (search rules)  -- short_number-requires
     returns
-    (search rules)  -- enum_told
+    (search rules)  -- enum_told-1
     returns-2
-    (search rules)  -- enum-known-answer
-    (search rules)  -- slice-write-cell
-    (search rules)  -- same-length
+    (search rules)  -- enum_known-answer
+    (search rules)  -- bounds-cell-0
+    (search rules)  -- shape_of-cell-in-Possible
     returns-3
-    (search rules)  -- enum-known-answer-2
+    (search rules)  -- enum_known-answer-in-Refused-1
     returns-4)

@@ -5,13 +5,13 @@ use Rattle.exports.proofs.slices.probe_ray_triangle_slices.Tie as tie
 
 returns : tie.Need-returns
 returns c =
-    let k : tie.After-answer-triangle = search in
-    k.answer-triangle.ensures
+    let k : tie.After-answer_triangle = search in
+    k.answer_triangle.ensures
 
-pub probe-ray-triangle-slices-spec : {M : Type 1} → statement M
-probe-ray-triangle-slices-spec =
+pub probe_ray_triangle_slices_spec : {M : Type 1} → statement M
+probe_ray_triangle_slices_spec =
     tie.close
     (tie.spec
-    (λ c κs. search rules)  -- told-triangle-requires
-    (search rules)  -- same-length
+    (λ c κs. search rules)  -- answer_triangle-requires
+    (search rules)  -- shape_of-hit
     returns)

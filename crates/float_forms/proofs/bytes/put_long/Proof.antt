@@ -6,10 +6,15 @@ use Rattle.float_forms.proofs.bytes.put_long.Tie as tie
 
 returns : tie.Need-returns
 returns c =
-    let (start, at-put-word, at-put-word2) : tie.Start × tie.After-put-word × tie.After-put-word2 = search in
-    put_long start.args.out.now at-put-word.put_word.last.0 at-put-word2.put-word2.last.0 start.args.place
-    start.args.bits at-put-word.put_word.ensures at-put-word2.put-word2.ensures
+    let (start, at-put-word, at-put-word2) : tie.Start × tie.After-put_word × tie.After-put_word-2 = search in
+    put_long start.args.out.now at-put-word.put_word.new.out at-put-word2.put_word-2.new.out start.args.place
+    start.args.bits at-put-word.put_word.ensures at-put-word2.put_word-2.ensures
 
-pub put-long-spec : {M : Type 1} → statement M
-put-long-spec =
-    tie.close (tie.spec (search rules) (search rules) (search rules) (search rules) returns)
+pub put_long_spec : {M : Type 1} → statement M
+put_long_spec =
+    tie.close (tie.spec
+    (search rules)  -- put_word-requires
+    (search rules)  -- overflow_add-place
+    (search rules)  -- put_word-requires-2
+    (search rules)  -- shape_of-out
+    returns)

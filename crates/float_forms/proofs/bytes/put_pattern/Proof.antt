@@ -19,49 +19,49 @@ use Rattle.float_forms.proofs.bytes.put_pattern.Tie as tie
 four : (s : tie.Start) (r : ℕ) → r ≡ size_of s.args.form → r ≡ 4 → s.args.form ≡ Short
 four s r told taken = is_short s.args.form (sym told ∙ taken)
 
-put-word-requires : tie.Need-put-word-requires
+put-word-requires : tie.Need-put_word-requires
 put-word-requires c κs =
-    let (s, t) : tie.Start × tie.Then1 = search in
+    let (s, t) : tie.Start × tie.Then-size_of-eq4 = search in
     let a = s.args in
-    let short : a.form ≡ Short = four s _ t.before.size_of_lem.ensures t.if1.taken in
-    subst (λ (f : Form). (a.place + size_of f ≤ length a.out.now) × (a.bits < 2 * top (format_of f))) short s.pre
+    let short : a.form ≡ Short = four s _ t.size_of.ensures t.if-size_of-eq4.true in
+    subst (λ (f : Form). (a.place + size_of f ≤ length a.out.now) × (a.bits < 2 * top (format_of f))) short s.requires
 
-returns : tie.Need-returns
+returns : tie.Need-returns-then-size_of-eq4
 returns c =
-    let (s, t, w) : tie.Start × tie.Then1 × tie.After-put-word = search in
+    let (s, t, w) : tie.Start × tie.Then-size_of-eq4 × tie.After-put_word = search in
     let a = s.args in
-    let short : a.form ≡ Short = four s _ t.before.size_of_lem.ensures t.if1.taken in
+    let short : a.form ≡ Short = four s _ t.size_of.ensures t.if-size_of-eq4.true in
     put_short _ _ _ _ w.put_word.ensures ∙ ap (λ (f : Form). sets a.out.now a.place (pattern_bytes f a.bits)) (sym short)
 
 -- eight bytes
-start : tie.Else1 → tie.Start
+start : tie.Else-size_of-eq4 → tie.Start
 start e = search
 
-not-four : (e : tie.Else1) → size_of (start e).args.form ≡ 4 → ⊥
+not-four : (e : tie.Else-size_of-eq4) → size_of (start e).args.form ≡ 4 → ⊥
 unfolding start
-not-four e h = e.if1.false (e.before.size_of_lem.ensures ∙ h)
+not-four e h = e.if-size_of-eq4.false (e.size_of.ensures ∙ h)
 
-put-long-requires : tie.Need-put-long-requires
+put-long-requires : tie.Need-put_long-requires
 unfolding start
 put-long-requires c κs =
-    let (s, e) : tie.Start × tie.Else1 = search in
-    omega (arith, s.pre.0, long_size s.args.form (not-four e))
+    let (s, e) : tie.Start × tie.Else-size_of-eq4 = search in
+    omega (arith, s.requires.0, long_size s.args.form (not-four e))
 
-returns-2 : tie.Need-returns-2
+returns-2 : tie.Need-returns
 unfolding start
 returns-2 c =
-    let (s, e, w) : tie.Start × tie.Else1 × tie.After-put-long = search in
+    let (s, e, w) : tie.Start × tie.Else-size_of-eq4 × tie.After-put_long = search in
     let a = s.args in
-    w.put-long.ensures ∙ ap (sets a.out.now a.place) (long_bytes a.form a.bits (not-four e))
+    w.put_long.ensures ∙ ap (sets a.out.now a.place) (long_bytes a.form a.bits (not-four e))
 
-pub put-pattern-spec : {M : Type 1} → statement M
-put-pattern-spec =
+pub put_pattern_spec : {M : Type 1} → statement M
+put_pattern_spec =
     tie.close
     (tie.spec
-    (λ c κs. search rules)  -- size-of-requires
+    (λ c κs. search rules)  -- size_of-requires
     put-word-requires
-    (λ c. search rules)  -- same-length
+    (λ c. search rules)  -- shape_of-out-then-size_of-eq4
     returns
     put-long-requires
-    (λ c. search rules)  -- same-length-2
+    (λ c. search rules)  -- shape_of-out
     returns-2)

@@ -10,7 +10,11 @@ returns : tie.Need-returns
 returns c =
     let start : tie.Start = search in
     c.float_of.ensures ∙
-    (ap (of_bits binary32) c.before.word_at.ensures.0 ∙ sym (short_number_lem start.args.bytes.now start.args.place))
+    (ap (of_bits binary32) c.word_at-word.ensures.0 ∙ sym (short_number_lem start.args.bytes.now start.args.place))
 
-pub short-at-spec : {M : Type 1} → statement M
-short-at-spec = tie.close (tie.spec (search rules) (search rules) (search rules) returns)
+pub short_at_spec : {M : Type 1} → statement M
+short_at_spec = tie.close (tie.spec
+    (search rules)  -- word_at-word-requires
+    (search rules)  -- overflow_cast-word
+    (search rules)  -- float_of-requires
+    returns)

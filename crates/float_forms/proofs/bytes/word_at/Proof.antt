@@ -12,21 +12,21 @@ returns c =
     let p = start.args.place in
     (omega (arith, word_at_place l p), omega arith)
 
-pub word-at-spec : {M : Type 1} → statement M
-word-at-spec =
+pub word_at_spec : {M : Type 1} → statement M
+word_at_spec =
     tie.close
     (tie.spec
-    (λ c κs. search rules)  -- byte-at-requires
-    (λ c. search rules)  -- mul-high
-    (λ c. search rules)  -- add-byte-at
-    (λ c κs. search rules)  -- byte-at-requires-2
-    (λ c. search rules)  -- add-high
-    (λ c. search rules)  -- add-byte-at-2
-    (λ c κs. search rules)  -- byte-at-requires-3
-    (λ c. search rules)  -- mul-low
-    (λ c. search rules)  -- add-byte-at-3
-    (λ c κs. search rules)  -- byte-at-requires-4
-    (λ c. search rules)  -- add-low
-    (λ c. search rules)  -- mul-result
-    (λ c. search rules)  -- add-result
+    (λ c κs. search rules)  -- byte_at-requires
+    (λ c. search rules)  -- overflow_mul-high
+    (λ c. search rules)  -- overflow_add-place
+    (λ c κs. search rules)  -- byte_at-requires-2
+    (λ c. search rules)  -- overflow_add-high
+    (λ c. search rules)  -- overflow_add-place-2
+    (λ c κs. search rules)  -- byte_at-requires-3
+    (λ c. search rules)  -- overflow_mul-low
+    (λ c. search rules)  -- overflow_add-place-3
+    (λ c κs. search rules)  -- byte_at-requires-4
+    (λ c. search rules)  -- overflow_add-low
+    (λ c. search rules)  -- overflow_mul-result
+    (λ c. search rules)  -- overflow_add-result
     returns)

@@ -4,17 +4,17 @@ use Rattle.float_forms.specs.Forms.{form_of}
 use Rattle.float_forms.proofs.forms.form_of.Statement.{statement}
 use Rattle.float_forms.proofs.forms.form_of.Tie as tie
 
-returns : tie.Need-returns
+returns : tie.Need-returns-then-version-eq1
 unfolding form_of
-returns c = simp (eq-eqb _ _ c.if1.true)
+returns c = simp (eq-eqb _ _ c.if-version-eq1.true)
 
-returns-2 : tie.Need-returns-2
+returns-2 : tie.Need-returns-then-version-eq3
 unfolding form_of
-returns-2 c = simp (ne_eqb _ _ c.before.if1.false, eq-eqb _ _ c.if2.true)
+returns-2 c = simp (ne_eqb _ _ c.if-version-eq1.false, eq-eqb _ _ c.if-version-eq3.true)
 
-returns-3 : tie.Need-returns-3
+returns-3 : tie.Need-returns
 unfolding form_of
-returns-3 c = simp (ne_eqb _ _ c.before.if1.false, ne_eqb _ _ c.if2.false)
+returns-3 c = simp (ne_eqb _ _ c.if-version-eq1.false, ne_eqb _ _ c.if-version-eq3.false)
 
-pub form-of-spec : {M : Type 1} → statement M
-form-of-spec = tie.close (tie.spec returns returns-2 returns-3)
+pub form_of_spec : {M : Type 1} → statement M
+form_of_spec = tie.close (tie.spec returns returns-2 returns-3)

@@ -5,16 +5,16 @@ use borrow.Author.Rules.{rules}
 use Rattle.float_forms.proofs.reader.byte_at.Statement.{statement}
 use Rattle.float_forms.proofs.reader.byte_at.Tie as tie
 
-cast-result : tie.Need-overflow-cast-result
-cast-result c = omega (arith, c.shared-slice-known.given c.before.args.place)
+cast-result : tie.Need-overflow_cast-result
+cast-result c = omega (arith, c.shared_slice_known-1.given c.args.place)
 
 returns : tie.Need-returns
-returns c = (refl, omega (arith, c.shared-slice-known.given c.before.args.place))
+returns c = (refl, omega (arith, c.shared_slice_known-1.given c.args.place))
 
-pub byte-at-spec : {M : Type 1} → statement M
-byte-at-spec =
+pub byte_at_spec : {M : Type 1} → statement M
+byte_at_spec =
     tie.close
     (tie.spec
-    (search rules)  -- shared-slice-read-result
+    (search rules)  -- bounds-bytes-place
     cast-result
     returns)

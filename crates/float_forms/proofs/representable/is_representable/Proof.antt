@@ -5,16 +5,21 @@ use borrow.Author.Rules.{rules}
 use Rattle.float_forms.proofs.representable.is_representable.Statement.{statement}
 use Rattle.float_forms.proofs.representable.is_representable.Tie as tie
 
-returns : tie.Need-returns
+returns : tie.Need-returns-in-Bits
 returns c =
-    let (start, at-pattern-for) : tie.Start × tie.After-pattern-for = search in
-    representable_by_pattern start.args.form start.args.x c.enum_told.given.0.0
-    (sym at-pattern-for.pattern-for.ensures ∙ c.enum_told.given.1)
+    let (start, at-pattern-for) : tie.Start × tie.After-pattern_for-pattern = search in
+    representable_by_pattern start.args.form start.args.x c.in-Bits.field-0
+    (sym at-pattern-for.pattern_for-pattern.ensures ∙ c.in-Bits.is)
 
-returns-2 : tie.Need-returns-2
+returns-2 : tie.Need-returns-in-Unrepresentable
 returns-2 c =
-    let (start, at-pattern-for) : tie.Start × tie.After-pattern-for = search in
-    unrepresentable_by_pattern start.args.form start.args.x (sym at-pattern-for.pattern-for.ensures ∙ c.enum-told2.given.1)
+    let (start, at-pattern-for) : tie.Start × tie.After-pattern_for-pattern = search in
+    unrepresentable_by_pattern start.args.form start.args.x (sym at-pattern-for.pattern_for-pattern.ensures ∙ c.in-Unrepresentable.is)
 
-pub is-representable-spec : {M : Type 1} → statement M
-is-representable-spec = tie.close (tie.spec (search rules) (search rules) (search rules) returns returns-2)
+pub is_representable_spec : {M : Type 1} → statement M
+is_representable_spec = tie.close (tie.spec
+    (search rules)  -- pattern_for-pattern-requires
+    (search rules)  -- enum_told-1
+    (search rules)  -- enum_told-in-Unrepresentable
+    returns
+    returns-2)

@@ -6,34 +6,39 @@ use borrow.Author.Rules.{rules}
 use Rattle.geometry.proofs.aabb.valid_side.Statement.{statement}
 use Rattle.geometry.proofs.aabb.valid_side.Tie as tie
 
-returns : tie.Need-returns
+returns : tie.Need-returns-then-not-is_finite
 unfolding valid_side
-returns c = simp (sym c.before.is_finite.ensures, not-true c.before.is_finite.result c.if1.true)
+returns c = simp (sym c.is_finite.ensures, c.if-not-is_finite.true)
 
-returns-2 : tie.Need-returns-2
+returns-2 : tie.Need-returns-then-not-is_finite-2
 unfolding valid_side
 returns-2 c =
-    let (at-is-finite, else1) : tie.After-is-finite × tie.Else1 = search in
+    let (at-is-finite, else1) : tie.After-is_finite × tie.Else-not-is_finite = search in
     simp (
       sym at-is-finite.is_finite.ensures,
-      not-false at-is-finite.is_finite.result else1.if1.left,
+      else1.if-not-is_finite.false,
       sym
-          c.before.is-finite2.ensures,
-      not-true c.before.is-finite2.result c.if2.true,
+          c.is_finite-2.ensures,
+      c.if-not-is_finite-2.true,
     )
 
-returns-3 : tie.Need-returns-3
+returns-3 : tie.Need-returns
 unfolding valid_side
 returns-3 c =
-    let (at-is-finite, else1) : tie.After-is-finite × tie.Else1 = search in
+    let (at-is-finite, else1) : tie.After-is_finite × tie.Else-not-is_finite = search in
     simp (
       sym at-is-finite.is_finite.ensures,
-      not-false at-is-finite.is_finite.result else1.if1.left,
+      else1.if-not-is_finite.false,
       sym
-          c.before.is-finite2.ensures,
-      not-false c.before.is-finite2.result c.if2.false,
+          c.is_finite-2.ensures,
+      c.if-not-is_finite-2.false,
     )
 
-pub valid-side-spec : {M : Type 1} → statement M
-valid-side-spec =
-    tie.close (tie.spec (search rules) returns (search rules) returns-2 returns-3)
+pub valid_side_spec : {M : Type 1} → statement M
+valid_side_spec =
+    tie.close (tie.spec
+    (search rules)  -- is_finite-requires
+    returns
+    (search rules)  -- is_finite-requires-2
+    returns-2
+    returns-3)

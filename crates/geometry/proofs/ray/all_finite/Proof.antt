@@ -9,5 +9,5 @@ returns c =
     let start : tie.Start = search in
     differences_tell start.args.vector
 
-pub all-finite-spec : {M : Type 1} → statement M
-all-finite-spec = tie.close (tie.spec returns)
+pub all_finite_spec : {M : Type 1} → statement M
+all_finite_spec = tie.close (tie.spec returns)

@@ -5,15 +5,18 @@ use Rattle.geometry.proofs.UnitLength.{close_by_square}
 use Rattle.geometry.proofs.ray.close_to_unit_length.Statement.{statement}
 use Rattle.geometry.proofs.ray.close_to_unit_length.Tie as tie
 
-returns : tie.Need-returns
+returns : tie.Need-returns-then-square
 returns c =
     let start : tie.Start = search in
-    simp (close_by_square start.args.vector, sym c.before.dot.ensures, c.if1.true)
+    simp (close_by_square start.args.vector, sym c.dot-square.ensures, c.if-square.true)
 
-returns-2 : tie.Need-returns-2
+returns-2 : tie.Need-returns
 returns-2 c =
     let start : tie.Start = search in
-    simp (close_by_square start.args.vector, sym c.before.dot.ensures, c.if1.false)
+    simp (close_by_square start.args.vector, sym c.dot-square.ensures, c.if-square.false)
 
-pub close-to-unit-length-spec : {M : Type 1} → statement M
-close-to-unit-length-spec = tie.close (tie.spec (search rules) returns returns-2)
+pub close_to_unit_length_spec : {M : Type 1} → statement M
+close_to_unit_length_spec = tie.close (tie.spec
+    (search rules)  -- dot-square-requires
+    returns
+    returns-2)

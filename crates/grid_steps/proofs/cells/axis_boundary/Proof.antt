@@ -5,32 +5,32 @@ use borrow.Author.Tests.{not-true, not-false}
 use Rattle.grid_steps.proofs.cells.axis_boundary.Statement.{statement}
 use Rattle.grid_steps.proofs.cells.axis_boundary.Tie as tie
 
-returns : tie.Need-returns
+returns : tie.Need-returns-in_default
 unfolding axis_boundary boundary_by
-returns c = simp c.enum_told.given.1
+returns c = simp c.in_default.is
 
-returns-2 : tie.Need-returns-2
+returns-2 : tie.Need-returns-then-direction
 unfolding axis_boundary boundary_by
 returns-2 c =
-    let at_next : tie.After-next = search in
-    simp (at_next.next.given.1, c.if1.true)
+    let at_next : tie.In-At = search in
+    simp (at_next.in-At.is, c.if-direction.true)
 
-boundary-distance-requires : tie.Need-boundary-distance-requires
+boundary-distance-requires : tie.Need-boundary_distance-distance-requires
 boundary-distance-requires c κs = tt
 
-is-finite-requires : tie.Need-is-finite-requires
+is-finite-requires : tie.Need-is_finite-requires
 is-finite-requires c κs = tt
 
-returns-3 : tie.Need-returns-3
+returns-3 : tie.Need-returns-then-not-is_finite
 unfolding axis_boundary boundary_by
 returns-3 c =
-    let (at_next, else1, at-boundary-distance) : tie.After-next × tie.Else1 × tie.After-boundary-distance = search in
+    let (at_next, else1, at-boundary-distance) : tie.In-At × tie.Else-direction × tie.After-boundary_distance-distance = search in
     simp (
-      at_next.next.given.1,
-      else1.if1.left,
-      sym at-boundary-distance.boundary-distance.ensures,
-      sym c.before.is_finite.ensures,
-      not-true c.before.is_finite.result c.if2.true,
+      at_next.in-At.is,
+      else1.if-direction.false,
+      sym at-boundary-distance.boundary_distance-distance.ensures,
+      sym c.is_finite.ensures,
+      c.if-not-is_finite.true,
     )
 
 slack-requires : tie.Need-slack-requires
@@ -39,43 +39,43 @@ slack-requires c κs = tt
 minimum-requires : tie.Need-minimum-requires
 minimum-requires c κs = tt
 
-returns-4 : tie.Need-returns-4
+returns-4 : tie.Need-returns-then-distance-slack
 unfolding axis_boundary boundary_by
 returns-4 c =
     let (at_next, else1, at-boundary-distance, at-is-finite, else2, at-slack) :
-    tie.After-next × tie.Else1 × tie.After-boundary-distance × tie.After-is-finite × tie.Else2 × tie.After-slack = search in
+    tie.In-At × tie.Else-direction × tie.After-boundary_distance-distance × tie.After-is_finite × tie.Else-not-is_finite × tie.After-slack = search in
     simp (
-      at_next.next.given.1,
-      else1.if1.left,
-      sym at-boundary-distance.boundary-distance.ensures,
+      at_next.in-At.is,
+      else1.if-direction.false,
+      sym at-boundary-distance.boundary_distance-distance.ensures,
       sym at-is-finite.is_finite.ensures,
-      not-false at-is-finite.is_finite.result else2.if2.left,
+      else2.if-not-is_finite.false,
       sym at-slack.slack.ensures,
-      c.before.if3.true,
+      c.if-distance-slack.true,
       sym c.minimum.ensures,
     )
 
-returns-5 : tie.Need-returns-5
+returns-5 : tie.Need-returns
 unfolding axis_boundary boundary_by
 returns-5 c =
     let (at_next, else1, at-boundary-distance, at-is-finite, else2) :
-    tie.After-next × tie.Else1 × tie.After-boundary-distance × tie.After-is-finite × tie.Else2 = search in
+    tie.In-At × tie.Else-direction × tie.After-boundary_distance-distance × tie.After-is_finite × tie.Else-not-is_finite = search in
     simp (
-      at_next.next.given.1,
-      else1.if1.left,
-      sym at-boundary-distance.boundary-distance.ensures,
+      at_next.in-At.is,
+      else1.if-direction.false,
+      sym at-boundary-distance.boundary_distance-distance.ensures,
       sym at-is-finite.is_finite.ensures,
-      not-false at-is-finite.is_finite.result else2.if2.left,
-      sym c.before.slack.ensures,
-      c.if3.false,
+      else2.if-not-is_finite.false,
+      sym c.slack.ensures,
+      c.if-distance-slack.false,
     )
 
-pub axis-boundary-spec : {M : Type 1} → statement M
-axis-boundary-spec =
+pub axis_boundary_spec : {M : Type 1} → statement M
+axis_boundary_spec =
     tie.close
     (tie.spec
-    (search rules)  -- enum-known-next
-    (search rules)  -- enum_told
+    (search rules)  -- enum_known-next
+    (search rules)  -- enum_told-1
     returns
     returns-2
     boundary-distance-requires

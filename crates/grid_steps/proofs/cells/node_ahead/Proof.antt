@@ -4,13 +4,16 @@ use Rattle.std.proofs.Common.{rules}
 use Rattle.grid_steps.proofs.cells.node_ahead.Statement.{statement}
 use Rattle.grid_steps.proofs.cells.node_ahead.Tie as tie
 
-returns : tie.Need-returns
+returns : tie.Need-returns-then-direction
 unfolding node_ahead
-returns c = simp c.if1.true
+returns c = simp c.if-direction.true
 
-returns-2 : tie.Need-returns-2
+returns-2 : tie.Need-returns
 unfolding node_ahead
-returns-2 c = simp c.if1.false
+returns-2 c = simp c.if-direction.false
 
-pub node-ahead-spec : {M : Type 1} → statement M
-node-ahead-spec = tie.close (tie.spec (search rules) returns returns-2)
+pub node_ahead_spec : {M : Type 1} → statement M
+node_ahead_spec = tie.close (tie.spec
+    (search rules)  -- overflow_add-result
+    returns
+    returns-2)

@@ -12,7 +12,7 @@ maximum-requires c κs = tt
 
 returns : tie.Need-returns
 unfolding slack
-returns c = simp (sym c.before.abs.ensures, sym c.maximum.ensures)
+returns c = simp (sym c.abs.ensures, sym c.maximum.ensures)
 
-pub slack-spec : {M : Type 1} → statement M
-slack-spec = tie.close (tie.spec abs-requires maximum-requires returns)
+pub slack_spec : {M : Type 1} → statement M
+slack_spec = tie.close (tie.spec abs-requires maximum-requires returns)

@@ -4,18 +4,23 @@ use Rattle.std.proofs.Common.{sym, rules}
 use Rattle.grid_steps.proofs.interval.slab.Statement.{statement}
 use Rattle.grid_steps.proofs.interval.slab.Tie as tie
 
-returns : tie.Need-returns
+returns : tie.Need-returns-in_default
 unfolding slab
-returns c = simp c.enum_told.given.1
+returns c = simp c.in_default.is
 
-slab-from-requires : tie.Need-slab-from-requires
+slab-from-requires : tie.Need-slab_from-requires
 slab-from-requires c κs = tt
 
-returns-2 : tie.Need-returns-2
+returns-2 : tie.Need-returns
 unfolding slab
 returns-2 c =
-    let at-interval : tie.After-interval = search in
-    simp (at-interval.interval.given.1, sym c.slab-from.ensures)
+    let at-interval : tie.In-Within = search in
+    simp (at-interval.in-Within.is, sym c.slab_from.ensures)
 
-pub slab-spec : {M : Type 1} → statement M
-slab-spec = tie.close (tie.spec (search rules) (search rules) returns slab-from-requires returns-2)
+pub slab_spec : {M : Type 1} → statement M
+slab_spec = tie.close (tie.spec
+    (search rules)  -- enum_known-interval
+    (search rules)  -- enum_told-1
+    returns
+    slab-from-requires
+    returns-2)

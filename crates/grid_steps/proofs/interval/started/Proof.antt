@@ -4,32 +4,39 @@ use Rattle.std.proofs.Common.{sym, rules}
 use Rattle.grid_steps.proofs.interval.started.Statement.{statement}
 use Rattle.grid_steps.proofs.interval.started.Tie as tie
 
-returns : tie.Need-returns
+returns : tie.Need-returns-in_default
 unfolding started
-returns c = simp c.enum_told.given.1
+returns c = simp c.in_default.is
 
-returns-2 : tie.Need-returns-2
+returns-2 : tie.Need-returns-then-exit
 unfolding started
 returns-2 c =
-    let at-interval : tie.After-interval = search in
-    simp (at-interval.interval.given.1, c.if1.true)
+    let at-interval : tie.In-Within = search in
+    simp (at-interval.in-Within.is, c.if-exit.true)
 
-returns-3 : tie.Need-returns-3
+returns-3 : tie.Need-returns-then-entry-max_distance
 unfolding started
 returns-3 c =
-    let at-interval : tie.After-interval = search in
-    simp (at-interval.interval.given.1, c.before.if1.false, c.if2.true)
+    let at-interval : tie.In-Within = search in
+    simp (at-interval.in-Within.is, c.if-exit.false, c.if-entry-max_distance.true)
 
 maximum-requires : tie.Need-maximum-requires
 maximum-requires c κs = tt
 
-returns-4 : tie.Need-returns-4
+returns-4 : tie.Need-returns
 unfolding started
 returns-4 c =
-    let (at-interval, else1) : tie.After-interval × tie.Else1 = search in
-    simp (at-interval.interval.given.1, else1.if1.left, c.before.if2.false, sym c.maximum.ensures)
+    let (at-interval, else1) : tie.In-Within × tie.Else-exit = search in
+    simp (at-interval.in-Within.is, else1.if-exit.false, c.if-entry-max_distance.false, sym c.maximum.ensures)
 
-pub started-spec : {M : Type 1} → statement M
-started-spec =
+pub started_spec : {M : Type 1} → statement M
+started_spec =
     tie.close
-    (tie.spec (search rules) (search rules) returns returns-2 returns-3 maximum-requires returns-4)
+    (tie.spec
+    (search rules)  -- enum_known-interval
+    (search rules)  -- enum_told-1
+    returns
+    returns-2
+    returns-3
+    maximum-requires
+    returns-4)

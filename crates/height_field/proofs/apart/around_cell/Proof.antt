@@ -9,12 +9,12 @@ use Rattle.height_field.proofs.apart.around_cell.Tie as tie
 least-requires : tie.Need-least-requires
 least-requires c κs =
     let s : tie.Start = search in
-    finite_numbers _ (each_finite _ _ _ _ s.pre).0
+    finite_numbers _ (each_finite _ _ _ _ s.requires).0
 
 least-requires-2 : tie.Need-least-requires-2
 least-requires-2 c κs =
     let s : tie.Start = search in
-    finite_numbers _ (each_finite _ _ _ _ s.pre).1.1.0
+    finite_numbers _ (each_finite _ _ _ _ s.requires).1.1.0
 
 least-requires-3 : tie.Need-least-requires-3
 least-requires-3 c κs =
@@ -24,12 +24,12 @@ least-requires-3 c κs =
 greatest-requires : tie.Need-greatest-requires
 greatest-requires c κs =
     let s : tie.Start = search in
-    finite_numbers _ (each_finite _ _ _ _ s.pre).0
+    finite_numbers _ (each_finite _ _ _ _ s.requires).0
 
 greatest-requires-2 : tie.Need-greatest-requires-2
 greatest-requires-2 c κs =
     let s : tie.Start = search in
-    finite_numbers _ (each_finite _ _ _ _ s.pre).1.1.0
+    finite_numbers _ (each_finite _ _ _ _ s.requires).1.1.0
 
 greatest-requires-3 : tie.Need-greatest-requires-3
 greatest-requires-3 c κs =
@@ -39,19 +39,19 @@ greatest-requires-3 c κs =
 returns : tie.Need-returns
 unfolding around_cell
 returns c =
-    let (l, l2, l3) : tie.After-least × tie.After-least2 × tie.After-least3 = search in
-    let (g, g2) : tie.After-greatest × tie.After-greatest2 = search in
+    let (l, l2, l3) : tie.After-least × tie.After-least-2 × tie.After-least-3 = search in
+    let (g, g2) : tie.After-greatest × tie.After-greatest-2 = search in
     simp (
       sym l.least.ensures.0,
-      sym l2.least2.ensures.0,
-      sym l3.least3.ensures.0,
+      sym l2.least-2.ensures.0,
+      sym l3.least-3.ensures.0,
       sym g.greatest.ensures.0,
-      sym g2.greatest2.ensures.0,
-      sym c.greatest3.ensures.0,
+      sym g2.greatest-2.ensures.0,
+      sym c.greatest-3.ensures.0,
     )
 
-pub around-cell-spec : {M : Type 1} → statement M
-around-cell-spec =
+pub around_cell_spec : {M : Type 1} → statement M
+around_cell_spec =
     tie.close
     (tie.spec
     least-requires

@@ -11,19 +11,19 @@ use Rattle.height_field.proofs.apart.sum_finite.Tie as tie
 
 returns : tie.Need-returns
 returns c h =
-    let (s, a, b, d) : tie.Start × tie.After-add × tie.After-add2 × tie.After-add3 = search in
+    let (s, a, b, d) : tie.Start × tie.After-add × tie.After-add-2 × tie.After-add-sum = search in
     let v = s.args in
-    let total = d.add3.ensures ∙ ap (λ (w : Vec3). add_of w b.add2.result) a.add.ensures
-    ∙ ap (add_of (add_of v.v00 v.v10)) b.add2.ensures in
+    let total = d.add-sum.ensures ∙ ap (λ (w : Vec3). add_of w b.add-2.result) a.add.ensures
+    ∙ ap (add_of (add_of v.v00 v.v10)) b.add-2.ensures in
     sum_tells v.v00 v.v10 v.v01 v.v11
-    (ap (λ (w : Vec3). is_finite (w.x +ᶠ w.y +ᶠ w.z)) (sym total) ∙ sym c.is-finite.ensures ∙ h)
+    (ap (λ (w : Vec3). is_finite (w.x +ᶠ w.y +ᶠ w.z)) (sym total) ∙ sym c.is_finite.ensures ∙ h)
 
-pub sum-finite-spec : {M : Type 1} → statement M
-sum-finite-spec =
+pub sum_finite_spec : {M : Type 1} → statement M
+sum_finite_spec =
     tie.close
     (tie.spec
     (search rules)  -- add-requires
     (search rules)  -- add-requires-2
-    (search rules)  -- add-requires-3
-    (search rules)  -- is-finite-requires
+    (search rules)  -- add-sum-requires
+    (search rules)  -- is_finite-requires
     returns)

@@ -8,32 +8,32 @@ use Rattle.height_field.proofs.cast.grid_pass.Statement.{statement}
 use Rattle.height_field.proofs.cast.grid_pass.Tie as tie
 
 -- no cell is visited
-returns : tie.Need-returns
+returns : tie.Need-returns-in_default
 returns c =
-    let (s, v) : tie.Start × tie.After-visited-cells = search in
+    let (s, v) : tie.Start × tie.After-visited_cells-cells = search in
     sym (pass_outside s.args.ray s.args.bounds s.args.field s.args.heights.now
-    (sym v.visited-cells.ensures ∙ c.enum_told.given.1))
+    (sym v.visited_cells-cells.ensures ∙ c.in_default.is))
 
-pass-rows-requires : tie.Need-pass-rows-requires
+pass-rows-requires : tie.Need-pass_rows-requires
 pass-rows-requires c κs =
-    let (s, v, k) : tie.Start × tie.After-visited-cells × tie.After-cells = search in
-    let standing = visited_stands _ _ _ _ _ _ (sym v.visited-cells.ensures ∙ k.cells.given.1) in
-    (s.pre, (omega (arith, s.pre, standing), omega (arith, s.pre, standing)))
+    let (s, v, k) : tie.Start × tie.After-visited_cells-cells × tie.In-Cells = search in
+    let standing = visited_stands _ _ _ _ _ _ (sym v.visited_cells-cells.ensures ∙ k.in-Cells.is) in
+    (s.requires, (omega (arith, s.requires, standing), omega (arith, s.requires, standing)))
 
-returns-2 : tie.Need-returns-2
+returns-2 : tie.Need-returns
 returns-2 c =
-    let (s, v, k) : tie.Start × tie.After-visited-cells × tie.After-cells = search in
-    c.pass-rows.ensures
+    let (s, v, k) : tie.Start × tie.After-visited_cells-cells × tie.In-Cells = search in
+    c.pass_rows.ensures
     ∙ sym (pass_inside s.args.ray s.args.bounds s.args.field s.args.heights.now _ _ _ _
-    (sym v.visited-cells.ensures ∙ k.cells.given.1))
+    (sym v.visited_cells-cells.ensures ∙ k.in-Cells.is))
 
-pub grid-pass-spec : {M : Type 1} → statement M
-grid-pass-spec =
+pub grid_pass_spec : {M : Type 1} → statement M
+grid_pass_spec =
     tie.close
     (tie.spec
-    (search rules)  -- visited-cells-requires
-    (search rules)  -- enum-known-cells
-    (search rules)  -- enum_told
+    (search rules)  -- visited_cells-cells-requires
+    (search rules)  -- enum_known-cells
+    (search rules)  -- enum_told-1
     returns
     pass-rows-requires
     returns-2)

@@ -5,16 +5,21 @@ use borrow.Author.Rules.{rules}
 use Rattle.height_field.proofs.cast.pass_answer.Statement.{statement}
 use Rattle.height_field.proofs.cast.pass_answer.Tie as tie
 
-returns : tie.Need-returns
+returns : tie.Need-returns-in-Going
 unfolding answer_of_pass
 returns c =
-    let at-pass : tie.After-pass = search in
-    simp (at-pass.pass.given.1, sym c.without-index.ensures)
+    let at-pass : tie.In-Going = search in
+    simp (at-pass.in-Going.is, sym c.without_index.ensures)
 
-returns-2 : tie.Need-returns-2
+returns-2 : tie.Need-returns-in-Ended
 unfolding answer_of_pass
-returns-2 c = simp c.before.pass2.given.1
+returns-2 c = simp c.in-Ended.is
 
-pub pass-answer-spec : {M : Type 1} → statement M
-pass-answer-spec =
-    tie.close (tie.spec (search rules) (search rules) returns (search rules) returns-2)
+pub pass_answer_spec : {M : Type 1} → statement M
+pass_answer_spec =
+    tie.close (tie.spec
+    (search rules)  -- enum_known-pass
+    (search rules)  -- without_index-requires
+    returns
+    (search rules)  -- enum_known-pass-in-Ended-1
+    returns-2)

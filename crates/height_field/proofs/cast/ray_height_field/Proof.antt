@@ -7,47 +7,47 @@ use borrow.Author.Rules.{rules}
 use Rattle.height_field.proofs.cast.ray_height_field.Statement.{statement}
 use Rattle.height_field.proofs.cast.ray_height_field.Tie as tie
 
-returns : tie.Need-returns
+returns : tie.Need-returns-then-not-validate
 unfolding ray_height_field
-returns c = simp (sym c.before.validate.ensures, not-true c.before.validate.result c.if1.true)
+returns c = simp (sym c.validate.ensures, c.if-not-validate.true)
 
-returns-2 : tie.Need-returns-2
+returns-2 : tie.Need-returns-then-not-is_admitted
 unfolding ray_height_field
 returns-2 c =
-    let (at-validate, else1) : tie.After-validate × tie.Else1 = search in
+    let (at-validate, else1) : tie.After-validate × tie.Else-not-validate = search in
     simp (
       sym at-validate.validate.ensures,
-      not-false at-validate.validate.result else1.if1.left,
-      sym c.before.is-admitted.ensures,
-      not-true c.before.is-admitted.result c.if2.true,
+      else1.if-not-validate.false,
+      sym c.is_admitted.ensures,
+      c.if-not-is_admitted.true,
     )
 
-height-cast-requires : tie.Need-height-cast-requires
+height-cast-requires : tie.Need-height_cast-requires
 height-cast-requires c κs =
-    let (at-validate, else1) : tie.After-validate × tie.Else1 = search in (
-      sym at-validate.validate.ensures ∙ not-false at-validate.validate.result else1.if1.left,
-      admitted_sized _ _ (sym c.before.is-admitted.ensures ∙ not-false c.before.is-admitted.result c.if2.false),
+    let (at-validate, else1) : tie.After-validate × tie.Else-not-validate = search in (
+      sym at-validate.validate.ensures ∙ else1.if-not-validate.false,
+      admitted_sized _ _ (sym c.is_admitted.ensures ∙ c.if-not-is_admitted.false),
     )
 
-returns-3 : tie.Need-returns-3
+returns-3 : tie.Need-returns
 unfolding ray_height_field
 returns-3 c =
-    let (at-validate, else1, at-is-admitted) : tie.After-validate × tie.Else1 × tie.After-is-admitted = search in
+    let (at-validate, else1, at-is-admitted) : tie.After-validate × tie.Else-not-validate × tie.After-is_admitted = search in
     simp (
       sym at-validate.validate.ensures,
-      not-false at-validate.validate.result else1.if1.left,
-      sym at-is-admitted.is-admitted.ensures,
-      not-false at-is-admitted.is-admitted.result c.before.if2.false,
-      sym c.height-cast.ensures,
+      else1.if-not-validate.false,
+      sym at-is-admitted.is_admitted.ensures,
+      c.if-not-is_admitted.false,
+      sym c.height_cast.ensures,
     )
 
-pub ray-height-field-spec : {M : Type 1} → statement M
-ray-height-field-spec =
+pub ray_height_field_spec : {M : Type 1} → statement M
+ray_height_field_spec =
     tie.close
     (tie.spec
     (search rules)  -- validate-requires
     returns
-    (search rules)  -- is-admitted-requires
+    (search rules)  -- is_admitted-requires
     returns-2
     height-cast-requires
     returns-3)

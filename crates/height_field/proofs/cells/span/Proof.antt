@@ -9,5 +9,7 @@ returns : tie.Need-returns
 unfolding span_of
 returns c = simp (sym c.float_of.ensures)
 
-pub span-spec : {M : Type 1} → statement M
-span-spec = tie.close (tie.spec (search rules) returns)
+pub span_spec : {M : Type 1} → statement M
+span_spec = tie.close (tie.spec
+    (search rules)  -- float_of-requires
+    returns)

@@ -13,46 +13,46 @@ within : (s : tie.Start)
     (length s.args.heights.now ≤ 1048576)
 within s = vertex_within s.args.field s.args.heights.now s.args.row s.args.column s.requires.0 s.requires.1.0 s.requires.1.1
 
-mul-index : tie.Need-overflow-mul-index
+mul-index : tie.Need-overflow_mul-index
 mul-index c =
     let start : tie.Start = search in
     omega (arith, within (start))
 
-add-index : tie.Need-overflow-add-index
+add-index : tie.Need-overflow_add-index
 add-index c =
     let start : tie.Start = search in
     omega (arith, within (start))
 
-mul-height : tie.Need-overflow-mul-height
+mul-height : tie.Need-offset_bounds-heights-index
 mul-height c =
     let start : tie.Start = search in
     omega (arith, within (start))
 
-shared-slice-read-height : tie.Need-shared-slice-read-height
+shared-slice-read-height : tie.Need-bounds-heights-index
 shared-slice-read-height c =
     let start : tie.Start = search in
     omega (arith, within (start))
 
-float-of-requires : tie.Need-float-of-requires
+float-of-requires : tie.Need-float_of-requires
 float-of-requires c κs =
     let start : tie.Start = search in
     let s = start in
-    omega (arith, s.pre)
+    omega (arith, s.requires)
 
-float-of-requires-2 : tie.Need-float-of-requires-2
+float-of-requires-2 : tie.Need-float_of-requires-2
 float-of-requires-2 c κs =
     let start : tie.Start = search in
     let s = start in
-    omega (arith, s.pre)
+    omega (arith, s.requires)
 
 returns : tie.Need-returns
 unfolding vertex_at
 returns c =
-    let at-float-of : tie.After-float-of = search in
-    simp (sym at-float-of.float_of.ensures, sym c.before.float-of2.ensures)
+    let at-float-of : tie.After-float_of = search in
+    simp (sym at-float-of.float_of.ensures, sym c.float_of-2.ensures)
 
-pub field-vertex-spec : {M : Type 1} → statement M
-field-vertex-spec =
+pub field_vertex_spec : {M : Type 1} → statement M
+field_vertex_spec =
     tie.close
     (tie.spec
     mul-index

@@ -19,17 +19,20 @@ use Rattle.height_field.proofs.field.float_of.Tie as tie
 same-signed : (n : ℕ) → n ≤ 1024 → to_z w64 n ≡ pos n
 same-signed n h = ap (λ (low : Bool). sel low (pos n) (negsuc (2 ^ 64 - suc n))) (lt-ltb n (2 ^ 63) (omega arith))
 
-int-to-float-result : tie.Need-int-to-float-result
+int-to-float-result : tie.Need-int_to_float-result
 int-to-float-result c =
     let s : tie.Start = search in
     let n = s.args.n in
-    subst (λ (z : ℤ). T (in_float binary64 z)) (sym (same-signed n s.pre)) (small_in_float n (omega (arith, s.pre)))
+    subst (λ (z : ℤ). T (in_float binary64 z)) (sym (same-signed n s.requires)) (small_in_float n (omega (arith, s.requires)))
 
 returns : tie.Need-returns
 unfolding float_of
 returns c =
     let s : tie.Start = search in
-    ap (of_int binary64) (same-signed s.args.n s.pre)
+    ap (of_int binary64) (same-signed s.args.n s.requires)
 
-pub float-of-spec : {M : Type 1} → statement M
-float-of-spec = tie.close (tie.spec (search rules) int-to-float-result returns)
+pub float_of_spec : {M : Type 1} → statement M
+float_of_spec = tie.close (tie.spec
+    (search rules)  -- overflow_cast-result
+    int-to-float-result
+    returns)

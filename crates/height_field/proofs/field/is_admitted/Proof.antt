@@ -8,91 +8,90 @@ use borrow.Author.Rules.{rules}
 use Rattle.height_field.proofs.field.is_admitted.Statement.{statement}
 use Rattle.height_field.proofs.field.is_admitted.Tie as tie
 
-returns : tie.Need-returns
+returns : tie.Need-returns-then-not-side_admitted
 unfolding field_admitted
-returns c = simp (sym c.before.side-admitted.ensures, not-true c.before.side-admitted.result c.if1.true)
+returns c = simp (sym c.side_admitted.ensures, c.if-not-side_admitted.true)
 
-returns-2 : tie.Need-returns-2
+returns-2 : tie.Need-returns-then-not-side_admitted-2
 unfolding field_admitted
 returns-2 c =
-    let (at-side-admitted, else1) : tie.After-side-admitted × tie.Else1 = search in
+    let (at-side-admitted, else1) : tie.After-side_admitted × tie.Else-not-side_admitted = search in
     simp (
-      sym at-side-admitted.side-admitted.ensures,
-      not-false at-side-admitted.side-admitted.result else1.if1.left,
-      sym c.before.side-admitted2.ensures,
-      not-true c.before.side-admitted2.result c.if2.true,
+      sym at-side-admitted.side_admitted.ensures,
+      else1.if-not-side_admitted.false,
+      sym c.side_admitted-2.ensures,
+      c.if-not-side_admitted-2.true,
     )
 
-returns-3 : tie.Need-returns-3
+returns-3 : tie.Need-returns-then-not-spacing_admitted
 unfolding field_admitted
 returns-3 c =
     let (at-side-admitted, else1, at-side-admitted2, else2) :
-    tie.After-side-admitted × tie.Else1 × tie.After-side-admitted2 × tie.Else2 = search in
+    tie.After-side_admitted × tie.Else-not-side_admitted × tie.After-side_admitted-2 × tie.Else-not-side_admitted-2 = search in
     simp (
-      sym at-side-admitted.side-admitted.ensures,
-      not-false at-side-admitted.side-admitted.result else1.if1.left,
-      sym at-side-admitted2.side-admitted2.ensures,
-      not-false at-side-admitted2.side-admitted2.result else2.if2.left,
-      sym c.before.spacing_admitted_lem.ensures,
-      not-true c.before.spacing_admitted_lem.result c.if3.true,
+      sym at-side-admitted.side_admitted.ensures,
+      else1.if-not-side_admitted.false,
+      sym at-side-admitted2.side_admitted-2.ensures,
+      else2.if-not-side_admitted-2.false,
+      sym c.spacing_admitted.ensures,
+      c.if-not-spacing_admitted.true,
     )
 
-returns-4 : tie.Need-returns-4
+returns-4 : tie.Need-returns-then-not-spacing_admitted-2
 unfolding field_admitted
 returns-4 c =
     let (at-side-admitted, else1, at-side-admitted2, else2, at-spacing-admitted, else3) :
-    tie.After-side-admitted × tie.Else1 × tie.After-side-admitted2 × tie.Else2 × tie.After-spacing-admitted × tie.Else3 = search in
+    tie.After-side_admitted × tie.Else-not-side_admitted × tie.After-side_admitted-2 × tie.Else-not-side_admitted-2 × tie.After-spacing_admitted × tie.Else-not-spacing_admitted = search in
     simp (
-      sym at-side-admitted.side-admitted.ensures,
-      not-false at-side-admitted.side-admitted.result else1.if1.left,
-      sym at-side-admitted2.side-admitted2.ensures,
-      not-false at-side-admitted2.side-admitted2.result else2.if2.left,
-      sym at-spacing-admitted.spacing_admitted_lem.ensures,
-      not-false at-spacing-admitted.spacing_admitted_lem.result else3.if3.left,
-      sym c.before.spacing-admitted2.ensures,
-      not-true c.before.spacing-admitted2.result c.if4.true,
+      sym at-side-admitted.side_admitted.ensures,
+      else1.if-not-side_admitted.false,
+      sym at-side-admitted2.side_admitted-2.ensures,
+      else2.if-not-side_admitted-2.false,
+      sym at-spacing-admitted.spacing_admitted.ensures,
+      else3.if-not-spacing_admitted.false,
+      sym c.spacing_admitted-2.ensures,
+      c.if-not-spacing_admitted-2.true,
     )
 
-mul-result : tie.Need-overflow-mul-result
+mul-result : tie.Need-overflow_mul-result
 mul-result c =
     let (at-side-admitted, else1, at-side-admitted2, else2) :
-    tie.After-side-admitted × tie.Else1 × tie.After-side-admitted2 × tie.Else2 = search in
+    tie.After-side_admitted × tie.Else-not-side_admitted × tie.After-side_admitted-2 × tie.Else-not-side_admitted-2 = search in
     let rows = at-side-admitted in
     let columns = at-side-admitted2 in
-    let few = side_bounds _ (sym rows.side-admitted.ensures ∙ not-false rows.side-admitted.result else1.if1.left) in
-    let narrow = side_bounds _ (sym columns.side-admitted2.ensures ∙ not-false columns.side-admitted2.result else2.if2.left) in
+    let few = side_bounds _ (sym rows.side_admitted.ensures ∙ else1.if-not-side_admitted.false) in
+    let narrow = side_bounds _ (sym columns.side_admitted-2.ensures ∙ else2.if-not-side_admitted-2.false) in
     let small = product_small few.1 narrow.1 in
     omega arith
 
-returns-5 : tie.Need-returns-5
+returns-5 : tie.Need-returns
 unfolding field_admitted
 returns-5 c =
     let (at-side-admitted, else1, at-side-admitted2, else2, at-spacing-admitted, else3, at-spacing-admitted2) :
-    tie.After-side-admitted × tie.Else1 × tie.After-side-admitted2 × tie.Else2 × tie.After-spacing-admitted × tie.Else3 ×
-    tie.After-spacing-admitted2 = search in
+    tie.After-side_admitted × tie.Else-not-side_admitted × tie.After-side_admitted-2 × tie.Else-not-side_admitted-2 × tie.After-spacing_admitted × tie.Else-not-spacing_admitted ×
+    tie.After-spacing_admitted-2 = search in
     simp (
-      sym at-side-admitted.side-admitted.ensures,
-      not-false at-side-admitted.side-admitted.result else1.if1.left,
-      sym at-side-admitted2.side-admitted2.ensures,
-      not-false at-side-admitted2.side-admitted2.result else2.if2.left,
-      sym at-spacing-admitted.spacing_admitted_lem.ensures,
-      not-false at-spacing-admitted.spacing_admitted_lem.result else3.if3.left,
-      sym at-spacing-admitted2.spacing-admitted2.ensures,
-      not-false at-spacing-admitted2.spacing-admitted2.result
-          c.before.if4.false,
+      sym at-side-admitted.side_admitted.ensures,
+      else1.if-not-side_admitted.false,
+      sym at-side-admitted2.side_admitted-2.ensures,
+      else2.if-not-side_admitted-2.false,
+      sym at-spacing-admitted.spacing_admitted.ensures,
+      else3.if-not-spacing_admitted.false,
+      sym at-spacing-admitted2.spacing_admitted-2.ensures,
+      c.if-not-spacing_admitted-2.false,
     )
 
-pub is-admitted-spec : {M : Type 1} → statement M
-is-admitted-spec =
+pub is_admitted_spec : {M : Type 1} → statement M
+is_admitted_spec =
     tie.close
     (tie.spec
-    (search rules)  -- side-admitted-requires
+    (search rules)  -- side_admitted-requires
     returns
-    (search rules)  -- side-admitted-requires-2
+    (search rules)  -- side_admitted-requires-2
     returns-2
-    (search rules)  -- spacing-admitted-requires
+    (search rules)  -- spacing_admitted-requires
     returns-3
-    (search rules)  -- spacing-admitted-requires-2
+    (search rules)  -- spacing_admitted-requires-2
     returns-4
     mul-result
     returns-5)

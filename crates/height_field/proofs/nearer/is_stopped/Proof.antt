@@ -4,18 +4,24 @@ use borrow.Author.Rules.{rules}
 use Rattle.height_field.proofs.nearer.is_stopped.Statement.{statement}
 use Rattle.height_field.proofs.nearer.is_stopped.Tie as tie
 
-returns : tie.Need-returns
+returns : tie.Need-returns-in-Hit
 unfolding is_stopped
-returns c = simp c.enum_told.given.1
+returns c = simp c.in-Hit.is
 
-returns-2 : tie.Need-returns-2
+returns-2 : tie.Need-returns-in-None
 unfolding is_stopped
-returns-2 c = simp c.enum-told2.given.1
+returns-2 c = simp c.in-None.is
 
-returns-3 : tie.Need-returns-3
+returns-3 : tie.Need-returns-in-Refused
 unfolding is_stopped
-returns-3 c = simp c.enum-told3.given.1
+returns-3 c = simp c.in-Refused.is
 
-pub is-stopped-spec : {M : Type 1} → statement M
-is-stopped-spec =
-    tie.close (tie.spec (search rules) returns (search rules) returns-2 (search rules) returns-3)
+pub is_stopped_spec : {M : Type 1} → statement M
+is_stopped_spec =
+    tie.close (tie.spec
+    (search rules)  -- enum_told-1
+    returns
+    (search rules)  -- enum_told-in-None
+    returns-2
+    (search rules)  -- enum_told-in-Refused
+    returns-3)

@@ -6,49 +6,49 @@ use Rattle.height_field.proofs.nearer.nearer.Statement.{statement}
 use Rattle.height_field.proofs.nearer.nearer.Tie as tie
 
 -- a hit that takes the place
-returns : tie.Need-returns
+returns : tie.Need-returns-then-gives_way
 unfolding nearer_of
 returns c =
-    let (f, g) : tie.After-found × tie.After-gives-way = search in
-    simp (f.found.given.1, sym g.gives-way.ensures, c.if1.true)
+    let (f, g) : tie.In-Hit × tie.After-gives_way = search in
+    simp (f.in-Hit.is, sym g.gives_way.ensures, c.if-gives_way.true)
 
 -- a hit that does not
-returns-2 : tie.Need-returns-2
+returns-2 : tie.Need-returns-in-Hit
 unfolding nearer_of
 returns-2 c =
-    let (f, g) : tie.After-found × tie.After-gives-way = search in
-    simp (f.found.given.1, sym g.gives-way.ensures, c.if1.false)
+    let (f, g) : tie.In-Hit × tie.After-gives_way = search in
+    simp (f.in-Hit.is, sym g.gives_way.ensures, c.if-gives_way.false)
 
 -- nothing
-returns-3 : tie.Need-returns-3
+returns-3 : tie.Need-returns-in-None
 unfolding nearer_of
-returns-3 c = simp c.enum_told.given.1
+returns-3 c = simp c.in-None.is
 
 -- a refusal after another
-returns-4 : tie.Need-returns-4
+returns-4 : tie.Need-returns-then-is_stopped
 unfolding nearer_of
 returns-4 c =
-    let (f, g) : tie.After-found2 × tie.After-is-stopped = search in
-    simp (f.found2.given.1, sym g.is-stopped.ensures, c.if2.true)
+    let (f, g) : tie.In-Refused × tie.After-is_stopped = search in
+    simp (f.in-Refused.is, sym g.is_stopped.ensures, c.if-is_stopped.true)
 
 -- the first refusal
-returns-5 : tie.Need-returns-5
+returns-5 : tie.Need-returns-in-Refused
 unfolding nearer_of
 returns-5 c =
-    let (f, g) : tie.After-found2 × tie.After-is-stopped = search in
-    simp (f.found2.given.1, sym g.is-stopped.ensures, c.if2.false)
+    let (f, g) : tie.In-Refused × tie.After-is_stopped = search in
+    simp (f.in-Refused.is, sym g.is_stopped.ensures, c.if-is_stopped.false)
 
-pub nearer-spec : {M : Type 1} → statement M
-nearer-spec =
+pub nearer_spec : {M : Type 1} → statement M
+nearer_spec =
     tie.close
     (tie.spec
-    (search rules)  -- enum-known-found
-    (search rules)  -- gives-way-requires
+    (search rules)  -- enum_known-found
+    (search rules)  -- gives_way-requires
     returns
     returns-2
-    (search rules)  -- enum_told
+    (search rules)  -- enum_told-1
     returns-3
-    (search rules)  -- enum-known-found-2
-    (search rules)  -- is-stopped-requires
+    (search rules)  -- enum_known-found-in-Refused-1
+    (search rules)  -- is_stopped-requires
     returns-4
     returns-5)

@@ -8,26 +8,26 @@ use Rattle.height_field.proofs.pass.cell_finite.Tie as tie
 returns : tie.Need-returns
 unfolding cell_finite
 returns c =
-    let (v, v2, v3, v4) : tie.After-field-vertex × tie.After-field-vertex2 × tie.After-field-vertex3 × tie.After-field-vertex4 = search in
+    let (v, v2, v3, v4) : tie.After-field_vertex-v00 × tie.After-field_vertex-v10 × tie.After-field_vertex-v01 × tie.After-field_vertex-v11 = search in
     simp (
-      sym v.field-vertex.ensures,
-      sym v2.field-vertex2.ensures,
-      sym v3.field-vertex3.ensures,
-      sym v4.field-vertex4.ensures,
-      sym c.all-finite.ensures,
+      sym v.field_vertex-v00.ensures,
+      sym v2.field_vertex-v10.ensures,
+      sym v3.field_vertex-v01.ensures,
+      sym v4.field_vertex-v11.ensures,
+      sym c.all_finite.ensures,
     )
 
-pub cell-finite-spec : {M : Type 1} → statement M
-cell-finite-spec =
+pub cell_finite_spec : {M : Type 1} → statement M
+cell_finite_spec =
     tie.close
     (tie.spec
-    (search rules)  -- field-vertex-requires
-    (search rules)  -- add-field-vertex
-    (search rules)  -- field-vertex-requires-2
-    (search rules)  -- add-field-vertex-2
-    (search rules)  -- field-vertex-requires-3
-    (search rules)  -- add-field-vertex-3
-    (search rules)  -- add-field-vertex-4
-    (search rules)  -- field-vertex-requires-4
-    (search rules)  -- all-finite-requires
+    (search rules)  -- field_vertex-v00-requires
+    (search rules)  -- overflow_add-column
+    (search rules)  -- field_vertex-v10-requires
+    (search rules)  -- overflow_add-row
+    (search rules)  -- field_vertex-v01-requires
+    (search rules)  -- overflow_add-row-2
+    (search rules)  -- overflow_add-column-2
+    (search rules)  -- field_vertex-v11-requires
+    (search rules)  -- all_finite-requires
     returns)

@@ -14,68 +14,68 @@ use Rattle.height_field.proofs.pass.pass_cell.Tie as tie
 small : (s : tie.Start) → s.args.row * (s.args.field.columns - 1) + s.args.column < 1048576
 small s = cell_small s.args.field s.args.heights.now s.args.row s.args.column s.requires.0 s.requires.1.0 s.requires.1.1.0
 
-mul-cell : tie.Need-overflow-mul-cell
+mul-cell : tie.Need-overflow_mul-cell
 mul-cell c =
     let start : tie.Start = search in
     omega (arith, small (start))
 
-add-cell : tie.Need-overflow-add-cell
+add-cell : tie.Need-overflow_add-cell
 add-cell c =
     let start : tie.Start = search in
     omega (arith, small (start))
 
-mul-pass-triangles : tie.Need-overflow-mul-pass-triangles
+mul-pass-triangles : tie.Need-overflow_mul-cell-2
 mul-pass-triangles c =
     let start : tie.Start = search in
     omega (arith, small (start))
 
-cast-pass-triangles : tie.Need-overflow-cast-pass-triangles
+cast-pass-triangles : tie.Need-overflow_cast-cell
 cast-pass-triangles c =
     let start : tie.Start = search in
     omega (arith, small (start))
 
-pass-triangles-requires : tie.Need-pass-triangles-requires
+pass-triangles-requires : tie.Need-pass_triangles-requires
 unfolding corners_at
 pass-triangles-requires c κs =
-    let (s, v, v2, v3, v4) : tie.Start × tie.After-field-vertex × tie.After-field-vertex2 × tie.After-field-vertex3 ×
-    tie.After-field-vertex4 = search in
+    let (s, v, v2, v3, v4) : tie.Start × tie.After-field_vertex-v00 × tie.After-field_vertex-v10 × tie.After-field_vertex-v01 ×
+    tie.After-field_vertex-v11 = search in
     let a = s.args in
-    let lower = lower_near a.field a.heights.now a.row a.column s.pre.1.1.0 a.bounds s.pre.1.1.1.0
-    s.pre.1.1.1.1 in
-    let upper = upper_near a.field a.heights.now a.row a.column s.pre.1.1.0 a.bounds s.pre.1.1.1.0
-    s.pre.1.1.1.1 in
-    rw (v.field-vertex.ensures, v2.field-vertex2.ensures, v3.field-vertex3.ensures, v4.field-vertex4.ensures)
+    let lower = lower_near a.field a.heights.now a.row a.column s.requires.1.1.0 a.bounds s.requires.1.1.1.0
+    s.requires.1.1.1.1 in
+    let upper = upper_near a.field a.heights.now a.row a.column s.requires.1.1.0 a.bounds s.requires.1.1.1.0
+    s.requires.1.1.1.1 in
+    rw (v.field_vertex-v00.ensures, v2.field_vertex-v10.ensures, v3.field_vertex-v01.ensures, v4.field_vertex-v11.ensures)
     (lower, (upper, omega (arith, small s)))
 
 returns : tie.Need-returns
 unfolding corners_at cell_at
 returns c =
-    let (s, v, v2, v3, v4) : tie.Start × tie.After-field-vertex × tie.After-field-vertex2 × tie.After-field-vertex3 ×
-    tie.After-field-vertex4 = search in
+    let (s, v, v2, v3, v4) : tie.Start × tie.After-field_vertex-v00 × tie.After-field_vertex-v10 × tie.After-field_vertex-v01 ×
+    tie.After-field_vertex-v11 = search in
     let a = s.args in
-    rw (sym (pass_of_finite a.field a.heights.now a.row a.column s.pre.1.1.0 a.ray a.bounds
-    (says_indexed a.best) s.pre.1.1.1.0))
+    rw (sym (pass_of_finite a.field a.heights.now a.row a.column s.requires.1.1.0 a.ray a.bounds
+    (says_indexed a.best) s.requires.1.1.1.0))
     (simp (
-      sym v.field-vertex.ensures,
-      sym v2.field-vertex2.ensures,
-      sym v3.field-vertex3.ensures,
-      sym v4.field-vertex4.ensures,
-      sym c.pass-triangles.ensures,
+      sym v.field_vertex-v00.ensures,
+      sym v2.field_vertex-v10.ensures,
+      sym v3.field_vertex-v01.ensures,
+      sym v4.field_vertex-v11.ensures,
+      sym c.pass_triangles.ensures,
     ))
 
-pub pass-cell-spec : {M : Type 1} → statement M
-pass-cell-spec =
+pub pass_cell_spec : {M : Type 1} → statement M
+pass_cell_spec =
     tie.close
     (tie.spec
-    (search rules)  -- field-vertex-requires
-    (search rules)  -- add-field-vertex
-    (search rules)  -- field-vertex-requires-2
-    (search rules)  -- add-field-vertex-2
-    (search rules)  -- field-vertex-requires-3
-    (search rules)  -- add-field-vertex-3
-    (search rules)  -- add-field-vertex-4
-    (search rules)  -- field-vertex-requires-4
-    (search rules)  -- sub-cell
+    (search rules)  -- field_vertex-v00-requires
+    (search rules)  -- overflow_add-column
+    (search rules)  -- field_vertex-v10-requires
+    (search rules)  -- overflow_add-row
+    (search rules)  -- field_vertex-v01-requires
+    (search rules)  -- overflow_add-row-2
+    (search rules)  -- overflow_add-column-2
+    (search rules)  -- field_vertex-v11-requires
+    (search rules)  -- overflow_sub-cell
     mul-cell
     add-cell
     mul-pass-triangles

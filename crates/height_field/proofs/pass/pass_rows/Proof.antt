@@ -13,77 +13,77 @@ use borrow.Author.Rules.{rules}
 use Rattle.height_field.proofs.pass.pass_rows.Statement.{statement}
 use Rattle.height_field.proofs.pass.pass_rows.Tie as tie
 
-abbrev invariant-loop : tie.invariant-loop
+abbrev invariant-loop : tie.invariant-loop-row
 invariant-loop ray bounds field heights first last left right best₀ row₀ best row =
     pass_from (answer_of ray field heights) (says_indexed best)
     (list_all (list_cell field heights bounds) (grid_cells field (run row (last + 1 - row)) (run left (right + 1 - left))))
     ≡ pass_from (answer_of ray field heights) (says_indexed best₀)
     (list_all (list_cell field heights bounds) (grid_cells field (run row₀ (last + 1 - row₀)) (run left (right + 1 - left))))
 
-abbrev decreases-loop : tie.decreases-loop
+abbrev decreases-loop : tie.decreases-loop-row
 decreases-loop ray bounds field heights first last left right best₀ row₀ best row = last + 1 - row
 
-loop-holds : tie.Need-loop-init invariant-loop decreases-loop
+loop-holds : tie.Need-loop-row-init invariant-loop decreases-loop
 loop-holds c = refl
 
-pass-row-requires : tie.Need-pass-row-requires invariant-loop decreases-loop
+pass-row-requires : tie.Need-pass_row-cells-requires invariant-loop decreases-loop
 pass-row-requires c κs =
     let start : tie.Start invariant-loop decreases-loop = search in
     let s = start in
-    (s.pre.0, (omega (arith, s.pre), omega (arith, s.pre)))
+    (s.requires.0, (omega (arith, s.requires), omega (arith, s.requires)))
 
-returns : tie.Need-returns invariant-loop decreases-loop
+returns : tie.Need-returns-in_default invariant-loop decreases-loop
 returns c =
     let (s, turn, at-pass-row) :
-    (tie.Start invariant-loop decreases-loop) × (tie.In-loop invariant-loop decreases-loop) × (tie.After-pass-row invariant-loop decreases-loop) = search in
+    (tie.Start invariant-loop decreases-loop) × (tie.In-loop-row invariant-loop decreases-loop) × (tie.After-pass_row-cells invariant-loop decreases-loop) = search in
     let a = s.args in
-    let at = turn.before.loop in
+    let at = turn.loop-row in
     sym (pass_ends (answer_of a.ray a.field a.heights.now) (says_indexed at.best) _ _ _
-    (says_pass at-pass-row.pass-row.result)
+    (says_pass at-pass-row.pass_row-cells.result)
     (rows_cons (list_cell a.field a.heights.now a.bounds) a.field at.row a.last (run a.left (a.right + 1 - a.left))
-    turn.loop-test.taken)
-    at-pass-row.pass-row.ensures _ (ap says_pass c.enum_told.given.1)) ∙ at.inv
+    turn.loop-row-test.true)
+    at-pass-row.pass_row-cells.ensures _ (ap says_pass c.in_default.is)) ∙ at.invariant
 
-add_row : tie.Need-overflow-add-row invariant-loop decreases-loop
+add_row : tie.Need-overflow_add-row invariant-loop decreases-loop
 add_row c =
-    let (start, in-loop) : (tie.Start invariant-loop decreases-loop) × (tie.In-loop invariant-loop decreases-loop) = search in
+    let (start, in-loop) : (tie.Start invariant-loop decreases-loop) × (tie.In-loop-row invariant-loop decreases-loop) = search in
     let s = start in
-    omega (arith, s.pre, in-loop.loop-test.taken)
+    omega (arith, s.requires, in-loop.loop-row-test.true)
 
-loop-again : tie.Need-loop-preserved invariant-loop decreases-loop
+loop-again : tie.Need-loop-row-preserved invariant-loop decreases-loop
 loop-again c =
     let (s, turn, at-pass-row) :
-    (tie.Start invariant-loop decreases-loop) × (tie.In-loop invariant-loop decreases-loop) × (tie.After-pass-row invariant-loop decreases-loop) = search in
+    (tie.Start invariant-loop decreases-loop) × (tie.In-loop-row invariant-loop decreases-loop) × (tie.After-pass_row-cells invariant-loop decreases-loop) = search in
     let a = s.args in
-    let at = turn.before.loop in
+    let at = turn.loop-row in
     sym (pass_goes (answer_of a.ray a.field a.heights.now) (says_indexed at.best) _ _ _
-    (says_pass at-pass-row.pass-row.result)
+    (says_pass at-pass-row.pass_row-cells.result)
     (rows_cons (list_cell a.field a.heights.now a.bounds) a.field at.row a.last (run a.left (a.right + 1 - a.left))
-    turn.loop-test.taken)
-    at-pass-row.pass-row.ensures _ (ap says_pass c.before.cells.given.1)) ∙ at.inv
+    turn.loop-row-test.true)
+    at-pass-row.pass_row-cells.ensures _ (ap says_pass c.in-Going.is)) ∙ at.invariant
 
-returns-2 : tie.Need-returns-2 invariant-loop decreases-loop
+returns-2 : tie.Need-returns invariant-loop decreases-loop
 returns-2 c =
     let start : tie.Start invariant-loop decreases-loop = search in
     let s = start in
     let a = s.args in
-    let at = c.before.loop in
+    let at = c.loop-row in
     sym (pass_done (answer_of a.ray a.field a.heights.now) (says_indexed at.best) _
     (rows_none (list_cell a.field a.heights.now a.bounds) a.field at.row a.last
-    (run a.left (a.right + 1 - a.left)) c.loop-test.false)) ∙ at.invariant
+    (run a.left (a.right + 1 - a.left)) c.loop-row-test.false)) ∙ at.invariant
 
-pub pass-rows-spec : {M : Type 1} → statement M
-pass-rows-spec =
+pub pass_rows_spec : {M : Type 1} → statement M
+pass_rows_spec =
     tie.close
     (tie.spec
     invariant-loop
     decreases-loop
     loop-holds
     pass-row-requires
-    (search rules)  -- enum-known-cells
-    (search rules)  -- enum_told
+    (search rules)  -- enum_known-cells
+    (search rules)  -- enum_told-1
     returns
     add_row
-    (search rules)  -- loop-less
+    (search rules)  -- loop-row-smaller
     loop-again
     returns-2)

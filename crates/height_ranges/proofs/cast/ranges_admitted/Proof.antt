@@ -8,27 +8,30 @@ use borrow.Author.Rules.{rules}
 use Rattle.height_ranges.proofs.cast.ranges_admitted.Statement.{statement}
 use Rattle.height_ranges.proofs.cast.ranges_admitted.Tie as tie
 
-returns : tie.Need-returns
+returns : tie.Need-returns-then-not-is_admitted
 unfolding ranges_admitted
-returns c = simp (sym c.before.is-admitted.ensures, not-true c.before.is-admitted.result c.if1.true)
+returns c = simp (sym c.is_admitted.ensures, c.if-not-is_admitted.true)
 
-mul-result : tie.Need-overflow-mul-result
+mul-result : tie.Need-overflow_mul-result
 mul-result c =
-    let at-is-admitted : tie.After-is-admitted = search in
+    let at-is-admitted : tie.After-is_admitted = search in
     let at = at-is-admitted in
-    let sized = admitted_sized _ _ (sym at.is-admitted.ensures ∙ not-false at.is-admitted.result c.before.if1.false) in
+    let sized = admitted_sized _ _ (sym at.is_admitted.ensures ∙ c.if-not-is_admitted.false) in
     let small = product_small sized.few_rows sized.few_columns in
     omega arith
 
-returns-2 : tie.Need-returns-2
+returns-2 : tie.Need-returns
 unfolding ranges_admitted
 returns-2 c =
-    let at-is-admitted : tie.After-is-admitted = search in
+    let at-is-admitted : tie.After-is_admitted = search in
     simp (
-      sym at-is-admitted.is-admitted.ensures,
-      not-false at-is-admitted.is-admitted.result
-          c.before.if1.false,
+      sym at-is-admitted.is_admitted.ensures,
+      c.if-not-is_admitted.false,
     )
 
-pub ranges-admitted-spec : {M : Type 1} → statement M
-ranges-admitted-spec = tie.close (tie.spec (search rules) returns mul-result returns-2)
+pub ranges_admitted_spec : {M : Type 1} → statement M
+ranges_admitted_spec = tie.close (tie.spec
+    (search rules)  -- is_admitted-requires
+    returns
+    mul-result
+    returns-2)

@@ -17,70 +17,70 @@ lows-size s = lows_sized s.args.ray s.args.field s.args.lows.now s.args.highs.no
 highs-size : (s : tie.Start) → Sized s.args.field s.args.highs.now
 highs-size s = highs_sized s.args.ray s.args.field s.args.lows.now s.args.highs.now s.requires.0
 
-visited-cells-requires : tie.Need-visited-cells-requires
+visited-cells-requires : tie.Need-visited_cells-cells-requires
 visited-cells-requires c κs =
     let s : tie.Start = search in
     lows-size s
 
 -- no cell is visited
-returns : tie.Need-returns
+returns : tie.Need-returns-in_default
 returns c =
-    let (s, v) : tie.Start × tie.After-visited-cells = search in
+    let (s, v) : tie.Start × tie.After-visited_cells-cells = search in
     sym (outside s.args.field s.args.lows.now s.args.highs.now s.args.bounds
-    (sym v.visited-cells.ensures ∙ c.enum_told.given.1))
+    (sym v.visited_cells-cells.ensures ∙ c.in_default.is))
 
-add-rows-in-order : tie.Need-overflow-add-rows-in-order
+add-rows-in-order : tie.Need-overflow_add-last
 add-rows-in-order c =
-    let (s, v, k) : tie.Start × tie.After-visited-cells × tie.After-cells = search in
-    let standing = visited_stands _ _ _ _ _ _ (sym v.visited-cells.ensures ∙ k.cells.given.1) in
+    let (s, v, k) : tie.Start × tie.After-visited_cells-cells × tie.In-Cells = search in
+    let standing = visited_stands _ _ _ _ _ _ (sym v.visited_cells-cells.ensures ∙ k.in-Cells.is) in
     let size = lows-size s in
     omega (arith, size, standing)
 
-add-rows-in-order-2 : tie.Need-overflow-add-rows-in-order-2
+add-rows-in-order-2 : tie.Need-overflow_add-right
 add-rows-in-order-2 c =
-    let (s, v, k) : tie.Start × tie.After-visited-cells × tie.After-cells = search in
-    let standing = visited_stands _ _ _ _ _ _ (sym v.visited-cells.ensures ∙ k.cells.given.1) in
+    let (s, v, k) : tie.Start × tie.After-visited_cells-cells × tie.In-Cells = search in
+    let standing = visited_stands _ _ _ _ _ _ (sym v.visited_cells-cells.ensures ∙ k.in-Cells.is) in
     let size = lows-size s in
     omega (arith, size, standing)
 
-rows-in-order-requires : tie.Need-rows-in-order-requires
+rows-in-order-requires : tie.Need-rows_in_order-requires
 rows-in-order-requires c κs =
-    let (s, v, k) : tie.Start × tie.After-visited-cells × tie.After-cells = search in
-    let standing = visited_stands _ _ _ _ _ _ (sym v.visited-cells.ensures ∙ k.cells.given.1) in
+    let (s, v, k) : tie.Start × tie.After-visited_cells-cells × tie.In-Cells = search in
+    let standing = visited_stands _ _ _ _ _ _ (sym v.visited_cells-cells.ensures ∙ k.in-Cells.is) in
     let size = lows-size s in
     (size, (highs-size s, (omega (arith, size, standing), omega (arith, size, standing))))
 
 -- a visited range is out of order
-returns-2 : tie.Need-returns-2
+returns-2 : tie.Need-returns-then-not-rows_in_order
 returns-2 c =
-    let (s, v, k, o) : tie.Start × tie.After-visited-cells × tie.After-cells × tie.After-rows-in-order = search in
+    let (s, v, k, o) : tie.Start × tie.After-visited_cells-cells × tie.In-Cells × tie.After-rows_in_order = search in
     sym (out_of_order s.args.field s.args.lows.now s.args.highs.now s.args.bounds _ _ _ _
-    (sym v.visited-cells.ensures ∙ k.cells.given.1) (lows-size s).some_columns
-    (test_failed o.rows_in_order.ensures c.if1.true))
+    (sym v.visited_cells-cells.ensures ∙ k.in-Cells.is) (lows-size s).some_columns
+    (test_failed o.rows_in_order.ensures c.if-not-rows_in_order.true))
 
-first-in-rows-requires : tie.Need-first-in-rows-requires
+first-in-rows-requires : tie.Need-first_in_rows-requires
 first-in-rows-requires c κs =
-    let (s, v, k) : tie.Start × tie.After-visited-cells × tie.After-cells = search in
-    let standing = visited_stands _ _ _ _ _ _ (sym v.visited-cells.ensures ∙ k.cells.given.1) in
+    let (s, v, k) : tie.Start × tie.After-visited_cells-cells × tie.In-Cells = search in
+    let standing = visited_stands _ _ _ _ _ _ (sym v.visited_cells-cells.ensures ∙ k.in-Cells.is) in
     let size = lows-size s in
     (size, (highs-size s, (omega (arith, size, standing), omega (arith, size, standing))))
 
 -- the first cell that touches
-returns-3 : tie.Need-returns-3
+returns-3 : tie.Need-returns
 returns-3 c =
-    let (s, v, k, o, e) : tie.Start × tie.After-visited-cells × tie.After-cells × tie.After-rows-in-order × tie.Else1 = search in
-    c.first-in-rows.ensures
+    let (s, v, k, o, e) : tie.Start × tie.After-visited_cells-cells × tie.In-Cells × tie.After-rows_in_order × tie.Else-not-rows_in_order = search in
+    c.first_in_rows.ensures
     ∙ sym (ordered_first s.args.field s.args.lows.now s.args.highs.now s.args.bounds _ _ _ _
-    (sym v.visited-cells.ensures ∙ k.cells.given.1) (lows-size s).some_columns s.args.ray s.pre.1 s.pre.0
-    (test_passed o.rows_in_order.ensures e.if1.left))
+    (sym v.visited_cells-cells.ensures ∙ k.in-Cells.is) (lows-size s).some_columns s.args.ray s.requires.1 s.requires.0
+    (test_passed o.rows_in_order.ensures e.if-not-rows_in_order.false))
 
-pub visited-answer-spec : {M : Type 1} → statement M
-visited-answer-spec =
+pub visited_answer_spec : {M : Type 1} → statement M
+visited_answer_spec =
     tie.close
     (tie.spec
     visited-cells-requires
-    (search rules)  -- enum-known-cells
-    (search rules)  -- enum_told
+    (search rules)  -- enum_known-cells
+    (search rules)  -- enum_told-1
     returns
     add-rows-in-order
     add-rows-in-order-2

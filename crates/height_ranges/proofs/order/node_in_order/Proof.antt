@@ -6,15 +6,15 @@ use Rattle.height_ranges.proofs.order.node_in_order.Tie as tie
 
 returns : tie.Need-returns
 unfolding node_in_order
-returns c = c.valid-side.ensures
+returns c = c.valid_side.ensures
 
-pub node-in-order-spec : {M : Type 1} → statement M
-node-in-order-spec =
+pub node_in_order_spec : {M : Type 1} → statement M
+node_in_order_spec =
     tie.close
     (tie.spec
-    (search rules)  -- mul-low
-    (search rules)  -- shared-slice-read-low
-    (search rules)  -- mul-high
-    (search rules)  -- shared-slice-read-high
-    (search rules)  -- valid-side-requires
+    (search rules)  -- offset_bounds-lows-node
+    (search rules)  -- bounds-lows-node
+    (search rules)  -- offset_bounds-highs-node
+    (search rules)  -- bounds-highs-node
+    (search rules)  -- valid_side-requires
     returns)

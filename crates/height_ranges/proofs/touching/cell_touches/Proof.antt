@@ -8,60 +8,60 @@ use Rattle.height_ranges.proofs.touching.cell_touches.Statement.{statement}
 use Rattle.height_ranges.proofs.touching.cell_touches.Tie as tie
 
 -- the first triangle touches
-returns : tie.Need-returns
+returns : tie.Need-returns-then-touches
 unfolding corners_at
 returns c =
-    let (s, p, q) : tie.Start × tie.After-nearest-vertex × tie.After-nearest-vertex2 = search in
-    let (v, w, k, t) : tie.After-nearest-vertex3 × tie.After-nearest-vertex4 × tie.After-of-corners × tie.After-touches = search in
+    let (s, p, q) : tie.Start × tie.After-nearest_vertex-v00 × tie.After-nearest_vertex-v10 = search in
+    let (v, w, k, t) : tie.After-nearest_vertex-v01 × tie.After-nearest_vertex-v11 × tie.After-of_corners × tie.After-touches = search in
     let a = s.args in
     rw (cell_touches_is a.field (nearest_heights a.bounds.min.z a.lows.now a.highs.now) a.bounds a.row a.column
-    s.pre.1.1.1)
+    s.requires.1.1.1)
     (simp (
-      sym w.nearest-vertex4.ensures,
-      sym v.nearest-vertex3.ensures,
-      sym q.nearest-vertex2.ensures,
-      sym p.nearest-vertex.ensures,
-      sym k.of-corners.ensures,
+      sym w.nearest_vertex-v11.ensures,
+      sym v.nearest_vertex-v01.ensures,
+      sym q.nearest_vertex-v10.ensures,
+      sym p.nearest_vertex-v00.ensures,
+      sym k.of_corners.ensures,
       sym t.touches.ensures,
-      c.if1.true,
+      c.if-touches.true,
     ))
 
 -- the second decides
-returns-2 : tie.Need-returns-2
+returns-2 : tie.Need-returns
 unfolding corners_at
 returns-2 c =
-    let (s, p, q, e) : tie.Start × tie.After-nearest-vertex × tie.After-nearest-vertex2 × tie.Else1 = search in
-    let (v, w, k, t) : tie.After-nearest-vertex3 × tie.After-nearest-vertex4 × tie.After-of-corners × tie.After-touches = search in
+    let (s, p, q, e) : tie.Start × tie.After-nearest_vertex-v00 × tie.After-nearest_vertex-v10 × tie.Else-touches = search in
+    let (v, w, k, t) : tie.After-nearest_vertex-v01 × tie.After-nearest_vertex-v11 × tie.After-of_corners × tie.After-touches = search in
     let a = s.args in
     rw (cell_touches_is a.field (nearest_heights a.bounds.min.z a.lows.now a.highs.now) a.bounds a.row a.column
-    s.pre.1.1.1)
+    s.requires.1.1.1)
     (simp (
-      sym w.nearest-vertex4.ensures,
-      sym v.nearest-vertex3.ensures,
-      sym q.nearest-vertex2.ensures,
-      sym p.nearest-vertex.ensures,
-      sym k.of-corners.ensures,
+      sym w.nearest_vertex-v11.ensures,
+      sym v.nearest_vertex-v01.ensures,
+      sym q.nearest_vertex-v10.ensures,
+      sym p.nearest_vertex-v00.ensures,
+      sym k.of_corners.ensures,
       sym t.touches.ensures,
-      e.if1.left,
-      sym c.before.of-corners2.ensures,
-      sym c.touches2.ensures,
+      e.if-touches.false,
+      sym c.of_corners-2.ensures,
+      sym c.touches-2.ensures,
     ))
 
-pub cell-touches-spec : {M : Type 1} → statement M
-cell-touches-spec =
+pub cell_touches_spec : {M : Type 1} → statement M
+cell_touches_spec =
     tie.close
     (tie.spec
-    (search rules)  -- nearest-vertex-requires
-    (search rules)  -- add-nearest-vertex
-    (search rules)  -- nearest-vertex-requires-2
-    (search rules)  -- add-nearest-vertex-2
-    (search rules)  -- nearest-vertex-requires-3
-    (search rules)  -- add-nearest-vertex-3
-    (search rules)  -- add-nearest-vertex-4
-    (search rules)  -- nearest-vertex-requires-4
-    (search rules)  -- of-corners-requires
+    (search rules)  -- nearest_vertex-v00-requires
+    (search rules)  -- overflow_add-column
+    (search rules)  -- nearest_vertex-v10-requires
+    (search rules)  -- overflow_add-row
+    (search rules)  -- nearest_vertex-v01-requires
+    (search rules)  -- overflow_add-row-2
+    (search rules)  -- overflow_add-column-2
+    (search rules)  -- nearest_vertex-v11-requires
+    (search rules)  -- of_corners-requires
     (search rules)  -- touches-requires
     returns
-    (search rules)  -- of-corners-requires-2
+    (search rules)  -- of_corners-requires-2
     (search rules)  -- touches-requires-2
     returns-2)

@@ -8,5 +8,5 @@ returns : tie.Need-returns
 unfolding along
 returns c = refl
 
-pub along-spec : {M : Type 1} → statement M
-along-spec = tie.close (tie.spec returns)
+pub along_spec : {M : Type 1} → statement M
+along_spec = tie.close (tie.spec returns)

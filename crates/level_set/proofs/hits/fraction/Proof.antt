@@ -5,22 +5,26 @@ use Rattle.level_set.proofs.SampleLaws.{fraction_last}
 use Rattle.level_set.proofs.hits.fraction.Statement.{statement}
 use Rattle.level_set.proofs.hits.fraction.Tie as tie
 
-returns : tie.Need-returns
+returns : tie.Need-returns-then-index-eq0
 unfolding fraction_of
-returns c = sym (ap fraction_of c.if1.true)
+returns c = sym (ap fraction_of c.if-index-eq0.true)
 
-returns-2 : tie.Need-returns-2
+returns-2 : tie.Need-returns-then-index-eq1
 unfolding fraction_of
-returns-2 c = sym (ap fraction_of c.if2.true)
+returns-2 c = sym (ap fraction_of c.if-index-eq1.true)
 
-returns-3 : tie.Need-returns-3
+returns-3 : tie.Need-returns-then-index-eq2
 unfolding fraction_of
-returns-3 c = sym (ap fraction_of c.if3.true)
+returns-3 c = sym (ap fraction_of c.if-index-eq2.true)
 
-returns-4 : tie.Need-returns-4
+returns-4 : tie.Need-returns
 returns-4 c =
-    let else1 : tie.Else1 = search in
-    fraction_last _ else1.if1.left c.before.if2.false c.if3.false
+    let else1 : tie.Else-index-eq0 = search in
+    fraction_last _ else1.if-index-eq0.false c.if-index-eq1.false c.if-index-eq2.false
 
-pub fraction-spec : {M : Type 1} → statement M
-fraction-spec = tie.close (tie.spec returns returns-2 returns-3 returns-4)
+pub fraction_spec : {M : Type 1} → statement M
+fraction_spec = tie.close (tie.spec
+    returns
+    returns-2
+    returns-3
+    returns-4)

@@ -5,21 +5,26 @@ use borrow.Author.Rules.{rules}
 use Rattle.level_set.proofs.hits.hit_with.Statement.{statement}
 use Rattle.level_set.proofs.hits.hit_with.Tie as tie
 
-try-normalize-requires : tie.Need-try-normalize-requires
+try-normalize-requires : tie.Need-try_normalize-unit-requires
 try-normalize-requires c κs = tt
 
-returns : tie.Need-returns
+returns : tie.Need-returns-in_default
 unfolding hit_with
 returns c =
-    let at-try-normalize : tie.After-try-normalize = search in
-    simp (sym at-try-normalize.try-normalize.ensures, c.enum_told.given.1)
+    let at-try-normalize : tie.After-try_normalize-unit = search in
+    simp (sym at-try-normalize.try_normalize-unit.ensures, c.in_default.is)
 
-returns-2 : tie.Need-returns-2
+returns-2 : tie.Need-returns
 unfolding hit_with
 returns-2 c =
-    let at-try-normalize : tie.After-try-normalize = search in
-    simp (sym at-try-normalize.try-normalize.ensures, c.before.unit.given.1)
+    let at-try-normalize : tie.After-try_normalize-unit = search in
+    simp (sym at-try-normalize.try_normalize-unit.ensures, c.in-Unit.is)
 
-pub hit-with-spec : {M : Type 1} → statement M
-hit-with-spec =
-    tie.close (tie.spec try-normalize-requires (search rules) (search rules) returns returns-2)
+pub hit_with_spec : {M : Type 1} → statement M
+hit_with_spec =
+    tie.close (tie.spec
+    try-normalize-requires
+    (search rules)  -- enum_known-unit
+    (search rules)  -- enum_told-1
+    returns
+    returns-2)

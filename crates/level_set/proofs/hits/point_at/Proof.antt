@@ -12,7 +12,7 @@ add-requires c κs = tt
 
 returns : tie.Need-returns
 unfolding point_at
-returns c = simp (sym c.before.scale.ensures, sym c.add.ensures)
+returns c = simp (sym c.scale.ensures, sym c.add.ensures)
 
-pub point-at-spec : {M : Type 1} → statement M
-point-at-spec = tie.close (tie.spec scale-requires add-requires returns)
+pub point_at_spec : {M : Type 1} → statement M
+point_at_spec = tie.close (tie.spec scale-requires add-requires returns)

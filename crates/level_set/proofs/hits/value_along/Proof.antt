@@ -5,12 +5,15 @@ use borrow.Author.Rules.{rules}
 use Rattle.level_set.proofs.hits.value_along.Statement.{statement}
 use Rattle.level_set.proofs.hits.value_along.Tie as tie
 
-point-at-requires : tie.Need-point-at-requires
+point-at-requires : tie.Need-point_at-requires
 point-at-requires c κs = tt
 
 returns : tie.Need-returns
 unfolding value_along
-returns c = simp (sym c.before.point_at.ensures, sym c.value_of.ensures)
+returns c = simp (sym c.point_at.ensures, sym c.value_of.ensures)
 
-pub value-along-spec : {M : Type 1} → statement M
-value-along-spec = tie.close (tie.spec point-at-requires (search rules) returns)
+pub value_along_spec : {M : Type 1} → statement M
+value_along_spec = tie.close (tie.spec
+    point-at-requires
+    (search rules)  -- value_of-requires
+    returns)

@@ -9,37 +9,37 @@ use Rattle.level_set.proofs.walk.cell_cast.Tie as tie
 along-requires : tie.Need-along-requires
 along-requires c κs = tt
 
-cell-by-requires : tie.Need-cell-by-requires
+cell-by-requires : tie.Need-cell_by-requires
 cell-by-requires c κs =
-    let (start, at-samples-along, at-taken2) : tie.Start × tie.After-samples-along × tie.After-taken2 = search in
+    let (start, at-samples-along, at-taken2) : tie.Start × tie.After-samples_along-taken × tie.In-All = search in
     let start = start in (
-      start.pre.0,
+      start.requires.0,
       last_remembered start.args.ray start.args.grid start.args.values.now start.args.current start.args.end _ _
           c.along.ensures
-          at-samples-along.samples-along.ensures at-taken2.taken2.given.1,
+          at-samples-along.samples_along-taken.ensures at-taken2.in-All.is,
     )
 
-returns : tie.Need-returns
+returns : tie.Need-returns-in-Refused
 unfolding cell_cast
 returns c =
-    let at-samples-along : tie.After-samples-along = search in
-    (simp (sym at-samples-along.samples-along.ensures, c.before.taken.given.1), ended)
+    let at-samples-along : tie.After-samples_along-taken = search in
+    (simp (sym at-samples-along.samples_along-taken.ensures, c.in-Refused.is), ended)
 
-returns-2 : tie.Need-returns-2
+returns-2 : tie.Need-returns-in-All
 unfolding cell_cast
 returns-2 c =
-    let (at-samples-along, at-taken2) : tie.After-samples-along × tie.After-taken2 = search in (
-      simp (sym at-samples-along.samples-along.ensures, at-taken2.taken2.given.1, sym c.cell-by.ensures.0),
-      c.cell-by.ensures.1,
+    let (at-samples-along, at-taken2) : tie.After-samples_along-taken × tie.In-All = search in (
+      simp (sym at-samples-along.samples_along-taken.ensures, at-taken2.in-All.is, sym c.cell_by.ensures.0),
+      c.cell_by.ensures.1,
     )
 
-pub cell-cast-spec : {M : Type 1} → statement M
-cell-cast-spec =
+pub cell_cast_spec : {M : Type 1} → statement M
+cell_cast_spec =
     tie.close
     (tie.spec
-    (λ c κs. search rules)  -- samples-along-requires
-    (search rules)  -- enum-known-taken
-    (search rules)  -- enum-known-taken-2
+    (λ c κs. search rules)  -- samples_along-taken-requires
+    (search rules)  -- enum_known-taken
+    (search rules)  -- enum_known-taken-in-All-1
     along-requires
     cell-by-requires
     returns

@@ -9,5 +9,9 @@ returns : tie.Need-returns
 unfolding cell_limit
 returns c = refl
 
-pub cell-limit-spec : {M : Type 1} → statement M
-cell-limit-spec = tie.close (tie.spec (search rules) (search rules) (search rules) returns)
+pub cell_limit_spec : {M : Type 1} → statement M
+cell_limit_spec = tie.close (tie.spec
+    (search rules)  -- overflow_add-result
+    (search rules)  -- overflow_add-result-2
+    (search rules)  -- overflow_add-result-3
+    returns)

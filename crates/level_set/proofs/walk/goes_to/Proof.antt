@@ -5,19 +5,24 @@ use borrow.Author.Rules.{rules}
 use Rattle.level_set.proofs.walk.goes_to.Statement.{statement}
 use Rattle.level_set.proofs.walk.goes_to.Tie as tie
 
-returns : tie.Need-returns
+returns : tie.Need-returns-then-next-current
 unfolding goes_to
-returns c = (simp (c.before.if1.true, sym c.touch_at_lem.ensures), ended)
+returns c = (simp (c.if-next-current.true, sym c.touch_at.ensures), ended)
 
 minimum-requires : tie.Need-minimum-requires
 minimum-requires c κs = tt
 
-returns-2 : tie.Need-returns-2
+returns-2 : tie.Need-returns
 unfolding goes_to
 returns-2 c =
-    let else1 : tie.Else1 = search in
-    (simp (else1.if1.left, sym c.before.minimum.ensures, sym c.cell-cast.ensures.0), c.cell-cast.ensures.1)
+    let else1 : tie.Else-next-current = search in
+    (simp (else1.if-next-current.false, sym c.minimum.ensures, sym c.cell_cast.ensures.0), c.cell_cast.ensures.1)
 
-pub goes-to-spec : {M : Type 1} → statement M
-goes-to-spec =
-    tie.close (tie.spec (λ c κs. search rules) returns minimum-requires (λ c κs. search rules) returns-2)
+pub goes_to_spec : {M : Type 1} → statement M
+goes_to_spec =
+    tie.close (tie.spec
+    (λ c κs. search rules)  -- touch_at-requires
+    returns
+    minimum-requires
+    (λ c κs. search rules)  -- cell_cast-requires
+    returns-2)

@@ -9,42 +9,42 @@ use Rattle.level_set.proofs.walk.ray_level_set.Tie as tie
 validate-requires : tie.Need-validate-requires
 validate-requires c κs = tt
 
-returns : tie.Need-returns
+returns : tie.Need-returns-then-not-validate
 unfolding ray_level_set
-returns c = simp (sym c.before.validate.ensures, not-true c.before.validate.result c.if1.true)
+returns c = simp (sym c.validate.ensures, c.if-not-validate.true)
 
-is-admitted-requires : tie.Need-is-admitted-requires
+is-admitted-requires : tie.Need-is_admitted-requires
 is-admitted-requires c κs = tt
 
-returns-2 : tie.Need-returns-2
+returns-2 : tie.Need-returns-then-not-is_admitted
 unfolding ray_level_set
 returns-2 c =
-    let (at-validate, else1) : tie.After-validate × tie.Else1 = search in
+    let (at-validate, else1) : tie.After-validate × tie.Else-not-validate = search in
     simp (
       sym at-validate.validate.ensures,
-      not-false at-validate.validate.result else1.if1.left,
-      sym c.before.is-admitted.ensures,
-      not-true c.before.is-admitted.result c.if2.true,
+      else1.if-not-validate.false,
+      sym c.is_admitted.ensures,
+      c.if-not-is_admitted.true,
     )
 
-level-set-cast-requires : tie.Need-level-set-cast-requires
+level-set-cast-requires : tie.Need-level_set_cast-requires
 level-set-cast-requires c κs = admitted_stands _ _
-    (sym c.before.is-admitted.ensures ∙ not-false c.before.is-admitted.result c.if2.false)
+    (sym c.is_admitted.ensures ∙ c.if-not-is_admitted.false)
 
-returns-3 : tie.Need-returns-3
+returns-3 : tie.Need-returns
 unfolding ray_level_set
 returns-3 c =
-    let (at-validate, else1, at-is-admitted) : tie.After-validate × tie.Else1 × tie.After-is-admitted = search in
+    let (at-validate, else1, at-is-admitted) : tie.After-validate × tie.Else-not-validate × tie.After-is_admitted = search in
     simp (
       sym at-validate.validate.ensures,
-      not-false at-validate.validate.result else1.if1.left,
-      sym at-is-admitted.is-admitted.ensures,
-      not-false at-is-admitted.is-admitted.result c.before.if2.false,
-      sym c.level-set-cast.ensures,
+      else1.if-not-validate.false,
+      sym at-is-admitted.is_admitted.ensures,
+      c.if-not-is_admitted.false,
+      sym c.level_set_cast.ensures,
     )
 
-pub ray-level-set-spec : {M : Type 1} → statement M
-ray-level-set-spec =
+pub ray_level_set_spec : {M : Type 1} → statement M
+ray_level_set_spec =
     tie.close
     (tie.spec
     validate-requires

@@ -5,76 +5,76 @@ use borrow.Author.Rules.{rules}
 use Rattle.level_set.proofs.walk.walk_step.Statement.{statement}
 use Rattle.level_set.proofs.walk.walk_step.Tie as tie
 
-returns : tie.Need-returns
+returns : tie.Need-returns-then-current-exit
 unfolding walk_step
-returns c = (simp c.if1.true, ended)
+returns c = (simp c.if-current-exit.true, ended)
 
-point-at-requires : tie.Need-point-at-requires
+point-at-requires : tie.Need-point_at-point-requires
 point-at-requires c κs = tt
 
-returns-2 : tie.Need-returns-2
+returns-2 : tie.Need-returns-in_default
 unfolding walk_step
 returns-2 c =
-    let (else1, at-point-at, at-ray-cell-indices) : tie.Else1 × tie.After-point-at × tie.After-ray-cell-indices = search in (
+    let (else1, at-point-at, at-ray-cell-indices) : tie.Else-current-exit × tie.After-point_at-point × tie.After-ray_cell_indices-cell = search in (
       simp (
-        else1.if1.left,
-        sym at-point-at.point_at.ensures,
-        sym at-ray-cell-indices.ray-cell-indices.ensures,
-        c.enum_told.given.1,
+        else1.if-current-exit.false,
+        sym at-point-at.point_at-point.ensures,
+        sym at-ray-cell-indices.ray_cell_indices-cell.ensures,
+        c.in_default.is,
       ),
       ended,
     )
 
-next-cell-boundary-requires : tie.Need-next-cell-boundary-requires
+next-cell-boundary-requires : tie.Need-next_cell_boundary-reached-requires
 next-cell-boundary-requires c κs = tt
 
-returns-3 : tie.Need-returns-3
+returns-3 : tie.Need-returns-in_default-reached
 unfolding walk_step
 returns-3 c =
     let (else1, at-point-at, at-ray-cell-indices, at-cell, at-next-cell-boundary) :
-    tie.Else1 × tie.After-point-at × tie.After-ray-cell-indices × tie.After-cell × tie.After-next-cell-boundary = search in (
+    tie.Else-current-exit × tie.After-point_at-point × tie.After-ray_cell_indices-cell × tie.In-At × tie.After-next_cell_boundary-reached = search in (
       simp (
-        else1.if1.left,
-        sym at-point-at.point_at.ensures,
-        sym at-ray-cell-indices.ray-cell-indices.ensures,
-        at-cell.cell.given.1,
-        sym at-next-cell-boundary.next-cell-boundary.ensures,
-        c.enum-told2.given.1,
+        else1.if-current-exit.false,
+        sym at-point-at.point_at-point.ensures,
+        sym at-ray-cell-indices.ray_cell_indices-cell.ensures,
+        at-cell.in-At.is,
+        sym at-next-cell-boundary.next_cell_boundary-reached.ensures,
+        c.in_default-reached.is,
       ),
       ended,
     )
 
-returns-4 : tie.Need-returns-4
+returns-4 : tie.Need-returns
 unfolding walk_step
 returns-4 c =
     let (else1, at-point-at, at-ray-cell-indices, at-cell, at-next-cell-boundary, at-reached) :
-    tie.Else1 × tie.After-point-at × tie.After-ray-cell-indices × tie.After-cell × tie.After-next-cell-boundary × tie.After-reached =
+    tie.Else-current-exit × tie.After-point_at-point × tie.After-ray_cell_indices-cell × tie.In-At × tie.After-next_cell_boundary-reached × tie.In-At-reached =
     search in (
       simp (
-        else1.if1.left,
-        sym at-point-at.point_at.ensures,
-        sym at-ray-cell-indices.ray-cell-indices.ensures,
-        at-cell.cell.given.1,
-        sym at-next-cell-boundary.next-cell-boundary.ensures,
-        at-reached.reached.given.1,
-        sym c.Goes-to.ensures.0,
+        else1.if-current-exit.false,
+        sym at-point-at.point_at-point.ensures,
+        sym at-ray-cell-indices.ray_cell_indices-cell.ensures,
+        at-cell.in-At.is,
+        sym at-next-cell-boundary.next_cell_boundary-reached.ensures,
+        at-reached.in-At-reached.is,
+        sym c.goes_to.ensures.0,
       ),
-      c.Goes-to.ensures.1,
+      c.goes_to.ensures.1,
     )
 
-pub walk-step-spec : {M : Type 1} → statement M
-walk-step-spec =
+pub walk_step_spec : {M : Type 1} → statement M
+walk_step_spec =
     tie.close
     (tie.spec
     returns
     point-at-requires
-    (λ c κs. search rules)  -- ray-cell-indices-requires
-    (search rules)  -- enum-known-cell
-    (search rules)  -- enum_told
+    (λ c κs. search rules)  -- ray_cell_indices-cell-requires
+    (search rules)  -- enum_known-cell
+    (search rules)  -- enum_told-1
     returns-2
     next-cell-boundary-requires
-    (search rules)  -- enum-known-reached
-    (search rules)  -- enum-told-2
+    (search rules)  -- enum_known-reached
+    (search rules)  -- enum_told-in_default-reached
     returns-3
-    (λ c κs. search rules)  -- goes-to-requires
+    (λ c κs. search rules)  -- goes_to-requires
     returns-4)

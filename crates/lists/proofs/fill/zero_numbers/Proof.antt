@@ -11,19 +11,19 @@ use borrow.Author.Rules.{rules}
 use Rattle.lists.proofs.fill.zero_numbers.Statement.{statement}
 use Rattle.lists.proofs.fill.zero_numbers.Tie as tie
 
-abbrev invariant-loop : tie.invariant-loop
+abbrev invariant-loop : tie.invariant-loop-i
 invariant-loop area₀ i₀ area i = (area ≡ replicate i zero_number ++ drop i area₀) × ((length area ≡ length area₀) × (i ≤ length area₀))
 
-abbrev decreases-loop : tie.decreases-loop
+abbrev decreases-loop : tie.decreases-loop-i
 decreases-loop area₀ i₀ area i = length area₀ - i
 
-loop-holds : tie.Need-loop-init invariant-loop decreases-loop
+loop-holds : tie.Need-loop-i-init invariant-loop decreases-loop
 loop-holds c = (refl, (refl, omega arith))
 
-loop-again : tie.Need-loop-preserved invariant-loop decreases-loop
+loop-again : tie.Need-loop-i-preserved invariant-loop decreases-loop
 loop-again c =
     let start : tie.Start invariant-loop decreases-loop = search in
-    let l = c.before.loop in
+    let l = c.before.loop-i in
     let a = start.args in (
       ap (λ (z : List Float). set z l.i zero_number) l.invariant.0 ∙ stored_after (replicate l.i zero_number) a.area.now l.i
           zero_number nan (length-replicate l.i zero_number) (omega arith)
@@ -31,28 +31,28 @@ loop-again c =
       (length-set l.area l.i zero_number ∙ l.invariant.1.0, omega arith),
     )
 
-same_length : tie.Need-same-length invariant-loop decreases-loop
-same_length c = c.before.loop.invariant.1.0
+same_length : tie.Need-shape_of-area invariant-loop decreases-loop
+same_length c = c.before.loop-i.invariant.1.0
 
 returns : tie.Need-returns invariant-loop decreases-loop
 returns c =
     let start : tie.Start invariant-loop decreases-loop = search in
-    let l = c.before.loop in
+    let l = c.before.loop-i in
     let a = start.args in
     let e : l.i ≡ length a.area.now = omega arith in
     l.invariant.0 ∙ stored_all (replicate l.i zero_number) a.area.now l.i (omega arith) ∙ ap (λ (k : ℕ). replicate k zero_number) e
 
-pub zero-numbers-spec : {M : Type 1} → statement M
-zero-numbers-spec =
+pub zero_numbers_spec : {M : Type 1} → statement M
+zero_numbers_spec =
     tie.close
     (tie.spec
     invariant-loop
     decreases-loop
     loop-holds
-    (search rules)  -- mul-area
-    (search rules)  -- slice-write-area
-    (search rules)  -- add-i
-    (search rules)  -- loop-less
+    (search rules)  -- offset_bounds-area-i
+    (search rules)  -- bounds-area-i
+    (search rules)  -- overflow_add-i
+    (search rules)  -- loop-i-smaller
     loop-again
     same_length
     returns)

@@ -10,36 +10,36 @@ use Rattle.many_casts.proofs.admitted_exact.cast_ray.Tie as tie
 abbrev tree : tie.Start → Tree
 tree s =
     let a = s.args in
-    tree_of a.nodes a.node_boxes_lem.now a.triangle_boxes_lem.now a.node_words_lem.now a.order.now
+    tree_of a.nodes a.node_boxes.now a.triangle_boxes.now a.node_words.now a.order.now
 
 -- refusal 1
-returns : tie.Need-returns
-returns c = exact_invalid _ _ _ _ _ (test_failed c.before.validate.ensures c.if1.true)
+returns : tie.Need-returns-then-not-validate
+returns c = exact_invalid _ _ _ _ _ (test_failed c.validate.ensures c.if-not-validate.true)
 
 -- refusal 12 of the ray
-returns-2 : tie.Need-returns-2
+returns-2 : tie.Need-returns-then-not-admitted
 returns-2 c =
-    let e : tie.Else1 = search in
-    exact_off _ _ _ _ _ (test_passed e.before.validate.ensures e.if1.left)
-    (test_failed c.before.admitted.ensures c.if2.true)
+    let e : tie.Else-not-validate = search in
+    exact_off _ _ _ _ _ (test_passed e.validate.ensures e.if-not-validate.false)
+    (test_failed c.admitted.ensures c.if-not-admitted.true)
 
-exact-through-requires : tie.Need-exact-through-requires
+exact-through-requires : tie.Need-exact_through-requires
 exact-through-requires c κs =
-    let (s, e, k) : tie.Start × tie.Else1 × tie.Else2 = search in (
-      (test_passed e.before.validate.ensures e.if1.left, test_passed k.before.admitted.ensures k.if2.left),
-      room_of _ (tree s) s.args.stack.now (nodes_few _ _ _ _ s.pre.shaped) s.pre.lent,
+    let (s, e, k) : tie.Start × tie.Else-not-validate × tie.Else-not-admitted = search in (
+      (test_passed e.validate.ensures e.if-not-validate.false, test_passed k.admitted.ensures k.if-not-admitted.false),
+      room_of _ (tree s) s.args.stack.now (nodes_few _ _ _ _ s.requires.shaped) s.requires.lent,
     )
 
 -- past them
-returns-3 : tie.Need-returns-3
+returns-3 : tie.Need-returns
 returns-3 c =
-    let (s, e, k, x) : tie.Start × tie.Else1 × tie.Else2 × tie.After-exact-through = search in
-    exact_passed _ _ _ _ _ (test_passed e.before.validate.ensures e.if1.left)
-    (test_passed k.before.admitted.ensures k.if2.left) s.pre.shaped s.pre.lent s.pre.posed _
-    x.exact-through.ensures
+    let (s, e, k, x) : tie.Start × tie.Else-not-validate × tie.Else-not-admitted × tie.After-exact_through = search in
+    exact_passed _ _ _ _ _ (test_passed e.validate.ensures e.if-not-validate.false)
+    (test_passed k.admitted.ensures k.if-not-admitted.false) s.requires.shaped s.requires.lent s.requires.posed _
+    x.exact_through.ensures
 
-pub cast-ray-spec : {M : Type 1} → statement M
-cast-ray-spec =
+pub cast_ray_spec : {M : Type 1} → statement M
+cast_ray_spec =
     tie.close
     (tie.spec
     (search rules)  -- validate-requires
@@ -47,5 +47,5 @@ cast-ray-spec =
     (search rules)  -- admitted-requires
     returns-2
     exact-through-requires
-    (search rules)  -- same-length
+    (search rules)  -- shape_of-stack
     returns-3)

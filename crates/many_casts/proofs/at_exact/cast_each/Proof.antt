@@ -12,13 +12,13 @@ use borrow.Author.Rules.{rules}
 use Rattle.many_casts.proofs.at_exact.cast_each.Statement.{statement}
 use Rattle.many_casts.proofs.at_exact.cast_each.Tie as tie
 
-abbrev invariant-loop : tie.invariant-loop
+abbrev invariant-loop : tie.invariant-loop-i
 invariant-loop count rays vertices triangles pose nodes node_boxes_lem triangle_boxes_lem node_words_lem order stack₀ codes₀ hits₀ indices₀ i₀ stack
     codes hits indices i =
     Answered (exact_answer (mesh vertices triangles) pose (tree_of nodes node_boxes_lem triangle_boxes_lem node_words_lem order) (length stack₀))
     rays count i (places codes₀ hits₀ indices₀) (places codes hits indices) stack₀ stack stack₀ stack
 
-abbrev decreases-loop : tie.decreases-loop
+abbrev decreases-loop : tie.decreases-loop-i
 decreases-loop count rays vertices triangles pose nodes node_boxes_lem triangle_boxes_lem node_words_lem order stack₀ codes₀ hits₀ indices₀ i₀ stack
     codes hits indices i =
     count - i
@@ -27,67 +27,67 @@ abbrev Start : Type 0
 Start = tie.Start invariant-loop decreases-loop
 
 abbrev At : Type 0
-At = tie.At-loop invariant-loop decreases-loop
+At = tie.At-loop-i invariant-loop decreases-loop
 
 abbrev Within : Type 0
-Within = tie.In-loop invariant-loop decreases-loop
+Within = tie.In-loop-i invariant-loop decreases-loop
 
 abbrev tree : Start → Tree
 tree s =
     let a = s.args in
-    tree_of a.nodes a.node_boxes_lem.now a.triangle_boxes_lem.now a.node_words_lem.now a.order.now
+    tree_of a.nodes a.node_boxes.now a.triangle_boxes.now a.node_words.now a.order.now
 
-loop-holds : tie.Need-loop-init invariant-loop decreases-loop
+loop-holds : tie.Need-loop-i-init invariant-loop decreases-loop
 loop-holds c = none_answered _ _ _ _ _ _
 
-cast-at-requires : tie.Need-cast-at-requires invariant-loop decreases-loop
+cast-at-requires : tie.Need-cast_at-requires invariant-loop decreases-loop
 cast-at-requires c κs =
     let (s, l, w) : Start × At × Within = search in
-    let inv = l.loop.inv in (
-      has_place _ _ _ _ _ _ _ _ _ _ w.loop-test.taken inv s.pre.0,
-      still_ready (tree_room (thirds (length s.args.triangles.now)) (tree s) (s.args.nodes + 1) _ _ inv.stack_long) s.pre.1,
+    let inv = l.loop-i.invariant in (
+      has_place _ _ _ _ _ _ _ _ _ _ w.loop-i-test.true inv s.requires.0,
+      still_ready (tree_room (thirds (length s.args.triangles.now)) (tree s) (s.args.nodes + 1) _ _ inv.stack_long) s.requires.1,
     )
 
 -- one more ray
-loop-again : tie.Need-loop-preserved invariant-loop decreases-loop
+loop-again : tie.Need-loop-i-preserved invariant-loop decreases-loop
 loop-again c =
-    let (l, w, k) : At × Within × tie.After-cast-at invariant-loop decreases-loop = search in
-    let inv = l.loop.inv in
-    let kept = k.cast-at.kept.1.1.1.1.1.1.1.1.1.1 in
-    next_answered _ _ _ _ _ _ _ _ _ _ w.loop-test.taken inv _ _ _
-    (k.cast-at.ensures ∙ same_exact _ _ _ _ _ inv.stack_long _ _ _)
+    let (l, w, k) : At × Within × tie.After-cast_at invariant-loop decreases-loop = search in
+    let inv = l.loop-i.invariant in
+    let kept = k.cast_at.kept.1.1.1.1.1.1.1.1.1.1 in
+    next_answered _ _ _ _ _ _ _ _ _ _ w.loop-i-test.true inv _ _ _
+    (k.cast_at.ensures ∙ same_exact _ _ _ _ _ inv.stack_long _ _ _)
     kept.1.0 kept.1.1.0 kept.1.1.1.0 kept.0 kept.0
 
-same_length : tie.Need-same-length invariant-loop decreases-loop
-same_length c = let l : At = search in l.loop.inv.stack_long
+same_length : tie.Need-shape_of-stack invariant-loop decreases-loop
+same_length c = let l : At = search in l.loop-i.invariant.stack_long
 
-same-length-2 : tie.Need-same-length-2 invariant-loop decreases-loop
-same-length-2 c = let l : At = search in l.loop.inv.codes
+same-length-2 : tie.Need-shape_of-codes invariant-loop decreases-loop
+same-length-2 c = let l : At = search in l.loop-i.invariant.codes
 
-same-length-3 : tie.Need-same-length-3 invariant-loop decreases-loop
-same-length-3 c = let l : At = search in l.loop.inv.hits
+same-length-3 : tie.Need-shape_of-hits invariant-loop decreases-loop
+same-length-3 c = let l : At = search in l.loop-i.invariant.hits
 
-same-length-4 : tie.Need-same-length-4 invariant-loop decreases-loop
-same-length-4 c = let l : At = search in l.loop.inv.indices
+same-length-4 : tie.Need-shape_of-indices invariant-loop decreases-loop
+same-length-4 c = let l : At = search in l.loop-i.invariant.indices
 
 -- all of them
 returns : tie.Need-returns invariant-loop decreases-loop
 returns c =
     let (s, l) : Start × At = search in
-    let inv = l.loop.inv in
-    let end : l.loop.i ≡ s.args.count = omega (arith, inv.most, c.loop-test.false) in
+    let inv = l.loop-i.invariant in
+    let end : l.loop-i.i ≡ s.args.count = omega (arith, inv.most, c.loop-i-test.false) in
     answers_all _ _ _ _ _ _ inv.returned end
 
-pub cast-each-spec : {M : Type 1} → statement M
-cast-each-spec =
+pub cast_each_spec : {M : Type 1} → statement M
+cast_each_spec =
     tie.close
     (tie.spec
     invariant-loop
     decreases-loop
     loop-holds
     cast-at-requires
-    (search rules)  -- add-i
-    (search rules)  -- loop-less
+    (search rules)  -- overflow_add-i
+    (search rules)  -- loop-i-smaller
     loop-again
     same_length
     same-length-2

@@ -13,81 +13,81 @@ use Rattle.many_casts.proofs.at_exact.ray_mesh_exact_many.Statement.{statement}
 use Rattle.many_casts.proofs.at_exact.ray_mesh_exact_many.Tie as tie
 
 -- the rays are not eight numbers each
-returns : tie.Need-returns
-returns c = many_odd _ _ _ _ _ _ _ _ refl c.if1.true
+returns : tie.Need-returns-then-rays-ne0
+returns c = many_odd _ _ _ _ _ _ _ _ refl c.if-rays-ne0.true
 
 -- refusal 2 of the mesh
-returns-2 : tie.Need-returns-2
+returns-2 : tie.Need-returns-then-not-shape_admitted
 unfolding shape_admitted
 returns-2 c =
-    let (a, t) : tie.Else1 × tie.Then2 = search in
-    many_bad _ _ _ _ _ _ _ _ refl a.if1.left (test_failed t.before.shape_admitted_lem.ensures t.if2.taken)
+    let (a, t) : tie.Else-rays-ne0 × tie.Then-not-shape_admitted = search in
+    many_bad _ _ _ _ _ _ _ _ refl a.if-rays-ne0.false (test_failed t.shape_admitted.ensures t.if-not-shape_admitted.true)
 
-room-fits-requires : tie.Need-room-fits-requires
+room-fits-requires : tie.Need-room_fits-requires
 room-fits-requires c κs =
-    let b : tie.Else2 = search in
-    triangles_few _ _ _ _ (test_passed b.before.shape_admitted_lem.ensures b.if2.left)
+    let b : tie.Else-not-shape_admitted = search in
+    triangles_few _ _ _ _ (test_passed b.shape_admitted.ensures b.if-not-shape_admitted.false)
 
 -- refusal 3 of the tree's areas and the work areas
-returns-3 : tie.Need-returns-3
+returns-3 : tie.Need-returns-then-not-room_fits
 unfolding shape_admitted room_for
 returns-3 c =
-    let (a, b, t) : tie.Else1 × tie.Else2 × tie.Then3 = search in
-    many_short _ _ _ _ _ _ _ _ refl a.if1.left (test_passed b.before.shape_admitted_lem.ensures b.if2.left)
-    (test_failed t.before.room-fits.ensures t.if3.taken)
+    let (a, b, t) : tie.Else-rays-ne0 × tie.Else-not-shape_admitted × tie.Then-not-room_fits = search in
+    many_short _ _ _ _ _ _ _ _ refl a.if-rays-ne0.false (test_passed b.shape_admitted.ensures b.if-not-shape_admitted.false)
+    (test_failed t.room_fits.ensures t.if-not-room_fits.true)
 
 -- and of the result slices
-returns-4 : tie.Need-returns-4
+returns-4 : tie.Need-returns-then-not-places_fit
 unfolding shape_admitted room_for places_fit
 returns-4 c =
-    let (a, b, d, t) : tie.Else1 × tie.Else2 × tie.Else3 × tie.Then4 = search in
-    many_narrow _ _ _ _ _ _ _ _ refl a.if1.left (test_passed b.before.shape_admitted_lem.ensures b.if2.left)
-    (test_passed d.before.room-fits.ensures d.if3.left) (test_failed t.before.places-fit.ensures t.if4.taken)
+    let (a, b, d, t) : tie.Else-rays-ne0 × tie.Else-not-shape_admitted × tie.Else-not-room_fits × tie.Then-not-places_fit = search in
+    many_narrow _ _ _ _ _ _ _ _ refl a.if-rays-ne0.false (test_passed b.shape_admitted.ensures b.if-not-shape_admitted.false)
+    (test_passed d.room_fits.ensures d.if-not-room_fits.false) (test_failed t.places_fit.ensures t.if-not-places_fit.true)
 
 -- refusal 4
-returns-5 : tie.Need-returns-5
+returns-5 : tie.Need-returns-then-pose-vertices
 unfolding shape_admitted room_for places_fit
 returns-5 c =
-    let (a, b, d, f, t) : tie.Else1 × tie.Else2 × tie.Else3 × tie.Else4 × tie.Then5 = search in
-    many_posed _ _ _ _ _ _ _ _ refl a.if1.left (test_passed b.before.shape_admitted_lem.ensures b.if2.left)
-    (test_passed d.before.room-fits.ensures d.if3.left) (test_passed f.before.places-fit.ensures f.if4.left)
-    t.if5.taken
+    let (a, b, d, f, t) : tie.Else-rays-ne0 × tie.Else-not-shape_admitted × tie.Else-not-room_fits × tie.Else-not-places_fit × tie.Then-pose-vertices = search in
+    many_posed _ _ _ _ _ _ _ _ refl a.if-rays-ne0.false (test_passed b.shape_admitted.ensures b.if-not-shape_admitted.false)
+    (test_passed d.room_fits.ensures d.if-not-room_fits.false) (test_passed f.places_fit.ensures f.if-not-places_fit.false)
+    t.if-pose-vertices.true
 
-cast-each-requires : tie.Need-cast-each-requires
+cast-each-requires : tie.Need-cast_each-requires
 cast-each-requires c κs =
-    let (b, d, f, g) : tie.Else2 × tie.Else3 × tie.Else4 × tie.Else5 = search in (
-      (omega arith, fits_inside _ _ _ _ (test_passed f.before.places-fit.ensures f.if4.left)),
+    let (b, d, f, g) : tie.Else-not-shape_admitted × tie.Else-not-room_fits × tie.Else-not-places_fit × tie.Else-pose-vertices = search in (
+      (omega arith, fits_inside _ _ _ _ (test_passed f.places_fit.ensures f.if-not-places_fit.false)),
       record {
-        shaped = test_passed b.before.shape_admitted_lem.ensures b.if2.left;
-        lent = test_passed d.before.room-fits.ensures d.if3.left;
-        posed = g.if5.left;
+        shaped = test_passed b.shape_admitted.ensures b.if-not-shape_admitted.false;
+        lent = test_passed d.room_fits.ensures d.if-not-room_fits.false;
+        posed = g.if-pose-vertices.false;
       },
     )
 
 -- past them all
-returns-6 : tie.Need-returns-6
+returns-6 : tie.Need-returns
 unfolding shape_admitted room_for places_fit
 returns-6 c =
-    let (a, b, d, f, g, k) : tie.Else1 × tie.Else2 × tie.Else3 × tie.Else4 × tie.Else5 × tie.After-cast-each = search in
-    many_done _ _ _ _ _ _ _ _ a.if1.left (test_passed b.before.shape_admitted_lem.ensures b.if2.left)
-    (test_passed d.before.room-fits.ensures d.if3.left) (test_passed f.before.places-fit.ensures f.if4.left)
-    g.if5.left _ k.cast-each.ensures
+    let (a, b, d, f, g, k) : tie.Else-rays-ne0 × tie.Else-not-shape_admitted × tie.Else-not-room_fits × tie.Else-not-places_fit × tie.Else-pose-vertices × tie.After-cast_each = search in
+    many_done _ _ _ _ _ _ _ _ a.if-rays-ne0.false (test_passed b.shape_admitted.ensures b.if-not-shape_admitted.false)
+    (test_passed d.room_fits.ensures d.if-not-room_fits.false) (test_passed f.places_fit.ensures f.if-not-places_fit.false)
+    g.if-pose-vertices.false _ k.cast_each.ensures
 
-pub ray-mesh-exact-many-spec : {M : Type 1} → statement M
-ray-mesh-exact-many-spec =
+pub ray_mesh_exact_many_spec : {M : Type 1} → statement M
+ray_mesh_exact_many_spec =
     tie.close
     (tie.spec
     returns
-    (λ c κs. search rules)  -- shape-admitted-requires
+    (λ c κs. search rules)  -- shape_admitted-requires
     returns-2
     room-fits-requires
     returns-3
-    (λ c κs. search rules)  -- places-fit-requires
+    (λ c κs. search rules)  -- places_fit-requires
     returns-4
     returns-5
     cast-each-requires
-    (search rules)  -- same-length
-    (search rules)  -- same-length-2
-    (search rules)  -- same-length-3
-    (search rules)  -- same-length-4
+    (search rules)  -- shape_of-stack
+    (search rules)  -- shape_of-codes
+    (search rules)  -- shape_of-hits
+    (search rules)  -- shape_of-indices
     returns-6)

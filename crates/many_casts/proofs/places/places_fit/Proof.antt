@@ -5,26 +5,26 @@ use Rattle.many_casts.proofs.places.places_fit.Statement.{statement}
 use Rattle.many_casts.proofs.places.places_fit.Tie as tie
 
 -- too few places for the codes
-returns : tie.Need-returns
-returns c = simp (lt-leb _ _ c.if1.true)
+returns : tie.Need-returns-then-codes-count
+returns c = simp (lt-leb _ _ c.if-codes-count.true)
 
 -- too few for the numbers
-returns-2 : tie.Need-returns-2
+returns-2 : tie.Need-returns-then-hits-count
 returns-2 c =
-    let e : tie.Else1 = search in
-    simp (le-leb _ _ e.if1.left, lt-leb _ _ c.if2.true)
+    let e : tie.Else-codes-count = search in
+    simp (le-leb _ _ e.if-codes-count.false, lt-leb _ _ c.if-hits-count.true)
 
 -- the places for the indices decide
-returns-3 : tie.Need-returns-3
+returns-3 : tie.Need-returns
 returns-3 c =
-    let (e, f) : tie.Else1 × tie.Else2 = search in
-    simp (le-leb _ _ e.if1.left, le-leb _ _ f.if2.left)
+    let (e, f) : tie.Else-codes-count × tie.Else-hits-count = search in
+    simp (le-leb _ _ e.if-codes-count.false, le-leb _ _ f.if-hits-count.false)
 
-pub places-fit-spec : {M : Type 1} → statement M
-places-fit-spec =
+pub places_fit_spec : {M : Type 1} → statement M
+places_fit_spec =
     tie.close
     (tie.spec
     returns
-    (search rules)  -- mul-if2
+    (search rules)  -- overflow_mul-count
     returns-2
     returns-3)

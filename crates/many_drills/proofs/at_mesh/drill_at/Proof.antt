@@ -4,37 +4,37 @@ use borrow.Author.Rules.{rules}
 use Rattle.many_drills.proofs.at_mesh.drill_at.Statement.{statement}
 use Rattle.many_drills.proofs.at_mesh.drill_at.Tie as tie
 
-ray-at-requires : tie.Need-ray-at-requires
+ray-at-requires : tie.Need-ray_at-ray-requires
 ray-at-requires c κs =
     let s : tie.Start = search in
-    s.pre.0
+    s.requires.0
 
-radius-at-requires : tie.Need-radius-at-requires
+radius-at-requires : tie.Need-radius_at-radius-requires
 radius-at-requires c κs =
     let s : tie.Start = search in
-    s.pre.0
+    s.requires.0
 
-put-at-requires : tie.Need-put-at-requires
+put-at-requires : tie.Need-put_at-requires
 put-at-requires c κs =
     let s : tie.Start = search in
-    s.pre.1
+    s.requires.1
 
 -- the drill's answer at its places
 returns : tie.Need-returns
 returns c =
-    let (r, w, f, p) : tie.After-ray-at × tie.After-radius-at × tie.After-drill-through × tie.After-put-at = search in
-    p.put-at.ensures ∙ simp (f.drill-through.ensures.0, r.ray-at.ensures, w.radius-at.ensures)
+    let (r, w, f, p) : tie.After-ray_at-ray × tie.After-radius_at-radius × tie.After-drill_through-found × tie.After-put_at = search in
+    p.put_at.ensures ∙ simp (f.drill_through-found.ensures.0, r.ray_at-ray.ensures, w.radius_at-radius.ensures)
 
-pub drill-at-spec : {M : Type 1} → statement M
-drill-at-spec =
+pub drill_at_spec : {M : Type 1} → statement M
+drill_at_spec =
     tie.close
     (tie.spec
     ray-at-requires
     radius-at-requires
-    (search rules)  -- drill-through-requires
+    (search rules)  -- drill_through-found-requires
     put-at-requires
-    (search rules)  -- same-length
-    (search rules)  -- same-length-2
-    (search rules)  -- same-length-3
-    (search rules)  -- same-length-4
+    (search rules)  -- shape_of-list
+    (search rules)  -- shape_of-stack
+    (search rules)  -- shape_of-codes
+    (search rules)  -- shape_of-indices
     returns)

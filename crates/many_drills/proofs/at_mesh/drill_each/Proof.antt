@@ -12,13 +12,13 @@ use borrow.Author.Rules.{rules}
 use Rattle.many_drills.proofs.at_mesh.drill_each.Statement.{statement}
 use Rattle.many_drills.proofs.at_mesh.drill_each.Tie as tie
 
-abbrev invariant-loop : tie.invariant-loop
+abbrev invariant-loop : tie.invariant-loop-i
 invariant-loop count drills vertices triangles nodes node_boxes_lem triangle_boxes_lem node_words_lem order list₀ stack₀ codes₀ indices₀ i₀ list stack
     codes indices i =
     Answered (tree_answer (mesh vertices triangles) (tree_of nodes node_boxes_lem triangle_boxes_lem node_words_lem order) (length list₀)
     (length stack₀)) drills count i (places codes₀ indices₀) (places codes indices) list₀ list stack₀ stack
 
-abbrev decreases-loop : tie.decreases-loop
+abbrev decreases-loop : tie.decreases-loop-i
 decreases-loop count drills vertices triangles nodes node_boxes_lem triangle_boxes_lem node_words_lem order list₀ stack₀ codes₀ indices₀ i₀ list stack
     codes indices i =
     count - i
@@ -27,59 +27,59 @@ abbrev Start : Type 0
 Start = tie.Start invariant-loop decreases-loop
 
 abbrev At : Type 0
-At = tie.At-loop invariant-loop decreases-loop
+At = tie.At-loop-i invariant-loop decreases-loop
 
 abbrev Within : Type 0
-Within = tie.In-loop invariant-loop decreases-loop
+Within = tie.In-loop-i invariant-loop decreases-loop
 
-loop-holds : tie.Need-loop-init invariant-loop decreases-loop
+loop-holds : tie.Need-loop-i-init invariant-loop decreases-loop
 loop-holds c = none_answered _ _ _ _ _ _
 
-drill-at-requires : tie.Need-drill-at-requires invariant-loop decreases-loop
+drill-at-requires : tie.Need-drill_at-requires invariant-loop decreases-loop
 drill-at-requires c κs =
     let (s, l, w) : Start × At × Within = search in
-    has_place _ _ _ _ _ _ _ _ _ _ w.loop-test.taken l.loop.inv s.pre
+    has_place _ _ _ _ _ _ _ _ _ _ w.loop-i-test.true l.loop-i.invariant s.requires
 
 -- one more drill
-loop-again : tie.Need-loop-preserved invariant-loop decreases-loop
+loop-again : tie.Need-loop-i-preserved invariant-loop decreases-loop
 loop-again c =
-    let (l, w, k) : At × Within × tie.After-drill-at invariant-loop decreases-loop = search in
-    let inv = l.loop.inv in
-    let kept = k.drill-at.kept.1.1.1.1.1.1.1.1.1 in
-    next_answered _ _ _ _ _ _ _ _ _ _ w.loop-test.taken inv _ _ _
-    (k.drill-at.ensures ∙ same_answer _ _ _ _ _ _ inv.list_long inv.stack_long _ _ _ _)
+    let (l, w, k) : At × Within × tie.After-drill_at invariant-loop decreases-loop = search in
+    let inv = l.loop-i.invariant in
+    let kept = k.drill_at.kept.1.1.1.1.1.1.1.1.1 in
+    next_answered _ _ _ _ _ _ _ _ _ _ w.loop-i-test.true inv _ _ _
+    (k.drill_at.ensures ∙ same_answer _ _ _ _ _ _ inv.list_long inv.stack_long _ _ _ _)
     kept.1.1.0 kept.1.1.1.0 kept.0 kept.1.0
 
-same_length : tie.Need-same-length invariant-loop decreases-loop
-same_length c = let l : At = search in l.loop.inv.list_long
+same_length : tie.Need-shape_of-list invariant-loop decreases-loop
+same_length c = let l : At = search in l.loop-i.invariant.list_long
 
-same-length-2 : tie.Need-same-length-2 invariant-loop decreases-loop
-same-length-2 c = let l : At = search in l.loop.inv.stack_long
+same-length-2 : tie.Need-shape_of-stack invariant-loop decreases-loop
+same-length-2 c = let l : At = search in l.loop-i.invariant.stack_long
 
-same-length-3 : tie.Need-same-length-3 invariant-loop decreases-loop
-same-length-3 c = let l : At = search in l.loop.inv.codes
+same-length-3 : tie.Need-shape_of-codes invariant-loop decreases-loop
+same-length-3 c = let l : At = search in l.loop-i.invariant.codes
 
-same-length-4 : tie.Need-same-length-4 invariant-loop decreases-loop
-same-length-4 c = let l : At = search in l.loop.inv.indices
+same-length-4 : tie.Need-shape_of-indices invariant-loop decreases-loop
+same-length-4 c = let l : At = search in l.loop-i.invariant.indices
 
 -- all of them
 returns : tie.Need-returns invariant-loop decreases-loop
 returns c =
     let (s, l) : Start × At = search in
-    let inv = l.loop.inv in
-    let end : l.loop.i ≡ s.args.count = omega (arith, inv.most, c.loop-test.false) in
+    let inv = l.loop-i.invariant in
+    let end : l.loop-i.i ≡ s.args.count = omega (arith, inv.most, c.loop-i-test.false) in
     answers_all _ _ _ _ _ _ inv.returned end
 
-pub drill-each-spec : {M : Type 1} → statement M
-drill-each-spec =
+pub drill_each_spec : {M : Type 1} → statement M
+drill_each_spec =
     tie.close
     (tie.spec
     invariant-loop
     decreases-loop
     loop-holds
     drill-at-requires
-    (search rules)  -- add-i
-    (search rules)  -- loop-less
+    (search rules)  -- overflow_add-i
+    (search rules)  -- loop-i-smaller
     loop-again
     same_length
     same-length-2

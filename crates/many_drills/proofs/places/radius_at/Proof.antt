@@ -9,12 +9,12 @@ returns : tie.Need-returns
 unfolding radius_at
 returns c = search rules
 
-pub radius-at-spec : {M : Type 1} → statement M
-radius-at-spec =
+pub radius_at_spec : {M : Type 1} → statement M
+radius_at_spec =
     tie.close
     (tie.spec
-    (search rules)  -- mul-result
-    (search rules)  -- add-result
-    (search rules)  -- mul-result-2
-    (search rules)  -- shared-slice-read-result
+    (search rules)  -- overflow_mul-result
+    (search rules)  -- overflow_add-result
+    (search rules)  -- offset_bounds-drills-index
+    (search rules)  -- bounds-drills-index
     returns)

@@ -8,21 +8,21 @@ use Rattle.many_drills.proofs.places.ray_at.Tie as tie
 returns : tie.Need-returns
 unfolding ray_at
 returns c =
-    let (o, d) : tie.After-vector-at × tie.After-vector-at2 = search in
-    simp (o.vector-at.ensures, d.vector-at2.ensures)
+    let (o, d) : tie.After-vector_at × tie.After-vector_at-2 = search in
+    simp (o.vector_at.ensures, d.vector_at-2.ensures)
 
-pub ray-at-spec : {M : Type 1} → statement M
-ray-at-spec =
+pub ray_at_spec : {M : Type 1} → statement M
+ray_at_spec =
     tie.close
     (tie.spec
-    (search rules)  -- mul-place
-    (λ c κs. search rules)  -- vector-at-requires
-    (search rules)  -- add-vector-at
-    (λ c κs. search rules)  -- vector-at-requires-2
-    (search rules)  -- add-t7
-    (search rules)  -- mul-t8
-    (search rules)  -- shared-slice-read-t10
-    (search rules)  -- add-t11
-    (search rules)  -- mul-t12
-    (search rules)  -- shared-slice-read-t14
+    (search rules)  -- overflow_mul-place
+    (λ c κs. search rules)  -- vector_at-requires
+    (search rules)  -- overflow_add-place
+    (λ c κs. search rules)  -- vector_at-requires-2
+    (search rules)  -- overflow_add-result
+    (search rules)  -- offset_bounds-drills-place
+    (search rules)  -- bounds-drills-place
+    (search rules)  -- overflow_add-result-2
+    (search rules)  -- offset_bounds-drills-place-2
+    (search rules)  -- bounds-drills-place-2
     returns)

@@ -5,35 +5,35 @@ use Rattle.many_drills.proofs.single.put_drill.Statement.{statement}
 use Rattle.many_drills.proofs.single.put_drill.Tie as tie
 
 -- clear
-returns : tie.Need-returns
+returns : tie.Need-returns-in-Clear
 unfolding returned_drill
 returns c =
-    let k : tie.After-enum-told = search in
-    simp k.enum_told.given.1
+    let k : tie.In-Clear = search in
+    simp k.in-Clear.is
 
 -- touched: the index is written
-returns-2 : tie.Need-returns-2
+returns-2 : tie.Need-returns-in-Touched
 unfolding returned_drill
 returns-2 c =
-    let k : tie.After-answer = search in
-    simp k.answer.given.1
+    let k : tie.In-Touched = search in
+    simp k.in-Touched.is
 
 -- a refusal: its number
-returns-3 : tie.Need-returns-3
+returns-3 : tie.Need-returns-in-Refused
 unfolding returned_drill
 returns-3 c =
-    let k : tie.After-answer2 = search in
-    simp k.answer2.given.1
+    let k : tie.In-Refused = search in
+    simp k.in-Refused.is
 
-pub put-drill-spec : {M : Type 1} → statement M
-put-drill-spec =
+pub put_drill_spec : {M : Type 1} → statement M
+put_drill_spec =
     tie.close
     (tie.spec
-    (search rules)  -- enum_told
+    (search rules)  -- enum_told-1
     returns
-    (search rules)  -- enum-known-answer
-    (search rules)  -- slice-write-index
-    (search rules)  -- same-length
+    (search rules)  -- enum_known-answer
+    (search rules)  -- bounds-index-0
+    (search rules)  -- shape_of-index-in-Touched
     returns-2
-    (search rules)  -- enum-known-answer-2
+    (search rules)  -- enum_known-answer-in-Refused-1
     returns-3)

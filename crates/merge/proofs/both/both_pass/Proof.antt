@@ -11,45 +11,51 @@ use Rattle.merge.proofs.both.both_pass.Tie as tie
 abbrev first-board : tie.Start → Board
 first-board s =
     let p = s.args in
-    board_of p.first-vertices.now p.first-triangles.now p.nodes p.first_boxes_lem.now p.first_around_lem.now
-    p.first_words_lem.now p.first_order_lem.now
+    board_of p.first-vertices.now p.first-triangles.now p.nodes p.first_boxes.now p.first_around.now
+    p.first_words.now p.first_order.now
 
 abbrev second-board : tie.Start → Board
 second-board s =
     let p = s.args in
-    board_of p.second-vertices.now p.second-triangles.now p.others p.second_boxes_lem.now p.second_around_lem.now
-    p.second_words_lem.now p.second_order_lem.now
+    board_of p.second-vertices.now p.second-triangles.now p.others p.second_boxes.now p.second_around.now
+    p.second_words.now p.second_order.now
 
 passes-requires : tie.Need-passes-requires
 passes-requires c κs =
     let start : tie.Start = search in
-    let q = start.pre.0 in
+    let q = start.requires.0 in
     (q.lengths, q.room)
 
-returns : tie.Need-returns
+returns : tie.Need-returns-then-not-passes
 returns c =
     let (start, at-passes) : tie.Start × tie.After-passes = search in
     let a = first-board start in
     let b = second-board start in
-    first_tree_fails a b (test_failed at-passes.passes.ensures c.if1.true)
+    first_tree_fails a b (test_failed at-passes.passes.ensures c.if-not-passes.true)
 
 passes-requires-2 : tie.Need-passes-requires-2
 passes-requires-2 c κs =
     let (start, at-passes) : tie.Start × tie.After-passes = search in
     let b = second-board start in
-    let same = at-passes.passes.kept.1.1.1.1.1.1.1.0 in
-    let q = subst (Checkable b) (sym same) start.pre.1 in
+    let same = at-passes.passes.auto.marks in
+    let q = subst (Checkable b) (sym same) start.requires.1 in
     (q.lengths, q.room)
 
-returns-2 : tie.Need-returns-2
+returns-2 : tie.Need-returns
 returns-2 c =
-    let (start, at-passes, else1, at-passes2) : tie.Start × tie.After-passes × tie.Else1 × tie.After-passes2 = search in
+    let (start, at-passes, else1, at-passes2) : tie.Start × tie.After-passes × tie.Else-not-passes × tie.After-passes-2 = search in
     let a = first-board start in
     let b = second-board start in
-    second_tree_told a b (test_passed at-passes.passes.ensures else1.if1.left)
-    at-passes2.passes2.result at-passes2.passes2.ensures
+    second_tree_told a b (test_passed at-passes.passes.ensures else1.if-not-passes.false)
+    at-passes2.passes-2.result at-passes2.passes-2.ensures
 
-pub both-pass-spec : {M : Type 1} → statement M
-both-pass-spec =
+pub both_pass_spec : {M : Type 1} → statement M
+both_pass_spec =
     tie.close
-    (tie.spec passes-requires (search rules) returns passes-requires-2 (search rules) returns-2)
+    (tie.spec
+    passes-requires
+    (search rules)  -- shape_of-marks-then-not-passes
+    returns
+    passes-requires-2
+    (search rules)  -- shape_of-marks
+    returns-2)

@@ -6,12 +6,18 @@ use borrow.Author.Rules.{rules}
 use Rattle.merge.proofs.result.count_nodes.Statement.{statement}
 use Rattle.merge.proofs.result.count_nodes.Tie as tie
 
-returns : tie.Need-returns
-returns c = ap {B = ℕ} (λ (e : Bool). cond e 0 1 + (c.before.args.nodes + c.before.args.others)) (sym c.if1.true)
+returns : tie.Need-returns-then-empty
+returns c = ap {B = ℕ} (λ (e : Bool). cond e 0 1 + (c.args.nodes + c.args.others)) (sym c.if-empty.true)
 
-returns-2 : tie.Need-returns-2
-returns-2 c = ap {B = ℕ} (λ (e : Bool). cond e 0 1 + (c.before.args.nodes + c.before.args.others)) (sym c.if1.false)
+returns-2 : tie.Need-returns
+returns-2 c = ap {B = ℕ} (λ (e : Bool). cond e 0 1 + (c.args.nodes + c.args.others)) (sym c.if-empty.false)
 
-pub count-nodes-spec : {M : Type 1} → statement M
-count-nodes-spec =
-    tie.close (tie.spec (search rules) (search rules) returns (search rules) (search rules) returns-2)
+pub count_nodes_spec : {M : Type 1} → statement M
+count_nodes_spec =
+    tie.close (tie.spec
+    (search rules)  -- overflow_add-result
+    (search rules)  -- overflow_add-result-then-empty
+    returns
+    (search rules)  -- overflow_add-result-2
+    (search rules)  -- overflow_add-result-3
+    returns-2)

@@ -7,127 +7,127 @@ use borrow.Author.Rules.{rules}
 use Rattle.merge.proofs.testing.results_fit.Statement.{statement}
 use Rattle.merge.proofs.testing.results_fit.Tie as tie
 
-returns : tie.Need-returns
+returns : tie.Need-returns-then-vertices-v
 unfolding room_in
-returns c = rw (lt-leb c.before.args.v (length c.before.args.vertices.now) c.if1.true)
+returns c = rw (lt-leb c.args.v (length c.args.vertices.now) c.if-vertices-v.true)
 
-returns-2 : tie.Need-returns-2
+returns-2 : tie.Need-returns-then-triangles-t
 unfolding room_in
 returns-2 c =
     let start : tie.Start = search in
     rw (
-      le-leb start.args.v (length start.args.vertices.now) c.before.if1.false,
+      le-leb start.args.v (length start.args.vertices.now) c.if-vertices-v.false,
       lt-leb
-          start.args.t (length start.args.triangles.now) c.if2.true,
+          start.args.t (length start.args.triangles.now) c.if-triangles-t.true,
     )
 
-returns-3 : tie.Need-returns-3
+returns-3 : tie.Need-returns-then-node_boxes-n
 unfolding room_in
 returns-3 c =
-    let (start, else1) : tie.Start × tie.Else1 = search in
+    let (start, else1) : tie.Start × tie.Else-vertices-v = search in
     rw (
       le-leb start.args.v (length start.args.vertices.now)
-          else1.if1.left,
+          else1.if-vertices-v.false,
       le-leb start.args.t (length start.args.triangles.now)
-          c.before.if2.false,
-      lt-leb (12 * start.args.n) (length start.args.node_boxes_lem.now)
-          c.if3.true,
+          c.if-triangles-t.false,
+      lt-leb (12 * start.args.n) (length start.args.node_boxes.now)
+          c.if-node_boxes-n.true,
     )
 
-returns-4 : tie.Need-returns-4
+returns-4 : tie.Need-returns-then-triangle_boxes-n
 unfolding room_in
 returns-4 c =
-    let (start, else1, else2) : tie.Start × tie.Else1 × tie.Else2 = search in
+    let (start, else1, else2) : tie.Start × tie.Else-vertices-v × tie.Else-triangles-t = search in
     rw (
       le-leb start.args.v (length start.args.vertices.now)
-          else1.if1.left,
+          else1.if-vertices-v.false,
       le-leb start.args.t
-          (length start.args.triangles.now) else2.if2.left,
+          (length start.args.triangles.now) else2.if-triangles-t.false,
       le-leb
-          (12 * start.args.n) (length start.args.node_boxes_lem.now)
-          c.before.if3.false,
+          (12 * start.args.n) (length start.args.node_boxes.now)
+          c.if-node_boxes-n.false,
       lt-leb (6 * start.args.n)
-          (length start.args.triangle_boxes_lem.now) c.if4.true,
+          (length start.args.triangle_boxes.now) c.if-triangle_boxes-n.true,
     )
 
-returns-5 : tie.Need-returns-5
+returns-5 : tie.Need-returns-then-node_words-n
 unfolding room_in
 returns-5 c =
-    let (start, else1, else2, else3) : tie.Start × tie.Else1 × tie.Else2 × tie.Else3 = search in
+    let (start, else1, else2, else3) : tie.Start × tie.Else-vertices-v × tie.Else-triangles-t × tie.Else-node_boxes-n = search in
     rw (
       le-leb start.args.v
-          (length start.args.vertices.now) else1.if1.left,
+          (length start.args.vertices.now) else1.if-vertices-v.false,
       le-leb
           start.args.t (length start.args.triangles.now)
-          else2.if2.left,
+          else2.if-triangles-t.false,
       le-leb (12 * start.args.n)
-          (length start.args.node_boxes_lem.now) else3.if3.left,
+          (length start.args.node_boxes.now) else3.if-node_boxes-n.false,
       le-leb
           (6 * start.args.n)
-          (length start.args.triangle_boxes_lem.now) c.before.if4.false,
+          (length start.args.triangle_boxes.now) c.if-triangle_boxes-n.false,
       lt-leb
-          (6 * start.args.n) (length start.args.node_words_lem.now)
-          c.if5.true,
+          (6 * start.args.n) (length start.args.node_words.now)
+          c.if-node_words-n.true,
     )
 
-returns-6 : tie.Need-returns-6
+returns-6 : tie.Need-returns-then-order-n
 unfolding room_in
 returns-6 c =
-    let (start, else1, else2, else3, else4) : tie.Start × tie.Else1 × tie.Else2 × tie.Else3 × tie.Else4 = search in
+    let (start, else1, else2, else3, else4) : tie.Start × tie.Else-vertices-v × tie.Else-triangles-t × tie.Else-node_boxes-n × tie.Else-triangle_boxes-n = search in
     rw (
       le-leb start.args.v
           (length start.args.vertices.now)
-          else1.if1.left,
+          else1.if-vertices-v.false,
       le-leb start.args.t
-          (length start.args.triangles.now) else2.if2.left,
+          (length start.args.triangles.now) else2.if-triangles-t.false,
       le-leb (12 * start.args.n)
-          (length start.args.node_boxes_lem.now) else3.if3.left,
+          (length start.args.node_boxes.now) else3.if-node_boxes-n.false,
       le-leb
           (6 * start.args.n)
-          (length start.args.triangle_boxes_lem.now) else4.if4.left,
+          (length start.args.triangle_boxes.now) else4.if-triangle_boxes-n.false,
       le-leb
           (6 * start.args.n)
-          (length start.args.node_words_lem.now) c.before.if5.false,
+          (length start.args.node_words.now) c.if-node_words-n.false,
       lt-leb
           start.args.n
-          (length start.args.order.now) c.if6.true,
+          (length start.args.order.now) c.if-order-n.true,
     )
 
-returns-7 : tie.Need-returns-7
+returns-7 : tie.Need-returns
 unfolding room_in
 returns-7 c =
-    let (start, else1, else2, else3, else4) : tie.Start × tie.Else1 × tie.Else2 × tie.Else3 × tie.Else4 = search in
+    let (start, else1, else2, else3, else4) : tie.Start × tie.Else-vertices-v × tie.Else-triangles-t × tie.Else-node_boxes-n × tie.Else-triangle_boxes-n = search in
     rw (
       le-leb start.args.v
           (length start.args.vertices.now)
-          else1.if1.left,
+          else1.if-vertices-v.false,
       le-leb start.args.t
-          (length start.args.triangles.now) else2.if2.left,
+          (length start.args.triangles.now) else2.if-triangles-t.false,
       le-leb (12 * start.args.n)
-          (length start.args.node_boxes_lem.now) else3.if3.left,
+          (length start.args.node_boxes.now) else3.if-node_boxes-n.false,
       le-leb
           (6 * start.args.n)
-          (length start.args.triangle_boxes_lem.now) else4.if4.left,
+          (length start.args.triangle_boxes.now) else4.if-triangle_boxes-n.false,
       le-leb
           (6 * start.args.n)
-          (length start.args.node_words_lem.now) c.before.if5.false,
+          (length start.args.node_words.now) c.if-node_words-n.false,
       le-leb
           start.args.n
-          (length start.args.order.now) c.if6.false,
+          (length start.args.order.now) c.if-order-n.false,
     )
 
-pub results-fit-spec : {M : Type 1} → statement M
-results-fit-spec =
+pub results_fit_spec : {M : Type 1} → statement M
+results_fit_spec =
     tie.close
     (tie.spec
     returns
     returns-2
-    (search rules)  -- mul-if3
+    (search rules)  -- overflow_mul-n
     returns-3
-    (search rules)  -- mul-if4
+    (search rules)  -- overflow_mul-n-2
     returns-4
-    (search rules)  -- mul-if5
+    (search rules)  -- overflow_mul-n-3
     returns-5
     returns-6
-    (search rules)  -- mul-result
+    (search rules)  -- overflow_mul-result
     returns-7)

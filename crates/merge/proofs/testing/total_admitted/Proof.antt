@@ -7,11 +7,11 @@ use Rattle.merge.proofs.TestLaws.{rest_admitted}
 use Rattle.merge.proofs.testing.total_admitted.Statement.{statement}
 use Rattle.merge.proofs.testing.total_admitted.Tie as tie
 
-returns : tie.Need-returns
-returns c = sym (lt-leb (c.before.args.v + c.before.args.w) 196608 (omega (arith, c.if1.true)))
+returns : tie.Need-returns-then-v-gt196608
+returns c = sym (lt-leb (c.args.v + c.args.w) 196608 (omega (arith, c.if-v-gt196608.true)))
 
-returns-2 : tie.Need-returns-2
-returns-2 c = rest_admitted 196608 c.before.args.v c.before.args.w (omega (arith, c.if1.false))
+returns-2 : tie.Need-returns
+returns-2 c = rest_admitted 196608 c.args.v c.args.w (omega (arith, c.if-v-gt196608.false))
 
-pub total-admitted-spec : {M : Type 1} → statement M
-total-admitted-spec = tie.close (tie.spec returns returns-2)
+pub total_admitted_spec : {M : Type 1} → statement M
+total_admitted_spec = tie.close (tie.spec returns returns-2)

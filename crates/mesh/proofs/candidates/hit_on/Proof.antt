@@ -6,17 +6,17 @@ use Rattle.mesh.proofs.candidates.hit_on.Tie as tie
 
 returns : tie.Need-returns
 returns c =
-    let (a, b) : tie.After-sub × tie.After-sub2 = search in
-    simp (sym a.sub.ensures, sym b.sub2.ensures, sym c.triangle-normal.ensures)
+    let (a, b) : tie.After-sub × tie.After-sub-2 = search in
+    simp (sym a.sub.ensures, sym b.sub-2.ensures, sym c.triangle_normal.ensures)
 
-pub hit-on-spec : {M : Type 1} → statement M
-hit-on-spec =
+pub hit_on_spec : {M : Type 1} → statement M
+hit_on_spec =
     tie.close
     (tie.spec
-    (search rules)  -- array-copy-out-first
-    (search rules)  -- array-copy-out-second
-    (search rules)  -- array-copy-out-third
+    (search rules)  -- bounds-corners-0
+    (search rules)  -- bounds-corners-1
+    (search rules)  -- bounds-corners-2
     (λ c κs. search rules)  -- sub-requires
     (λ c κs. search rules)  -- sub-requires-2
-    (λ c κs. search rules)  -- triangle-normal-requires
+    (λ c κs. search rules)  -- triangle_normal-requires
     returns)

@@ -8,10 +8,10 @@ use borrow.Author.Rules.{rules}
 use Rattle.mesh.proofs.candidates.note_all.Statement.{statement}
 use Rattle.mesh.proofs.candidates.note_all.Tie as tie
 
-abbrev invariant-loop : tie.invariant-loop
+abbrev invariant-loop : tie.invariant-loop-i
 invariant-loop ray pose triangles list found notes₀ i₀ notes i = Folding (triangle_answer ray pose triangles) list found (says_nearest_so_far notes) i
 
-abbrev decreases-loop : tie.decreases-loop
+abbrev decreases-loop : tie.decreases-loop-i
 decreases-loop ray pose triangles list found notes₀ i₀ notes i = found - i
 
 -- the places of the loop
@@ -19,50 +19,50 @@ abbrev Start : Type 0
 Start = tie.Start invariant-loop decreases-loop
 
 abbrev At : Type 0
-At = tie.At-loop invariant-loop decreases-loop
+At = tie.At-loop-i invariant-loop decreases-loop
 
 abbrev Within : Type 0
-Within = tie.In-loop invariant-loop decreases-loop
+Within = tie.In-loop-i invariant-loop decreases-loop
 
-loop-holds : tie.Need-loop-init invariant-loop decreases-loop
-loop-holds c = folding_begins _ _ _ _ c.empty.ensures
+loop-holds : tie.Need-loop-i-init invariant-loop decreases-loop
+loop-holds c = folding_begins _ _ _ _ c.empty-notes.ensures
 
-cast-triangle-reach : tie.Need-overflow-cast-triangle-reach invariant-loop decreases-loop
+cast-triangle-reach : tie.Need-overflow_cast-index invariant-loop decreases-loop
 cast-triangle-reach c =
     let l : At = search in
-    omega (arith, c.shared-slice-known4.given l.loop.i)
+    omega (arith, c.shared_slice_known-in-loop-i-1.given l.loop-i.i)
 
-triangle-reach-requires : tie.Need-triangle-reach-requires invariant-loop decreases-loop
+triangle-reach-requires : tie.Need-triangle_reach-reach-requires invariant-loop decreases-loop
 triangle-reach-requires c κs =
     let (s, i) : Start × Within = search in
-    omega (arith, listed_below _ _ s.pre.0 _ _ s.pre.1 i.loop-test.taken)
+    omega (arith, listed_below _ _ s.requires.0 _ _ s.requires.1 i.loop-i-test.true)
 
 -- one more triangle
-loop-again : tie.Need-loop-preserved invariant-loop decreases-loop
+loop-again : tie.Need-loop-i-preserved invariant-loop decreases-loop
 loop-again c =
     let (s, l, i) : Start × At × Within = search in
-    folding_goes _ _ _ s.pre.0 _ _ _ _ l.loop.inv i.loop-test.taken c.before.triangle-reach.ensures c.note.ensures
+    folding_goes _ _ _ s.requires.0 _ _ _ _ l.loop-i.invariant i.loop-i-test.true c.triangle_reach-reach.ensures c.note-notes.ensures
 
 -- all of them
 returns : tie.Need-returns invariant-loop decreases-loop
 returns c =
     let s : Start = search in
-    folding_ends _ _ _ s.pre.0 _ _ c.before.loop.invariant c.loop-test.false
+    folding_ends _ _ _ s.requires.0 _ _ c.loop-i.invariant c.loop-i-test.false
 
-pub note-all-spec : {M : Type 1} → statement M
-note-all-spec =
+pub note_all_spec : {M : Type 1} → statement M
+note_all_spec =
     tie.close
     (tie.spec
     invariant-loop
     decreases-loop
-    (λ c κs. search rules)  -- empty-requires
+    (λ c κs. search rules)  -- empty-notes-requires
     loop-holds
-    (search rules)  -- mul-index
-    (search rules)  -- shared-slice-read-index
+    (search rules)  -- offset_bounds-list-i
+    (search rules)  -- bounds-list-i
     cast-triangle-reach
     triangle-reach-requires
-    (λ c κs. search rules)  -- note-requires
-    (search rules)  -- add-i
-    (search rules)  -- loop-less
+    (λ c κs. search rules)  -- note-notes-requires
+    (search rules)  -- overflow_add-i
+    (search rules)  -- loop-i-smaller
     loop-again
     returns)

@@ -11,79 +11,79 @@ use borrow.Author.Rules.{rules}
 use Rattle.mesh.proofs.cast.mesh_cast.Statement.{statement}
 use Rattle.mesh.proofs.cast.mesh_cast.Tie as tie
 
-start : tie.Else1 → tie.Start
+start : tie.Else-not-is_finite → tie.Start
 start e = search
 
 -- past the first test the segment's end is finite
-finite : (e : tie.Else1) → finite_vec (segment_end (start e).args.ray) ≡ true
+finite : (e : tie.Else-not-is_finite) → finite_vec (segment_end (start e).args.ray) ≡ true
 unfolding start
 finite e =
-    let n : tie.After-segment-end = search in
-    end_is _ _ _ e.before.is_finite.ensures n.segment-end.ensures _ (not-false e.before.is_finite.result e.if1.false)
+    let n : tie.After-segment_end-end = search in
+    end_is _ _ _ e.is_finite.ensures n.segment_end-end.ensures _ e.if-not-is_finite.false
 
 -- the end overflows
-returns : tie.Need-returns
+returns : tie.Need-returns-then-not-is_finite
 returns c =
-    let n : tie.After-segment-end = search in
-    cast_overflow _ _ _ _ (end_is _ _ _ c.before.is_finite.ensures n.segment-end.ensures _
-    (not-true c.before.is_finite.result c.if1.true))
+    let n : tie.After-segment_end-end = search in
+    cast_overflow _ _ _ _ (end_is _ _ _ c.is_finite.ensures n.segment_end-end.ensures _
+    c.if-not-is_finite.true)
 
-segment-box-requires : tie.Need-segment-box-requires
+segment-box-requires : tie.Need-segment_box-bounds-requires
 segment-box-requires c κs =
-    let (s, n) : tie.Start × tie.After-segment-end = search in
-    (origin_finite _ s.pre.0, n.segment-end.ensures)
+    let (s, n) : tie.Start × tie.After-segment_end-end = search in
+    (origin_finite _ s.requires.0, n.segment_end-end.ensures)
 
-gather-requires : tie.Need-gather-requires
+gather-requires : tie.Need-gather-walked-requires
 gather-requires c κs =
     let s : tie.Start = search in
-    s.pre.1
+    s.requires.1
 
 -- the walk met a 5
-returns-2 : tie.Need-returns-2
+returns-2 : tie.Need-returns-in_default
 unfolding start
 returns-2 c =
-    let (s, e, b, g) : tie.Start × tie.Else1 × tie.After-segment-box × tie.After-gather = search in
-    cast_broken _ _ _ _ s.pre.0 (finite e) _ b.segment-box.ensures _ _ g.gather.ensures.0 c.enum_told.given.1
+    let (s, e, b, g) : tie.Start × tie.Else-not-is_finite × tie.After-segment_box-bounds × tie.After-gather-walked = search in
+    cast_broken _ _ _ _ s.requires.0 (finite e) _ b.segment_box-bounds.ensures _ _ g.gather-walked.ensures.0 c.in_default.is
 
 -- it listed nothing
-returns-3 : tie.Need-returns-3
+returns-3 : tie.Need-returns-then-found-eq0
 unfolding start
 returns-3 c =
-    let (s, e, b, g, k) : tie.Start × tie.Else1 × tie.After-segment-box × tie.After-gather × tie.After-walked = search in
-    cast_empty _ _ _ _ s.pre.0 (finite e) _ b.segment-box.ensures _ _ g.gather.ensures.0 _ k.walked.given.1
-    c.if2.true
+    let (s, e, b, g, k) : tie.Start × tie.Else-not-is_finite × tie.After-segment_box-bounds × tie.After-gather-walked × tie.In-Count = search in
+    cast_empty _ _ _ _ s.requires.0 (finite e) _ b.segment_box-bounds.ensures _ _ g.gather-walked.ensures.0 _ k.in-Count.is
+    c.if-found-eq0.true
 
-nearest-of-requires : tie.Need-nearest-of-requires
+nearest-of-requires : tie.Need-nearest_of-requires
 nearest-of-requires c κs =
-    let (g, k) : tie.After-gather × tie.After-walked = search in
-    list_inside _ _ _ _ _ g.gather.ensures.1 k.walked.given.1
+    let (g, k) : tie.After-gather-walked × tie.In-Count = search in
+    list_inside _ _ _ _ _ g.gather-walked.ensures.1 k.in-Count.is
 
 -- the nearest of those that it listed
-returns-4 : tie.Need-returns-4
+returns-4 : tie.Need-returns
 unfolding start
 returns-4 c =
-    let (e, b, g, k) : tie.Else1 × tie.After-segment-box × tie.After-gather × tie.After-walked = search in
-    cast_nearest _ _ _ _ (start e).pre.0 (finite e) _ b.segment-box.ensures _ _ g.gather.ensures.0 _ _ k.walked.given.1
-    c.nearest_of_lem.ensures
+    let (e, b, g, k) : tie.Else-not-is_finite × tie.After-segment_box-bounds × tie.After-gather-walked × tie.In-Count = search in
+    cast_nearest _ _ _ _ (start e).requires.0 (finite e) _ b.segment_box-bounds.ensures _ _ g.gather-walked.ensures.0 _ _ k.in-Count.is
+    c.nearest_of.ensures
 
-pub mesh-cast-spec : {M : Type 1} → statement M
-mesh-cast-spec =
+pub mesh_cast_spec : {M : Type 1} → statement M
+mesh_cast_spec =
     tie.close
     (tie.spec
-    (λ c κs. search rules)  -- segment-end-requires
-    (λ c κs. search rules)  -- is-finite-requires
+    (λ c κs. search rules)  -- segment_end-end-requires
+    (λ c κs. search rules)  -- is_finite-requires
     returns
     segment-box-requires
     gather-requires
-    (search rules)  -- enum-known-walked
-    (search rules)  -- enum_told
-    (search rules)  -- same-length
-    (search rules)  -- same-length-2
+    (search rules)  -- enum_known-walked
+    (search rules)  -- enum_told-1
+    (search rules)  -- shape_of-list-in_default
+    (search rules)  -- shape_of-stack-in_default
     returns-2
-    (search rules)  -- same-length-3
-    (search rules)  -- same-length-4
+    (search rules)  -- shape_of-list-then-found-eq0
+    (search rules)  -- shape_of-stack-then-found-eq0
     returns-3
     nearest-of-requires
-    (search rules)  -- same-length-5
-    (search rules)  -- same-length-6
+    (search rules)  -- shape_of-list
+    (search rules)  -- shape_of-stack
     returns-4)

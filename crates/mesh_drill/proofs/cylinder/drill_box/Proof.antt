@@ -7,41 +7,41 @@ use Rattle.mesh_drill.proofs.CylinderSides.{width_fits, width_small, width_is}
 use Rattle.mesh_drill.proofs.cylinder.drill_box.Statement.{statement}
 use Rattle.mesh_drill.proofs.cylinder.drill_box.Tie as tie
 
-add-width : tie.Need-overflow-add-width
-add-width c = let s : tie.Start = search in width_fits s.pre.radius
+add-width : tie.Need-overflow_add-width
+add-width c = let s : tie.Start = search in width_fits s.requires.radius
 
-low-corner-requires : tie.Need-low-corner-requires
+low-corner-requires : tie.Need-low_corner-requires
 low-corner-requires c κs =
     let s : tie.Start = search in (
-      (s.pre.origin, s.pre.direction),
-      (sized_bits s.pre.near (lit≤ tt), (sized_bits s.pre.far (lit≤ tt), width_small s.pre.radius)),
+      (s.requires.origin, s.requires.direction),
+      (sized_bits s.requires.near (lit≤ tt), (sized_bits s.requires.far (lit≤ tt), width_small s.requires.radius)),
     )
 
-high-corner-requires : tie.Need-high-corner-requires
+high-corner-requires : tie.Need-high_corner-requires
 high-corner-requires c κs =
     let s : tie.Start = search in (
-      (s.pre.origin, s.pre.direction),
-      (sized_bits s.pre.near (lit≤ tt), (sized_bits s.pre.far (lit≤ tt), width_small s.pre.radius)),
+      (s.requires.origin, s.requires.direction),
+      (sized_bits s.requires.near (lit≤ tt), (sized_bits s.requires.far (lit≤ tt), width_small s.requires.radius)),
     )
 
 -- the two corners of the drill that is read
 returns : tie.Need-returns
 unfolding drill_box
 returns c =
-    let (s, k) : tie.Start × tie.After-low-corner = search in
+    let (s, k) : tie.Start × tie.After-low_corner = search in
     λ l ρ b.
-    let n = plain (widen s.pre.near (lit≤ tt)) ∙ b.near in
-    let f = plain (widen s.pre.far (lit≤ tt)) ∙ b.far in
-    let w = width_is s.pre.radius ρ b.radius in
+    let n = plain (widen s.requires.near (lit≤ tt)) ∙ b.near in
+    let f = plain (widen s.requires.far (lit≤ tt)) ∙ b.far in
+    let w = width_is s.requires.radius ρ b.radius in
     λ i. record {
-      min = (k.low-corner.ensures l.near l.far ρ n f w
+      min = (k.low_corner.ensures l.near l.far ρ n f w
           ∙ (λ j. corner_by (low_side ρ) (b.origin j) (b.direction j) l.near l.far)) i;
-      max = (c.high-corner.ensures l.near l.far ρ n f w
+      max = (c.high_corner.ensures l.near l.far ρ n f w
           ∙ (λ j. corner_by (high_side ρ) (b.origin j) (b.direction j) l.near l.far)) i;
     }
 
-pub drill-box-spec : {M : Type 1} → statement M
-drill-box-spec =
+pub drill_box_spec : {M : Type 1} → statement M
+drill_box_spec =
     tie.close
     (tie.spec
     add-width

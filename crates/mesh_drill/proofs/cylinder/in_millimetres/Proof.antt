@@ -11,12 +11,12 @@ returns : tie.Need-returns
 returns c =
     let s : tie.Start = search in
     ap (λ (x : Float). mul binary64 x (of_bits binary64 0x3f00_0000_0000_0000))
-    (c.nearest-i64-to-f64.ensures ∙ ap (of_int binary64) (plain (widen s.pre (lit≤ tt))))
-    ∙ in_millimetres_lem s.args.z s.pre.size
+    (c.nearest_i64_to_f64.ensures ∙ ap (of_int binary64) (plain (widen s.requires (lit≤ tt))))
+    ∙ in_millimetres_lem s.args.z s.requires.size
 
-pub in-millimetres-spec : {M : Type 1} → statement M
-in-millimetres-spec =
+pub in_millimetres_spec : {M : Type 1} → statement M
+in_millimetres_spec =
     tie.close
     (tie.spec
-    (search rules)  -- nearest-i64-to-f64-requires
+    (search rules)  -- nearest_i64_to_f64-requires
     returns)

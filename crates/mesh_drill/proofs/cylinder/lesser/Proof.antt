@@ -5,19 +5,17 @@ use Rattle.mesh_drill.proofs.cylinder.lesser.Statement.{statement}
 use Rattle.mesh_drill.proofs.cylinder.lesser.Tie as tie
 
 -- the first is at most the second
-returns : tie.Need-returns
+returns : tie.Need-returns-then-x-y
 returns c =
     let s : tie.Start = search in
-    taken s.args.y (least_read (bits_back s.fits.x) (bits_back s.fits.y) c.if1.true) (bits_back s.fits.x)
+    taken s.args.y (least_read (bits_back s.ranges.x) (bits_back s.ranges.y) c.if-x-y.true) (bits_back s.ranges.x)
 
-returns-2 : tie.Need-returns-2
+returns-2 : tie.Need-returns
 returns-2 c =
     let s : tie.Start = search in
-    left s.args.x (least_read (bits_back s.fits.x) (bits_back s.fits.y) c.if1.false) (bits_back s.fits.y)
+    left s.args.x (least_read (bits_back s.ranges.x) (bits_back s.ranges.y) c.if-x-y.false) (bits_back s.ranges.y)
 
-pub lesser-spec : {M : Type 1} → statement M
-lesser-spec =
+pub lesser_spec : {M : Type 1} → statement M
+lesser_spec =
     tie.close
-    (tie.spec
-    returns
-    returns-2)
+    (tie.spec returns returns-2)

@@ -4,38 +4,38 @@ use Rattle.mesh_drill.proofs.CylinderSides.{side_asked, side_is}
 use Rattle.mesh_drill.proofs.cylinder.low_corner.Statement.{statement}
 use Rattle.mesh_drill.proofs.cylinder.low_corner.Tie as tie
 
-low-side-requires : tie.Need-low-side-requires
+low-side-requires : tie.Need-low_side-requires
 low-side-requires c κs =
     let s : tie.Start = search in
-    side_asked s.pre.0.0.x s.pre.0.1.x s.pre.1.0 s.pre.1.1.0 s.pre.1.1.1
+    side_asked s.requires.0.0.x s.requires.0.1.x s.requires.1.0 s.requires.1.1.0 s.requires.1.1.1
 
-low-side-requires-2 : tie.Need-low-side-requires-2
+low-side-requires-2 : tie.Need-low_side-requires-2
 low-side-requires-2 c κs =
     let s : tie.Start = search in
-    side_asked s.pre.0.0.y s.pre.0.1.y s.pre.1.0 s.pre.1.1.0 s.pre.1.1.1
+    side_asked s.requires.0.0.y s.requires.0.1.y s.requires.1.0 s.requires.1.1.0 s.requires.1.1.1
 
-low-side-requires-3 : tie.Need-low-side-requires-3
+low-side-requires-3 : tie.Need-low_side-requires-3
 low-side-requires-3 c κs =
     let s : tie.Start = search in
-    side_asked s.pre.0.0.z s.pre.0.1.z s.pre.1.0 s.pre.1.1.0 s.pre.1.1.1
+    side_asked s.requires.0.0.z s.requires.0.1.z s.requires.1.0 s.requires.1.1.0 s.requires.1.1.1
 
 -- each axis has its side
 returns : tie.Need-returns
 returns c =
-    let (s, x, y) : tie.Start × tie.After-low-side × tie.After-low-side2 = search in
-    let o = s.pre.0.0 in
-    let d = s.pre.0.1 in
-    let n = s.pre.1.0 in
-    let f = s.pre.1.1.0 in
-    let w = s.pre.1.1.1 in
+    let (s, x, y) : tie.Start × tie.After-low_side × tie.After-low_side-2 = search in
+    let o = s.requires.0.0 in
+    let d = s.requires.0.1 in
+    let n = s.requires.1.0 in
+    let f = s.requires.1.1.0 in
+    let w = s.requires.1.1.1 in
     λ i j ρ e g h k. record {
-      x = side_is o.x d.x n f w low_side x.low-side.ensures i j ρ e g h k;
-      y = side_is o.y d.y n f w low_side y.low-side2.ensures i j ρ e g h k;
-      z = side_is o.z d.z n f w low_side c.low-side3.ensures i j ρ e g h k;
+      x = side_is o.x d.x n f w low_side x.low_side.ensures i j ρ e g h k;
+      y = side_is o.y d.y n f w low_side y.low_side-2.ensures i j ρ e g h k;
+      z = side_is o.z d.z n f w low_side c.low_side-3.ensures i j ρ e g h k;
     }
 
-pub low-corner-spec : {M : Type 1} → statement M
-low-corner-spec =
+pub low_corner_spec : {M : Type 1} → statement M
+low_corner_spec =
     tie.close
     (tie.spec
     low-side-requires

@@ -13,44 +13,44 @@ use Rattle.mesh_drill.proofs.cylinder.low_side.Tie as tie
 abbrev floor : tie.Start → ℤ → ℤ
 floor s n = shr_z (pos parts *ℤ s.args.o +ℤ n *ℤ s.args.d) parts
 
-first-is : (k : tie.After-floor-at) → let s : tie.Start = search in k.floor-at.result ≡ floor s s.args.near
-first-is k = let s : tie.Start = search in floor_back s.pre.0.0 s.pre.0.1 s.pre.1.0 k.floor-at.ensures.0
+first-is : (k : tie.After-floor_at-first) → let s : tie.Start = search in k.floor_at-first.result ≡ floor s s.args.near
+first-is k = let s : tie.Start = search in floor_back s.requires.0.0 s.requires.0.1 s.requires.1.0 k.floor_at-first.ensures.0
 
-last-is : (k : tie.After-floor-at2) → let s : tie.Start = search in k.floor-at2.result ≡ floor s s.args.far
-last-is k = let s : tie.Start = search in floor_back s.pre.0.0 s.pre.0.1 s.pre.1.1.0 k.floor-at2.ensures.0
+last-is : (k : tie.After-floor_at-last) → let s : tie.Start = search in k.floor_at-last.result ≡ floor s s.args.far
+last-is k = let s : tie.Start = search in floor_back s.requires.0.0 s.requires.0.1 s.requires.1.1.0 k.floor_at-last.ensures.0
 
-floor-at-requires : tie.Need-floor-at-requires
+floor-at-requires : tie.Need-floor_at-first-requires
 floor-at-requires c κs =
     let s : tie.Start = search in
-    ((sized_bits s.pre.0.0 (lit≤ tt), sized_bits s.pre.0.1 (lit≤ tt)), sized_bits s.pre.1.0 (lit≤ tt))
+    ((sized_bits s.requires.0.0 (lit≤ tt), sized_bits s.requires.0.1 (lit≤ tt)), sized_bits s.requires.1.0 (lit≤ tt))
 
-floor-at-requires-2 : tie.Need-floor-at-requires-2
+floor-at-requires-2 : tie.Need-floor_at-last-requires
 floor-at-requires-2 c κs =
     let s : tie.Start = search in
-    ((sized_bits s.pre.0.0 (lit≤ tt), sized_bits s.pre.0.1 (lit≤ tt)), sized_bits s.pre.1.1.0 (lit≤ tt))
+    ((sized_bits s.requires.0.0 (lit≤ tt), sized_bits s.requires.0.1 (lit≤ tt)), sized_bits s.requires.1.1.0 (lit≤ tt))
 
-sub-in-millimetres : tie.Need-overflow-sub-in-millimetres
+sub-in-millimetres : tie.Need-overflow_sub-lesser
 sub-in-millimetres c =
-    let (s, k, m, l) : tie.Start × tie.After-floor-at × tie.After-floor-at2 × tie.After-lesser = search in
-    low_fits k.floor-at.ensures.1 m.floor-at2.ensures.1 s.pre.1.1.1 l.lesser.ensures
+    let (s, k, m, l) : tie.Start × tie.After-floor_at-first × tie.After-floor_at-last × tie.After-lesser = search in
+    low_fits k.floor_at-first.ensures.1 m.floor_at-last.ensures.1 s.requires.1.1.1 l.lesser.ensures
 
-in-millimetres-requires : tie.Need-in-millimetres-requires
+in-millimetres-requires : tie.Need-in_millimetres-requires
 in-millimetres-requires c κs =
-    let (s, k, m, l) : tie.Start × tie.After-floor-at × tie.After-floor-at2 × tie.After-lesser = search in
-    low_small k.floor-at.ensures.1 m.floor-at2.ensures.1 s.pre.1.1.1 l.lesser.ensures
+    let (s, k, m, l) : tie.Start × tie.After-floor_at-first × tie.After-floor_at-last × tie.After-lesser = search in
+    low_small k.floor_at-first.ensures.1 m.floor_at-last.ensures.1 s.requires.1.1.1 l.lesser.ensures
 
 -- the lower floor, lower by width
 returns : tie.Need-returns
 unfolding low_side
 returns c =
-    let (s, k, m, l) : tie.Start × tie.After-floor-at × tie.After-floor-at2 × tie.After-lesser = search in
+    let (s, k, m, l) : tie.Start × tie.After-floor_at-first × tie.After-floor_at-last × tie.After-lesser = search in
     λ n f ρ e g h.
-    c.in-millimetres.ensures
-    ∙ ap in_millimetres (low_read k.floor-at.ensures.1 m.floor-at2.ensures.1 s.pre.1.1.1 l.lesser.ensures)
+    c.in_millimetres.ensures
+    ∙ ap in_millimetres (low_read k.floor_at-first.ensures.1 m.floor_at-last.ensures.1 s.requires.1.1.1 l.lesser.ensures)
     ∙ (λ i. in_millimetres (lesser ((first-is k ∙ ap (floor s) e) i) ((last-is m ∙ ap (floor s) g) i) -ℤ h i))
 
-pub low-side-spec : {M : Type 1} → statement M
-low-side-spec =
+pub low_side_spec : {M : Type 1} → statement M
+low_side_spec =
     tie.close
     (tie.spec
     floor-at-requires

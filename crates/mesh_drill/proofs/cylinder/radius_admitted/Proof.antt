@@ -6,18 +6,18 @@ use Rattle.mesh_drill.proofs.cylinder.radius_admitted.Statement.{statement}
 use Rattle.mesh_drill.proofs.cylinder.radius_admitted.Tie as tie
 
 -- an infinity or NaN
-returns : tie.Need-returns
-returns c = let s : tie.Start = search in not_finite s.args.radius (test_failed c.before.is_finite.ensures c.if1.true)
+returns : tie.Need-returns-then-not-is_finite
+returns c = let s : tie.Start = search in not_finite s.args.radius (test_failed c.is_finite.ensures c.if-not-is_finite.true)
 
-returns-2 : tie.Need-returns-2
+returns-2 : tie.Need-returns
 returns-2 c =
-    let (s, k) : tie.Start × tie.After-is-finite = search in
-    finite_decides s.args.radius (test_passed k.is_finite.ensures c.if1.false)
+    let (s, k) : tie.Start × tie.After-is_finite = search in
+    finite_decides s.args.radius (test_passed k.is_finite.ensures c.if-not-is_finite.false)
 
-pub radius-admitted-spec : {M : Type 1} → statement M
-radius-admitted-spec =
+pub radius_admitted_spec : {M : Type 1} → statement M
+radius_admitted_spec =
     tie.close
     (tie.spec
-    (λ c κs. search rules)  -- is-finite-requires
+    (λ c κs. search rules)  -- is_finite-requires
     returns
     returns-2)

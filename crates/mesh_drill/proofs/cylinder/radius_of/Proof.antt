@@ -7,39 +7,39 @@ use Rattle.mesh_drill.proofs.Radii.{size_near, raised_fits, raised, not_raised}
 use Rattle.mesh_drill.proofs.cylinder.radius_of.Statement.{statement}
 use Rattle.mesh_drill.proofs.cylinder.radius_of.Tie as tie
 
-coordinate-requires : tie.Need-coordinate-requires
+coordinate-requires : tie.Need-coordinate-nearest-requires
 coordinate-requires c κs =
     let s : tie.Start = search in
-    subst (λ (x : Float). within furthest x ≡ true) (sym c.abs.ensures) (size_near s.args.radius s.pre)
+    subst (λ (x : Float). within furthest x ≡ true) (sym c.abs-size.ensures) (size_near s.args.radius s.requires)
 
-in-millimetres-requires : tie.Need-in-millimetres-requires
-in-millimetres-requires c κs = widen (sized_bits c.coordinate.ensures.1 (lit≤ tt)) (lit≤ tt)
+in-millimetres-requires : tie.Need-in_millimetres-requires
+in-millimetres-requires c κs = widen (sized_bits c.coordinate-nearest.ensures.1 (lit≤ tt)) (lit≤ tt)
 
 -- one more still fits a word
-add-result : tie.Need-overflow-add-result
+add-result : tie.Need-overflow_add-result
 add-result c =
-    let (s, a, k) : tie.Start × tie.After-abs × tie.After-coordinate = search in
-    raised_fits s.args.radius s.pre (k.coordinate.ensures.0 ∙ ap (nearest_to units) a.abs.ensures) k.coordinate.ensures.1
+    let (s, a, k) : tie.Start × tie.After-abs-size × tie.After-coordinate-nearest = search in
+    raised_fits s.args.radius s.requires (k.coordinate-nearest.ensures.0 ∙ ap (nearest_to units) a.abs-size.ensures) k.coordinate-nearest.ensures.1
 
 -- the nearest unit is below the radius
-returns : tie.Need-returns
+returns : tie.Need-returns-then-in_millimetres-size
 returns c =
-    let (s, a, k, m) : tie.Start × tie.After-abs × tie.After-coordinate × tie.After-in-millimetres = search in
-    raised s.args.radius s.pre (k.coordinate.ensures.0 ∙ ap (nearest_to units) a.abs.ensures) k.coordinate.ensures.1
-    m.in-millimetres.ensures a.abs.ensures c.if1.true
+    let (s, a, k, m) : tie.Start × tie.After-abs-size × tie.After-coordinate-nearest × tie.After-in_millimetres = search in
+    raised s.args.radius s.requires (k.coordinate-nearest.ensures.0 ∙ ap (nearest_to units) a.abs-size.ensures) k.coordinate-nearest.ensures.1
+    m.in_millimetres.ensures a.abs-size.ensures c.if-in_millimetres-size.true
 
 -- it is not
-returns-2 : tie.Need-returns-2
+returns-2 : tie.Need-returns
 returns-2 c =
-    let (s, a, k, m) : tie.Start × tie.After-abs × tie.After-coordinate × tie.After-in-millimetres = search in
-    not_raised s.args.radius s.pre (k.coordinate.ensures.0 ∙ ap (nearest_to units) a.abs.ensures) k.coordinate.ensures.1
-    m.in-millimetres.ensures a.abs.ensures c.if1.false
+    let (s, a, k, m) : tie.Start × tie.After-abs-size × tie.After-coordinate-nearest × tie.After-in_millimetres = search in
+    not_raised s.args.radius s.requires (k.coordinate-nearest.ensures.0 ∙ ap (nearest_to units) a.abs-size.ensures) k.coordinate-nearest.ensures.1
+    m.in_millimetres.ensures a.abs-size.ensures c.if-in_millimetres-size.false
 
-pub radius-of-spec : {M : Type 1} → statement M
-radius-of-spec =
+pub radius_of_spec : {M : Type 1} → statement M
+radius_of_spec =
     tie.close
     (tie.spec
-    (search rules)  -- abs-requires
+    (search rules)  -- abs-size-requires
     coordinate-requires
     in-millimetres-requires
     add-result

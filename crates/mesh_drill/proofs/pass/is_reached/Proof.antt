@@ -9,23 +9,23 @@ use Rattle.mesh_drill.proofs.pass.is_reached.Tie as tie
 abbrev own : tie.Start → Mesh
 own s = mesh s.args.vertices.now s.args.triangles.now
 
-returns : tie.Need-returns
+returns : tie.Need-returns-then-not-triangle_touches
 returns c =
-    let (s, k) : tie.Start × tie.After-triangle-touches = search in
-    λ l ρ h g e. far_off l ρ (own s) s.args.index s.args.bounds e (test_failed k.triangle-touches.ensures c.if1.true)
+    let (s, k) : tie.Start × tie.After-triangle_touches = search in
+    λ l ρ h g e. far_off l ρ (own s) s.args.index s.args.bounds e (test_failed k.triangle_touches.ensures c.if-not-triangle_touches.true)
 
-returns-2 : tie.Need-returns-2
+returns-2 : tie.Need-returns
 returns-2 c =
-    let (s, k, f) : tie.Start × tie.After-triangle-touches × tie.Else1 = search in
+    let (s, k, f) : tie.Start × tie.After-triangle_touches × tie.Else-not-triangle_touches = search in
     λ l ρ h g e.
-    near_decides l ρ (own s) s.args.index s.args.bounds e (test_passed k.triangle-touches.ensures f.if1.left) _
-    (c.is-touched.ensures l ρ h g)
+    near_decides l ρ (own s) s.args.index s.args.bounds e (test_passed k.triangle_touches.ensures f.if-not-triangle_touches.false) _
+    (c.is_touched.ensures l ρ h g)
 
-pub is-reached-spec : {M : Type 1} → statement M
-is-reached-spec =
+pub is_reached_spec : {M : Type 1} → statement M
+is_reached_spec =
     tie.close
     (tie.spec
-    (λ c κs. search rules)  -- triangle-touches-requires
+    (λ c κs. search rules)  -- triangle_touches-requires
     returns
-    (λ c κs. search rules)  -- is-touched-requires
+    (λ c κs. search rules)  -- is_touched-requires
     returns-2)

@@ -6,45 +6,45 @@ use Rattle.mesh_drill.proofs.Answers.{boxed_answers, runs}
 use Rattle.mesh_drill.proofs.plain.over_triangles.Statement.{statement}
 use Rattle.mesh_drill.proofs.plain.over_triangles.Tie as tie
 
-cylinder-of-requires : tie.Need-cylinder-of-requires
-cylinder-of-requires c κs = let s : tie.Start = search in (s.pre.0.read, s.pre.0.widest)
+cylinder-of-requires : tie.Need-cylinder_of-body-requires
+cylinder-of-requires c κs = let s : tie.Start = search in (s.requires.0.read, s.requires.0.widest)
 
-drill-of-requires : tie.Need-drill-of-requires
-drill-of-requires c κs = let b : tie.After-cylinder-of = search in
-    let z = b.cylinder-of.ensures.1 in (
+drill-of-requires : tie.Need-drill_of-drill-requires
+drill-of-requires c κs = let b : tie.After-cylinder_of-body = search in
+    let z = b.cylinder_of-body.ensures.1 in (
       (z.origin, z.direction),
       (sized_bits z.near (lit≤ tt), (sized_bits z.far (lit≤ tt), sized_bits z.radius (lit≤ tt))),
     )
 
-first-touched-requires : tie.Need-first-touched-requires
+first-touched-requires : tie.Need-first_touched-requires
 first-touched-requires c κs =
-    let (s, d, k) : tie.Start × tie.After-drill-of × tie.After-put-codes = search in
-    (triangles_few _ _ s.pre.1.0, (d.drill-of.ensures.0, (s.pre.1.1, k.put-codes.ensures)))
+    let (s, d, k) : tie.Start × tie.After-drill_of-drill × tie.After-put_codes-coded = search in
+    (triangles_few _ _ s.requires.1.0, (d.drill_of-drill.ensures.0, (s.requires.1.1, k.put_codes-coded.ensures)))
 
 returns : tie.Need-returns
 returns c =
-    let (s, b, x, d) : tie.Start × tie.After-cylinder-of × tie.After-drill-box × tie.After-drill-of = search in
-    let h = b.cylinder-of.ensures.0 in
-    let z = b.cylinder-of.ensures.1 in
-    boxed_answers s.args.ray s.args.radius _ s.pre.0 s.pre.1.1.1 _
-    (c.first-touched.ensures _ _
-    (d.drill-of.ensures.1 _ _ (record {
+    let (s, b, x, d) : tie.Start × tie.After-cylinder_of-body × tie.After-drill_box-around × tie.After-drill_of-drill = search in
+    let h = b.cylinder_of-body.ensures.0 in
+    let z = b.cylinder_of-body.ensures.1 in
+    boxed_answers s.args.ray s.args.radius _ s.requires.0 s.requires.1.1.1 _
+    (c.first_touched.ensures _ _
+    (d.drill_of-drill.ensures.1 _ _ (record {
       origin = h.origin;
       direction = h.direction;
       near = plain (widen z.near (lit≤ tt)) ∙ h.near;
       far = plain (widen z.far (lit≤ tt)) ∙ h.far;
       radius = plain (widen z.radius (lit≤ tt)) ∙ h.radius;
-    })) (runs s.args.ray s.args.radius s.pre.0) (x.drill-box.ensures _ _ h))
+    })) (runs s.args.ray s.args.radius s.requires.0) (x.drill_box-around.ensures _ _ h))
 
-pub over-triangles-spec : {M : Type 1} → statement M
-over-triangles-spec =
+pub over_triangles_spec : {M : Type 1} → statement M
+over_triangles_spec =
     tie.close
     (tie.spec
     cylinder-of-requires
-    (λ c κs. search rules)  -- drill-box-requires
+    (λ c κs. search rules)  -- drill_box-around-requires
     drill-of-requires
-    (search rules)  -- slice-aggregate-put-codes
-    (λ c κs. search rules)  -- put-codes-requires
-    (search rules)  -- slice-aggregate-first-touched
+    (search rules)  -- slice_bounds-put_codes-end
+    (λ c κs. search rules)  -- put_codes-coded-requires
+    (search rules)  -- slice_bounds-first_touched-end
     first-touched-requires
     returns)

@@ -8,15 +8,15 @@ use Rattle.exact_triangle.proofs.UnitLaws.{in_millimetres_lem, in_float_lem}
 use Rattle.mesh_exact.proofs.bounds.in_millimetres.Statement.{statement}
 use Rattle.mesh_exact.proofs.bounds.in_millimetres.Tie as tie
 
-int-to-float-result : tie.Need-int-to-float-result
-int-to-float-result c = let s : tie.Start = search in in_float_lem s.pre (lit≤ tt)
+int-to-float-result : tie.Need-int_to_float-result
+int-to-float-result c = let s : tie.Start = search in in_float_lem s.requires (lit≤ tt)
 
 -- a number of at most 53 digits, times a power of two
 returns : tie.Need-returns
 returns c =
     let s : tie.Start = search in
-    ap (λ (z : ℤ). mul binary64 (of_int binary64 z) (of_bits binary64 0x3f00_0000_0000_0000)) (plain (widen s.pre (lit≤ tt)))
-    ∙ in_millimetres_lem s.args.z s.pre.size
+    ap (λ (z : ℤ). mul binary64 (of_int binary64 z) (of_bits binary64 0x3f00_0000_0000_0000)) (plain (widen s.requires (lit≤ tt)))
+    ∙ in_millimetres_lem s.args.z s.requires.size
 
-pub in-millimetres-spec : {M : Type 1} → statement M
-in-millimetres-spec = tie.close (tie.spec int-to-float-result returns)
+pub in_millimetres_spec : {M : Type 1} → statement M
+in_millimetres_spec = tie.close (tie.spec int-to-float-result returns)

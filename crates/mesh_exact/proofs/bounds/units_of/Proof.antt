@@ -8,7 +8,7 @@ use Rattle.mesh_exact.proofs.bounds.units_of.Statement.{statement}
 use Rattle.mesh_exact.proofs.bounds.units_of.Tie as tie
 
 distance-requires : tie.Need-distance-requires
-distance-requires c κs = let s : tie.Start = search in s.pre
+distance-requires c κs = let s : tie.Start = search in s.requires
 
 size-requires : tie.Need-size-requires
 size-requires c κs = widen (sized_bits c.distance.ensures.1 (lit≤ tt)) (lit≤ tt)
@@ -21,10 +21,7 @@ returns c =
     let h = size_sized d.distance.ensures.1 (lit≤ tt) c.size.ensures in
     (told_read e h (lit≤ tt), told_sized h (lit≤ tt))
 
-pub units-of-spec : {M : Type 1} → statement M
-units-of-spec =
+pub units_of_spec : {M : Type 1} → statement M
+units_of_spec =
     tie.close
-    (tie.spec
-    distance-requires
-    size-requires
-    returns)
+    (tie.spec distance-requires size-requires returns)

@@ -12,76 +12,76 @@ use Rattle.mesh_exact.proofs.cast.over_triangles.Tie as tie
 abbrev own : tie.Start → Mesh
 own s = mesh s.args.vertices.now s.args.triangles.now
 
-boxes-hold-requires : tie.Need-boxes-hold-requires
+boxes-hold-requires : tie.Need-boxes_hold-requires
 boxes-hold-requires c κs =
     let s : tie.Start = search in
-    (s.pre.0, c.all_within_lem.ensures)
+    (s.requires.0, c.all_within-within.ensures)
 
 -- a triangle without a valid box
-returns : tie.Need-returns
+returns : tie.Need-returns-then-not-boxes_hold
 returns c =
     let s : tie.Start = search in
-    unfit_over s.args.ray (own s) (c.before.boxes-hold.ensures.1 (not-true _ c.if1.true))
+    unfit_over s.args.ray (own s) (c.boxes_hold.ensures.1 c.if-not-boxes_hold.true)
 
-winner-of-requires : tie.Need-winner-of-requires
+winner-of-requires : tie.Need-winner_of-winner-requires
 winner-of-requires c κs =
-    let (s, a, b, e, k) : tie.Start × tie.After-all-within × tie.After-boxes-hold × tie.Else1 × tie.After-put-codes = search in (
-      s.pre.0,
+    let (s, a, b, e, k) : tie.Start × tie.After-all_within-within × tie.After-boxes_hold × tie.Else-not-boxes_hold × tie.After-put_codes-coded = search in (
+      s.requires.0,
       (
-        s.pre.1.casts.shown.view_sized,
-        (b.boxes-hold.ensures.0 (not-false _ e.if1.left), (a.all_within_lem.ensures, k.put-codes.ensures)),
+        s.requires.1.casts.shown.view_sized,
+        (b.boxes_hold.ensures.0 e.if-not-boxes_hold.false, (a.all_within-within.ensures, k.put_codes-coded.ensures)),
       ),
     )
 
 -- nobody
-returns-2 : tie.Need-returns-2
+returns-2 : tie.Need-returns-in-Nobody
 returns-2 c =
-    let (s, w) : tie.Start × tie.After-winner-of = search in
-    nobody_won s.args.ray (own s) _ (w.winner_of_lem.ensures _ s.pre.1) c.enum_told.given.1
+    let (s, w) : tie.Start × tie.After-winner_of-winner = search in
+    nobody_won s.args.ray (own s) _ (w.winner_of-winner.ensures _ s.requires.1) c.in-Nobody.is
 
 -- a refusal
-returns-3 : tie.Need-returns-3
+returns-3 : tie.Need-returns-in-Refused
 returns-3 c =
-    let (s, w) : tie.Start × tie.After-winner-of = search in
-    refusal_won s.args.ray (own s) _ (w.winner_of_lem.ensures _ s.pre.1) _ c.before.winner.given.1
+    let (s, w) : tie.Start × tie.After-winner_of-winner = search in
+    refusal_won s.args.ray (own s) _ (w.winner_of-winner.ensures _ s.requires.1) _ c.in-Refused.is
 
 -- a hit: its triangle is one of the mesh's
-corners-of-requires : tie.Need-corners-of-requires
+corners-of-requires : tie.Need-corners_of-corners-requires
 corners-of-requires c κs =
-    let (s, w) : tie.Start × tie.After-winner-of = search in
-    let h = s.pre.1.casts in
-    let reached = (w.winner_of_lem.ensures _ s.pre.1).reached _ _ c.before.winner2.given.1 in
+    let (s, w) : tie.Start × tie.After-winner_of-winner = search in
+    let h = s.requires.1.casts in
+    let reached = (w.winner_of-winner.ensures _ s.requires.1).reached _ _ c.in-NearestHit.is in
     (omega (arith, reached.0), hit_inside s.args.ray _ _ _ h.valid h.shown.admitted _ reached.1)
 
-returns-4 : tie.Need-returns-4
+returns-4 : tie.Need-returns-in-NearestHit
 returns-4 c =
-    let (s, w, h, k) : tie.Start × tie.After-winner-of × tie.After-winner2 × tie.After-corners-of = search in
-    let g = s.pre.1.casts in
-    let won = w.winner_of_lem.ensures _ s.pre.1 in
-    let reached = won.reached _ _ h.winner2.given.1 in
-    hit_won s.args.ray (own s) _ won _ _ h.winner2.given.1 _
-    (c.before.hit-on.ensures
-    ∙ hit_answer s.args.ray _ _ _ g.valid g.shown.admitted _ reached.1 _ k.corners-of.ensures) _
+    let (s, w, h, k) : tie.Start × tie.After-winner_of-winner × tie.In-NearestHit × tie.After-corners_of-corners = search in
+    let g = s.requires.1.casts in
+    let won = w.winner_of-winner.ensures _ s.requires.1 in
+    let reached = won.reached _ _ h.in-NearestHit.is in
+    hit_won s.args.ray (own s) _ won _ _ h.in-NearestHit.is _
+    (c.hit_on-hit.ensures
+    ∙ hit_answer s.args.ray _ _ _ g.valid g.shown.admitted _ reached.1 _ k.corners_of-corners.ensures) _
     c.next.ensures
 
-pub over-triangles-spec : {M : Type 1} → statement M
-over-triangles-spec =
+pub over_triangles_spec : {M : Type 1} → statement M
+over_triangles_spec =
     tie.close
     (tie.spec
-    (λ c κs. search rules)  -- all-within-requires
+    (λ c κs. search rules)  -- all_within-within-requires
     boxes-hold-requires
     returns
-    (search rules)  -- slice-aggregate-put-codes
-    (λ c κs. search rules)  -- put-codes-requires
-    (search rules)  -- slice-aggregate-winner-of
+    (search rules)  -- slice_bounds-put_codes-end
+    (λ c κs. search rules)  -- put_codes-coded-requires
+    (search rules)  -- slice_bounds-winner_of-end
     winner-of-requires
-    (search rules)  -- enum_told
+    (search rules)  -- enum_told-1
     returns-2
-    (search rules)  -- enum-known-winner
+    (search rules)  -- enum_known-winner
     returns-3
-    (search rules)  -- enum-known-winner-2
-    (search rules)  -- cast-corners-of
+    (search rules)  -- enum_known-winner-in-NearestHit-1
+    (search rules)  -- overflow_cast-index
     corners-of-requires
-    (λ c κs. search rules)  -- hit-on-requires
+    (λ c κs. search rules)  -- hit_on-hit-requires
     (λ c κs. search rules)  -- next-requires
     returns-4)

@@ -11,31 +11,31 @@ near s =
     let v = s.args in touches (corners_box (corners_of v.vertices.now v.triangles.now v.index)) v.bounds
 
 -- not all vertices are in range
-returns : tie.Need-returns
-returns c = let s : tie.Start = search in sym (ap (λ (b : Bool). b || near s) c.if1.true)
+returns : tie.Need-returns-then-not-within
+returns c = let s : tie.Start = search in sym (ap (λ (b : Bool). b || near s) c.if-not-within.true)
 
 -- by the vertices' codes
-codes-touch-requires : tie.Need-codes-touch-requires
+codes-touch-requires : tie.Need-codes_touch-requires
 codes-touch-requires c κs =
     let s : tie.Start = search in
-    (s.pre.0, s.pre.1 c.if2.true)
+    (s.requires.0, s.requires.1 c.if-coded.true)
 
-returns-2 : tie.Need-returns-2
+returns-2 : tie.Need-returns-then-coded
 returns-2 c =
-    let (s, e) : tie.Start × tie.Else1 = search in
-    c.codes_touch.ensures ∙ sym (ap (λ (b : Bool). b || near s) e.if1.left)
+    let (s, e) : tie.Start × tie.Else-not-within = search in
+    c.codes_touch.ensures ∙ sym (ap (λ (b : Bool). b || near s) e.if-not-within.false)
 
 -- by the corners
-triangle-touches-requires : tie.Need-triangle-touches-requires
-triangle-touches-requires c κs = let s : tie.Start = search in (s.pre.0, λ e. absurd (false≢true e))
+triangle-touches-requires : tie.Need-triangle_touches-requires
+triangle-touches-requires c κs = let s : tie.Start = search in (s.requires.0, λ e. absurd (false≢true e))
 
-returns-3 : tie.Need-returns-3
+returns-3 : tie.Need-returns
 returns-3 c =
-    let (s, e) : tie.Start × tie.Else1 = search in
-    c.triangle-touches.ensures ∙ sym (ap (λ (b : Bool). b || near s) e.if1.left)
+    let (s, e) : tie.Start × tie.Else-not-within = search in
+    c.triangle_touches.ensures ∙ sym (ap (λ (b : Bool). b || near s) e.if-not-within.false)
 
-pub looked-at-spec : {M : Type 1} → statement M
-looked-at-spec =
+pub looked_at_spec : {M : Type 1} → statement M
+looked_at_spec =
     tie.close
     (tie.spec
     returns

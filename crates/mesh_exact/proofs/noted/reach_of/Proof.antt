@@ -7,15 +7,15 @@ use Rattle.mesh_exact.proofs.noted.reach_of.Tie as tie
 -- what the line reaches its corners at
 returns : tie.Need-returns
 returns c =
-    let (s, k) : tie.Start × tie.After-corners-of = search in
+    let (s, k) : tie.Start × tie.After-corners_of = search in
     λ ray h.
-    reach_is ray _ _ _ h.valid h.shown.admitted s.pre.0.1 _ k.corners-of.ensures _
-    (c.reach-on.ensures ray h.shown.sees)
+    reach_is ray _ _ _ h.valid h.shown.admitted s.requires.0.1 _ k.corners_of.ensures _
+    (c.reach_on.ensures ray h.shown.sees)
 
-pub reach-of-spec : {M : Type 1} → statement M
-reach-of-spec =
+pub reach_of_spec : {M : Type 1} → statement M
+reach_of_spec =
     tie.close
     (tie.spec
-    (λ c κs. search rules)  -- corners-of-requires
-    (λ c κs. search rules)  -- reach-on-requires
+    (λ c κs. search rules)  -- corners_of-requires
+    (λ c κs. search rules)  -- reach_on-requires
     returns)

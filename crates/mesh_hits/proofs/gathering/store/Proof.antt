@@ -4,39 +4,39 @@ use borrow.Author.Rules.{rules}
 use Rattle.mesh_hits.proofs.gathering.store.Statement.{statement}
 use Rattle.mesh_hits.proofs.gathering.store.Tie as tie
 
-returns : tie.Need-returns
-returns c = stored_miss _ _ _ _ _ _ c.enum_told.given.1
+returns : tie.Need-returns-in-Miss
+returns c = stored_miss _ _ _ _ _ _ c.in-Miss.is
 
-returns-2 : tie.Need-returns-2
-returns-2 c = stored_refusal _ _ _ _ _ _ _ c.enum-told2.given.1
+returns-2 : tie.Need-returns-in-Refused
+returns-2 c = stored_refusal _ _ _ _ _ _ _ c.in-Refused.is
 
-returns-3 : tie.Need-returns-3
+returns-3 : tie.Need-returns-then-hits-places
 returns-3 c =
-    let at-reach : tie.After-reach = search in
-    stored_past _ _ _ _ _ _ _ at-reach.reach.given.1 c.if1.true
+    let at-reach : tie.In-At = search in
+    stored_past _ _ _ _ _ _ _ at-reach.in-At.is c.if-hits-places.true
 
-returns-4 : tie.Need-returns-4
+returns-4 : tie.Need-returns-in-At
 returns-4 c =
-    let at-reach : tie.After-reach = search in
-    stored_hit _ _ _ _ _ _ _ at-reach.reach.given.1
+    let at-reach : tie.In-At = search in
+    stored_hit _ _ _ _ _ _ _ at-reach.in-At.is
 
 pub store_spec : {M : Type 1} → statement M
 store_spec =
     tie.close
     (tie.spec
-    (search rules)  -- enum_told
+    (search rules)  -- enum_told-1
     returns
-    (search rules)  -- enum-told-2
+    (search rules)  -- enum_told-in-Refused
     returns-2
-    (search rules)  -- enum-known-reach
-    (search rules)  -- add-result
+    (search rules)  -- enum_known-reach
+    (search rules)  -- overflow_add-result
     returns-3
-    (search rules)  -- mul-indices
-    (search rules)  -- slice-write-indices
-    (search rules)  -- mul-numbers
-    (search rules)  -- mul-numbers-2
-    (search rules)  -- slice-write-numbers
-    (search rules)  -- add-result-2
-    (search rules)  -- same-length
-    (search rules)  -- same-length-2
+    (search rules)  -- offset_bounds-indices-hits
+    (search rules)  -- bounds-indices-hits
+    (search rules)  -- overflow_mul-numbers
+    (search rules)  -- offset_bounds-numbers-hits
+    (search rules)  -- bounds-numbers-hits
+    (search rules)  -- overflow_add-result-in-At
+    (search rules)  -- shape_of-indices-in-At
+    (search rules)  -- shape_of-numbers-in-At
     returns-4)

@@ -9,47 +9,47 @@ use Rattle.mesh_hits.proofs.gathering.triangle_reach.Statement.{statement}
 use Rattle.mesh_hits.proofs.gathering.triangle_reach.Tie as tie
 
 -- an index lies past the vertices
-returns : tie.Need-returns
-returns c = outside_refused _ _ _ _ (test_failed c.before.corners-inside.ensures c.if1.true)
+returns : tie.Need-returns-then-not-corners_inside
+returns c = outside_refused _ _ _ _ (test_failed c.corners_inside.ensures c.if-not-corners_inside.true)
 
-corners-of-requires : tie.Need-corners-of-requires
-corners-of-requires c κs = (search rules, test_passed c.before.corners-inside.ensures c.if1.false)
+corners-of-requires : tie.Need-corners_of-requires
+corners-of-requires c κs = (search rules, test_passed c.corners_inside.ensures c.if-not-corners_inside.false)
 
 -- the crossing lies within: what is left of the tests
-returns-2 : tie.Need-returns-2
+returns-2 : tie.Need-returns-in-Within
 returns-2 c =
-    let (e, k, x, w) : tie.Else1 × tie.After-corners-of × tie.After-crossing × tie.After-start = search in
-    c.reach-within.ensures ∙ start_answers _ _ _ _ _ _ _ x.crossing.ensures k.corners-of.ensures
-    (test_passed e.before.corners-inside.ensures e.if1.left) w.start.given.1
+    let (e, k, x, w) : tie.Else-not-corners_inside × tie.After-corners_of × tie.After-crossing-start × tie.In-Within = search in
+    c.reach_within.ensures ∙ start_answers _ _ _ _ _ _ _ x.crossing-start.ensures k.corners_of.ensures
+    (test_passed e.corners_inside.ensures e.if-not-corners_inside.false) w.in-Within.is
 
 -- a miss
-returns-3 : tie.Need-returns-3
+returns-3 : tie.Need-returns-in-Miss
 unfolding reach_of
 returns-3 c =
-    let (e, k, x) : tie.Else1 × tie.After-corners-of × tie.After-crossing = search in
-    start_answers _ _ _ _ _ _ _ x.crossing.ensures k.corners-of.ensures
-    (test_passed e.before.corners-inside.ensures e.if1.left) c.enum_told.given.1
+    let (e, k, x) : tie.Else-not-corners_inside × tie.After-corners_of × tie.After-crossing-start = search in
+    start_answers _ _ _ _ _ _ _ x.crossing-start.ensures k.corners_of.ensures
+    (test_passed e.corners_inside.ensures e.if-not-corners_inside.false) c.in-Miss.is
 
 -- a refusal
-returns-4 : tie.Need-returns-4
+returns-4 : tie.Need-returns-in-Refused
 unfolding reach_of
 returns-4 c =
-    let (e, k, x, w) : tie.Else1 × tie.After-corners-of × tie.After-crossing × tie.After-start2 = search in
-    start_answers _ _ _ _ _ _ _ x.crossing.ensures k.corners-of.ensures
-    (test_passed e.before.corners-inside.ensures e.if1.left) w.start2.given.1
+    let (e, k, x, w) : tie.Else-not-corners_inside × tie.After-corners_of × tie.After-crossing-start × tie.In-Refused = search in
+    start_answers _ _ _ _ _ _ _ x.crossing-start.ensures k.corners_of.ensures
+    (test_passed e.corners_inside.ensures e.if-not-corners_inside.false) w.in-Refused.is
 
-pub triangle-reach-spec : {M : Type 1} → statement M
-triangle-reach-spec =
+pub triangle_reach_spec : {M : Type 1} → statement M
+triangle_reach_spec =
     tie.close
     (tie.spec
-    (λ c κs. search rules)  -- corners-inside-requires
+    (λ c κs. search rules)  -- corners_inside-requires
     returns
     corners-of-requires
-    (λ c κs. search rules)  -- crossing-requires
-    (search rules)  -- enum-known-start
-    (λ c κs. search rules)  -- reach-within-requires
+    (λ c κs. search rules)  -- crossing-start-requires
+    (search rules)  -- enum_known-start
+    (λ c κs. search rules)  -- reach_within-requires
     returns-2
-    (search rules)  -- enum_told
+    (search rules)  -- enum_told-1
     returns-3
-    (search rules)  -- enum-known-start-2
+    (search rules)  -- enum_known-start-in-Refused-1
     returns-4)

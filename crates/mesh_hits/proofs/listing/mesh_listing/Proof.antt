@@ -12,84 +12,84 @@ use Rattle.mesh_hits.proofs.listing.mesh_listing.Statement.{statement}
 use Rattle.mesh_hits.proofs.listing.mesh_listing.Tie as tie
 
 -- what the test of the segment's end says
-tested : tie.After-is-finite → tie.Start
+tested : tie.After-is_finite → tie.Start
 tested f = search
 
-ends : (f : tie.After-is-finite) (b : Bool) → f.is_finite.result ≡ b → finite_vec (segment_end (tested f).args.ray) ≡ b
+ends : (f : tie.After-is_finite) (b : Bool) → f.is_finite.result ≡ b → finite_vec (segment_end (tested f).args.ray) ≡ b
 unfolding tested
 ends f b told =
-    let e : tie.After-segment-end = search in
-    end_is _ _ _ f.is_finite.ensures e.segment-end.ensures b told
+    let e : tie.After-segment_end-end = search in
+    end_is _ _ _ f.is_finite.ensures e.segment_end-end.ensures b told
 
 -- refusal 6
-returns : tie.Need-returns
+returns : tie.Need-returns-then-not-is_finite
 unfolding tested
 returns c =
-    let (f, t, r) : tie.After-is-finite × tie.Then1 × tie.After-refuse = search in
-    listing_overflow _ _ _ _ _ (ends f _ (not-true f.is_finite.result t.if1.taken)) _ r.refuse.ensures
+    let (f, t, r) : tie.After-is_finite × tie.Then-not-is_finite × tie.After-refuse = search in
+    listing_overflow _ _ _ _ _ (ends f _ t.if-not-is_finite.true) _ r.refuse.ensures
 
-segment-box-requires : tie.Need-segment-box-requires
+segment-box-requires : tie.Need-segment_box-bounds-requires
 segment-box-requires c κs =
-    let (s, e) : tie.Start × tie.After-segment-end = search in
-    (origin_finite _ s.pre.0, e.segment-end.ensures)
+    let (s, e) : tie.Start × tie.After-segment_end-end = search in
+    (origin_finite _ s.requires.0, e.segment_end-end.ensures)
 
 -- the walk, and what is known before it
-start : tie.After-gather → tie.Start
+start : tie.After-gather-walked → tie.Start
 start w = search
 
-boxed : tie.After-gather → tie.After-segment-box
+boxed : tie.After-gather-walked → tie.After-segment_box-bounds
 boxed w = search
 
-finite : (w : tie.After-gather) → finite_vec (segment_end (start w).args.ray) ≡ true
+finite : (w : tie.After-gather-walked) → finite_vec (segment_end (start w).args.ray) ≡ true
 unfolding start tested
 finite w =
-    let (f, l) : tie.After-is-finite × tie.Else1 = search in
-    ends f _ (not-false f.is_finite.result l.if1.left)
+    let (f, l) : tie.After-is_finite × tie.Else-not-is_finite = search in
+    ends f _ l.if-not-is_finite.false
 
 -- refusal 5
-returns-2 : tie.Need-returns-2
+returns-2 : tie.Need-returns-in_default
 unfolding start boxed
 returns-2 c =
-    let (w, k, r) : tie.After-gather × tie.After-enum-told × tie.After-refuse2 = search in
-    listing_broken _ _ _ _ _ (start w).pre.0 (finite w) _ (boxed w).segment-box.ensures _ _ w.gather.ensures.0
-    k.enum_told.given.1 _ r.refuse2.ensures
+    let (w, k, r) : tie.After-gather-walked × tie.In_default × tie.After-refuse-in_default = search in
+    listing_broken _ _ _ _ _ (start w).requires.0 (finite w) _ (boxed w).segment_box-bounds.ensures _ _ w.gather-walked.ensures.0
+    k.in_default.is _ r.refuse-in_default.ensures
 
-list-hits-requires : tie.Need-list-hits-requires
+list-hits-requires : tie.Need-list_hits-requires
 list-hits-requires c κs =
-    let (w, k) : tie.After-gather × tie.After-walked = search in
-    list_inside _ _ _ _ _ w.gather.ensures.1 k.walked.given.1
+    let (w, k) : tie.After-gather-walked × tie.In-Count = search in
+    list_inside _ _ _ _ _ w.gather-walked.ensures.1 k.in-Count.is
 
 -- the hits of the walk's list
-returns-3 : tie.Need-returns-3
+returns-3 : tie.Need-returns
 unfolding start boxed
 returns-3 c =
-    let (w, k, h) : tie.After-gather × tie.After-walked × tie.After-list-hits = search in
-    listing_walked _ _ _ _ _ (start w).pre.0 (finite w) _ (boxed w).segment-box.ensures _ _ w.gather.ensures.0 _ _
-    k.walked.given.1 h.list-hits.ensures
+    let (w, k, h) : tie.After-gather-walked × tie.In-Count × tie.After-list_hits = search in
+    listing_walked _ _ _ _ _ (start w).requires.0 (finite w) _ (boxed w).segment_box-bounds.ensures _ _ w.gather-walked.ensures.0 _ _
+    k.in-Count.is h.list_hits.ensures
 
-pub mesh-listing-spec : {M : Type 1} → statement M
-mesh-listing-spec =
+pub mesh_listing_spec : {M : Type 1} → statement M
+mesh_listing_spec =
     tie.close
     (tie.spec
-    (search rules)  -- segment-end-requires
-    (search rules)  -- is-finite-requires
+    (search rules)  -- segment_end-end-requires
+    (search rules)  -- is_finite-requires
     (search rules)  -- refuse-requires
-    (search rules)  -- same-length
-    (search rules)  -- same-length-2
+    (search rules)  -- shape_of-indices-then-not-is_finite
+    (search rules)  -- shape_of-numbers-then-not-is_finite
     returns
     segment-box-requires
-    (search rules)  -- gather-requires
-    (search rules)  -- enum-known-walked
-    (search rules)  -- enum_told
-    (search rules)  -- refuse-requires-2
-    (search rules)  -- same-length-3
-    (search rules)  -- same-length-4
-    (search rules)  -- same-length-5
-    (search rules)  -- same-length-6
+    (search rules)  -- gather-walked-requires
+    (search rules)  -- enum_known-walked
+    (search rules)  -- enum_told-1
+    (search rules)  -- refuse-requires-in_default
+    (search rules)  -- shape_of-list-in_default
+    (search rules)  -- shape_of-stack-in_default
+    (search rules)  -- shape_of-indices-in_default
+    (search rules)  -- shape_of-numbers-in_default
     returns-2
     list-hits-requires
-    (search rules)  -- same-length-7
-    (search rules)  -- same-length-8
-    (search rules)  -- same-length-9
-    (search rules)  -- same-length-10
+    (search rules)  -- shape_of-list
+    (search rules)  -- shape_of-stack
+    (search rules)  -- shape_of-indices
+    (search rules)  -- shape_of-numbers
     returns-3)

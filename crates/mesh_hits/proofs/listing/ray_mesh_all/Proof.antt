@@ -18,115 +18,115 @@ use Rattle.mesh_hits.proofs.listing.ray_mesh_all.Statement.{statement}
 use Rattle.mesh_hits.proofs.listing.ray_mesh_all.Tie as tie
 
 -- past refusal 1
-start₁ : tie.Else1 → tie.Start
+start₁ : tie.Else-not-validate → tie.Start
 start₁ e = search
 
-valid : (e : tie.Else1) → ray_admitted (start₁ e).args.ray ≡ true
+valid : (e : tie.Else-not-validate) → ray_admitted (start₁ e).args.ray ≡ true
 unfolding start₁
-valid e = sym e.before.validate.ensures ∙ not-false e.before.validate.result e.if1.false
+valid e = sym e.validate.ensures ∙ e.if-not-validate.false
 
 -- past refusal 2
-start₂ : tie.Else2 → tie.Start
+start₂ : tie.Else-not-shape_admitted → tie.Start
 start₂ e = search
 
 abbrev lengths : ℕ → ℕ → ℕ → ℕ → Bool
 lengths v t p nodes = lengths_admitted v t && (lengths_admitted p t && leb nodes (2 * thirds t))
 
-shaped : (e : tie.Else2)
+shaped : (e : tie.Else-not-shape_admitted)
     → let a = (start₂ e).args in
     lengths (length a.vertices.now) (length a.triangles.now) (length a.pose.now) a.nodes ≡ true
 unfolding start₂
-shaped e = sym e.before.shape_admitted_lem.ensures ∙ not-false e.before.shape_admitted_lem.result e.if2.false
+shaped e = sym e.shape_admitted.ensures ∙ e.if-not-shape_admitted.false
 
 -- past refusal 3 of the tree, the list and the stack
-start₃ : tie.Else3 → tie.Start
+start₃ : tie.Else-not-walk_fits → tie.Start
 start₃ e = search
 
 abbrev tree : tie.Start → Tree
 tree s =
     let a = s.args in
-    tree_of a.nodes a.node_boxes_lem.now a.triangle_boxes_lem.now a.node_words_lem.now a.order.now
+    tree_of a.nodes a.node_boxes.now a.triangle_boxes.now a.node_words.now a.order.now
 
-fits : (e : tie.Else3)
+fits : (e : tie.Else-not-walk_fits)
     → let a = (start₃ e).args in
     walk_fits (thirds (length a.triangles.now)) (tree (start₃ e)) (length a.list.now) (length a.stack.now) ≡ true
 unfolding start₃
-fits e = sym e.before.walk-fits.ensures ∙ not-false e.before.walk-fits.result e.if3.false
+fits e = sym e.walk_fits.ensures ∙ e.if-not-walk_fits.false
 
-first : tie.Else3 → tie.Else1
+first : tie.Else-not-walk_fits → tie.Else-not-validate
 first e = search
 
-second : tie.Else3 → tie.Else2
+second : tie.Else-not-walk_fits → tie.Else-not-shape_admitted
 second e = search
 
 -- refusal 1
-returns : tie.Need-returns
+returns : tie.Need-returns-then-not-validate
 returns c =
-    let (v, t) : tie.After-validate × tie.Then1 = search in
+    let (v, t) : tie.After-validate × tie.Then-not-validate = search in
     with_promises _ _ _ _ _ _ _ _ _
-    (all_invalid _ _ _ _ _ _ _ (sym v.validate.ensures ∙ not-true v.validate.result t.if1.taken))
+    (all_invalid _ _ _ _ _ _ _ (sym v.validate.ensures ∙ t.if-not-validate.true))
     (λ _. (refl, refl))
 
 -- refusal 2
-returns-2 : tie.Need-returns-2
+returns-2 : tie.Need-returns-then-not-shape_admitted
 unfolding start₁
 returns-2 c =
-    let (e, h, t) : tie.Else1 × tie.After-shape-admitted × tie.Then2 = search in
+    let (e, h, t) : tie.Else-not-validate × tie.After-shape_admitted × tie.Then-not-shape_admitted = search in
     with_promises _ _ _ _ _ _ _ _ _
-    (all_bad _ _ _ _ _ _ _ (valid e) (sym h.shape_admitted_lem.ensures ∙ not-true h.shape_admitted_lem.result t.if2.taken))
+    (all_bad _ _ _ _ _ _ _ (valid e) (sym h.shape_admitted.ensures ∙ t.if-not-shape_admitted.true))
     (λ _. (refl, refl))
 
-walk-fits-requires : tie.Need-walk-fits-requires
+walk-fits-requires : tie.Need-walk_fits-requires
 unfolding start₂
-walk-fits-requires c κs = let e : tie.Else2 = search in triangles_few _ _ _ _ (shaped e)
+walk-fits-requires c κs = let e : tie.Else-not-shape_admitted = search in triangles_few _ _ _ _ (shaped e)
 
 -- refusal 3
-returns-3 : tie.Need-returns-3
+returns-3 : tie.Need-returns-then-not-walk_fits
 unfolding start₁ start₂
 returns-3 c =
-    let (e, h, w, t) : tie.Else1 × tie.Else2 × tie.After-walk-fits × tie.Then3 = search in
+    let (e, h, w, t) : tie.Else-not-validate × tie.Else-not-shape_admitted × tie.After-walk_fits × tie.Then-not-walk_fits = search in
     with_promises _ _ _ _ _ _ _ _ _
-    (all_short _ _ _ _ _ _ _ (valid e) (shaped h) (sym w.walk-fits.ensures ∙ not-true w.walk-fits.result t.if3.taken))
+    (all_short _ _ _ _ _ _ _ (valid e) (shaped h) (sym w.walk_fits.ensures ∙ t.if-not-walk_fits.true))
     (λ _. (refl, refl))
 
 -- refusal 4
-returns-4 : tie.Need-returns-4
+returns-4 : tie.Need-returns-then-pose-vertices
 unfolding start₁ start₂ start₃ first second
 returns-4 c =
-    let (e, t) : tie.Else3 × tie.Then4 = search in
+    let (e, t) : tie.Else-not-walk_fits × tie.Then-pose-vertices = search in
     with_promises _ _ _ _ _ _ _ _ _
-    (all_posed _ _ _ _ _ _ _ (valid (first e)) (shaped (second e)) (fits e) t.if4.taken)
+    (all_posed _ _ _ _ _ _ _ (valid (first e)) (shaped (second e)) (fits e) t.if-pose-vertices.true)
     (λ _. (refl, refl))
 
-mesh-listing-requires : tie.Need-mesh-listing-requires
+mesh-listing-requires : tie.Need-mesh_listing-requires
 unfolding start₁ start₂ start₃ first second
 mesh-listing-requires c κs =
-    let e : tie.Else3 = search in
+    let e : tie.Else-not-walk_fits = search in
     (valid (first e), fits_room _ _ _ _ (nodes_few _ _ _ _ (shaped (second e))) (fits e))
 
 -- past them all
-returns-5 : tie.Need-returns-5
+returns-5 : tie.Need-returns
 unfolding start₁ start₂ start₃ first second
 returns-5 c =
-    let (e, p, l) : tie.Else3 × tie.Else4 × tie.After-mesh-listing = search in
+    let (e, p, l) : tie.Else-not-walk_fits × tie.Else-pose-vertices × tie.After-mesh_listing = search in
     with_promises _ _ _ _ _ _ _ _ _
-    (all_passed _ _ _ _ _ _ _ (valid (first e)) (shaped (second e)) (fits e) p.if4.left _ l.mesh-listing.ensures)
-    (λ failed. absurd (tests_passed _ _ _ _ _ _ (valid (first e)) (shaped (second e)) (fits e) p.if4.left failed))
+    (all_passed _ _ _ _ _ _ _ (valid (first e)) (shaped (second e)) (fits e) p.if-pose-vertices.false _ l.mesh_listing.ensures)
+    (λ failed. absurd (tests_passed _ _ _ _ _ _ (valid (first e)) (shaped (second e)) (fits e) p.if-pose-vertices.false failed))
 
-pub ray-mesh-all-spec : {M : Type 1} → statement M
-ray-mesh-all-spec =
+pub ray_mesh_all_spec : {M : Type 1} → statement M
+ray_mesh_all_spec =
     tie.close
     (tie.spec
     (search rules)  -- validate-requires
     returns
-    (search rules)  -- shape-admitted-requires
+    (search rules)  -- shape_admitted-requires
     returns-2
     walk-fits-requires
     returns-3
     returns-4
     mesh-listing-requires
-    (search rules)  -- same-length
-    (search rules)  -- same-length-2
-    (search rules)  -- same-length-3
-    (search rules)  -- same-length-4
+    (search rules)  -- shape_of-list
+    (search rules)  -- shape_of-stack
+    (search rules)  -- shape_of-indices
+    (search rules)  -- shape_of-numbers
     returns-5)

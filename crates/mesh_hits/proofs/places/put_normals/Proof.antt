@@ -10,91 +10,91 @@ use borrow.Author.Rules.{rules}
 use Rattle.mesh_hits.proofs.places.put_normals.Statement.{statement}
 use Rattle.mesh_hits.proofs.places.put_normals.Tie as tie
 
-abbrev invariant-loop : tie.invariant-loop
+abbrev invariant-loop : tie.invariant-loop-i
 invariant-loop ray pose triangles indices count numbers₀ i₀ numbers i = Putting
     (triangle_answer ray pose triangles) indices count numbers₀ numbers i
 
-abbrev decreases-loop : tie.decreases-loop
+abbrev decreases-loop : tie.decreases-loop-i
 decreases-loop ray pose triangles indices count numbers₀ i₀ numbers i = count - i
 
-loop-holds : tie.Need-loop-init invariant-loop decreases-loop
+loop-holds : tie.Need-loop-i-init invariant-loop decreases-loop
 loop-holds c =
     let start : tie.Start invariant-loop decreases-loop = search in
-    putting_begins _ _ _ _ _ start.pre
+    putting_begins _ _ _ _ _ start.requires
 
-cast-corners-of : tie.Need-overflow-cast-corners-of invariant-loop decreases-loop
+cast-corners-of : tie.Need-overflow_cast-index invariant-loop decreases-loop
 cast-corners-of c =
-    let at-loop : tie.At-loop invariant-loop decreases-loop = search in
-    omega (arith, c.shared-slice-known4.given at-loop.loop.i)
+    let at-loop : tie.At-loop-i invariant-loop decreases-loop = search in
+    omega (arith, c.shared_slice_known-in-loop-i-1.given at-loop.loop-i.i)
 
-corners-of-requires : tie.Need-corners-of-requires invariant-loop decreases-loop
+corners-of-requires : tie.Need-corners_of-corners-requires invariant-loop decreases-loop
 corners-of-requires c κs =
-    let (s, at-loop) : (tie.Start invariant-loop decreases-loop) × (tie.At-loop invariant-loop decreases-loop) = search in
-    let i = at-loop.loop.i in
-    let below = c.before.loop-test.true in
-    (omega (arith, s.pre.below i below), hit_inside _ _ _ _ _ (s.pre.reached i below))
+    let (s, at-loop) : (tie.Start invariant-loop decreases-loop) × (tie.At-loop-i invariant-loop decreases-loop) = search in
+    let i = at-loop.loop-i.i in
+    let below = c.loop-i-test.true in
+    (omega (arith, s.requires.below i below), hit_inside _ _ _ _ _ (s.requires.reached i below))
 
-slice-read-hit-at : tie.Need-slice-read-hit-at invariant-loop decreases-loop
+slice-read-hit-at : tie.Need-bounds-numbers-i invariant-loop decreases-loop
 slice-read-hit-at c =
-    let (s, at-loop, in-loop) : (tie.Start invariant-loop decreases-loop) × (tie.At-loop invariant-loop decreases-loop) × (tie.In-loop invariant-loop decreases-loop) = search in
+    let (s, at-loop, in-loop) : (tie.Start invariant-loop decreases-loop) × (tie.At-loop-i invariant-loop decreases-loop) × (tie.In-loop-i invariant-loop decreases-loop) = search in
     omega (
       arith,
-      at-loop.loop.inv.long,
-      s.pre.fits,
-      in-loop.loop-test.taken,
+      at-loop.loop-i.invariant.long,
+      s.requires.fits,
+      in-loop.loop-i-test.true,
     )
 
-put-place-requires : tie.Need-put-place-requires invariant-loop decreases-loop
+put-place-requires : tie.Need-put_place-requires invariant-loop decreases-loop
 put-place-requires c κs =
-    let (s, at-loop) : (tie.Start invariant-loop decreases-loop) × (tie.At-loop invariant-loop decreases-loop) = search in
+    let (s, at-loop) : (tie.Start invariant-loop decreases-loop) × (tie.At-loop-i invariant-loop decreases-loop) = search in
     omega (
       arith,
-      at-loop.loop.inv.long,
-      s.pre.fits,
+      at-loop.loop-i.invariant.long,
+      s.requires.fits,
     )
 
-loop-again : tie.Need-loop-preserved invariant-loop decreases-loop
+loop-again : tie.Need-loop-i-preserved invariant-loop decreases-loop
 loop-again c =
     let (s, at-loop, in-loop, at-corners-of, at-hit-at, at-put-place) :
-    (tie.Start invariant-loop decreases-loop) × (tie.At-loop invariant-loop decreases-loop) × (tie.In-loop invariant-loop decreases-loop)
-    × (tie.After-corners-of invariant-loop decreases-loop) × (tie.After-hit-at invariant-loop decreases-loop)
-    × (tie.After-put-place invariant-loop decreases-loop) = search in
-    let l = at-loop.loop in
-    let below = in-loop.loop-test.taken in
-    let reached = s.pre.reached l.i below ∙ ap At (sym (distance_stands _ _ _ _ _ s.pre _ _ l.inv below)) in
-    putting_goes _ _ _ _ _ s.pre _ _ l.inv below _
-    (at-hit-at.hit_at_lem.ensures
-    ∙ hit_answer _ _ _ _ _ reached _ at-corners-of.corners-of.ensures) _
-    at-put-place.put-place.kept.1.1.0 at-put-place.put-place.ensures
+    (tie.Start invariant-loop decreases-loop) × (tie.At-loop-i invariant-loop decreases-loop) × (tie.In-loop-i invariant-loop decreases-loop)
+    × (tie.After-corners_of-corners invariant-loop decreases-loop) × (tie.After-hit_at-hit invariant-loop decreases-loop)
+    × (tie.After-put_place invariant-loop decreases-loop) = search in
+    let l = at-loop.loop-i in
+    let below = in-loop.loop-i-test.true in
+    let reached = s.requires.reached l.i below ∙ ap At (sym (distance_stands _ _ _ _ _ s.requires _ _ l.invariant below)) in
+    putting_goes _ _ _ _ _ s.requires _ _ l.invariant below _
+    (at-hit-at.hit_at-hit.ensures
+    ∙ hit_answer _ _ _ _ _ reached _ at-corners-of.corners_of-corners.ensures) _
+    at-put-place.put_place.auto.numbers at-put-place.put_place.ensures
 
-same_length : tie.Need-same-length invariant-loop decreases-loop
-same_length c = c.before.loop.invariant.long
+same_length : tie.Need-shape_of-numbers invariant-loop decreases-loop
+same_length c = c.loop-i.invariant.long
 
 returns : tie.Need-returns invariant-loop decreases-loop
 returns c =
     let start : tie.Start invariant-loop decreases-loop = search in
-    putting_ends _ _ _ _ _ start.pre _ _ c.before.loop.invariant
-    c.loop-test.false
+    putting_ends _ _ _ _ _ start.requires _ _ c.loop-i.invariant
+    c.loop-i-test.false
 
-pub put-normals-spec : {M : Type 1} → statement M
-put-normals-spec =
+pub put_normals_spec : {M : Type 1} → statement M
+put_normals_spec =
     tie.close
     (tie.spec
     invariant-loop
     decreases-loop
     loop-holds
-    (search rules)  -- mul-index
-    (search rules)  -- shared-slice-read-index
+    (search rules)  -- offset_bounds-indices-i
+    (search rules)  -- bounds-indices-i
     cast-corners-of
     corners-of-requires
-    (search rules)  -- mul-hit-at
-    (search rules)  -- mul-hit-at-2
+    (search rules)  -- overflow_mul-i
+    (search rules)  -- offset_bounds-numbers-i
     slice-read-hit-at
-    (search rules)  -- hit-at-requires
-    (search rules)  -- mul-put-place
+    (search rules)  -- hit_at-hit-requires
+    (search rules)  -- overflow_mul-i-in-loop-i
     put-place-requires
-    (search rules)  -- add-i
-    (search rules)  -- loop-less
+    (search rules)  -- overflow_add-i
+    (search rules)  -- loop-i-smaller
     loop-again
     same_length
     returns)

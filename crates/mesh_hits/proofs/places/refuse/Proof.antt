@@ -5,10 +5,15 @@ use Rattle.mesh_hits.proofs.places.refuse.Tie as tie
 
 returns : tie.Need-returns
 returns c =
-    let (at-zero-words, at-zero-numbers) : tie.After-zero-words × tie.After-zero-numbers = search in
-    simp (at-zero-words.zero-words.ensures, at-zero-numbers.zero-numbers.ensures)
+    let (at-zero-words, at-zero-numbers) : tie.After-zero_words × tie.After-zero_numbers = search in
+    simp (at-zero-words.zero_words.ensures, at-zero-numbers.zero_numbers.ensures)
 
-pub refuse-spec : {M : Type 1} → statement M
-refuse-spec =
+pub refuse_spec : {M : Type 1} → statement M
+refuse_spec =
     tie.close
-    (tie.spec (search rules) (search rules) (search rules) (search rules) returns)
+    (tie.spec
+    (search rules)  -- zero_words-requires
+    (search rules)  -- zero_numbers-requires
+    (search rules)  -- shape_of-indices
+    (search rules)  -- shape_of-numbers
+    returns)

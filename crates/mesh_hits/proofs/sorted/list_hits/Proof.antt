@@ -15,87 +15,87 @@ use Rattle.mesh_hits.proofs.sorted.list_hits.Statement.{statement}
 use Rattle.mesh_hits.proofs.sorted.list_hits.Tie as tie
 
 -- the hit area as the gathering leaves it
-abbrev indices : tie.After-gather-hits → List ℕ
-indices g = g.gather-hits.last.1.1.1.1.1.1.0
+abbrev indices : tie.After-gather_hits-gathered → List ℕ
+indices g = g.gather_hits-gathered.new.indices
 
-abbrev numbers : tie.After-gather-hits → List Float
-numbers g = g.gather-hits.last.1.1.1.1.1.1.1.0
+abbrev numbers : tie.After-gather_hits-gathered → List Float
+numbers g = g.gather_hits-gathered.new.numbers
 
 -- the places before it
-start : tie.After-gather-hits → tie.Start
+start : tie.After-gather_hits-gathered → tie.Start
 start g = search
 
-counted : tie.After-gather-hits → tie.After-places-of
+counted : tie.After-gather_hits-gathered → tie.After-places_of-room
 counted g = search
 
-gathered : (g : tie.After-gather-hits)
+gathered : (g : tie.After-gather_hits-gathered)
     → let a = (start g).args in
     HitsGathered (triangle_answer a.ray a.pose.now a.triangles.now) (thirds (length a.triangles.now))
-    (take a.found a.list.now) (length a.list.now) a.indices.now a.numbers.now g.gather-hits.result
-    (counted g).places_of.result (indices g) (numbers g)
+    (take a.found a.list-1.now) (length a.list-1.now) a.indices-1.now a.numbers-1.now g.gather_hits-gathered.result
+    (counted g).places_of-room.result (indices g) (numbers g)
 unfolding start counted
 gathered g =
     let s = start g in
-    let kept = g.gather-hits.auto.1.1.1.1.1.1 in
+    let kept = g.gather_hits-gathered.auto.1.1.1.1.1.1 in
     record {
       at_numbers = answers_are_numbers _ _ _;
-      below = s.pre.1;
-      lent = omega (arith, length-take-le s.args.found s.args.list.now s.pre.0, s.pre.0);
-      places_are = (counted g).places_of.ensures;
+      below = s.requires.1;
+      lent = omega (arith, length-take-le s.args.found s.args.list.now s.requires.0, s.requires.0);
+      places_are = (counted g).places_of-room.ensures;
       long = kept.0;
       numbers_long = kept.1.0;
-      noted = g.gather-hits.ensures.0;
-      stored = g.gather-hits.ensures.1;
+      noted = g.gather_hits-gathered.ensures.0;
+      stored = g.gather_hits-gathered.ensures.1;
     }
 
-gather-hits-requires : tie.Need-gather-hits-requires
+gather-hits-requires : tie.Need-gather_hits-gathered-requires
 gather-hits-requires c κs =
-    let (s, p) : tie.Start × tie.After-places-of = search in
+    let (s, p) : tie.Start × tie.After-places_of-room = search in
     let w = places_within (length s.args.indices.now) (length s.args.numbers.now) in
-    let e = p.places_of.ensures in
-    (s.pre.0, (s.pre.1, (omega (arith, w.0, e), omega (arith, w.1, e))))
+    let e = p.places_of-room.ensures in
+    (s.requires.0, (s.requires.1, (omega (arith, w.0, e), omega (arith, w.1, e))))
 
-arrange-requires : tie.Need-arrange-requires
+arrange-requires : tie.Need-arrange-rows-requires
 unfolding start counted
 arrange-requires c κs =
-    let g : tie.After-gather-hits = search in
+    let g : tie.After-gather_hits-gathered = search in
     gathered_room _ _ _ _ _ _ _ _ _ _ (gathered g)
 
 -- a refusal
-returns : tie.Need-returns
+returns : tie.Need-returns-in_default
 unfolding start counted
 returns c =
-    let (g, a, z) : tie.After-gather-hits × tie.After-arrange × tie.After-enum-told = search in
-    refused_whole _ _ _ _ _ _ (a.arrange.ensures _ _ _ _ _ (gathered g)) _ z.enum_told.given.1
+    let (g, a, z) : tie.After-gather_hits-gathered × tie.After-arrange-rows × tie.In_default = search in
+    refused_whole _ _ _ _ _ _ (a.arrange-rows.ensures _ _ _ _ _ (gathered g)) _ z.in_default.is
 
-put-normals-requires : tie.Need-put-normals-requires
+put-normals-requires : tie.Need-put_normals-requires
 unfolding start counted
 put-normals-requires c κs =
-    let (g, a, k) : tie.After-gather-hits × tie.After-arrange × tie.After-rows = search in
-    arranged_places _ _ _ _ _ _ (a.arrange.ensures _ _ _ _ _ (gathered g)) _ k.rows.given.1
+    let (g, a, k) : tie.After-gather_hits-gathered × tie.After-arrange-rows × tie.In-Count = search in
+    arranged_places _ _ _ _ _ _ (a.arrange-rows.ensures _ _ _ _ _ (gathered g)) _ k.in-Count.is
 
 -- the hits, with their normals
-returns-2 : tie.Need-returns-2
+returns-2 : tie.Need-returns
 unfolding start counted
 returns-2 c =
-    let (g, a, k, p) : tie.After-gather-hits × tie.After-arrange × tie.After-rows × tie.After-put-normals = search in
-    arranged_whole _ _ _ _ _ _ (a.arrange.ensures _ _ _ _ _ (gathered g)) _ k.rows.given.1 _ p.put-normals.ensures
+    let (g, a, k, p) : tie.After-gather_hits-gathered × tie.After-arrange-rows × tie.In-Count × tie.After-put_normals = search in
+    arranged_whole _ _ _ _ _ _ (a.arrange-rows.ensures _ _ _ _ _ (gathered g)) _ k.in-Count.is _ p.put_normals.ensures
 
-pub list-hits-spec : {M : Type 1} → statement M
-list-hits-spec =
+pub list_hits_spec : {M : Type 1} → statement M
+list_hits_spec =
     tie.close
     (tie.spec
-    (search rules)  -- places-of-requires
+    (search rules)  -- places_of-room-requires
     gather-hits-requires
     arrange-requires
-    (search rules)  -- enum-known-rows
-    (search rules)  -- enum_told
-    (search rules)  -- same-length
-    (search rules)  -- same-length-2
-    (search rules)  -- same-length-3
+    (search rules)  -- enum_known-rows
+    (search rules)  -- enum_told-1
+    (search rules)  -- shape_of-list-in_default
+    (search rules)  -- shape_of-indices-in_default
+    (search rules)  -- shape_of-numbers-in_default
     returns
     put-normals-requires
-    (search rules)  -- same-length-4
-    (search rules)  -- same-length-5
-    (search rules)  -- same-length-6
+    (search rules)  -- shape_of-list
+    (search rules)  -- shape_of-indices
+    (search rules)  -- shape_of-numbers
     returns-2)

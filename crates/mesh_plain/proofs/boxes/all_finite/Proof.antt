@@ -9,41 +9,41 @@ use borrow.Author.Rules.{rules}
 use Rattle.mesh_plain.proofs.boxes.all_finite.Statement.{statement}
 use Rattle.mesh_plain.proofs.boxes.all_finite.Tie as tie
 
-abbrev invariant-loop : tie.invariant-loop
+abbrev invariant-loop : tie.invariant-loop-i
 invariant-loop vertices limit sum₀ i₀ sum i = Summed vertices sum i
 
-abbrev decreases-loop : tie.decreases-loop
+abbrev decreases-loop : tie.decreases-loop-i
 decreases-loop vertices limit sum₀ i₀ sum i = thirds (length vertices) - i
 
-loop-holds : tie.Need-loop-init invariant-loop decreases-loop
+loop-holds : tie.Need-loop-i-init invariant-loop decreases-loop
 loop-holds c = summed_begins _ _
 
-vector-at-requires : tie.Need-vector-at-requires invariant-loop decreases-loop
-vector-at-requires c κs = omega (arith, c.loop-test.true)
+vector-at-requires : tie.Need-vector_at-requires invariant-loop decreases-loop
+vector-at-requires c κs = omega (arith, c.loop-i-test.true)
 
 -- one more vertex
-loop-again : tie.Need-loop-preserved invariant-loop decreases-loop
+loop-again : tie.Need-loop-i-preserved invariant-loop decreases-loop
 loop-again c =
-    let (l, t, v) : tie.At-loop invariant-loop decreases-loop × tie.In-loop invariant-loop decreases-loop × tie.After-vector-at invariant-loop decreases-loop = search in
-    summed_goes _ _ _ l.loop.inv t.loop-test.taken _ v.vector-at.ensures _ c.add.ensures
+    let (l, t, v) : tie.At-loop-i invariant-loop decreases-loop × tie.In-loop-i invariant-loop decreases-loop × tie.After-vector_at invariant-loop decreases-loop = search in
+    summed_goes _ _ _ l.loop-i.invariant t.loop-i-test.true _ v.vector_at.ensures _ c.add-sum.ensures
 
 returns : tie.Need-returns invariant-loop decreases-loop
 returns c h =
-    let (l, x) : tie.At-loop invariant-loop decreases-loop × tie.After-loop invariant-loop decreases-loop = search in
-    summed_ends _ _ _ l.loop.inv x.loop-test.left (sym c.is_finite.ensures ∙ h)
+    let (l, x) : tie.At-loop-i invariant-loop decreases-loop × tie.After-loop-i invariant-loop decreases-loop = search in
+    summed_ends _ _ _ l.loop-i.invariant x.loop-i-test.false (sym c.is_finite.ensures ∙ h)
 
-pub all-finite-spec : {M : Type 1} → statement M
-all-finite-spec =
+pub all_finite_spec : {M : Type 1} → statement M
+all_finite_spec =
     tie.close
     (tie.spec
     invariant-loop
     decreases-loop
     loop-holds
-    (search rules)  -- mul-vector-at
+    (search rules)  -- overflow_mul-i
     vector-at-requires
-    (λ c κs. search rules)  -- add-requires
-    (search rules)  -- add-i
-    (search rules)  -- loop-less
+    (λ c κs. search rules)  -- add-sum-requires
+    (search rules)  -- overflow_add-i
+    (search rules)  -- loop-i-smaller
     loop-again
-    (λ c κs. search rules)  -- is-finite-requires
+    (λ c κs. search rules)  -- is_finite-requires
     returns)

@@ -9,29 +9,29 @@ use Rattle.mesh_plain.proofs.boxes.boxes_hold.Statement.{statement}
 use Rattle.mesh_plain.proofs.boxes.boxes_hold.Tie as tie
 
 -- finite vertices
-returns : tie.Need-returns
+returns : tie.Need-returns-then-all_finite
 returns c =
     let s : tie.Start = search in
     let own = mesh s.args.vertices.now s.args.triangles.now in
-    ((λ h. finite_hold own (c.before.all-finite.ensures c.if1.true)), (λ h. absurd (true≢false h)))
+    ((λ h. finite_hold own (c.all_finite.ensures c.if-all_finite.true)), (λ h. absurd (true≢false h)))
 
-all-fit-requires : tie.Need-all-fit-requires
+all-fit-requires : tie.Need-all_fit-requires
 all-fit-requires c κs =
     let s : tie.Start = search in
-    s.pre
+    s.requires
 
 -- each box looked at
-returns-2 : tie.Need-returns-2
+returns-2 : tie.Need-returns
 returns-2 c =
     let s : tie.Start = search in
     let own = mesh s.args.vertices.now s.args.triangles.now in
     ((λ h. all_hold own (sym c.all_fit.ensures ∙ h)), (λ h. sym c.all_fit.ensures ∙ h))
 
-pub boxes-hold-spec : {M : Type 1} → statement M
-boxes-hold-spec =
+pub boxes_hold_spec : {M : Type 1} → statement M
+boxes_hold_spec =
     tie.close
     (tie.spec
-    (λ c κs. search rules)  -- all-finite-requires
+    (λ c κs. search rules)  -- all_finite-requires
     returns
     all-fit-requires
     returns-2)

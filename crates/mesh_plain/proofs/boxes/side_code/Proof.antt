@@ -9,12 +9,12 @@ use borrow.Author.Rules.{rules}
 use Rattle.mesh_plain.proofs.boxes.side_code.Statement.{statement}
 use Rattle.mesh_plain.proofs.boxes.side_code.Tie as tie
 
-mul-result : tie.Need-overflow-mul-result
+mul-result : tie.Need-overflow_mul-result
 mul-result c =
     let s : tie.Start = search in
     omega (arith, at_most_one (not (le s.args.x s.args.to)))
 
-add-result : tie.Need-overflow-add-result
+add-result : tie.Need-overflow_add-result
 add-result c =
     let s : tie.Start = search in
     omega (arith, at_most_one (not (le s.args.x s.args.to)), at_most_one (not (le s.args.from s.args.x)))
@@ -24,12 +24,12 @@ returns c =
     let s : tie.Start = search in
     (refl, small s.args.x s.args.from s.args.to)
 
-pub side-code-spec : {M : Type 1} → statement M
-side-code-spec =
+pub side_code_spec : {M : Type 1} → statement M
+side_code_spec =
     tie.close
     (tie.spec
-    (search rules)  -- cast-result
+    (search rules)  -- overflow_cast-result
     mul-result
-    (search rules)  -- cast-result-2
+    (search rules)  -- overflow_cast-result-2
     add-result
     returns)

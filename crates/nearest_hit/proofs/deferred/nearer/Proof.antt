@@ -7,30 +7,37 @@ use Rattle.nearest_hit.proofs.deferred.nearer.Statement.{statement}
 use Rattle.nearest_hit.proofs.deferred.nearer.Tie as tie
 
 -- nearer than the hit before
-returns : tie.Need-returns
+returns : tie.Need-returns-then-distance-reach
 unfolding next_of
 returns c =
-    let b : tie.After-best = search in
-    (simp (b.best.given.1, c.if1.true), λ h m. m)
+    let b : tie.In-Hit = search in
+    (simp (b.in-Hit.is, c.if-distance-reach.true), λ h m. m)
 
 -- not nearer
-returns-2 : tie.Need-returns-2
+returns-2 : tie.Need-returns-in-Hit
 unfolding next_of
 returns-2 c =
-    let b : tie.After-best = search in
-    (simp (b.best.given.1, c.if1.false), λ h m. subst HitMeasured b.best.given.1 h)
+    let b : tie.In-Hit = search in
+    (simp (b.in-Hit.is, c.if-distance-reach.false), λ h m. subst HitMeasured b.in-Hit.is h)
 
 -- the first
-returns-3 : tie.Need-returns-3
+returns-3 : tie.Need-returns-in-None
 unfolding next_of
-returns-3 c = (simp c.enum_told.given.1, λ h m. m)
+returns-3 c = (simp c.in-None.is, λ h m. m)
 
 -- after a refusal
-returns-4 : tie.Need-returns-4
+returns-4 : tie.Need-returns-in-Refused
 unfolding next_of
-returns-4 c = (simp c.before.best2.given.1, λ h m. refl)
+returns-4 c = (simp c.in-Refused.is, λ h m. refl)
 
-pub nearer-spec : {M : Type 1} → statement M
-nearer-spec =
+pub nearer_spec : {M : Type 1} → statement M
+nearer_spec =
     tie.close
-    (tie.spec (search rules) returns returns-2 (search rules) returns-3 (search rules) returns-4)
+    (tie.spec
+    (search rules)  -- enum_known-best
+    returns
+    returns-2
+    (search rules)  -- enum_told-1
+    returns-3
+    (search rules)  -- enum_known-best-in-Refused-1
+    returns-4)

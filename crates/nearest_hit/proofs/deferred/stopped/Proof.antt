@@ -6,21 +6,27 @@ use Rattle.nearest_hit.proofs.deferred.stopped.Statement.{statement}
 use Rattle.nearest_hit.proofs.deferred.stopped.Tie as tie
 
 -- after a hit
-returns : tie.Need-returns
+returns : tie.Need-returns-in-Hit
 unfolding next_of
-returns c = ((λ index. simp c.enum_told.given.1), refl)
+returns c = ((λ index. simp c.in-Hit.is), refl)
 
 -- after nothing
-returns-2 : tie.Need-returns-2
+returns-2 : tie.Need-returns-in-None
 unfolding next_of
-returns-2 c = ((λ index. simp c.enum-told2.given.1), refl)
+returns-2 c = ((λ index. simp c.in-None.is), refl)
 
 -- after a refusal
-returns-3 : tie.Need-returns-3
+returns-3 : tie.Need-returns-in-Refused
 unfolding next_of
-returns-3 c = ((λ index. simp c.before.best.given.1), refl)
+returns-3 c = ((λ index. simp c.in-Refused.is), refl)
 
-pub stopped-spec : {M : Type 1} → statement M
-stopped-spec =
+pub stopped_spec : {M : Type 1} → statement M
+stopped_spec =
     tie.close
-    (tie.spec (search rules) returns (search rules) returns-2 (search rules) returns-3)
+    (tie.spec
+    (search rules)  -- enum_told-1
+    returns
+    (search rules)  -- enum_told-in-None
+    returns-2
+    (search rules)  -- enum_known-best
+    returns-3)

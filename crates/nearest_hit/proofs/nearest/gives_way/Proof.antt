@@ -4,18 +4,24 @@ use borrow.Author.Rules.{rules}
 use Rattle.nearest_hit.proofs.nearest.gives_way.Statement.{statement}
 use Rattle.nearest_hit.proofs.nearest.gives_way.Tie as tie
 
-returns : tie.Need-returns
+returns : tie.Need-returns-in-Hit
 unfolding gives_way
-returns c = simp c.before.best.given.1
+returns c = simp c.in-Hit.is
 
-returns-2 : tie.Need-returns-2
+returns-2 : tie.Need-returns-in-None
 unfolding gives_way
-returns-2 c = simp c.enum_told.given.1
+returns-2 c = simp c.in-None.is
 
-returns-3 : tie.Need-returns-3
+returns-3 : tie.Need-returns-in-Refused
 unfolding gives_way
-returns-3 c = simp c.enum-told2.given.1
+returns-3 c = simp c.in-Refused.is
 
-pub gives-way-spec : {M : Type 1} → statement M
-gives-way-spec =
-    tie.close (tie.spec (search rules) returns (search rules) returns-2 (search rules) returns-3)
+pub gives_way_spec : {M : Type 1} → statement M
+gives_way_spec =
+    tie.close (tie.spec
+    (search rules)  -- enum_known-best
+    returns
+    (search rules)  -- enum_told-1
+    returns-2
+    (search rules)  -- enum_told-in-Refused
+    returns-3)

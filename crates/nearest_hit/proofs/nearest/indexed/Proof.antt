@@ -4,18 +4,24 @@ use borrow.Author.Rules.{rules}
 use Rattle.nearest_hit.proofs.nearest.indexed.Statement.{statement}
 use Rattle.nearest_hit.proofs.nearest.indexed.Tie as tie
 
-returns : tie.Need-returns
+returns : tie.Need-returns-in-Hit
 unfolding next_of
-returns c = simp c.before.cast.given.1
+returns c = simp c.in-Hit.is
 
-returns-2 : tie.Need-returns-2
+returns-2 : tie.Need-returns-in-None
 unfolding next_of
-returns-2 c = simp c.enum_told.given.1
+returns-2 c = simp c.in-None.is
 
-returns-3 : tie.Need-returns-3
+returns-3 : tie.Need-returns-in-Refused
 unfolding next_of
-returns-3 c = simp c.before.cast2.given.1
+returns-3 c = simp c.in-Refused.is
 
-pub indexed-spec : {M : Type 1} → statement M
-indexed-spec =
-    tie.close (tie.spec (search rules) returns (search rules) returns-2 (search rules) returns-3)
+pub indexed_spec : {M : Type 1} → statement M
+indexed_spec =
+    tie.close (tie.spec
+    (search rules)  -- enum_known-cast
+    returns
+    (search rules)  -- enum_told-1
+    returns-2
+    (search rules)  -- enum_known-cast-in-Refused-1
+    returns-3)

@@ -5,29 +5,29 @@ use borrow.Author.Rules.{rules}
 use Rattle.nearest_hit.proofs.nearest.next.Statement.{statement}
 use Rattle.nearest_hit.proofs.nearest.next.Tie as tie
 
-returns : tie.Need-returns
+returns : tie.Need-returns-in-Hit
 unfolding next_of
 returns c =
-    let at-best : tie.After-best = search in
-    simp (at-best.best.given.1, sym c.nearer.ensures)
+    let at-best : tie.In-Hit = search in
+    simp (at-best.in-Hit.is, sym c.nearer.ensures)
 
-returns-2 : tie.Need-returns-2
+returns-2 : tie.Need-returns-in-None
 unfolding next_of
-returns-2 c = simp (c.before.enum_told.given.1, sym c.indexed.ensures)
+returns-2 c = simp (c.in-None.is, sym c.indexed.ensures)
 
-returns-3 : tie.Need-returns-3
+returns-3 : tie.Need-returns-in-Refused
 unfolding next_of
-returns-3 c = simp c.before.best2.given.1
+returns-3 c = simp c.in-Refused.is
 
-pub next-spec : {M : Type 1} → statement M
-next-spec =
+pub next_spec : {M : Type 1} → statement M
+next_spec =
     tie.close
     (tie.spec
-    (search rules)  -- enum-known-best
+    (search rules)  -- enum_known-best
     (search rules)  -- nearer-requires
     returns
-    (search rules)  -- enum_told
+    (search rules)  -- enum_told-1
     (search rules)  -- indexed-requires
     returns-2
-    (search rules)  -- enum-known-best-2
+    (search rules)  -- enum_known-best-in-Refused-1
     returns-3)

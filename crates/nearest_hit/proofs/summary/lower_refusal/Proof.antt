@@ -5,21 +5,26 @@ use borrow.Author.Rules.{rules}
 use Rattle.nearest_hit.proofs.summary.lower_refusal.Statement.{statement}
 use Rattle.nearest_hit.proofs.summary.lower_refusal.Tie as tie
 
-returns : tie.Need-returns
+returns : tie.Need-returns-in-Nobody
 unfolding keep_of
-returns c = simp c.enum_told.given.1
+returns c = simp c.in-Nobody.is
 
-returns-2 : tie.Need-returns-2
+returns-2 : tie.Need-returns-then-index-lowest
 unfolding keep_of lower
 returns-2 c =
-    let at-chosen : tie.After-chosen = search in
-    simp (at-chosen.chosen.given.1, lt-ltb _ _ c.if1.true)
+    let at-chosen : tie.In-At = search in
+    simp (at-chosen.in-At.is, lt-ltb _ _ c.if-index-lowest.true)
 
-returns-3 : tie.Need-returns-3
+returns-3 : tie.Need-returns-in-At
 unfolding keep_of lower
 returns-3 c =
-    let at-chosen : tie.After-chosen = search in
-    simp (at-chosen.chosen.given.1, le-ltb _ _ c.if1.false)
+    let at-chosen : tie.In-At = search in
+    simp (at-chosen.in-At.is, le-ltb _ _ c.if-index-lowest.false)
 
-pub lower-refusal-spec : {M : Type 1} → statement M
-lower-refusal-spec = tie.close (tie.spec (search rules) returns (search rules) returns-2 returns-3)
+pub lower_refusal_spec : {M : Type 1} → statement M
+lower_refusal_spec = tie.close (tie.spec
+    (search rules)  -- enum_told-1
+    returns
+    (search rules)  -- enum_known-chosen
+    returns-2
+    returns-3)

@@ -6,23 +6,29 @@ use Rattle.nearest_hit.proofs.summary.nearer_hit.Statement.{statement}
 use Rattle.nearest_hit.proofs.summary.nearer_hit.Tie as tie
 
 -- nobody yet
-returns : tie.Need-returns
+returns : tie.Need-returns-in-Nobody
 unfolding keep_of
-returns c = simp c.enum_told.given.1
+returns c = simp c.in-Nobody.is
 
 -- the new one is nearer
-returns-2 : tie.Need-returns-2
+returns-2 : tie.Need-returns-then-is_nearer
 unfolding keep_of
 returns-2 c =
-    let chosen : tie.After-chosen = search in
-    simp (chosen.chosen.given.1, sym c.before.is-nearer.ensures, c.if1.true)
+    let chosen : tie.In-At = search in
+    simp (chosen.in-At.is, sym c.is_nearer.ensures, c.if-is_nearer.true)
 
 -- and is not
-returns-3 : tie.Need-returns-3
+returns-3 : tie.Need-returns-in-At
 unfolding keep_of
 returns-3 c =
-    let chosen : tie.After-chosen = search in
-    simp (chosen.chosen.given.1, sym c.before.is-nearer.ensures, c.if1.false)
+    let chosen : tie.In-At = search in
+    simp (chosen.in-At.is, sym c.is_nearer.ensures, c.if-is_nearer.false)
 
-pub nearer-hit-spec : {M : Type 1} → statement M
-nearer-hit-spec = tie.close (tie.spec (search rules) returns (search rules) (search rules) returns-2 returns-3)
+pub nearer_hit_spec : {M : Type 1} → statement M
+nearer_hit_spec = tie.close (tie.spec
+    (search rules)  -- enum_told-1
+    returns
+    (search rules)  -- enum_known-chosen
+    (search rules)  -- is_nearer-requires
+    returns-2
+    returns-3)

@@ -5,31 +5,31 @@ use borrow.Author.Rules.{rules}
 use Rattle.nearest_hit.proofs.summary.note.Statement.{statement}
 use Rattle.nearest_hit.proofs.summary.note.Tie as tie
 
-returns : tie.Need-returns
+returns : tie.Need-returns-in-Miss
 unfolding note_of
-returns c = simp c.enum_told.given.1
+returns c = simp c.in-Miss.is
 
-returns-2 : tie.Need-returns-2
+returns-2 : tie.Need-returns-in-Refused
 unfolding note_of
 returns-2 c =
-    let at-reach : tie.After-reach = search in
-    simp (at-reach.reach.given.1, sym c.lower-refusal.ensures)
+    let at-reach : tie.In-Refused = search in
+    simp (at-reach.in-Refused.is, sym c.lower_refusal-lowest.ensures)
 
-returns-3 : tie.Need-returns-3
+returns-3 : tie.Need-returns-in-At
 unfolding note_of
 returns-3 c =
-    let at-reach2 : tie.After-reach2 = search in
-    simp (at-reach2.reach2.given.1, sym c.nearer-hit.ensures)
+    let at-reach2 : tie.In-At = search in
+    simp (at-reach2.in-At.is, sym c.nearer_hit-nearest.ensures)
 
-pub note-spec : {M : Type 1} → statement M
-note-spec =
+pub note_spec : {M : Type 1} → statement M
+note_spec =
     tie.close
     (tie.spec
-    (search rules)  -- enum_told
+    (search rules)  -- enum_told-1
     returns
-    (search rules)  -- enum-known-reach
-    (search rules)  -- lower-refusal-requires
+    (search rules)  -- enum_known-reach
+    (search rules)  -- lower_refusal-lowest-requires
     returns-2
-    (search rules)  -- enum-known-reach-2
-    (search rules)  -- nearer-hit-requires
+    (search rules)  -- enum_known-reach-in-At-1
+    (search rules)  -- nearer_hit-nearest-requires
     returns-3)

@@ -5,14 +5,19 @@ use borrow.Author.Rules.{rules}
 use Rattle.nearest_hit.proofs.summary.winner.Statement.{statement}
 use Rattle.nearest_hit.proofs.summary.winner.Tie as tie
 
-returns : tie.Need-returns
+returns : tie.Need-returns-in-At
 unfolding winner_of
-returns c = simp c.before.refuser.given.1
+returns c = simp c.in-At.is
 
-returns-2 : tie.Need-returns-2
+returns-2 : tie.Need-returns-in-Nobody
 unfolding winner_of
-returns-2 c = simp (c.before.enum_told.given.1, sym c.hit-outcome.ensures)
+returns-2 c = simp (c.in-Nobody.is, sym c.hit_outcome.ensures)
 
-pub winner-spec : {M : Type 1} → statement M
-winner-spec =
-    tie.close (tie.spec (search rules) returns (search rules) (search rules) returns-2)
+pub winner_spec : {M : Type 1} → statement M
+winner_spec =
+    tie.close (tie.spec
+    (search rules)  -- enum_known-refuser
+    returns
+    (search rules)  -- enum_told-1
+    (search rules)  -- hit_outcome-requires
+    returns-2)

@@ -5,12 +5,16 @@ use borrow.Author.Rules.{rules}
 use Rattle.record_bytes.proofs.shape.form_at.Statement.{statement}
 use Rattle.record_bytes.proofs.shape.form_at.Tie as tie
 
-returns : tie.Need-returns
-returns c = let s : tie.Start = search in no_version s.args.source.now c.if1.true
+returns : tie.Need-returns-then-source-lt5
+returns c = let s : tie.Start = search in no_version s.args.source.now c.if-source-lt5.true
 
-returns-2 : tie.Need-returns-2
+returns-2 : tie.Need-returns
 unfolding form_at
 returns-2 c = c.form_of.ensures
 
-pub form-at-spec : {M : Type 1} → statement M
-form-at-spec = tie.close (tie.spec returns (search rules) (search rules) returns-2)
+pub form_at_spec : {M : Type 1} → statement M
+form_at_spec = tie.close (tie.spec
+    returns
+    (search rules)  -- bounds-source-4
+    (search rules)  -- form_of-requires
+    returns-2)

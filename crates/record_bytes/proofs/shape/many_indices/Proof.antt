@@ -6,13 +6,16 @@ use borrow.Author.Rules.{rules}
 use Rattle.record_bytes.proofs.shape.many_indices.Statement.{statement}
 use Rattle.record_bytes.proofs.shape.many_indices.Tie as tie
 
-returns : tie.Need-returns
+returns : tie.Need-returns-then-kind-eq3
 unfolding many_indices
-returns c = (simp (eq-eqb c.before.args.kind 3 c.if1.true), omega arith)
+returns c = (simp (eq-eqb c.args.kind 3 c.if-kind-eq3.true), omega arith)
 
-returns-2 : tie.Need-returns-2
+returns-2 : tie.Need-returns
 unfolding many_indices
-returns-2 c = (simp (ne_eqb c.before.args.kind 3 c.if1.false), omega arith)
+returns-2 c = (simp (ne_eqb c.args.kind 3 c.if-kind-eq3.false), omega arith)
 
-pub many-indices-spec : {M : Type 1} → statement M
-many-indices-spec = tie.close (tie.spec (search rules) returns returns-2)
+pub many_indices_spec : {M : Type 1} → statement M
+many_indices_spec = tie.close (tie.spec
+    (search rules)  -- overflow_mul-result
+    returns
+    returns-2)

@@ -5,8 +5,13 @@ use Rattle.record_bytes.proofs.shape.numbers_place.Statement.{statement}
 use Rattle.record_bytes.proofs.shape.numbers_place.Tie as tie
 
 returns : tie.Need-returns
-returns c = (omega (arith, c.ray-length.ensures.0), omega (arith, c.ray-length.ensures.1))
+returns c = (omega (arith, c.ray_length.ensures.0), omega (arith, c.ray_length.ensures.1))
 
-pub numbers-place-spec : {M : Type 1} → statement M
-numbers-place-spec =
-    tie.close (tie.spec (search rules) (search rules) (search rules) (search rules) returns)
+pub numbers_place_spec : {M : Type 1} → statement M
+numbers_place_spec =
+    tie.close (tie.spec
+    (search rules)  -- ray_length-requires
+    (search rules)  -- overflow_add-result
+    (search rules)  -- overflow_mul-result
+    (search rules)  -- overflow_add-result-2
+    returns)

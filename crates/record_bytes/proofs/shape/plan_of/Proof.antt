@@ -6,31 +6,31 @@ use borrow.Author.Rules.{rules}
 use Rattle.record_bytes.proofs.shape.plan_of.Statement.{statement}
 use Rattle.record_bytes.proofs.shape.plan_of.Tie as tie
 
-returns : tie.Need-returns
+returns : tie.Need-returns-then-not-is_framed
 returns c =
     let start : tie.Start = search in
     unplanned start.args.form start.args.source.now
-    (sym c.before.is_framed.ensures ∙ not-true c.before.is_framed.result c.if1.true)
+    (sym c.is_framed.ensures ∙ c.if-not-is_framed.true)
 
-returns-2 : tie.Need-returns-2
+returns-2 : tie.Need-returns-then-source-lt6
 returns-2 c =
     let start : tie.Start = search in
     unplanned start.args.form start.args.source.now
-    (sym (unframed_short start.args.form start.args.source.now c.if2.true))
+    (sym (unframed_short start.args.form start.args.source.now c.if-source-lt6.true))
 
-returns-3 : tie.Need-returns-3
+returns-3 : tie.Need-returns
 returns-3 c =
-    let (start, at-is-framed, else1) : tie.Start × tie.After-is-framed × tie.Else1 = search in
-    c.filled-by.ensures ∙ planned_by_fields start.args.form start.args.source.now
-    (sym at-is-framed.is_framed.ensures ∙ not-false at-is-framed.is_framed.result else1.if1.left)
+    let (start, at-is-framed, else1) : tie.Start × tie.After-is_framed × tie.Else-not-is_framed = search in
+    c.filled_by.ensures ∙ planned_by_fields start.args.form start.args.source.now
+    (sym at-is-framed.is_framed.ensures ∙ else1.if-not-is_framed.false)
 
-pub plan-of-spec : {M : Type 1} → statement M
-plan-of-spec =
+pub plan_of_spec : {M : Type 1} → statement M
+plan_of_spec =
     tie.close
     (tie.spec
-    (λ c κs. search rules)  -- is-framed-requires
+    (λ c κs. search rules)  -- is_framed-requires
     returns
     returns-2
-    (λ c. search rules)  -- shared-slice-read-filled-by
-    (λ c κs. search rules)  -- filled-by-requires
+    (λ c. search rules)  -- bounds-source-5
+    (λ c κs. search rules)  -- filled_by-requires
     returns-3)

@@ -8,14 +8,20 @@ use borrow.Author.Rules.{rules}
 use Rattle.record_bytes.proofs.shape.ray_length.Statement.{statement}
 use Rattle.record_bytes.proofs.shape.ray_length.Tie as tie
 
-returns : tie.Need-returns
-returns c = (ap (λ (z : Form). size_of z * rays_of z) (sym c.enum_told.given.1), omega arith)
+returns : tie.Need-returns-in-First
+returns c = (ap (λ (z : Form). size_of z * rays_of z) (sym c.in-First.is), omega arith)
 
-returns-2 : tie.Need-returns-2
-returns-2 c = (ap (λ (z : Form). size_of z * rays_of z) (sym c.enum-told2.given.1), omega arith)
+returns-2 : tie.Need-returns-in-Long
+returns-2 c = (ap (λ (z : Form). size_of z * rays_of z) (sym c.in-Long.is), omega arith)
 
-returns-3 : tie.Need-returns-3
-returns-3 c = (ap (λ (z : Form). size_of z * rays_of z) (sym c.enum-told3.given.1), omega arith)
+returns-3 : tie.Need-returns-in-Short
+returns-3 c = (ap (λ (z : Form). size_of z * rays_of z) (sym c.in-Short.is), omega arith)
 
-pub ray-length-spec : {M : Type 1} → statement M
-ray-length-spec = tie.close (tie.spec (search rules) (search rules) (search rules) returns returns-2 returns-3)
+pub ray_length_spec : {M : Type 1} → statement M
+ray_length_spec = tie.close (tie.spec
+    (search rules)  -- enum_told-1
+    (search rules)  -- enum_told-in-Long
+    (search rules)  -- enum_told-in-Short
+    returns
+    returns-2
+    returns-3)

@@ -8,31 +8,31 @@ use borrow.Author.Rules.{rules}
 use Rattle.record_bytes.proofs.shape.run_length.Statement.{statement}
 use Rattle.record_bytes.proofs.shape.run_length.Tie as tie
 
-returns : tie.Need-returns
+returns : tie.Need-returns-in-First
 returns c =
     let start : tie.Start = search in
-    (ap (λ (z : Form). size_of z * start.args.count) (sym c.enum_told.given.1), omega arith)
+    (ap (λ (z : Form). size_of z * start.args.count) (sym c.in-First.is), omega arith)
 
-returns-2 : tie.Need-returns-2
+returns-2 : tie.Need-returns-in-Long
 returns-2 c =
     let start : tie.Start = search in
-    (ap (λ (z : Form). size_of z * start.args.count) (sym c.enum-told2.given.1), omega arith)
+    (ap (λ (z : Form). size_of z * start.args.count) (sym c.in-Long.is), omega arith)
 
-returns-3 : tie.Need-returns-3
+returns-3 : tie.Need-returns-in-Short
 returns-3 c =
     let start : tie.Start = search in
-    (ap (λ (z : Form). size_of z * start.args.count) (sym c.enum-told3.given.1), omega arith)
+    (ap (λ (z : Form). size_of z * start.args.count) (sym c.in-Short.is), omega arith)
 
-pub run-length-spec : {M : Type 1} → statement M
-run-length-spec =
+pub run_length_spec : {M : Type 1} → statement M
+run_length_spec =
     tie.close
     (tie.spec
-    (search rules)  -- enum_told
-    (search rules)  -- mul-result
-    (search rules)  -- enum-told-2
-    (search rules)  -- mul-result-2
-    (search rules)  -- enum-told-3
-    (search rules)  -- mul-result-3
+    (search rules)  -- enum_told-1
+    (search rules)  -- overflow_mul-result
+    (search rules)  -- enum_told-in-Long
+    (search rules)  -- overflow_mul-result-in-Long
+    (search rules)  -- enum_told-in-Short
+    (search rules)  -- overflow_mul-result-in-Short
     returns
     returns-2
     returns-3)

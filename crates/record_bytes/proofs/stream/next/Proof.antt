@@ -6,49 +6,56 @@ use borrow.Author.Rules.{rules}
 use Rattle.record_bytes.proofs.stream.next.Statement.{statement}
 use Rattle.record_bytes.proofs.stream.next.Tie as tie
 
-returns : tie.Need-returns
+returns : tie.Need-returns-then-bytes-eq0
 unfolding next_of
-returns c = simp (eq-eqb _ _ c.if1.true)
+returns c = simp (eq-eqb _ _ c.if-bytes-eq0.true)
 
-returns-2 : tie.Need-returns-2
+returns-2 : tie.Need-returns-then-bytes-lt4
 unfolding next_of
-returns-2 c = simp (ne_eqb _ _ c.before.if1.false, lt-ltb _ _ c.if2.true)
+returns-2 c = simp (ne_eqb _ _ c.if-bytes-eq0.false, lt-ltb _ _ c.if-bytes-lt4.true)
 
-returns-3 : tie.Need-returns-3
+returns-3 : tie.Need-returns-then-length-gt-LONGEST
 unfolding next_of
 returns-3 c =
-    let (else1, else2) : tie.Else1 × tie.Else2 = search in
+    let (else1, else2) : tie.Else-bytes-eq0 × tie.Else-bytes-lt4 = search in
     simp (
-      ne_eqb _ _ else1.if1.left,
-      le-ltb _ _ else2.if2.left,
-      sym c.before.word_at.ensures.0,
-      lt-ltb _ _ c.if3.true,
+      ne_eqb _ _ else1.if-bytes-eq0.false,
+      le-ltb _ _ else2.if-bytes-lt4.false,
+      sym c.word_at-length.ensures.0,
+      lt-ltb _ _ c.if-length-gt-LONGEST.true,
     )
 
-returns-4 : tie.Need-returns-4
+returns-4 : tie.Need-returns-then-bytes-end
 unfolding next_of
 returns-4 c =
-    let (else1, else2, at-word-at) : tie.Else1 × tie.Else2 × tie.After-word-at = search in
+    let (else1, else2, at-word-at) : tie.Else-bytes-eq0 × tie.Else-bytes-lt4 × tie.After-word_at-length = search in
     simp (
-      ne_eqb _ _ else1.if1.left,
-      le-ltb _ _ else2.if2.left,
-      sym at-word-at.word_at.ensures.0,
-      le-ltb _ _ c.before.if3.false,
-      lt-ltb _ _ c.if4.true,
+      ne_eqb _ _ else1.if-bytes-eq0.false,
+      le-ltb _ _ else2.if-bytes-lt4.false,
+      sym at-word-at.word_at-length.ensures.0,
+      le-ltb _ _ c.if-length-gt-LONGEST.false,
+      lt-ltb _ _ c.if-bytes-end.true,
     )
 
-returns-5 : tie.Need-returns-5
+returns-5 : tie.Need-returns
 unfolding next_of
 returns-5 c =
-    let (else1, else2, at-word-at) : tie.Else1 × tie.Else2 × tie.After-word-at = search in
+    let (else1, else2, at-word-at) : tie.Else-bytes-eq0 × tie.Else-bytes-lt4 × tie.After-word_at-length = search in
     simp (
-      ne_eqb _ _ else1.if1.left,
-      le-ltb _ _ else2.if2.left,
-      sym at-word-at.word_at.ensures.0,
-      le-ltb _ _ c.before.if3.false,
-      le-ltb _ _ c.if4.false,
+      ne_eqb _ _ else1.if-bytes-eq0.false,
+      le-ltb _ _ else2.if-bytes-lt4.false,
+      sym at-word-at.word_at-length.ensures.0,
+      le-ltb _ _ c.if-length-gt-LONGEST.false,
+      le-ltb _ _ c.if-bytes-end.false,
     )
 
-pub next-spec : {M : Type 1} → statement M
-next-spec =
-    tie.close (tie.spec returns returns-2 (search rules) returns-3 (search rules) returns-4 returns-5)
+pub next_spec : {M : Type 1} → statement M
+next_spec =
+    tie.close (tie.spec
+    returns
+    returns-2
+    (search rules)  -- word_at-length-requires
+    returns-3
+    (search rules)  -- overflow_add-end
+    returns-4
+    returns-5)

@@ -6,38 +6,37 @@ use borrow.Author.Rules.{rules}
 use Rattle.record_text.proofs.answers.put_answer.Statement.{statement}
 use Rattle.record_text.proofs.answers.put_answer.Tie as tie
 
-returns : tie.Need-returns
+returns : tie.Need-returns-in-Hit
 returns c =
-    let (at-cast, at-put-hit) : tie.After-cast × tie.After-put-hit = search in
-    put_as _ (hit_case _ _ _ (ap says at-cast.cast.given.1))
-    at-put-hit.put-hit.ensures
+    let (at-cast, at-put-hit) : tie.In-Hit × tie.After-put_hit = search in
+    put_as _ (hit_case _ _ _ (ap says at-cast.in-Hit.is))
+    at-put-hit.put_hit.ensures
 
-returns-2 : tie.Need-returns-2
+returns-2 : tie.Need-returns-in-None
 returns-2 c =
-    let (at-enum-told, at-put-text) : tie.After-enum-told × tie.After-put-text = search in
-    put_as _ (none_case _ (ap says at-enum-told.enum_told.given.1))
-    at-put-text.put-text.ensures
+    let (at-enum-told, at-put-text) : tie.In-None × tie.After-put_text = search in
+    put_as _ (none_case _ (ap says at-enum-told.in-None.is))
+    at-put-text.put_text.ensures
 
-returns-3 : tie.Need-returns-3
+returns-3 : tie.Need-returns-in-Refused
 returns-3 c =
-    let (at-cast2, at-put-refused) : tie.After-cast2 × tie.After-put-refused = search in
-    put_as _ (refused_case _ _ (ap says at-cast2.cast2.given.1))
-    at-put-refused.Put-refused.ensures
+    let (at-cast2, at-put-refused) : tie.In-Refused × tie.After-put_refused = search in
+    put_as _ (refused_case _ _ (ap says at-cast2.in-Refused.is))
+    at-put-refused.put_refused.ensures
 
-pub put-answer-spec : {M : Type 1} → statement M
-put-answer-spec =
+pub put_answer_spec : {M : Type 1} → statement M
+put_answer_spec =
     tie.close
     (tie.spec
-    (search rules)  -- enum-known-cast
-    (search rules)  -- put-hit-requires
-    (search rules)  -- same-length
+    (search rules)  -- enum_known-cast
+    (search rules)  -- put_hit-requires
+    (search rules)  -- shape_of-out-in-Hit
     returns
-    (search rules)  -- enum_told
-    (search rules)  -- slice-aggregate-put-text
-    (search rules)  -- put-text-requires
-    (search rules)  -- same-length-2
+    (search rules)  -- enum_told-1
+    (search rules)  -- put_text-requires
+    (search rules)  -- shape_of-out-in-None
     returns-2
-    (search rules)  -- enum-known-cast-2
-    (search rules)  -- put-refused-requires
-    (search rules)  -- same-length-3
+    (search rules)  -- enum_known-cast-in-Refused-1
+    (search rules)  -- put_refused-requires
+    (search rules)  -- shape_of-out-in-Refused
     returns-3)

@@ -7,11 +7,16 @@ use Rattle.record_text.proofs.answers.put_float.Tie as tie
 returns : tie.Need-returns
 returns c =
     let (at-put-byte, at-printed-bits, at-put-hexadecimal) :
-    tie.After-put-byte × tie.After-printed-bits × tie.After-put-hexadecimal = search in
-    put_space _ at-printed-bits.printed-bits.ensures
-    at-put-byte.put_byte.ensures at-put-hexadecimal.put-hexadecimal.ensures
+    tie.After-put_byte-next × tie.After-printed_bits × tie.After-put_hexadecimal = search in
+    put_space _ at-printed-bits.printed_bits.ensures
+    at-put-byte.put_byte-next.ensures at-put-hexadecimal.put_hexadecimal.ensures
 
-pub put-float-spec : {M : Type 1} → statement M
-put-float-spec =
+pub put_float_spec : {M : Type 1} → statement M
+put_float_spec =
     tie.close
-    (tie.spec (search rules) (search rules) (search rules) (search rules) returns)
+    (tie.spec
+    (search rules)  -- put_byte-next-requires
+    (search rules)  -- printed_bits-requires
+    (search rules)  -- put_hexadecimal-requires
+    (search rules)  -- shape_of-out
+    returns)

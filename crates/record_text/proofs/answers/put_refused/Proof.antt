@@ -6,8 +6,12 @@ use Rattle.record_text.proofs.answers.put_refused.Tie as tie
 
 returns : tie.Need-returns
 returns c =
-    let (word, number) : tie.After-put-text × tie.After-put-decimal = search in
-    put_then _ _ word.put-text.ensures number.put-decimal.ensures
+    let (word, number) : tie.After-put_text-word × tie.After-put_decimal = search in
+    put_then _ _ word.put_text-word.ensures number.put_decimal.ensures
 
-pub put-refused-spec : {M : Type 1} → statement M
-put-refused-spec = tie.close (tie.spec (search rules) (search rules) (search rules) (search rules) returns)
+pub put_refused_spec : {M : Type 1} → statement M
+put_refused_spec = tie.close (tie.spec
+    (search rules)  -- put_text-word-requires
+    (search rules)  -- put_decimal-requires
+    (search rules)  -- shape_of-out
+    returns)

@@ -22,15 +22,15 @@ abbrev places-below : ℕ → In 0 places-kinds.ps
 places-below t = and 0 places-kinds.ps (falls 0 places-kinds.ps ◌<◌ μ-places t) places.Pre
 
 places-returns :
-    (t : ℕ) → places-lts.Need-returns (places-below t, places.Post) (places-at t) places.Post
-places-returns t c = places_none _ _ c.if1.true
+    (t : ℕ) → places-lts.Need-returns-then-most-eq0 (places-below t, places.Post) (places-at t) places.Post
+places-returns t c = places_none _ _ c.if-most-eq0.true
 
 places-returns-2 :
-    (t : ℕ) → places-lts.Need-returns-2 (places-below t, places.Post) (places-at t) places.Post
-places-returns-2 t c = places_one _ _ c.before.if1.false c.if2.true
+    (t : ℕ) → places-lts.Need-returns-then-n-lt10 (places-below t, places.Post) (places-at t) places.Post
+places-returns-2 t c = places_one _ _ c.if-most-eq0.false c.if-n-lt10.true
 
 places-sub-places :
-    (t : ℕ) → places-lts.Need-overflow-sub-places (places-below t, places.Post) (places-at t) places.Post
+    (t : ℕ) → places-lts.Need-overflow_sub-most (places-below t, places.Post) (places-at t) places.Post
 places-sub-places t c = search rules
 
 places-places-requires :
@@ -39,19 +39,19 @@ places-places-requires :
 places-places-requires t c κs = (omega arith, tt)
 
 places-add-result :
-    (t : ℕ) → places-lts.Need-overflow-add-result (places-below t, places.Post) (places-at t) places.Post
+    (t : ℕ) → places-lts.Need-overflow_add-result (places-below t, places.Post) (places-at t) places.Post
 places-add-result t c =
     let start : places-lts.Start (places-below t, places.Post) (places-at t) places.Post = search in
     omega (arith, c.places.ensures, places_at_most (start.args.most - 1) (start.args.n / 10))
 
 places-returns-3 :
-    (t : ℕ) → places-lts.Need-returns-3 (places-below t, places.Post) (places-at t) places.Post
+    (t : ℕ) → places-lts.Need-returns (places-below t, places.Post) (places-at t) places.Post
 places-returns-3 t c =
-    let more : places-lts.Else1 (places-below t, places.Post) (places-at t) places.Post = search in
-    ap (λ (k : ℕ). k + 1) c.places.ensures ∙ places_next _ _ more.if1.left c.before.if2.false
+    let more : places-lts.Else-most-eq0 (places-below t, places.Post) (places-at t) places.Post = search in
+    ap (λ (k : ℕ). k + 1) c.places.ensures ∙ places_next _ _ more.if-most-eq0.false c.if-n-lt10.false
 
-pub +places-spec : {M : Type 1} → statement M
-+places-spec =
+pub +places_spec : {M : Type 1} → statement M
++places_spec =
     close
     μ-places
     λ t. places-lts.spec

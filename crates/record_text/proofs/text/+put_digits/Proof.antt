@@ -29,19 +29,19 @@ abbrev claims : ℕ → put-digits-lts.Claims
 claims t =
     (put-digits-below t, put-digits.Post, glyph-reads.Asked, glyph-reads.Learnt, put-byte-reads.Asked, put-byte-reads.Learnt)
 
-put-digits-returns : (t : ℕ) → put-digits-lts.Need-returns (claims t) (put-digits-at t) put-digits.Post
-put-digits-returns t c = put_empty _ _ _ (digits_none _ _ _ c.if1.true)
+put-digits-returns : (t : ℕ) → put-digits-lts.Need-returns-then-k-eq0 (claims t) (put-digits-at t) put-digits.Post
+put-digits-returns t c = put_empty _ _ _ (digits_none _ _ _ c.if-k-eq0.true)
 
-put-digits-div-put-digits : (t : ℕ) → put-digits-lts.Need-nonzero-div-put-digits (claims t) (put-digits-at t) put-digits.Post
+put-digits-div-put-digits : (t : ℕ) → put-digits-lts.Need-nonzero_div-n (claims t) (put-digits-at t) put-digits.Post
 put-digits-div-put-digits t c = search rules
 
-put-digits-sub-put-digits : (t : ℕ) → put-digits-lts.Need-overflow-sub-put-digits (claims t) (put-digits-at t) put-digits.Post
+put-digits-sub-put-digits : (t : ℕ) → put-digits-lts.Need-overflow_sub-k (claims t) (put-digits-at t) put-digits.Post
 put-digits-sub-put-digits t c = search rules
 
-put-digits-put-digits-requires : (t : ℕ) → put-digits-lts.Need-put-digits-requires (claims t) (put-digits-at t) put-digits.Post
+put-digits-put-digits-requires : (t : ℕ) → put-digits-lts.Need-put_digits-next-requires (claims t) (put-digits-at t) put-digits.Post
 put-digits-put-digits-requires t c κs = (omega arith, (omega arith, (omega arith, omega arith)))
 
-put-digits-rem-glyph : (t : ℕ) → put-digits-lts.Need-nonzero-rem-glyph (claims t) (put-digits-at t) put-digits.Post
+put-digits-rem-glyph : (t : ℕ) → put-digits-lts.Need-nonzero_rem-n (claims t) (put-digits-at t) put-digits.Post
 put-digits-rem-glyph t c = search rules
 
 put-digits-glyph-requires : (t : ℕ) → put-digits-lts.Need-glyph-requires (claims t) (put-digits-at t) put-digits.Post
@@ -49,30 +49,30 @@ put-digits-glyph-requires t c κs =
     let start : put-digits-lts.Start (claims t) (put-digits-at t) put-digits.Post = search in
     omega (arith, mod_below start.args.n start.args.base (omega arith))
 
-put-digits-put-byte-requires : (t : ℕ) → put-digits-lts.Need-put-byte-requires (claims t) (put-digits-at t) put-digits.Post
+put-digits-put-byte-requires : (t : ℕ) → put-digits-lts.Need-put_byte-requires (claims t) (put-digits-at t) put-digits.Post
 put-digits-put-byte-requires t c κs =
     let start : put-digits-lts.Start (claims t) (put-digits-at t) put-digits.Post = search in
-    let lower : put-digits-lts.After-put-digits (claims t) (put-digits-at t) put-digits.Post = search in
+    let lower : put-digits-lts.After-put_digits-next (claims t) (put-digits-at t) put-digits.Post = search in
     omega (
       arith,
-      lower.put-digits.ensures.behind,
+      lower.put_digits-next.ensures.behind,
       length_digits start.args.base (start.args.k - 1) (start.args.n / start.args.base),
-      lower.put-digits.kept.0,
+      lower.put_digits-next.auto.out,
     )
 
-put-digits-same-length : (t : ℕ) → put-digits-lts.Need-same-length (claims t) (put-digits-at t) put-digits.Post
+put-digits-same-length : (t : ℕ) → put-digits-lts.Need-shape_of-out (claims t) (put-digits-at t) put-digits.Post
 put-digits-same-length t c = search rules
 
-put-digits-returns-2 : (t : ℕ) → put-digits-lts.Need-returns-2 (claims t) (put-digits-at t) put-digits.Post
+put-digits-returns-2 : (t : ℕ) → put-digits-lts.Need-returns (claims t) (put-digits-at t) put-digits.Post
 put-digits-returns-2 t c =
-    let some : put-digits-lts.Else1 (claims t) (put-digits-at t) put-digits.Post = search in
-    let lower : put-digits-lts.After-put-digits (claims t) (put-digits-at t) put-digits.Post = search in
+    let some : put-digits-lts.Else-k-eq0 (claims t) (put-digits-at t) put-digits.Post = search in
+    let lower : put-digits-lts.After-put_digits-next (claims t) (put-digits-at t) put-digits.Post = search in
     let told : put-digits-lts.After-glyph (claims t) (put-digits-at t) put-digits.Post = search in
-    let put : put-digits-lts.After-put-byte (claims t) (put-digits-at t) put-digits.Post = search in
-    put_digit _ _ _ _ some.if1.left told.glyph.ensures lower.put-digits.ensures put.put_byte.ensures
+    let put : put-digits-lts.After-put_byte (claims t) (put-digits-at t) put-digits.Post = search in
+    put_digit _ _ _ _ some.if-k-eq0.false told.glyph.ensures lower.put_digits-next.ensures put.put_byte.ensures
 
-pub +put-digits-spec : {M : Type 1} → statement M
-+put-digits-spec = close μ-put-digits λ t. put-digits-lts.spec (claims t)
+pub +put_digits_spec : {M : Type 1} → statement M
++put_digits_spec = close μ-put-digits λ t. put-digits-lts.spec (claims t)
     (put-digits-at t)
     put-digits.Post
     (put-digits-returns t)

@@ -5,14 +5,20 @@ use borrow.Author.Rules.{rules}
 use Rattle.record_text.proofs.text.glyph.Statement.{statement}
 use Rattle.record_text.proofs.text.glyph.Tie as tie
 
-returns : tie.Need-returns
+returns : tie.Need-returns-then-digit-lt10
 unfolding glyph
-returns c = simp (lt-ltb _ _ c.if1.true)
+returns c = simp (lt-ltb _ _ c.if-digit-lt10.true)
 
-returns-2 : tie.Need-returns-2
+returns-2 : tie.Need-returns
 unfolding glyph
-returns-2 c = simp (le-ltb _ _ c.if1.false)
+returns-2 c = simp (le-ltb _ _ c.if-digit-lt10.false)
 
-pub glyph-spec : {M : Type 1} → statement M
-glyph-spec =
-    tie.close (tie.spec (search rules) (search rules) returns (search rules) (search rules) returns-2)
+pub glyph_spec : {M : Type 1} → statement M
+glyph_spec =
+    tie.close (tie.spec
+    (search rules)  -- overflow_cast-result
+    (search rules)  -- overflow_add-result
+    returns
+    (search rules)  -- overflow_cast-result-2
+    (search rules)  -- overflow_add-result-2
+    returns-2)

@@ -9,21 +9,21 @@ use Rattle.record_text.proofs.text.printed_bits.Statement.{statement}
 use Rattle.record_text.proofs.text.printed_bits.Tie as tie
 
 -- the NaN's own bits
-returns : tie.Need-returns
+returns : tie.Need-returns-then-x
 unfolding printed_bits
-returns c = simp (sym (ne_self_is_nan c.before.args.x) ∙ c.if1.true)
+returns c = simp (sym (ne_self_is_nan c.args.x) ∙ c.if-x.true)
 
 -- past the test the float is a number
-number : (e : tie.Else1) → is_nan e.before.args.x ≡ false
-number e = sym (ne_self_is_nan _) ∙ e.if1.false
+number : (e : tie.Else-x) → is_nan e.args.x ≡ false
+number e = sym (ne_self_is_nan _) ∙ e.if-x.false
 
-float-to-bits-result : tie.Need-float-to-bits-result
+float-to-bits-result : tie.Need-float_to_bits-result
 float-to-bits-result c = subst (λ (b : Bool). T (not b)) (sym (number c)) tt
 
 -- a number's own bits
-returns-2 : tie.Need-returns-2
+returns-2 : tie.Need-returns
 unfolding printed_bits
 returns-2 c = simp (number c)
 
-pub printed-bits-spec : {M : Type 1} → statement M
-printed-bits-spec = tie.close (tie.spec returns float-to-bits-result returns-2)
+pub printed_bits_spec : {M : Type 1} → statement M
+printed_bits_spec = tie.close (tie.spec returns float-to-bits-result returns-2)

@@ -7,8 +7,11 @@ use Rattle.record_text.proofs.text.put_hexadecimal.Tie as tie
 returns : tie.Need-returns
 unfolding hexadecimal
 returns c =
-    let at-put-digits : tie.After-put-digits = search in
-    at-put-digits.put-digits.ensures
+    let at-put-digits : tie.After-put_digits = search in
+    at-put-digits.put_digits.ensures
 
-pub put-hexadecimal-spec : {M : Type 1} → statement M
-put-hexadecimal-spec = tie.close (tie.spec (search rules) (search rules) returns)
+pub put_hexadecimal_spec : {M : Type 1} → statement M
+put_hexadecimal_spec = tie.close (tie.spec
+    (search rules)  -- put_digits-requires
+    (search rules)  -- shape_of-out
+    returns)

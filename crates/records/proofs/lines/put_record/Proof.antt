@@ -8,44 +8,43 @@ use Rattle.records.proofs.lines.put_record.Statement.{statement}
 use Rattle.records.proofs.lines.put_record.Tie as tie
 
 -- malformed
-returns : tie.Need-returns
+returns : tie.Need-returns-in_default
 returns c =
-    let (f, p, t, k) : tie.After-form-at × tie.After-plan-of × tie.After-enum-told × tie.After-put-text = search in
-    let bad = not_formed _ _ (sym p.plan-of.ensures ∙ t.enum_told.given.1) in
-    (put_as _ (bad_text _ f.form-at.ensures bad).0 k.put-text.ensures, (bad_text _ f.form-at.ensures bad).1)
+    let (f, p, t, k) : tie.After-form_at-form × tie.After-plan_of-planned × tie.In_default × tie.After-put_text = search in
+    let bad = not_formed _ _ (sym p.plan_of-planned.ensures ∙ t.in_default.is) in
+    (put_as _ (bad_text _ f.form_at-form.ensures bad).0 k.put_text.ensures, (bad_text _ f.form_at-form.ensures bad).1)
 
-put-planned-requires : tie.Need-put-planned-requires
+put-planned-requires : tie.Need-put_planned-end-requires
 put-planned-requires c κs =
-    let (s, p, k) : tie.Start × tie.After-plan-of × tie.After-planned = search in
-    (known _ _ _ (sym p.plan-of.ensures ∙ k.planned.given.1), (s.pre.0, s.pre.1))
+    let (s, p, k) : tie.Start × tie.After-plan_of-planned × tie.In-Is = search in
+    (known _ _ _ (sym p.plan_of-planned.ensures ∙ k.in-Is.is), (s.requires.0, s.requires.1))
 
 -- well formed
-returns-2 : tie.Need-returns-2
+returns-2 : tie.Need-returns
 returns-2 c =
-    let (f, p, k, t) : tie.After-form-at × tie.After-plan-of × tie.After-planned × tie.After-put-planned = search in
-    let good = (known _ _ _ (sym p.plan-of.ensures ∙ k.planned.given.1)).well_formed in
-    (put_as _ (good_text _ f.form-at.ensures good).0 t.put-planned.ensures, (good_text _ f.form-at.ensures good).1)
+    let (f, p, k, t) : tie.After-form_at-form × tie.After-plan_of-planned × tie.In-Is × tie.After-put_planned-end = search in
+    let good = (known _ _ _ (sym p.plan_of-planned.ensures ∙ k.in-Is.is)).well_formed in
+    (put_as _ (good_text _ f.form_at-form.ensures good).0 t.put_planned-end.ensures, (good_text _ f.form_at-form.ensures good).1)
 
-pub put-record-spec : {M : Type 1} → statement M
-put-record-spec =
+pub put_record_spec : {M : Type 1} → statement M
+put_record_spec =
     tie.close
     (tie.spec
-    (search rules)  -- form-at-requires
-    (search rules)  -- plan-of-requires
-    (search rules)  -- enum-known-planned
-    (search rules)  -- enum_told
-    (search rules)  -- slice-aggregate-put-text
-    (search rules)  -- put-text-requires
-    (search rules)  -- same-length
+    (search rules)  -- form_at-form-requires
+    (search rules)  -- plan_of-planned-requires
+    (search rules)  -- enum_known-planned
+    (search rules)  -- enum_told-1
+    (search rules)  -- put_text-requires
+    (search rules)  -- shape_of-out-in_default
     returns
     put-planned-requires
-    (search rules)  -- same-length-2
-    (search rules)  -- same-length-3
-    (search rules)  -- same-length-4
-    (search rules)  -- same-length-5
-    (search rules)  -- same-length-6
-    (search rules)  -- same-length-7
-    (search rules)  -- same-length-8
-    (search rules)  -- same-length-9
-    (search rules)  -- same-length-10
+    (search rules)  -- shape_of-out
+    (search rules)  -- shape_of-work
+    (search rules)  -- shape_of-triangles
+    (search rules)  -- shape_of-node_boxes
+    (search rules)  -- shape_of-triangle_boxes
+    (search rules)  -- shape_of-node_words
+    (search rules)  -- shape_of-order
+    (search rules)  -- shape_of-list
+    (search rules)  -- shape_of-stack
     returns-2)

@@ -4,35 +4,35 @@ use borrow.Author.Rules.{rules}
 use Rattle.records.proofs.meshes.cast_built.Statement.{statement}
 use Rattle.records.proofs.meshes.cast_built.Tie as tie
 
-returns : tie.Need-returns
+returns : tie.Need-returns-in-Nodes
 returns c =
-    let (at-build, at-built, at-ray-mesh) : tie.After-build × tie.After-built × tie.After-ray-mesh = search in
-    through_nodes _ _ _ _ _ _ _ at-build.build.ensures.0 _ _ _ at-built.built.given.1 at-build.build.kept.1.1.1.1.1.1.0
-    at-ray-mesh.ray-mesh.ensures.0
+    let (at-build, at-built, at-ray-mesh) : tie.After-build-built × tie.In-Nodes × tie.After-ray_mesh = search in
+    through_nodes _ _ _ _ _ _ _ at-build.build-built.ensures.0 _ _ _ at-built.in-Nodes.is at-build.build-built.auto.work
+    at-ray-mesh.ray_mesh.ensures.0
 
-returns-2 : tie.Need-returns-2
+returns-2 : tie.Need-returns-in-Refused
 returns-2 c =
-    let at-build : tie.After-build = search in
-    through_refused _ _ _ _ _ _ _ at-build.build.ensures.0 _ c.before.built2.given.1
+    let at-build : tie.After-build-built = search in
+    through_refused _ _ _ _ _ _ _ at-build.build-built.ensures.0 _ c.in-Refused.is
 
-pub cast-built-spec : {M : Type 1} → statement M
-cast-built-spec =
+pub cast_built_spec : {M : Type 1} → statement M
+cast_built_spec =
     tie.close
     (tie.spec
-    (λ c κs. search rules)  -- build-requires
-    (λ c. search rules)  -- enum-known-built
-    (λ c κs. search rules)  -- ray-mesh-requires
-    (λ c. search rules)  -- same-length
-    (λ c. search rules)  -- same-length-2
-    (λ c. search rules)  -- same-length-3
-    (λ c. search rules)  -- same-length-4
-    (λ c. search rules)  -- same-length-5
-    (λ c. search rules)  -- same-length-6
+    (λ c κs. search rules)  -- build-built-requires
+    (λ c. search rules)  -- enum_known-built
+    (λ c κs. search rules)  -- ray_mesh-requires
+    (λ c. search rules)  -- shape_of-node_boxes-in-Nodes
+    (λ c. search rules)  -- shape_of-triangle_boxes-in-Nodes
+    (λ c. search rules)  -- shape_of-node_words-in-Nodes
+    (λ c. search rules)  -- shape_of-order-in-Nodes
+    (λ c. search rules)  -- shape_of-list-in-Nodes
+    (λ c. search rules)  -- shape_of-stack-in-Nodes
     returns
-    (λ c. search rules)  -- enum-known-built-2
-    (λ c. search rules)  -- same-length-7
-    (λ c. search rules)  -- same-length-8
-    (λ c. search rules)  -- same-length-9
-    (λ c. search rules)  -- same-length-10
-    (λ c. search rules)  -- same-length-11
+    (λ c. search rules)  -- enum_known-built-in-Refused-1
+    (λ c. search rules)  -- shape_of-node_boxes-in-Refused
+    (λ c. search rules)  -- shape_of-triangle_boxes-in-Refused
+    (λ c. search rules)  -- shape_of-node_words-in-Refused
+    (λ c. search rules)  -- shape_of-order-in-Refused
+    (λ c. search rules)  -- shape_of-list-in-Refused
     returns-2)

@@ -6,39 +6,39 @@ use borrow.Author.Rules.{rules}
 use Rattle.records.proofs.meshes.cast_fresh.Statement.{statement}
 use Rattle.records.proofs.meshes.cast_fresh.Tie as tie
 
-returns : tie.Need-returns
-returns c = refused_ray _ _ (sym c.before.validate.ensures ∙ not-true c.before.validate.result c.if1.true)
+returns : tie.Need-returns-then-not-validate
+returns c = refused_ray _ _ (sym c.validate.ensures ∙ c.if-not-validate.true)
 
 -- the places of the first fills, from the second pair of them
-abbrev numbered : tie.After-zero-numbers2 → tie.Start × tie.After-validate × tie.Else1 × tie.After-zero-numbers
+abbrev numbered : tie.After-zero_numbers-2 → tie.Start × tie.After-validate × tie.Else-not-validate × tie.After-zero_numbers
 numbered k = search
 
-abbrev worded : tie.After-zero-words2 → tie.After-zero-numbers2 × tie.After-zero-words
+abbrev worded : tie.After-zero_words-2 → tie.After-zero_numbers-2 × tie.After-zero_words
 worded k = search
 
-returns-2 : tie.Need-returns-2
+returns-2 : tie.Need-returns
 returns-2 c =
-    let (w, b) : tie.After-zero-words2 × tie.After-cast-built = search in
+    let (w, b) : tie.After-zero_words-2 × tie.After-cast_built = search in
     let (m, u) = worded w in
     let (s, v, e, n) = numbered m in
-    fresh_answer _ _ _ (sym v.validate.ensures ∙ not-false v.validate.result e.if1.left) s.pre
-    n.zero-numbers.ensures m.zero-numbers2.ensures u.zero-words.ensures w.zero-words2.ensures b.cast-built.ensures
+    fresh_answer _ _ _ (sym v.validate.ensures ∙ e.if-not-validate.false) s.requires
+    n.zero_numbers.ensures m.zero_numbers-2.ensures u.zero_words.ensures w.zero_words-2.ensures b.cast_built.ensures
 
-pub cast-fresh-spec : {M : Type 1} → statement M
-cast-fresh-spec =
+pub cast_fresh_spec : {M : Type 1} → statement M
+cast_fresh_spec =
     tie.close
     (tie.spec
     (λ c κs. search rules)  -- validate-requires
     returns
-    (λ c κs. search rules)  -- zero-numbers-requires
-    (λ c κs. search rules)  -- zero-numbers-requires-2
-    (λ c κs. search rules)  -- zero-words-requires
-    (λ c κs. search rules)  -- zero-words-requires-2
-    (λ c κs. search rules)  -- cast-built-requires
-    (λ c. search rules)  -- same-length
-    (λ c. search rules)  -- same-length-2
-    (λ c. search rules)  -- same-length-3
-    (λ c. search rules)  -- same-length-4
-    (λ c. search rules)  -- same-length-5
-    (λ c. search rules)  -- same-length-6
+    (λ c κs. search rules)  -- zero_numbers-requires
+    (λ c κs. search rules)  -- zero_numbers-requires-2
+    (λ c κs. search rules)  -- zero_words-requires
+    (λ c κs. search rules)  -- zero_words-requires-2
+    (λ c κs. search rules)  -- cast_built-requires
+    (λ c. search rules)  -- shape_of-node_boxes
+    (λ c. search rules)  -- shape_of-triangle_boxes
+    (λ c. search rules)  -- shape_of-node_words
+    (λ c. search rules)  -- shape_of-order
+    (λ c. search rules)  -- shape_of-list
+    (λ c. search rules)  -- shape_of-stack
     returns-2)

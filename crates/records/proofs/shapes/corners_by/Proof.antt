@@ -8,11 +8,11 @@ returns : tie.Need-returns
 unfolding corners_by
 returns c = search rules
 
-pub corners-by-spec : {M : Type 1} → statement M
-corners-by-spec =
+pub corners_by_spec : {M : Type 1} → statement M
+corners_by_spec =
     tie.close
     (tie.spec
-    (search rules)  -- vector-at-requires
-    (search rules)  -- vector-at-requires-2
-    (search rules)  -- vector-at-requires-3
+    (search rules)  -- vector_at-requires
+    (search rules)  -- vector_at-requires-2
+    (search rules)  -- vector_at-requires-3
     returns)

@@ -7,24 +7,24 @@ use Rattle.records.proofs.shapes.field_by.Statement.{statement}
 use Rattle.records.proofs.shapes.field_by.Tie as tie
 
 -- a count is a u32
-cast-t5 : tie.Need-overflow-cast-t5
-cast-t5 c = omega (arith, c.shared-slice-known.given 0)
+cast-t5 : tie.Need-overflow_cast-result
+cast-t5 c = omega (arith, c.shared_slice_known-1.given 0)
 
-cast-t8 : tie.Need-overflow-cast-t8
-cast-t8 c = omega (arith, c.shared-slice-known2.given 1)
+cast-t8 : tie.Need-overflow_cast-result-2
+cast-t8 c = omega (arith, c.shared_slice_known-2-1.given 1)
 
 returns : tie.Need-returns
 unfolding field_by
 returns c = refl
 
-pub field-by-spec : {M : Type 1} → statement M
-field-by-spec =
+pub field_by_spec : {M : Type 1} → statement M
+field_by_spec =
     tie.close
     (tie.spec
-    (search rules)  -- shared-slice-read-t4
+    (search rules)  -- bounds-counts-0
     cast-t5
-    (search rules)  -- shared-slice-read-t7
+    (search rules)  -- bounds-counts-1
     cast-t8
-    (search rules)  -- shared-slice-read-t10
-    (search rules)  -- shared-slice-read-t12
+    (search rules)  -- bounds-numbers-0
+    (search rules)  -- bounds-numbers-1
     returns)

@@ -7,16 +7,16 @@ use Rattle.records.proofs.shapes.grid_by.Tie as tie
 returns : tie.Need-returns
 unfolding grid_by
 returns c =
-    let (v, w) : tie.After-vector-at × tie.After-vector-at2 = search in
-    rw (v.vector-at.ensures, w.vector-at2.ensures)
+    let (v, w) : tie.After-vector_at × tie.After-vector_at-2 = search in
+    rw (v.vector_at.ensures, w.vector_at-2.ensures)
 
-pub grid-by-spec : {M : Type 1} → statement M
-grid-by-spec =
+pub grid_by_spec : {M : Type 1} → statement M
+grid_by_spec =
     tie.close
     (tie.spec
-    (search rules)  -- shared-slice-read-t4
-    (search rules)  -- shared-slice-read-t6
-    (search rules)  -- shared-slice-read-t8
-    (search rules)  -- vector-at-requires
-    (search rules)  -- vector-at-requires-2
+    (search rules)  -- bounds-counts-0
+    (search rules)  -- bounds-counts-1
+    (search rules)  -- bounds-counts-2
+    (search rules)  -- vector_at-requires
+    (search rules)  -- vector_at-requires-2
     returns)

@@ -6,12 +6,12 @@ use Rattle.records.proofs.shapes.plane_by.Tie as tie
 
 returns : tie.Need-returns
 unfolding plane_by
-returns c = let v : tie.After-vector-at = search in rw v.vector-at.ensures
+returns c = let v : tie.After-vector_at = search in rw v.vector_at.ensures
 
-pub plane-by-spec : {M : Type 1} → statement M
-plane-by-spec =
+pub plane_by_spec : {M : Type 1} → statement M
+plane_by_spec =
     tie.close
     (tie.spec
-    (search rules)  -- vector-at-requires
-    (search rules)  -- shared-slice-read-t4
+    (search rules)  -- vector_at-requires
+    (search rules)  -- bounds-numbers-3
     returns)

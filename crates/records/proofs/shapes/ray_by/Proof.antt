@@ -11,15 +11,15 @@ use Rattle.records.proofs.shapes.ray_by.Tie as tie
 returns : tie.Need-returns
 unfolding ray_by
 returns c =
-    let (s, v, w) : tie.Start × tie.After-vector-at × tie.After-vector-at2 = search in
-    rw (v.vector-at.ensures, w.vector-at2.ensures, no_default s.args.numbers.now 7 nan zeroᶠ (omega (arith, s.pre)))
+    let (s, v, w) : tie.Start × tie.After-vector_at × tie.After-vector_at-2 = search in
+    rw (v.vector_at.ensures, w.vector_at-2.ensures, no_default s.args.numbers.now 7 nan zeroᶠ (omega (arith, s.requires)))
 
-pub ray-by-spec : {M : Type 1} → statement M
-ray-by-spec =
+pub ray_by_spec : {M : Type 1} → statement M
+ray_by_spec =
     tie.close
     (tie.spec
-    (search rules)  -- vector-at-requires
-    (search rules)  -- vector-at-requires-2
-    (search rules)  -- shared-slice-read-t5
-    (search rules)  -- shared-slice-read-t7
+    (search rules)  -- vector_at-requires
+    (search rules)  -- vector_at-requires-2
+    (search rules)  -- bounds-numbers-6
+    (search rules)  -- bounds-numbers-7
     returns)

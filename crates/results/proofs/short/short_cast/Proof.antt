@@ -6,33 +6,33 @@ use Rattle.results.proofs.short.short_cast.Statement.{statement}
 use Rattle.results.proofs.short.short_cast.Tie as tie
 
 -- 1
-returns : tie.Need-returns
-returns c = simp (sym c.before.validate.ensures ∙ not-true c.before.validate.result c.if1.true)
+returns : tie.Need-returns-then-not-validate
+returns c = simp (sym c.validate.ensures ∙ c.if-not-validate.true)
 
 -- 2
-returns-2 : tie.Need-returns-2
+returns-2 : tie.Need-returns-then-not-shape_admitted
 returns-2 c =
-    let e : tie.Else1 = search in
+    let e : tie.Else-not-validate = search in
     simp (
-      sym e.before.validate.ensures ∙ not-false e.before.validate.result e.if1.left,
-      sym c.before.shape_admitted_lem.ensures ∙ not-true c.before.shape_admitted_lem.result c.if2.true,
+      sym e.validate.ensures ∙ e.if-not-validate.false,
+      sym c.shape_admitted.ensures ∙ c.if-not-shape_admitted.true,
     )
 
 -- 3
-returns-3 : tie.Need-returns-3
+returns-3 : tie.Need-returns
 returns-3 c =
-    let e : tie.Else1 = search in
+    let e : tie.Else-not-validate = search in
     simp (
-      sym e.before.validate.ensures ∙ not-false e.before.validate.result e.if1.left,
-      sym c.before.shape_admitted_lem.ensures ∙ not-false c.before.shape_admitted_lem.result c.if2.false,
+      sym e.validate.ensures ∙ e.if-not-validate.false,
+      sym c.shape_admitted.ensures ∙ c.if-not-shape_admitted.false,
     )
 
-pub short-cast-spec : {M : Type 1} → statement M
-short-cast-spec =
+pub short_cast_spec : {M : Type 1} → statement M
+short_cast_spec =
     tie.close
     (tie.spec
     (λ c κs. search rules)  -- validate-requires
     returns
-    (λ c κs. search rules)  -- shape-admitted-requires
+    (λ c κs. search rules)  -- shape_admitted-requires
     returns-2
     returns-3)

@@ -4,30 +4,30 @@ use borrow.Author.Rules.{rules}
 use Rattle.slice_casts.proofs.at_triangle.cast_at.Statement.{statement}
 use Rattle.slice_casts.proofs.at_triangle.cast_at.Tie as tie
 
-returns : tie.Need-returns
+returns : tie.Need-returns-in-Within
 returns c =
-    let (at-crossing, at-start) : tie.After-crossing × tie.After-start = search in
-    simp (sym at-crossing.crossing.ensures, at-start.start.given.1, sym c.hit_within.ensures)
+    let (at-crossing, at-start) : tie.After-crossing-start × tie.In-Within = search in
+    simp (sym at-crossing.crossing-start.ensures, at-start.in-Within.is, sym c.hit_within.ensures)
 
-returns-2 : tie.Need-returns-2
+returns-2 : tie.Need-returns-in-Miss
 returns-2 c =
-    let at-crossing : tie.After-crossing = search in
-    simp (sym at-crossing.crossing.ensures, c.enum_told.given.1)
+    let at-crossing : tie.After-crossing-start = search in
+    simp (sym at-crossing.crossing-start.ensures, c.in-Miss.is)
 
-returns-3 : tie.Need-returns-3
+returns-3 : tie.Need-returns-in-Refused
 returns-3 c =
-    let at-crossing : tie.After-crossing = search in
-    simp (sym at-crossing.crossing.ensures, c.before.start2.given.1)
+    let at-crossing : tie.After-crossing-start = search in
+    simp (sym at-crossing.crossing-start.ensures, c.in-Refused.is)
 
-pub cast-at-spec : {M : Type 1} → statement M
-cast-at-spec =
+pub cast_at_spec : {M : Type 1} → statement M
+cast_at_spec =
     tie.close
     (tie.spec
-    (search rules)  -- crossing-requires
-    (search rules)  -- enum-known-start
-    (search rules)  -- hit-within-requires
+    (search rules)  -- crossing-start-requires
+    (search rules)  -- enum_known-start
+    (search rules)  -- hit_within-requires
     returns
-    (search rules)  -- enum_told
+    (search rules)  -- enum_told-1
     returns-2
-    (search rules)  -- enum-known-start-2
+    (search rules)  -- enum_known-start-in-Refused-1
     returns-3)

@@ -6,26 +6,26 @@ use Rattle.slice_casts.proofs.at_triangle.hit_within.Statement.{statement}
 use Rattle.slice_casts.proofs.at_triangle.hit_within.Tie as tie
 
 -- a miss
-returns : tie.Need-returns
+returns : tie.Need-returns-in_default
 returns c =
-    let (s, w) : tie.Start × tie.After-distance-within = search in
-    let returned = sym w.distance-within.ensures ∙ c.enum_told.given.1 in
+    let (s, w) : tie.Start × tie.After-distance_within-found = search in
+    let returned = sym w.distance_within-found.ensures ∙ c.in_default.is in
     no_distance _ _ _ _ s.args.determinant _ _ returned
 
 -- the rest at a distance
-returns-2 : tie.Need-returns-2
+returns-2 : tie.Need-returns
 returns-2 c =
-    let (s, w, f) : tie.Start × tie.After-distance-within × tie.After-found = search in
-    let returned = sym w.distance-within.ensures ∙ f.found.given.1 in
-    c.settled-hit.ensures ∙ from_distance _ _ _ _ s.args.determinant _ _ _ returned
+    let (s, w, f) : tie.Start × tie.After-distance_within-found × tie.In-At = search in
+    let returned = sym w.distance_within-found.ensures ∙ f.in-At.is in
+    c.settled_hit.ensures ∙ from_distance _ _ _ _ s.args.determinant _ _ _ returned
 
-pub hit-within-spec : {M : Type 1} → statement M
-hit-within-spec =
+pub hit_within_spec : {M : Type 1} → statement M
+hit_within_spec =
     tie.close
     (tie.spec
-    (λ c κs. search rules)  -- distance-within-requires
-    (search rules)  -- enum-known-found
-    (search rules)  -- enum_told
+    (λ c κs. search rules)  -- distance_within-found-requires
+    (search rules)  -- enum_known-found
+    (search rules)  -- enum_told-1
     returns
-    (λ c κs. search rules)  -- settled-hit-requires
+    (λ c κs. search rules)  -- settled_hit-requires
     returns-2)

@@ -6,27 +6,27 @@ use Rattle.slice_casts.proofs.at_triangle.settled_hit.Statement.{statement}
 use Rattle.slice_casts.proofs.at_triangle.settled_hit.Tie as tie
 
 -- flat
-returns : tie.Need-returns
-returns c = simp (sym c.before.is-flat.ensures, c.if1.true)
+returns : tie.Need-returns-then-is_flat
+returns c = simp (sym c.is_flat.ensures, c.if-is_flat.true)
 
 -- a distance that is not a number
-returns-2 : tie.Need-returns-2
+returns-2 : tie.Need-returns-then-distance
 returns-2 c =
-    let (f, e1) : tie.After-is-flat × tie.Else1 = search in
-    simp (sym f.is-flat.ensures, e1.if1.left, sym (ne_self_is_nan _) ∙ c.if2.true)
+    let (f, e1) : tie.After-is_flat × tie.Else-is_flat = search in
+    simp (sym f.is_flat.ensures, e1.if-is_flat.false, sym (ne_self_is_nan _) ∙ c.if-distance.true)
 
 -- the normal
-returns-3 : tie.Need-returns-3
+returns-3 : tie.Need-returns
 returns-3 c =
-    let (n, f, e1) : tie.After-normal-found × tie.After-is-flat × tie.Else1 = search in
-    simp (sym f.is-flat.ensures, e1.if1.left, sym (ne_self_is_nan _) ∙ c.if2.false, sym n.normal-found.ensures)
+    let (n, f, e1) : tie.After-normal_found-hit × tie.After-is_flat × tie.Else-is_flat = search in
+    simp (sym f.is_flat.ensures, e1.if-is_flat.false, sym (ne_self_is_nan _) ∙ c.if-distance.false, sym n.normal_found-hit.ensures)
 
-pub settled-hit-spec : {M : Type 1} → statement M
-settled-hit-spec =
+pub settled_hit_spec : {M : Type 1} → statement M
+settled_hit_spec =
     tie.close
     (tie.spec
-    (λ c κs. search rules)  -- normal-found-requires
-    (λ c κs. search rules)  -- is-flat-requires
+    (λ c κs. search rules)  -- normal_found-hit-requires
+    (λ c κs. search rules)  -- is_flat-requires
     returns
     returns-2
     returns-3)

@@ -8,14 +8,14 @@ use Rattle.slice_casts.proofs.numbers.corners_in.Tie as tie
 returns : tie.Need-returns
 unfolding corners_in
 returns c =
-    let (a, b, d) : tie.After-vector-at × tie.After-vector-at2 × tie.After-vector-at3 = search in
-    simp (a.vector-at.ensures, b.vector-at2.ensures, d.vector-at3.ensures)
+    let (a, b, d) : tie.After-vector_at × tie.After-vector_at-2 × tie.After-vector_at-3 = search in
+    simp (a.vector_at.ensures, b.vector_at-2.ensures, d.vector_at-3.ensures)
 
-pub corners-in-spec : {M : Type 1} → statement M
-corners-in-spec =
+pub corners_in_spec : {M : Type 1} → statement M
+corners_in_spec =
     tie.close
     (tie.spec
-    (λ c κs. search rules)  -- vector-at-requires
-    (λ c κs. search rules)  -- vector-at-requires-2
-    (λ c κs. search rules)  -- vector-at-requires-3
+    (λ c κs. search rules)  -- vector_at-requires
+    (λ c κs. search rules)  -- vector_at-requires-2
+    (λ c κs. search rules)  -- vector_at-requires-3
     returns)

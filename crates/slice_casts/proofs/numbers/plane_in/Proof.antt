@@ -8,13 +8,13 @@ use Rattle.slice_casts.proofs.numbers.plane_in.Tie as tie
 returns : tie.Need-returns
 unfolding plane_in
 returns c =
-    let n : tie.After-vector-at = search in
-    simp n.vector-at.ensures
+    let n : tie.After-vector_at = search in
+    simp n.vector_at.ensures
 
-pub plane-in-spec : {M : Type 1} → statement M
-plane-in-spec =
+pub plane_in_spec : {M : Type 1} → statement M
+plane_in_spec =
     tie.close
     (tie.spec
-    (λ c κs. search rules)  -- vector-at-requires
-    (search rules)  -- shared-slice-read
+    (λ c κs. search rules)  -- vector_at-requires
+    (search rules)  -- bounds-plane-3
     returns)

@@ -8,15 +8,15 @@ use Rattle.slice_casts.proofs.numbers.ray_in.Tie as tie
 returns : tie.Need-returns
 unfolding ray_in
 returns c =
-    let (o, d) : tie.After-vector-at × tie.After-vector-at2 = search in
-    simp (o.vector-at.ensures, d.vector-at2.ensures)
+    let (o, d) : tie.After-vector_at × tie.After-vector_at-2 = search in
+    simp (o.vector_at.ensures, d.vector_at-2.ensures)
 
-pub ray-in-spec : {M : Type 1} → statement M
-ray-in-spec =
+pub ray_in_spec : {M : Type 1} → statement M
+ray_in_spec =
     tie.close
     (tie.spec
-    (λ c κs. search rules)  -- vector-at-requires
-    (λ c κs. search rules)  -- vector-at-requires-2
-    (search rules)  -- shared-slice-read-t5
-    (search rules)  -- shared-slice-read-t7
+    (λ c κs. search rules)  -- vector_at-requires
+    (λ c κs. search rules)  -- vector_at-requires-2
+    (search rules)  -- bounds-ray-6
+    (search rules)  -- bounds-ray-7
     returns)

@@ -21,86 +21,86 @@ use borrow.Author.Rules.{rules}
 use Rattle.tree.proofs.writing.put_triangle_boxes.Statement.{statement}
 use Rattle.tree.proofs.writing.put_triangle_boxes.Tie as tie
 
-abbrev invariant-loop : tie.invariant-loop
+abbrev invariant-loop : tie.invariant-loop-i
 invariant-loop vertices triangles area₀ count i₀ area i =
     (every (triangle_fits (mesh vertices triangles)) (range i (length triangles / 3 - i)) ≡ every (triangle_fits (mesh vertices triangles))
     (range 0 (length triangles / 3)))
     × ((area ≡ sets area₀ 0 (each_box (triangle_box vertices triangles) (range 0 i))) ×
     ((length area ≡ length area₀) × (i ≤ length triangles / 3)))
 
-abbrev decreases-loop : tie.decreases-loop
+abbrev decreases-loop : tie.decreases-loop-i
 decreases-loop vertices triangles area₀ count i₀ area i = length triangles / 3 - i
 
-loop-holds : tie.Need-loop-init invariant-loop decreases-loop
+loop-holds : tie.Need-loop-i-init invariant-loop decreases-loop
 unfolding each_box range
 loop-holds c = (rw sub-zero, (refl, (refl, omega arith)))
 
-put-triangle-box-requires : tie.Need-put-triangle-box-requires invariant-loop decreases-loop
+put-triangle-box-requires : tie.Need-put_triangle_box-requires invariant-loop decreases-loop
 put-triangle-box-requires c κs =
-    let (start, at-loop) : (tie.Start invariant-loop decreases-loop) × (tie.At-loop invariant-loop decreases-loop) = search in
-    let s = start in let l = at-loop.loop in let kept = l.inv.1.1.0 in (omega arith, omega (arith, s.pre))
+    let (start, at-loop) : (tie.Start invariant-loop decreases-loop) × (tie.At-loop-i invariant-loop decreases-loop) = search in
+    let s = start in let l = at-loop.loop-i in let kept = l.invariant.1.1.0 in (omega arith, omega (arith, s.requires))
 
-same_length : tie.Need-same-length invariant-loop decreases-loop
+same_length : tie.Need-shape_of-area-then-not-put_triangle_box invariant-loop decreases-loop
 same_length c =
-    let (at-loop, at-put-triangle-box) : (tie.At-loop invariant-loop decreases-loop) × (tie.After-put-triangle-box invariant-loop decreases-loop) = search in
-    at-put-triangle-box.put-triangle-box.kept.1.1.1.0 ∙ at-loop.loop.inv.1.1.0
+    let (at-loop, at-put-triangle-box) : (tie.At-loop-i invariant-loop decreases-loop) × (tie.After-put_triangle_box invariant-loop decreases-loop) = search in
+    at-put-triangle-box.put_triangle_box.auto.area ∙ at-loop.loop-i.invariant.1.1.0
 
-returns : tie.Need-returns invariant-loop decreases-loop
+returns : tie.Need-returns-then-not-put_triangle_box invariant-loop decreases-loop
 unfolding triangles_fit
 returns c =
     let (start, at-loop, in-loop, at-put-triangle-box) :
-    (tie.Start invariant-loop decreases-loop) × (tie.At-loop invariant-loop decreases-loop) × (tie.In-loop invariant-loop decreases-loop) ×
-    (tie.After-put-triangle-box invariant-loop decreases-loop) = search in
+    (tie.Start invariant-loop decreases-loop) × (tie.At-loop-i invariant-loop decreases-loop) × (tie.In-loop-i invariant-loop decreases-loop) ×
+    (tie.After-put_triangle_box invariant-loop decreases-loop) = search in
     let a = start.args in
-    let l = at-loop.loop in
-    let one = at-put-triangle-box.put-triangle-box in
+    let l = at-loop.loop-i in
+    let one = at-put-triangle-box.put_triangle_box in
     let fits = triangle_fits (mesh a.vertices.now a.triangles.now) in
-    let no = test_failed one.ensures.0 c.if1.true in (
-      sym (every_fails fits l.i (length a.triangles.now / 3) _ in-loop.loop-test.taken no l.inv.0),
+    let no = test_failed one.ensures.0 c.if-not-put_triangle_box.true in (
+      sym (every_fails fits l.i (length a.triangles.now / 3) _ in-loop.loop-i-test.true no l.invariant.0),
       λ e. absurd
           (false≢true e),
     )
 
-loop-again : tie.Need-loop-preserved invariant-loop decreases-loop
+loop-again : tie.Need-loop-i-preserved invariant-loop decreases-loop
 loop-again c =
     let (start, at-loop, in-loop, at-put-triangle-box) :
-    (tie.Start invariant-loop decreases-loop) × (tie.At-loop invariant-loop decreases-loop) × (tie.In-loop invariant-loop decreases-loop) ×
-    (tie.After-put-triangle-box invariant-loop decreases-loop) = search in
+    (tie.Start invariant-loop decreases-loop) × (tie.At-loop-i invariant-loop decreases-loop) × (tie.In-loop-i invariant-loop decreases-loop) ×
+    (tie.After-put_triangle_box invariant-loop decreases-loop) = search in
     let a = start.args in
-    let l = at-loop.loop in
-    let one = at-put-triangle-box.put-triangle-box in
+    let l = at-loop.loop-i in
+    let one = at-put-triangle-box.put_triangle_box in
     let fits = triangle_fits (mesh a.vertices.now a.triangles.now) in
     let box = triangle_box a.vertices.now a.triangles.now in
-    let went = not-false one.result c.if1.false in (
-      every_passes fits l.i (length a.triangles.now / 3) _ in-loop.loop-test.taken (sym one.ensures.0 ∙ went) l.inv.0,
+    let went = c.if-not-put_triangle_box.false in (
+      every_passes fits l.i (length a.triangles.now / 3) _ in-loop.loop-i-test.true (sym one.ensures.0 ∙ went) l.invariant.0,
       (
-        one.ensures.1 went ∙ ap (λ (z : List Float). sets z (6 * l.i) (box_numbers (box l.i))) l.inv.1.0 ∙ box_stored box
+        one.ensures.1 went ∙ ap (λ (z : List Float). sets z (6 * l.i) (box_numbers (box l.i))) l.invariant.1.0 ∙ box_stored box
             a.area.now l.i,
-        (one.kept.1.1.1.0 ∙ l.inv.1.1.0, omega arith),
+        (one.auto.area ∙ l.invariant.1.1.0, omega arith),
       ),
     )
 
-same-length-2 : tie.Need-same-length-2 invariant-loop decreases-loop
-same-length-2 c = c.before.loop.invariant.1.1.0
+same-length-2 : tie.Need-shape_of-area invariant-loop decreases-loop
+same-length-2 c = c.loop-i.invariant.1.1.0
 
-returns-2 : tie.Need-returns-2 invariant-loop decreases-loop
+returns-2 : tie.Need-returns invariant-loop decreases-loop
 unfolding triangles_fit boxes_written
 returns-2 c =
     let start : tie.Start invariant-loop decreases-loop = search in
     let s = start in
     let a = s.args in
-    let l = c.before.loop in
+    let l = c.loop-i in
     let n = length a.triangles.now / 3 in
     let fits = triangle_fits (mesh a.vertices.now a.triangles.now) in
     let box = triangle_box a.vertices.now a.triangles.now in
     let e : l.i ≡ n = omega arith in (
-      sym (every_done fits l.i n c.loop-test.false) ∙ l.invariant.0,
+      sym (every_done fits l.i n c.loop-i-test.false) ∙ l.invariant.0,
       λ _. l.invariant.1.0 ∙ ap (λ (k : ℕ). sets a.area.now 0 (each_box box (range 0 k))) e
-          ∙ sets_front a.area.now (each_box box (range 0 n)) (omega (arith, s.pre, length_each_box box (range 0 n), length_range 0 n)),
+          ∙ sets_front a.area.now (each_box box (range 0 n)) (omega (arith, s.requires, length_each_box box (range 0 n), length_range 0 n)),
     )
 
-pub put-triangle-boxes-spec : {M : Type 1} → statement M
-put-triangle-boxes-spec =
+pub put_triangle_boxes_spec : {M : Type 1} → statement M
+put_triangle_boxes_spec =
     tie.close
     (tie.spec
     invariant-loop
@@ -109,8 +109,8 @@ put-triangle-boxes-spec =
     put-triangle-box-requires
     same_length
     returns
-    (search rules)  -- add-i
-    (search rules)  -- loop-less
+    (search rules)  -- overflow_add-i
+    (search rules)  -- loop-i-smaller
     loop-again
     same-length-2
     returns-2)

@@ -6,21 +6,24 @@ use borrow.Author.Rules.{rules}
 use Rattle.tree_build.proofs.build.has_room.Statement.{statement}
 use Rattle.tree_build.proofs.build.has_room.Tie as tie
 
-returns : tie.Need-returns
+returns : tie.Need-returns-then-not-lengths_fit
 unfolding room_for
 returns c =
-    let (start, fit) : tie.Start × tie.After-lengths-fit = search in
+    let (start, fit) : tie.Start × tie.After-lengths_fit = search in
     let a = start.args in
-    room_failed a.count (length a.node_boxes_lem.now) (length a.triangle_boxes_lem.now) (length a.node_words_lem.now)
-    (length a.order.now) a.count (length a.work.now) fit.lengths-fit.ensures c.if1.true
+    room_failed a.count (length a.node_boxes.now) (length a.triangle_boxes.now) (length a.node_words.now)
+    (length a.order.now) a.count (length a.work.now) fit.lengths_fit.ensures c.if-not-lengths_fit.true
 
-returns-2 : tie.Need-returns-2
+returns-2 : tie.Need-returns
 unfolding room_for
 returns-2 c =
-    let (start, fit) : tie.Start × tie.After-lengths-fit = search in
+    let (start, fit) : tie.Start × tie.After-lengths_fit = search in
     let a = start.args in
-    room_passed a.count (length a.node_boxes_lem.now) (length a.triangle_boxes_lem.now) (length a.node_words_lem.now)
-    (length a.order.now) a.count (length a.work.now) fit.lengths-fit.ensures c.if1.false
+    room_passed a.count (length a.node_boxes.now) (length a.triangle_boxes.now) (length a.node_words.now)
+    (length a.order.now) a.count (length a.work.now) fit.lengths_fit.ensures c.if-not-lengths_fit.false
 
-pub has-room-spec : {M : Type 1} → statement M
-has-room-spec = tie.close (tie.spec (search rules) returns returns-2)
+pub has_room_spec : {M : Type 1} → statement M
+has_room_spec = tie.close (tie.spec
+    (search rules)  -- lengths_fit-requires
+    returns
+    returns-2)

@@ -6,24 +6,28 @@ use borrow.Author.Rules.{rules}
 use Rattle.tree_check.proofs.boxes.node_fits.Statement.{statement}
 use Rattle.tree_check.proofs.boxes.node_fits.Tie as tie
 
-returns : tie.Need-returns
+returns : tie.Need-returns-then-not-is_valid
 unfolding node_fits
 returns c =
-    let at-box-at : tie.After-box-at = search in
-    simp (sym at-box-at.box-at.ensures, sym c.before.is-valid.ensures, not-true c.before.is-valid.result c.if1.true)
+    let at-box-at : tie.After-box_at = search in
+    simp (sym at-box-at.box_at.ensures, sym c.is_valid.ensures, c.if-not-is_valid.true)
 
-returns-2 : tie.Need-returns-2
+returns-2 : tie.Need-returns
 unfolding node_fits
 returns-2 c =
-    let (at-box-at, at-is-valid) : tie.After-box-at × tie.After-is-valid = search in
+    let (at-box-at, at-is-valid) : tie.After-box_at × tie.After-is_valid = search in
     simp (
-      sym at-box-at.box-at.ensures,
-      sym at-is-valid.is-valid.ensures,
-      not-false at-is-valid.is-valid.result
-          c.before.if1.false,
-      sym c.node-holds.ensures,
+      sym at-box-at.box_at.ensures,
+      sym at-is-valid.is_valid.ensures,
+      c.if-not-is_valid.false,
+      sym c.node_holds.ensures,
     )
 
-pub node-fits-spec : {M : Type 1} → statement M
-node-fits-spec =
-    tie.close (tie.spec (λ c κs. search rules) (search rules) returns (λ c κs. search rules) returns-2)
+pub node_fits_spec : {M : Type 1} → statement M
+node_fits_spec =
+    tie.close (tie.spec
+    (λ c κs. search rules)  -- box_at-requires
+    (search rules)  -- is_valid-requires
+    returns
+    (λ c κs. search rules)  -- node_holds-requires
+    returns-2)

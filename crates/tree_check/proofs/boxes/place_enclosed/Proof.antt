@@ -8,9 +8,13 @@ use Rattle.tree_check.proofs.boxes.place_enclosed.Tie as tie
 returns : tie.Need-returns
 unfolding place_enclosed
 returns c =
-    let at-word-at : tie.After-word-at = search in
-    simp (sym at-word-at.word_at.ensures, sym c.before.box-at.ensures, sym c.encloses.ensures)
+    let at-word-at : tie.After-word_at = search in
+    simp (sym at-word-at.word_at.ensures, sym c.box_at.ensures, sym c.encloses.ensures)
 
-pub place-enclosed-spec : {M : Type 1} → statement M
-place-enclosed-spec =
-    tie.close (tie.spec (search rules) (search rules) (search rules) returns)
+pub place_enclosed_spec : {M : Type 1} → statement M
+place_enclosed_spec =
+    tie.close (tie.spec
+    (search rules)  -- word_at-requires
+    (search rules)  -- box_at-requires
+    (search rules)  -- encloses-requires
+    returns)

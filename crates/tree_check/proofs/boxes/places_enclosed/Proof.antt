@@ -10,40 +10,40 @@ use borrow.Author.Rules.{rules}
 use Rattle.tree_check.proofs.boxes.places_enclosed.Statement.{statement}
 use Rattle.tree_check.proofs.boxes.places_enclosed.Tie as tie
 
-abbrev invariant-loop : tie.invariant-loop
+abbrev invariant-loop : tie.invariant-loop-p
 invariant-loop outer boxes order start end p₀ p = (start ≤ p) ×
     (every (place_enclosed outer boxes order) (range p (end - p)) ≡ every (place_enclosed outer boxes order) (range start (end - start)))
 
-abbrev decreases-loop : tie.decreases-loop
+abbrev decreases-loop : tie.decreases-loop-p
 decreases-loop outer boxes order start end p₀ p = end - p
 
-loop-holds : tie.Need-loop-init invariant-loop decreases-loop
+loop-holds : tie.Need-loop-p-init invariant-loop decreases-loop
 loop-holds c = (omega arith, refl)
 
-place-enclosed-requires : tie.Need-place-enclosed-requires invariant-loop decreases-loop
+place-enclosed-requires : tie.Need-place_enclosed-requires invariant-loop decreases-loop
 place-enclosed-requires c κs =
     let start : tie.Start invariant-loop decreases-loop = search in
-    (omega (arith, start.pre.0), start.pre.1 _ c.loop-test.true)
+    (omega (arith, start.requires.0), start.requires.1 _ c.loop-p-test.true)
 
-returns : tie.Need-returns invariant-loop decreases-loop
+returns : tie.Need-returns-then-not-place_enclosed invariant-loop decreases-loop
 returns c =
-    let (at-loop, in-loop) : (tie.At-loop invariant-loop decreases-loop) × (tie.In-loop invariant-loop decreases-loop) = search in
-    sym (every_fails _ _ _ _ in-loop.loop-test.taken
-    (sym c.before.place-enclosed.ensures ∙ not-true c.before.place-enclosed.result c.if1.true) at-loop.loop.inv.1)
+    let (at-loop, in-loop) : (tie.At-loop-p invariant-loop decreases-loop) × (tie.In-loop-p invariant-loop decreases-loop) = search in
+    sym (every_fails _ _ _ _ in-loop.loop-p-test.true
+    (sym c.place_enclosed.ensures ∙ c.if-not-place_enclosed.true) at-loop.loop-p.invariant.1)
 
-loop-again : tie.Need-loop-preserved invariant-loop decreases-loop
+loop-again : tie.Need-loop-p-preserved invariant-loop decreases-loop
 loop-again c =
-    let (at-loop, in-loop) : (tie.At-loop invariant-loop decreases-loop) × (tie.In-loop invariant-loop decreases-loop) = search in (
+    let (at-loop, in-loop) : (tie.At-loop-p invariant-loop decreases-loop) × (tie.In-loop-p invariant-loop decreases-loop) = search in (
       omega arith,
-      every_passes _ _ _ _ in-loop.loop-test.taken
-          (sym c.before.place-enclosed.ensures ∙ not-false c.before.place-enclosed.result c.if1.false) at-loop.loop.inv.1,
+      every_passes _ _ _ _ in-loop.loop-p-test.true
+          (sym c.place_enclosed.ensures ∙ c.if-not-place_enclosed.false) at-loop.loop-p.invariant.1,
     )
 
-returns-2 : tie.Need-returns-2 invariant-loop decreases-loop
-returns-2 c = sym (every_done _ _ _ c.loop-test.false) ∙ c.before.loop.invariant.1
+returns-2 : tie.Need-returns invariant-loop decreases-loop
+returns-2 c = sym (every_done _ _ _ c.loop-p-test.false) ∙ c.loop-p.invariant.1
 
-pub places-enclosed-spec : {M : Type 1} → statement M
-places-enclosed-spec =
+pub places_enclosed_spec : {M : Type 1} → statement M
+places_enclosed_spec =
     tie.close
     (tie.spec
     invariant-loop
@@ -51,7 +51,7 @@ places-enclosed-spec =
     loop-holds
     place-enclosed-requires
     returns
-    (search rules)  -- add-p
-    (search rules)  -- loop-less
+    (search rules)  -- overflow_add-p
+    (search rules)  -- loop-p-smaller
     loop-again
     returns-2)

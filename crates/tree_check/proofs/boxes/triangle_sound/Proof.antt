@@ -7,60 +7,57 @@ use borrow.Author.Rules.{rules}
 use Rattle.tree_check.proofs.boxes.triangle_sound.Statement.{statement}
 use Rattle.tree_check.proofs.boxes.triangle_sound.Tie as tie
 
-returns : tie.Need-returns
+returns : tie.Need-returns-then-not-corners_inside
 unfolding triangle_sound
-returns c = simp (sym c.before.corners-inside.ensures, not-true c.before.corners-inside.result c.if1.true)
+returns c = simp (sym c.corners_inside.ensures, c.if-not-corners_inside.true)
 
-triangle-box-requires : tie.Need-triangle-box-requires
+triangle-box-requires : tie.Need-triangle_box-requires
 triangle-box-requires c κs =
-    let (start, at-corners-inside) : tie.Start × tie.After-corners-inside = search in (
-      start.pre.0,
-      sym at-corners-inside.corners-inside.ensures ∙ not-false at-corners-inside.corners-inside.result
-          c.before.if1.false,
+    let (start, at-corners-inside) : tie.Start × tie.After-corners_inside = search in (
+      start.requires.0,
+      sym at-corners-inside.corners_inside.ensures ∙ c.if-not-corners_inside.false,
     )
 
-returns-2 : tie.Need-returns-2
+returns-2 : tie.Need-returns-then-not-same
 unfolding triangle_sound
 returns-2 c =
     let (at-corners-inside, else1, at-box-at, at-triangle-box) :
-    tie.After-corners-inside × tie.Else1 × tie.After-box-at × tie.After-triangle-box = search in
+    tie.After-corners_inside × tie.Else-not-corners_inside × tie.After-box_at-around × tie.After-triangle_box = search in
     simp (
-      sym at-corners-inside.corners-inside.ensures,
-      not-false at-corners-inside.corners-inside.result else1.if1.left,
+      sym at-corners-inside.corners_inside.ensures,
+      else1.if-not-corners_inside.false,
       sym
-          at-box-at.box-at.ensures,
-      sym at-triangle-box.triangle_box_lem.ensures,
-      sym c.before.same.ensures,
-      not-true
-          c.before.same.result c.if2.true,
+          at-box-at.box_at-around.ensures,
+      sym at-triangle-box.triangle_box.ensures,
+      sym c.same.ensures,
+      c.if-not-same.true,
     )
 
-returns-3 : tie.Need-returns-3
+returns-3 : tie.Need-returns
 unfolding triangle_sound
 returns-3 c =
     let (at-corners-inside, else1, at-box-at, at-triangle-box, at_same) :
-    tie.After-corners-inside × tie.Else1 × tie.After-box-at × tie.After-triangle-box × tie.After-same = search in
+    tie.After-corners_inside × tie.Else-not-corners_inside × tie.After-box_at-around × tie.After-triangle_box × tie.After-same = search in
     simp (
-      sym at-corners-inside.corners-inside.ensures,
-      not-false at-corners-inside.corners-inside.result else1.if1.left,
+      sym at-corners-inside.corners_inside.ensures,
+      else1.if-not-corners_inside.false,
       sym
-          at-box-at.box-at.ensures,
-      sym at-triangle-box.triangle_box_lem.ensures,
+          at-box-at.box_at-around.ensures,
+      sym at-triangle-box.triangle_box.ensures,
       sym at_same.same.ensures,
-      not-false
-          at_same.same.result c.before.if2.false,
-      sym c.is-valid.ensures,
+      c.if-not-same.false,
+      sym c.is_valid.ensures,
     )
 
-pub triangle-sound-spec : {M : Type 1} → statement M
-triangle-sound-spec =
+pub triangle_sound_spec : {M : Type 1} → statement M
+triangle_sound_spec =
     tie.close
     (tie.spec
-    (search rules)  -- corners-inside-requires
+    (search rules)  -- corners_inside-requires
     returns
-    (search rules)  -- box-at-requires
+    (search rules)  -- box_at-around-requires
     triangle-box-requires
     (search rules)  -- same-requires
     returns-2
-    (search rules)  -- is-valid-requires
+    (search rules)  -- is_valid-requires
     returns-3)

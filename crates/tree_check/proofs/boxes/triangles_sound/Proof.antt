@@ -10,38 +10,38 @@ use borrow.Author.Rules.{rules}
 use Rattle.tree_check.proofs.boxes.triangles_sound.Statement.{statement}
 use Rattle.tree_check.proofs.boxes.triangles_sound.Tie as tie
 
-abbrev invariant-loop : tie.invariant-loop
+abbrev invariant-loop : tie.invariant-loop-x
 invariant-loop n vertices triangles boxes x₀ x = every (triangle_sound vertices triangles boxes) (range x (n - x)) ≡ every
     (triangle_sound vertices triangles boxes) (range 0 n)
 
-abbrev decreases-loop : tie.decreases-loop
+abbrev decreases-loop : tie.decreases-loop-x
 decreases-loop n vertices triangles boxes x₀ x = n - x
 
-loop-holds : tie.Need-loop-init invariant-loop decreases-loop
+loop-holds : tie.Need-loop-x-init invariant-loop decreases-loop
 loop-holds c = every_whole _ _
 
-triangle-sound-requires : tie.Need-triangle-sound-requires invariant-loop decreases-loop
+triangle-sound-requires : tie.Need-triangle_sound-requires invariant-loop decreases-loop
 triangle-sound-requires c κs =
     let start : tie.Start invariant-loop decreases-loop = search in
-    (omega (arith, start.pre), omega (arith, start.pre))
+    (omega (arith, start.requires), omega (arith, start.requires))
 
-returns : tie.Need-returns invariant-loop decreases-loop
+returns : tie.Need-returns-then-not-triangle_sound invariant-loop decreases-loop
 returns c =
-    let (at-loop, in-loop) : (tie.At-loop invariant-loop decreases-loop) × (tie.In-loop invariant-loop decreases-loop) = search in
-    sym (every_fails _ _ _ _ in-loop.loop-test.taken
-    (sym c.before.triangle-sound.ensures ∙ not-true c.before.triangle-sound.result c.if1.true) at-loop.loop.inv)
+    let (at-loop, in-loop) : (tie.At-loop-x invariant-loop decreases-loop) × (tie.In-loop-x invariant-loop decreases-loop) = search in
+    sym (every_fails _ _ _ _ in-loop.loop-x-test.true
+    (sym c.triangle_sound.ensures ∙ c.if-not-triangle_sound.true) at-loop.loop-x.invariant)
 
-loop-again : tie.Need-loop-preserved invariant-loop decreases-loop
+loop-again : tie.Need-loop-x-preserved invariant-loop decreases-loop
 loop-again c =
-    let (at-loop, in-loop) : (tie.At-loop invariant-loop decreases-loop) × (tie.In-loop invariant-loop decreases-loop) = search in
-    every_passes _ _ _ _ in-loop.loop-test.taken
-    (sym c.before.triangle-sound.ensures ∙ not-false c.before.triangle-sound.result c.if1.false) at-loop.loop.inv
+    let (at-loop, in-loop) : (tie.At-loop-x invariant-loop decreases-loop) × (tie.In-loop-x invariant-loop decreases-loop) = search in
+    every_passes _ _ _ _ in-loop.loop-x-test.true
+    (sym c.triangle_sound.ensures ∙ c.if-not-triangle_sound.false) at-loop.loop-x.invariant
 
-returns-2 : tie.Need-returns-2 invariant-loop decreases-loop
-returns-2 c = sym (every_done _ _ _ c.loop-test.false) ∙ c.before.loop.invariant
+returns-2 : tie.Need-returns invariant-loop decreases-loop
+returns-2 c = sym (every_done _ _ _ c.loop-x-test.false) ∙ c.loop-x.invariant
 
-pub triangles-sound-spec : {M : Type 1} → statement M
-triangles-sound-spec =
+pub triangles_sound_spec : {M : Type 1} → statement M
+triangles_sound_spec =
     tie.close
     (tie.spec
     invariant-loop
@@ -49,7 +49,7 @@ triangles-sound-spec =
     loop-holds
     triangle-sound-requires
     returns
-    (search rules)  -- add-x
-    (search rules)  -- loop-less
+    (search rules)  -- overflow_add-x
+    (search rules)  -- loop-x-smaller
     loop-again
     returns-2)

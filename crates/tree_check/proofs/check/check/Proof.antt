@@ -7,84 +7,81 @@ use borrow.Author.Rules.{rules}
 use Rattle.tree_check.proofs.check.check.Statement.{statement}
 use Rattle.tree_check.proofs.check.check.Tie as tie
 
-returns : tie.Need-returns
+returns : tie.Need-returns-then-not-lengths_admitted
 unfolding check_of
-returns c = (simp (sym c.before.lengths-admitted.ensures, not-true c.before.lengths-admitted.result c.if1.true), refl)
+returns c = (simp (sym c.lengths_admitted.ensures, c.if-not-lengths_admitted.true), refl)
 
-room-for-requires : tie.Need-room-for-requires
-room-for-requires c κs = few_triangles _ _ (sym c.before.lengths-admitted.ensures ∙ not-false c.before.lengths-admitted.result c.if1.false)
+room-for-requires : tie.Need-room_for-requires
+room-for-requires c κs = few_triangles _ _ (sym c.lengths_admitted.ensures ∙ c.if-not-lengths_admitted.false)
 
-returns-2 : tie.Need-returns-2
+returns-2 : tie.Need-returns-then-not-room_for
 unfolding check_of
 returns-2 c =
-    let (at-lengths-admitted, else1) : tie.After-lengths-admitted × tie.Else1 = search in (
+    let (at-lengths-admitted, else1) : tie.After-lengths_admitted × tie.Else-not-lengths_admitted = search in (
       simp (
-        sym at-lengths-admitted.lengths-admitted.ensures,
-        not-false at-lengths-admitted.lengths-admitted.result
-            else1.if1.left,
-        sym c.before.room_for.ensures,
-        not-true c.before.room_for.result c.if2.true,
+        sym at-lengths-admitted.lengths_admitted.ensures,
+        else1.if-not-lengths_admitted.false,
+        sym c.room_for.ensures,
+        c.if-not-room_for.true,
       ),
       refl,
     )
 
-tree-passes-requires : tie.Need-tree-passes-requires
+tree-passes-requires : tie.Need-tree_passes-requires
 tree-passes-requires c κs =
-    let (at-lengths-admitted, else1, at-room-for) : tie.After-lengths-admitted × tie.Else1 × tie.After-room-for = search in
-    room_is_long _ _ _ _ _ _ (few_triangles _ _ (sym at-lengths-admitted.lengths-admitted.ensures ∙ not-false at-lengths-admitted.lengths-admitted.result else1.if1.left))
-    (sym at-room-for.room_for.ensures ∙ not-false at-room-for.room_for.result c.before.if2.false)
+    let (at-lengths-admitted, else1, at-room-for) : tie.After-lengths_admitted × tie.Else-not-lengths_admitted × tie.After-room_for = search in
+    room_is_long _ _ _ _ _ _ (few_triangles _ _ (sym at-lengths-admitted.lengths_admitted.ensures ∙ else1.if-not-lengths_admitted.false))
+    (sym at-room-for.room_for.ensures ∙ c.if-not-room_for.false)
 
-same_length : tie.Need-same-length
+same_length : tie.Need-shape_of-marks-then-tree_passes
 same_length c =
-    let at-tree-passes : tie.After-tree-passes = search in
-    at-tree-passes.tree-passes.kept.1.1.1.1.1.1.1.0
+    let at-tree-passes : tie.After-tree_passes = search in
+    at-tree-passes.tree_passes.auto.marks
 
-returns-3 : tie.Need-returns-3
+returns-3 : tie.Need-returns-then-tree_passes
 unfolding check_of
 returns-3 c =
     let (at-lengths-admitted, else1, at-room-for, else2, at-tree-passes) :
-    tie.After-lengths-admitted × tie.Else1 × tie.After-room-for × tie.Else2 × tie.After-tree-passes = search in (
+    tie.After-lengths_admitted × tie.Else-not-lengths_admitted × tie.After-room_for × tie.Else-not-room_for × tie.After-tree_passes = search in (
       simp (
-        sym at-lengths-admitted.lengths-admitted.ensures,
-        not-false at-lengths-admitted.lengths-admitted.result
-            else1.if1.left,
+        sym at-lengths-admitted.lengths_admitted.ensures,
+        else1.if-not-lengths_admitted.false,
         sym at-room-for.room_for.ensures,
-        not-false at-room-for.room_for.result else2.if2.left,
+        else2.if-not-room_for.false,
         sym
-            at-tree-passes.tree-passes.ensures,
-        c.if3.true,
+            at-tree-passes.tree_passes.ensures,
+        c.if-tree_passes.true,
       ),
       refl,
     )
 
-same-length-2 : tie.Need-same-length-2
+same-length-2 : tie.Need-shape_of-marks
 same-length-2 c =
-    let at-tree-passes : tie.After-tree-passes = search in
-    at-tree-passes.tree-passes.kept.1.1.1.1.1.1.1.0
+    let at-tree-passes : tie.After-tree_passes = search in
+    at-tree-passes.tree_passes.auto.marks
 
-returns-4 : tie.Need-returns-4
+returns-4 : tie.Need-returns
 unfolding check_of
 returns-4 c =
     let (at-lengths-admitted, else1, at-room-for, else2, at-tree-passes) :
-    tie.After-lengths-admitted × tie.Else1 × tie.After-room-for × tie.Else2 × tie.After-tree-passes = search in (
+    tie.After-lengths_admitted × tie.Else-not-lengths_admitted × tie.After-room_for × tie.Else-not-room_for × tie.After-tree_passes = search in (
       simp (
-        sym at-lengths-admitted.lengths-admitted.ensures,
-        not-false at-lengths-admitted.lengths-admitted.result
-            else1.if1.left,
+        sym at-lengths-admitted.lengths_admitted.ensures,
+        else1.if-not-lengths_admitted.false,
         sym at-room-for.room_for.ensures,
-        not-false at-room-for.room_for.result else2.if2.left,
+        else2.if-not-room_for.false,
         sym
-            at-tree-passes.tree-passes.ensures,
-        c.if3.false,
+            at-tree-passes.tree_passes.ensures,
+        c.if-tree_passes.false,
       ),
       refl,
     )
 
-pub check-spec : {M : Type 1} → statement M
-check-spec =
+pub check_spec : {M : Type 1} → statement M
+check_spec =
     tie.close
     (tie.spec
-    (search rules)  -- lengths-admitted-requires
+    (search rules)  -- lengths_admitted-requires
     returns
     room-for-requires
     returns-2

@@ -6,21 +6,25 @@ use borrow.Author.Rules.{rules}
 use Rattle.tree_check.proofs.check.room_for.Statement.{statement}
 use Rattle.tree_check.proofs.check.room_for.Tie as tie
 
-returns : tie.Need-returns
+returns : tie.Need-returns-then-not-lengths_fit
 unfolding room_for
 returns c =
-    let (start, fit) : tie.Start × tie.After-lengths-fit = search in
+    let (start, fit) : tie.Start × tie.After-lengths_fit = search in
     let a = start.args in
-    room_failed a.n a.node_boxes_lem a.triangle_boxes_lem a.node_words_lem a.order (3 * a.n) a.marks fit.lengths-fit.ensures
-    c.if1.true
+    room_failed a.n a.node_boxes a.triangle_boxes a.node_words a.order (3 * a.n) a.marks fit.lengths_fit.ensures
+    c.if-not-lengths_fit.true
 
-returns-2 : tie.Need-returns-2
+returns-2 : tie.Need-returns
 unfolding room_for
 returns-2 c =
-    let (start, fit, else1) : tie.Start × tie.After-lengths-fit × tie.Else1 = search in
+    let (start, fit, else1) : tie.Start × tie.After-lengths_fit × tie.Else-not-lengths_fit = search in
     let a = start.args in
-    room_passed a.n a.node_boxes_lem a.triangle_boxes_lem a.node_words_lem a.order (3 * a.n) a.marks fit.lengths-fit.ensures
-    else1.if1.left
+    room_passed a.n a.node_boxes a.triangle_boxes a.node_words a.order (3 * a.n) a.marks fit.lengths_fit.ensures
+    else1.if-not-lengths_fit.false
 
-pub room-for-spec : {M : Type 1} → statement M
-room-for-spec = tie.close (tie.spec (search rules) returns (search rules) returns-2)
+pub room_for_spec : {M : Type 1} → statement M
+room_for_spec = tie.close (tie.spec
+    (search rules)  -- lengths_fit-requires
+    returns
+    (search rules)  -- overflow_mul-result
+    returns-2)

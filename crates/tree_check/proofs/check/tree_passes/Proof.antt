@@ -7,54 +7,54 @@ use borrow.Author.Rules.{rules}
 use Rattle.tree_check.proofs.check.tree_passes.Statement.{statement}
 use Rattle.tree_check.proofs.check.tree_passes.Tie as tie
 
-returns : tie.Need-returns
-returns c = passes_empty _ _ c.if1.true
+returns : tie.Need-returns-then-n-eq0
+returns c = passes_empty _ _ c.if-n-eq0.true
 
-returns-2 : tie.Need-returns-2
-returns-2 c = passes_not_many _ _ c.before.if1.false c.if2.true
+returns-2 : tie.Need-returns-then-nodes-n
+returns-2 c = passes_not_many _ _ c.if-n-eq0.false c.if-nodes-n.true
 
-words-pass-requires : tie.Need-words-pass-requires
+words-pass-requires : tie.Need-words_pass-requires
 words-pass-requires c κs =
     let start : tie.Start = search in
-    (start.pre.few, (c.before.if2.false, (omega (arith, start.pre), (start.pre.order_long, start.pre.marks_long))))
+    (start.requires.few, (c.if-nodes-n.false, (omega (arith, start.requires), (start.requires.order_long, start.requires.marks_long))))
 
-same_length : tie.Need-same-length
+same_length : tie.Need-shape_of-marks-then-not-words_pass
 same_length c =
-    let at-words-pass : tie.After-words-pass = search in
-    at-words-pass.words-pass.kept.1.1.1.1.0
+    let at-words-pass : tie.After-words_pass = search in
+    at-words-pass.words_pass.auto.marks
 
-returns-3 : tie.Need-returns-3
+returns-3 : tie.Need-returns-then-not-words_pass
 returns-3 c =
-    let (else1, else2, at-words-pass) : tie.Else1 × tie.Else2 × tie.After-words-pass = search in
-    passes_not_words _ _ else1.if1.left else2.if2.left
-    (sym at-words-pass.words-pass.ensures ∙ not-true at-words-pass.words-pass.result c.if3.true)
+    let (else1, else2, at-words-pass) : tie.Else-n-eq0 × tie.Else-nodes-n × tie.After-words_pass = search in
+    passes_not_words _ _ else1.if-n-eq0.false else2.if-nodes-n.false
+    (sym at-words-pass.words_pass.ensures ∙ c.if-not-words_pass.true)
 
-boxes-pass-requires : tie.Need-boxes-pass-requires
+boxes-pass-requires : tie.Need-boxes_pass-requires
 boxes-pass-requires c κs =
-    let (start, else2, at-words-pass) : tie.Start × tie.Else2 × tie.After-words-pass = search in (
-      (omega arith, start.pre.triangle_boxes_long),
+    let (start, else2, at-words-pass) : tie.Start × tie.Else-nodes-n × tie.After-words_pass = search in (
+      (omega arith, start.requires.triangle_boxes_long),
       readable _ _ _ _
-          (sym at-words-pass.words-pass.ensures ∙ not-false at-words-pass.words-pass.result c.if3.false) _ _ _ start.pre
-          else2.if2.left,
+          (sym at-words-pass.words_pass.ensures ∙ c.if-not-words_pass.false) _ _ _ start.requires
+          else2.if-nodes-n.false,
     )
 
-same-length-2 : tie.Need-same-length-2
+same-length-2 : tie.Need-shape_of-marks
 same-length-2 c =
-    let at-words-pass : tie.After-words-pass = search in
-    at-words-pass.words-pass.kept.1.1.1.1.0
+    let at-words-pass : tie.After-words_pass = search in
+    at-words-pass.words_pass.auto.marks
 
-returns-4 : tie.Need-returns-4
+returns-4 : tie.Need-returns
 returns-4 c =
-    let (else1, else2, at-words-pass) : tie.Else1 × tie.Else2 × tie.After-words-pass = search in
-    c.boxes-pass.ensures ∙ passes_boxes _ _ else1.if1.left else2.if2.left
-    (sym at-words-pass.words-pass.ensures ∙ not-false at-words-pass.words-pass.result c.before.if3.false)
+    let (else1, else2, at-words-pass) : tie.Else-n-eq0 × tie.Else-nodes-n × tie.After-words_pass = search in
+    c.boxes_pass.ensures ∙ passes_boxes _ _ else1.if-n-eq0.false else2.if-nodes-n.false
+    (sym at-words-pass.words_pass.ensures ∙ c.if-not-words_pass.false)
 
-pub tree-passes-spec : {M : Type 1} → statement M
-tree-passes-spec =
+pub tree_passes_spec : {M : Type 1} → statement M
+tree_passes_spec =
     tie.close
     (tie.spec
     returns
-    (search rules)  -- mul-if2
+    (search rules)  -- overflow_mul-n
     returns-2
     words-pass-requires
     same_length

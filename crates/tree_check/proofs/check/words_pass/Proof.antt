@@ -7,108 +7,108 @@ use borrow.Author.Rules.{rules}
 use Rattle.tree_check.proofs.check.words_pass.Statement.{statement}
 use Rattle.tree_check.proofs.check.words_pass.Tie as tie
 
-returns : tie.Need-returns
+returns : tie.Need-returns-then-not-nodes_sound
 unfolding words_pass
-returns c = simp (sym c.before.nodes_sound.ensures, not-true c.before.nodes_sound.result c.if1.true)
+returns c = simp (sym c.nodes_sound.ensures, c.if-not-nodes_sound.true)
 
-named-once-requires : tie.Need-named-once-requires
+named-once-requires : tie.Need-named_once-requires
 named-once-requires c κs =
-    let (start, at-nodes-sound) : tie.Start × tie.After-nodes-sound = search in (
-      (start.pre.1.1.0, (start.pre.0, (start.pre.1.0, start.pre.1.1.1.1))),
+    let (start, at-nodes-sound) : tie.Start × tie.After-nodes_sound = search in (
+      (start.requires.1.1.0, (start.requires.0, (start.requires.1.0, start.requires.1.1.1.1))),
       sym at-nodes-sound.nodes_sound.ensures ∙
-          not-false at-nodes-sound.nodes_sound.result c.before.if1.false,
+          c.if-not-nodes_sound.false,
     )
 
-same_length : tie.Need-same-length
+same_length : tie.Need-shape_of-marks-then-not-named_once
 same_length c =
-    let at-named-once : tie.After-named-once = search in
-    at-named-once.named_once_lem.kept.1.1.1.0
+    let at-named-once : tie.After-named_once = search in
+    at-named-once.named_once.auto.marks
 
-returns-2 : tie.Need-returns-2
+returns-2 : tie.Need-returns-then-not-named_once
 unfolding words_pass
 returns-2 c =
-    let (at-nodes-sound, else1, at-named-once) : tie.After-nodes-sound × tie.Else1 × tie.After-named-once = search in
+    let (at-nodes-sound, else1, at-named-once) : tie.After-nodes_sound × tie.Else-not-nodes_sound × tie.After-named_once = search in
     simp (
       sym at-nodes-sound.nodes_sound.ensures,
-      not-false at-nodes-sound.nodes_sound.result else1.if1.left,
+      else1.if-not-nodes_sound.false,
       sym
-          at-named-once.named_once_lem.ensures,
-      not-true at-named-once.named_once_lem.result c.if2.true,
+          at-named-once.named_once.ensures,
+      c.if-not-named_once.true,
     )
 
-placed-once-requires : tie.Need-placed-once-requires
+placed-once-requires : tie.Need-placed_once-requires
 placed-once-requires c κs =
-    let (start, at-nodes-sound, else1, at-named-once) : tie.Start × tie.After-nodes-sound × tie.Else1 × tie.After-named-once = search in (
-      (start.pre.1.1.0, (start.pre.0, (start.pre.1.0, omega (arith, start.pre, at-named-once.named_once_lem.kept.1.1.1.0)))),
+    let (start, at-nodes-sound, else1, at-named-once) : tie.Start × tie.After-nodes_sound × tie.Else-not-nodes_sound × tie.After-named_once = search in (
+      (start.requires.1.1.0, (start.requires.0, (start.requires.1.0, omega (arith, start.requires, at-named-once.named_once.auto.marks)))),
       sym
-          at-nodes-sound.nodes_sound.ensures ∙ not-false at-nodes-sound.nodes_sound.result else1.if1.left,
+          at-nodes-sound.nodes_sound.ensures ∙ else1.if-not-nodes_sound.false,
     )
 
-same-length-2 : tie.Need-same-length-2
+same-length-2 : tie.Need-shape_of-marks-then-not-placed_once
 same-length-2 c =
-    let (at-named-once, at-placed-once) : tie.After-named-once × tie.After-placed-once = search in
-    at-placed-once.placed_once_lem.kept.1.1.1.0 ∙ at-named-once.named_once_lem.kept.1.1.1.0
+    let (at-named-once, at-placed-once) : tie.After-named_once × tie.After-placed_once = search in
+    at-placed-once.placed_once.auto.marks ∙ at-named-once.named_once.auto.marks
 
-returns-3 : tie.Need-returns-3
+returns-3 : tie.Need-returns-then-not-placed_once
 unfolding words_pass
 returns-3 c =
     let (at-nodes-sound, else1, at-named-once, else2, at-placed-once) :
-    tie.After-nodes-sound × tie.Else1 × tie.After-named-once × tie.Else2 × tie.After-placed-once = search in
+    tie.After-nodes_sound × tie.Else-not-nodes_sound × tie.After-named_once × tie.Else-not-named_once × tie.After-placed_once = search in
     simp (
       sym at-nodes-sound.nodes_sound.ensures,
-      not-false at-nodes-sound.nodes_sound.result else1.if1.left,
+      else1.if-not-nodes_sound.false,
       sym
-          at-named-once.named_once_lem.ensures,
-      not-false at-named-once.named_once_lem.result else2.if2.left,
+          at-named-once.named_once.ensures,
+      else2.if-not-named_once.false,
       sym
-          at-placed-once.placed_once_lem.ensures,
-      not-true at-placed-once.placed_once_lem.result c.if3.true,
+          at-placed-once.placed_once.ensures,
+      c.if-not-placed_once.true,
     )
 
-ordered-once-requires : tie.Need-ordered-once-requires
+ordered-once-requires : tie.Need-ordered_once-requires
 ordered-once-requires c κs =
-    let (start, at-named-once, at-placed-once) : tie.Start × tie.After-named-once × tie.After-placed-once = search in (
-      start.pre.1.1.1.0,
+    let (start, at-named-once, at-placed-once) : tie.Start × tie.After-named_once × tie.After-placed_once = search in (
+      start.requires.1.1.1.0,
       (
-        start.pre.0,
+        start.requires.0,
         omega (
           arith,
-          start.pre,
-          at-named-once.named_once_lem.kept.1.1.1.0,
-          at-placed-once.placed_once_lem.kept.1.1.1.0,
+          start.requires,
+          at-named-once.named_once.auto.marks,
+          at-placed-once.placed_once.auto.marks,
         ),
       ),
     )
 
-same-length-3 : tie.Need-same-length-3
+same-length-3 : tie.Need-shape_of-marks
 same-length-3 c =
-    let (at-named-once, at-placed-once, at-ordered-once) : tie.After-named-once × tie.After-placed-once × tie.After-ordered-once = search in
-    at-ordered-once.ordered_once_lem.kept.1.1.0 ∙ at-placed-once.placed_once_lem.kept.1.1.1.0 ∙ at-named-once.named_once_lem.kept.1.1.1.0
+    let (at-named-once, at-placed-once, at-ordered-once) : tie.After-named_once × tie.After-placed_once × tie.After-ordered_once = search in
+    at-ordered-once.ordered_once.auto.marks ∙ at-placed-once.placed_once.auto.marks ∙ at-named-once.named_once.auto.marks
 
-returns-4 : tie.Need-returns-4
+returns-4 : tie.Need-returns
 unfolding words_pass
 returns-4 c =
     let (at-nodes-sound, else1, at-named-once, else2, at-placed-once, else3, at-ordered-once) :
-    tie.After-nodes-sound × tie.Else1 × tie.After-named-once × tie.Else2 × tie.After-placed-once × tie.Else3 × tie.After-ordered-once =
+    tie.After-nodes_sound × tie.Else-not-nodes_sound × tie.After-named_once × tie.Else-not-named_once × tie.After-placed_once × tie.Else-not-placed_once × tie.After-ordered_once =
     search in
     simp (
       sym at-nodes-sound.nodes_sound.ensures,
-      not-false at-nodes-sound.nodes_sound.result else1.if1.left,
+      else1.if-not-nodes_sound.false,
       sym
-          at-named-once.named_once_lem.ensures,
-      not-false at-named-once.named_once_lem.result else2.if2.left,
+          at-named-once.named_once.ensures,
+      else2.if-not-named_once.false,
       sym
-          at-placed-once.placed_once_lem.ensures,
-      not-false at-placed-once.placed_once_lem.result else3.if3.left,
+          at-placed-once.placed_once.ensures,
+      else3.if-not-placed_once.false,
       sym
-          at-ordered-once.ordered_once_lem.ensures,
+          at-ordered-once.ordered_once.ensures,
     )
 
-pub words-pass-spec : {M : Type 1} → statement M
-words-pass-spec =
+pub words_pass_spec : {M : Type 1} → statement M
+words_pass_spec =
     tie.close
     (tie.spec
-    (search rules)  -- nodes-sound-requires
+    (search rules)  -- nodes_sound-requires
     returns
     named-once-requires
     same_length

@@ -10,70 +10,70 @@ use borrow.Author.Rules.{rules}
 use Rattle.tree_check.proofs.marks.all_in_one_leaf.Statement.{statement}
 use Rattle.tree_check.proofs.marks.all_in_one_leaf.Tie as tie
 
-abbrev invariant-loop : tie.invariant-loop
+abbrev invariant-loop : tie.invariant-loop-p
 invariant-loop n marks held₀ p₀ held p = (held ≤ 1) × ((held ≡ leaves_at n marks p) × (every (in_one_leaf n marks) (range p (n - p)) ≡ every
     (in_one_leaf n marks) (range 0 n)))
 
-abbrev decreases-loop : tie.decreases-loop
+abbrev decreases-loop : tie.decreases-loop-p
 decreases-loop n marks held₀ p₀ held p = n - p
 
-loop-holds : tie.Need-loop-init invariant-loop decreases-loop
+loop-holds : tie.Need-loop-p-init invariant-loop decreases-loop
 unfolding leaves_at
 loop-holds c = (omega arith, (refl, every_whole _ _))
 
-cast-if1 : tie.Need-overflow-cast-if1 invariant-loop decreases-loop
+cast-if1 : tie.Need-overflow_cast-marks invariant-loop decreases-loop
 cast-if1 c =
-    let at-loop : tie.At-loop invariant-loop decreases-loop = search in
-    omega (arith, c.shared-slice-known.given at-loop.loop.p)
+    let at-loop : tie.At-loop-p invariant-loop decreases-loop = search in
+    omega (arith, c.shared_slice_known-1.given at-loop.loop-p.p)
 
-add-if1 : tie.Need-overflow-add-if1 invariant-loop decreases-loop
+add-if1 : tie.Need-overflow_add-held invariant-loop decreases-loop
 add-if1 c =
-    let at-loop : tie.At-loop invariant-loop decreases-loop = search in
-    omega (arith, c.shared-slice-known.given at-loop.loop.p)
+    let at-loop : tie.At-loop-p invariant-loop decreases-loop = search in
+    omega (arith, c.shared_slice_known-1.given at-loop.loop-p.p)
 
-cast-if1-2 : tie.Need-overflow-cast-if1-2 invariant-loop decreases-loop
+cast-if1-2 : tie.Need-overflow_cast-marks-in-loop-p invariant-loop decreases-loop
 cast-if1-2 c =
-    let (start, at-loop) : (tie.Start invariant-loop decreases-loop) × (tie.At-loop invariant-loop decreases-loop) = search in
-    omega (arith, c.shared-slice-known2.given (start.args.n + at-loop.loop.p))
+    let (start, at-loop) : (tie.Start invariant-loop decreases-loop) × (tie.At-loop-p invariant-loop decreases-loop) = search in
+    omega (arith, c.shared_slice_known-in-loop-p-1.given (start.args.n + at-loop.loop-p.p))
 
-add-if1-3 : tie.Need-overflow-add-if1-3 invariant-loop decreases-loop
+add-if1-3 : tie.Need-overflow_add-marks invariant-loop decreases-loop
 add-if1-3 c =
-    let (start, at-loop) : (tie.Start invariant-loop decreases-loop) × (tie.At-loop invariant-loop decreases-loop) = search in
-    omega (arith, c.shared-slice-known2.given (start.args.n + at-loop.loop.p))
+    let (start, at-loop) : (tie.Start invariant-loop decreases-loop) × (tie.At-loop-p invariant-loop decreases-loop) = search in
+    omega (arith, c.shared_slice_known-in-loop-p-1.given (start.args.n + at-loop.loop-p.p))
 
-returns : tie.Need-returns invariant-loop decreases-loop
+returns : tie.Need-returns-then-held-marks invariant-loop decreases-loop
 returns c =
-    let (at-loop, in-loop) : (tie.At-loop invariant-loop decreases-loop) × (tie.In-loop invariant-loop decreases-loop) = search in
-    sym (every_fails _ _ _ _ in-loop.loop-test.taken (not_held_once _ _ _ _ at-loop.loop.inv.1.0 c.if1.true)
-    at-loop.loop.inv.1.1)
+    let (at-loop, in-loop) : (tie.At-loop-p invariant-loop decreases-loop) × (tie.In-loop-p invariant-loop decreases-loop) = search in
+    sym (every_fails _ _ _ _ in-loop.loop-p-test.true (not_held_once _ _ _ _ at-loop.loop-p.invariant.1.0 c.if-held-marks.true)
+    at-loop.loop-p.invariant.1.1)
 
-loop-again : tie.Need-loop-preserved invariant-loop decreases-loop
+loop-again : tie.Need-loop-p-preserved invariant-loop decreases-loop
 loop-again c =
-    let (at-loop, in-loop) : (tie.At-loop invariant-loop decreases-loop) × (tie.In-loop invariant-loop decreases-loop) = search in
-    let held = held_once _ _ _ _ at-loop.loop.inv.1.0 c.if1.false in
-    (omega arith, (sym held, every_passes _ _ _ _ in-loop.loop-test.taken (one_held _ _ _ held) at-loop.loop.inv.1.1))
+    let (at-loop, in-loop) : (tie.At-loop-p invariant-loop decreases-loop) × (tie.In-loop-p invariant-loop decreases-loop) = search in
+    let held = held_once _ _ _ _ at-loop.loop-p.invariant.1.0 c.if-held-marks.false in
+    (omega arith, (sym held, every_passes _ _ _ _ in-loop.loop-p-test.true (one_held _ _ _ held) at-loop.loop-p.invariant.1.1))
 
-returns-2 : tie.Need-returns-2 invariant-loop decreases-loop
-returns-2 c = sym (every_done _ _ _ c.loop-test.false) ∙ c.before.loop.invariant.1.1
+returns-2 : tie.Need-returns invariant-loop decreases-loop
+returns-2 c = sym (every_done _ _ _ c.loop-p-test.false) ∙ c.loop-p.invariant.1.1
 
-pub all-in-one-leaf-spec : {M : Type 1} → statement M
-all-in-one-leaf-spec =
+pub all_in_one_leaf_spec : {M : Type 1} → statement M
+all_in_one_leaf_spec =
     tie.close
     (tie.spec
     invariant-loop
     decreases-loop
     loop-holds
-    (search rules)  -- mul-if1
-    (search rules)  -- shared-slice-read-if1
+    (search rules)  -- offset_bounds-marks-p
+    (search rules)  -- bounds-marks-p
     cast-if1
     add-if1
-    (search rules)  -- add-if1-2
-    (search rules)  -- mul-if1-2
-    (search rules)  -- shared-slice-read-if1-2
+    (search rules)  -- overflow_add-n
+    (search rules)  -- offset_bounds-marks-n
+    (search rules)  -- bounds-marks-n
     cast-if1-2
     add-if1-3
     returns
-    (search rules)  -- add-p
-    (search rules)  -- loop-less
+    (search rules)  -- overflow_add-p
+    (search rules)  -- loop-p-smaller
     loop-again
     returns-2)

@@ -6,25 +6,25 @@ use borrow.Author.Rules.{rules}
 use Rattle.tree_check.proofs.marks.clear.Statement.{statement}
 use Rattle.tree_check.proofs.marks.clear.Tie as tie
 
-slice-relend-prefix-zero-words : tie.Need-slice-relend-prefix-zero-words
+slice-relend-prefix-zero-words : tie.Need-slice_bounds-zero_words-end
 slice-relend-prefix-zero-words c =
     let s : tie.Start = search in
-    s.pre
+    s.requires
 
-slice-aggregate-zero-words : tie.Need-slice-aggregate-zero-words
+slice-aggregate-zero-words : tie.Need-slice_bounds-zero_words-end-2
 slice-aggregate-zero-words c =
     let s : tie.Start = search in
-    sym (length-take-le s.args.end s.args.marks.now s.pre)
+    sym (length-take-le s.args.end s.args.marks.now s.requires)
 
-same_length : tie.Need-same-length
+same_length : tie.Need-shape_of-marks
 same_length c =
-    let (s, z) : tie.Start × tie.After-zero-words = search in
-    length_front s.args.marks.now z.zero-words.last.0 s.args.end z.zero-words.kept.0
+    let (s, z) : tie.Start × tie.After-zero_words = search in
+    length_front s.args.marks.now z.zero_words.new.area s.args.end z.zero_words.auto.area
 
 returns : tie.Need-returns
 returns c =
-    let (s, z) : tie.Start × tie.After-zero-words = search in
-    cleared_front s.args.marks.now z.zero-words.last.0 s.args.end s.pre z.zero-words.ensures
+    let (s, z) : tie.Start × tie.After-zero_words = search in
+    cleared_front s.args.marks.now z.zero_words.new.area s.args.end s.requires z.zero_words.ensures
 
 pub clear_spec : {M : Type 1} → statement M
 clear_spec =
@@ -32,6 +32,6 @@ clear_spec =
     (tie.spec
     slice-relend-prefix-zero-words
     slice-aggregate-zero-words
-    (search rules)  -- zero-words-requires
+    (search rules)  -- zero_words-requires
     same_length
     returns)

@@ -6,13 +6,16 @@ use borrow.Author.Rules.{rules}
 use Rattle.tree_check.proofs.words.leaf_sound.Statement.{statement}
 use Rattle.tree_check.proofs.words.leaf_sound.Tie as tie
 
-returns : tie.Need-returns
+returns : tie.Need-returns-then-count-eq0
 unfolding leaf_sound
-returns c = simp (le-ltb 0 c.before.args.count (omega arith))
+returns c = simp (le-ltb 0 c.args.count (omega arith))
 
-returns-2 : tie.Need-returns-2
+returns-2 : tie.Need-returns
 unfolding leaf_sound
-returns-2 c = simp (lt-ltb 0 c.before.args.count (omega arith))
+returns-2 c = simp (lt-ltb 0 c.args.count (omega arith))
 
-pub leaf-sound-spec : {M : Type 1} → statement M
-leaf-sound-spec = tie.close (tie.spec returns (search rules) returns-2)
+pub leaf_sound_spec : {M : Type 1} → statement M
+leaf_sound_spec = tie.close (tie.spec
+    returns
+    (search rules)  -- overflow_add-result
+    returns-2)

@@ -6,72 +6,72 @@ use borrow.Author.Rules.{rules}
 use Rattle.tree_check.proofs.words.mark_node.Statement.{statement}
 use Rattle.tree_check.proofs.words.mark_node.Tie as tie
 
-cast-if1 : tie.Need-overflow-cast-if1
+cast-if1 : tie.Need-overflow_cast-words
 cast-if1 c =
     let start : tie.Start = search in
-    omega (arith, c.shared-slice-known2.given (3 * start.args.node))
+    omega (arith, c.shared_slice_known-2-1.given (3 * start.args.node))
 
-returns : tie.Need-returns
-returns c = λ x. marks_other _ _ _ _ x _ c.if1.true
+returns : tie.Need-returns-then-words-node
+returns c = λ x. marks_other _ _ _ _ x _ c.if-words-node.true
 
-cast-first : tie.Need-overflow-cast-first
+cast-first : tie.Need-overflow_cast-first
 cast-first c =
     let start : tie.Start = search in
-    omega (arith, c.shared-slice-known3.given (3 * start.args.node + 1))
+    omega (arith, c.shared_slice_known-3-1.given (3 * start.args.node + 1))
 
-cast-second : tie.Need-overflow-cast-second
+cast-second : tie.Need-overflow_cast-second
 cast-second c =
     let start : tie.Start = search in
-    omega (arith, c.shared-slice-known4.given (3 * start.args.node + 2))
+    omega (arith, c.shared_slice_known-4-1.given (3 * start.args.node + 2))
 
-second-mark-requires : tie.Need-second-mark-requires
+second-mark-requires : tie.Need-second_mark-requires
 second-mark-requires c κs =
     let start : tie.Start = search in (
-      start.pre.0.1.0,
+      start.requires.0.1.0,
       (
-        omega (arith, c.shared-slice-known4.given (3 * start.args.node + 1)),
+        omega (arith, c.shared_slice_known-4-1.given (3 * start.args.node + 1)),
         omega (
           arith,
-          c.shared-slice-known4.given (3 * start.args.node + 2),
+          c.shared_slice_known-4-1.given (3 * start.args.node + 2),
         ),
       ),
     )
 
-mark-pair-requires : tie.Need-mark-pair-requires
+mark-pair-requires : tie.Need-mark_pair-requires
 mark-pair-requires c κs =
-    let (start, else1) : tie.Start × tie.Else1 = search in
-    let i = start.pre.1.0.inside else1.if1.left in let r : c.before.second-mark.result < 3 * start.args.n = omega
-    (arith, c.before.second-mark.ensures) in
-    ((omega (arith, start.pre), omega (arith, start.pre)), (start.pre.1.1 _ i.0, start.pre.1.1 _ r))
+    let (start, else1) : tie.Start × tie.Else-words-node = search in
+    let i = start.requires.1.0.inside else1.if-words-node.false in let r : c.second_mark.result < 3 * start.args.n = omega
+    (arith, c.second_mark.ensures) in
+    ((omega (arith, start.requires), omega (arith, start.requires)), (start.requires.1.1 _ i.0, start.requires.1.1 _ r))
 
-same_length : tie.Need-same-length
+same_length : tie.Need-shape_of-marks
 same_length c =
-    let at-mark-pair : tie.After-mark-pair = search in
-    at-mark-pair.mark-pair.kept.1.1.0
+    let at-mark-pair : tie.After-mark_pair = search in
+    at-mark-pair.mark_pair.auto.marks
 
-returns-2 : tie.Need-returns-2
+returns-2 : tie.Need-returns
 returns-2 c =
-    let (else1, at-second-mark, at-mark-pair) : tie.Else1 × tie.After-second-mark × tie.After-mark-pair = search in
-    λ x. marks_here _ _ _ _ x _ _ _ else1.if1.left at-second-mark.second-mark.ensures (at-mark-pair.mark-pair.ensures x)
+    let (else1, at-second-mark, at-mark-pair) : tie.Else-words-node × tie.After-second_mark × tie.After-mark_pair = search in
+    λ x. marks_here _ _ _ _ x _ _ _ else1.if-words-node.false at-second-mark.second_mark.ensures (at-mark-pair.mark_pair.ensures x)
 
-pub mark-node-spec : {M : Type 1} → statement M
-mark-node-spec =
+pub mark_node_spec : {M : Type 1} → statement M
+mark_node_spec =
     tie.close
     (tie.spec
-    (search rules)  -- mul-if1
-    (search rules)  -- mul-if1-2
-    (search rules)  -- shared-slice-read-if1
+    (search rules)  -- overflow_mul-node
+    (search rules)  -- offset_bounds-words-node
+    (search rules)  -- bounds-words-node
     cast-if1
     returns
-    (search rules)  -- mul-first
-    (search rules)  -- add-first
-    (search rules)  -- mul-first-2
-    (search rules)  -- shared-slice-read-first
+    (search rules)  -- overflow_mul-first
+    (search rules)  -- overflow_add-first
+    (search rules)  -- offset_bounds-words-node-2
+    (search rules)  -- bounds-words-node-2
     cast-first
-    (search rules)  -- mul-second
-    (search rules)  -- add-second
-    (search rules)  -- mul-second-2
-    (search rules)  -- shared-slice-read-second
+    (search rules)  -- overflow_mul-second
+    (search rules)  -- overflow_add-second
+    (search rules)  -- offset_bounds-words-node-3
+    (search rules)  -- bounds-words-node-3
     cast-second
     second-mark-requires
     mark-pair-requires

@@ -8,16 +8,20 @@ use borrow.Author.Rules.{rules}
 use Rattle.tree_check.proofs.words.named_once.Statement.{statement}
 use Rattle.tree_check.proofs.words.named_once.Tie as tie
 
-mark-nodes-requires : tie.Need-mark-nodes-requires
+mark-nodes-requires : tie.Need-mark_nodes-requires
 mark-nodes-requires c κs =
     let start : tie.Start = search in
-    (start.pre.0, branches_inside _ _ _ start.pre.1 start.pre.0.1.1.0)
+    (start.requires.0, branches_inside _ _ _ start.requires.1 start.requires.0.1.1.0)
 
 returns : tie.Need-returns
 returns c =
-    let (start, at-mark-nodes) : tie.Start × tie.After-mark-nodes = search in
+    let (start, at-mark-nodes) : tie.Start × tie.After-mark_nodes = search in
     c.all_once.ensures ∙ marked_once_is _ _ 1 (start.args.nodes - 1)
-    (λ x low high. at-mark-nodes.mark-nodes.ensures x (omega (arith, start.pre.0)))
+    (λ x low high. at-mark-nodes.mark_nodes.ensures x (omega (arith, start.requires.0)))
 
-pub named-once-spec : {M : Type 1} → statement M
-named-once-spec = tie.close (tie.spec mark-nodes-requires (search rules) (search rules) returns)
+pub named_once_spec : {M : Type 1} → statement M
+named_once_spec = tie.close (tie.spec
+    mark-nodes-requires
+    (search rules)  -- all_once-requires
+    (search rules)  -- shape_of-marks
+    returns)

@@ -10,36 +10,36 @@ use borrow.Author.Rules.{rules}
 use Rattle.tree_check.proofs.words.nodes_sound.Statement.{statement}
 use Rattle.tree_check.proofs.words.nodes_sound.Tie as tie
 
-abbrev invariant-loop : tie.invariant-loop
+abbrev invariant-loop : tie.invariant-loop-node
 invariant-loop n nodes words node₀ node = every (node_sound n nodes words) (range node (nodes - node)) ≡ every (node_sound n nodes words)
     (range 0 nodes)
 
-abbrev decreases-loop : tie.decreases-loop
+abbrev decreases-loop : tie.decreases-loop-node
 decreases-loop n nodes words node₀ node = nodes - node
 
-loop-holds : tie.Need-loop-init invariant-loop decreases-loop
+loop-holds : tie.Need-loop-node-init invariant-loop decreases-loop
 loop-holds c = every_whole _ _
 
-node-sound-requires : tie.Need-node-sound-requires invariant-loop decreases-loop
+node-sound-requires : tie.Need-node_sound-requires invariant-loop decreases-loop
 node-sound-requires c κs = omega arith
 
-returns : tie.Need-returns invariant-loop decreases-loop
+returns : tie.Need-returns-then-not-node_sound invariant-loop decreases-loop
 returns c =
-    let (at-loop, in-loop) : (tie.At-loop invariant-loop decreases-loop) × (tie.In-loop invariant-loop decreases-loop) = search in
-    sym (every_fails _ _ _ _ in-loop.loop-test.taken
-    (sym c.before.node-sound.ensures ∙ not-true c.before.node-sound.result c.if1.true) at-loop.loop.inv)
+    let (at-loop, in-loop) : (tie.At-loop-node invariant-loop decreases-loop) × (tie.In-loop-node invariant-loop decreases-loop) = search in
+    sym (every_fails _ _ _ _ in-loop.loop-node-test.true
+    (sym c.node_sound.ensures ∙ c.if-not-node_sound.true) at-loop.loop-node.invariant)
 
-loop-again : tie.Need-loop-preserved invariant-loop decreases-loop
+loop-again : tie.Need-loop-node-preserved invariant-loop decreases-loop
 loop-again c =
-    let (at-loop, in-loop) : (tie.At-loop invariant-loop decreases-loop) × (tie.In-loop invariant-loop decreases-loop) = search in
-    every_passes _ _ _ _ in-loop.loop-test.taken
-    (sym c.before.node-sound.ensures ∙ not-false c.before.node-sound.result c.if1.false) at-loop.loop.inv
+    let (at-loop, in-loop) : (tie.At-loop-node invariant-loop decreases-loop) × (tie.In-loop-node invariant-loop decreases-loop) = search in
+    every_passes _ _ _ _ in-loop.loop-node-test.true
+    (sym c.node_sound.ensures ∙ c.if-not-node_sound.false) at-loop.loop-node.invariant
 
-returns-2 : tie.Need-returns-2 invariant-loop decreases-loop
-returns-2 c = sym (every_done _ _ _ c.loop-test.false) ∙ c.before.loop.invariant
+returns-2 : tie.Need-returns invariant-loop decreases-loop
+returns-2 c = sym (every_done _ _ _ c.loop-node-test.false) ∙ c.loop-node.invariant
 
-pub nodes-sound-spec : {M : Type 1} → statement M
-nodes-sound-spec =
+pub nodes_sound_spec : {M : Type 1} → statement M
+nodes_sound_spec =
     tie.close
     (tie.spec
     invariant-loop
@@ -47,7 +47,7 @@ nodes-sound-spec =
     loop-holds
     node-sound-requires
     returns
-    (search rules)  -- add-node
-    (search rules)  -- loop-less
+    (search rules)  -- overflow_add-node
+    (search rules)  -- loop-node-smaller
     loop-again
     returns-2)

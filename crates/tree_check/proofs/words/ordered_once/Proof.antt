@@ -9,9 +9,13 @@ use Rattle.tree_check.proofs.words.ordered_once.Tie as tie
 
 returns : tie.Need-returns
 returns c =
-    let (start, at-mark-places) : tie.Start × tie.After-mark-places = search in
+    let (start, at-mark-places) : tie.Start × tie.After-mark_places = search in
     c.all_once.ensures ∙ every_whole _ _ ∙ marked_once_is _ _ 0 start.args.n
-    (λ x low high. at-mark-places.mark-places.ensures x (omega (arith, high)))
+    (λ x low high. at-mark-places.mark_places.ensures x (omega (arith, high)))
 
-pub ordered-once-spec : {M : Type 1} → statement M
-ordered-once-spec = tie.close (tie.spec (search rules) (search rules) (search rules) returns)
+pub ordered_once_spec : {M : Type 1} → statement M
+ordered_once_spec = tie.close (tie.spec
+    (search rules)  -- mark_places-requires
+    (search rules)  -- all_once-requires
+    (search rules)  -- shape_of-marks
+    returns)

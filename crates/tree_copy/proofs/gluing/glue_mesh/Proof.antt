@@ -9,15 +9,20 @@ use Rattle.tree_copy.proofs.gluing.glue_mesh.Tie as tie
 
 returns : tie.Need-returns
 returns c =
-    let (start, at-join-numbers, at-join-words) : tie.Start × tie.After-join-numbers × tie.After-join-words = search in
+    let (start, at-join-numbers, at-join-words) : tie.Start × tie.After-join_numbers × tie.After-join_words = search in
     let a = start.args in (
-      at-join-numbers.join-numbers.ensures
-          ∙ whole_joined a.first-vertices.now a.second-vertices.now a.vertices.now,
-      at-join-words.join-words.ensures
-          ∙ whole_moved a.first-triangles.now a.second-triangles.now a.triangles.now (thirds (length a.first-vertices.now)),
+      at-join-numbers.join_numbers.ensures
+          ∙ whole_joined a.first_vertices.now a.second_vertices.now a.vertices.now,
+      at-join-words.join_words.ensures
+          ∙ whole_moved a.first_triangles.now a.second_triangles.now a.triangles.now (thirds (length a.first_vertices.now)),
     )
 
-pub glue-mesh-spec : {M : Type 1} → statement M
-glue-mesh-spec =
+pub glue_mesh_spec : {M : Type 1} → statement M
+glue_mesh_spec =
     tie.close
-    (tie.spec (λ c κs. search rules) (λ c κs. search rules) (search rules) (search rules) returns)
+    (tie.spec
+    (λ c κs. search rules)  -- join_numbers-requires
+    (λ c κs. search rules)  -- join_words-requires
+    (search rules)  -- shape_of-vertices
+    (search rules)  -- shape_of-triangles
+    returns)

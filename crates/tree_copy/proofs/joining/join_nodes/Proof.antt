@@ -13,33 +13,33 @@ use borrow.Author.Rules.{rules}
 use Rattle.tree_copy.proofs.joining.join_nodes.Statement.{statement}
 use Rattle.tree_copy.proofs.joining.join_nodes.Tie as tie
 
-put-root-words-requires : tie.Need-put-root-words-requires
+put-root-words-requires : tie.Need-put_root_words-roots-requires
 put-root-words-requires c κs =
     let start : tie.Start = search in
-    let p = start.pre in
+    let p = start.requires in
     ((λ left. omega (arith, p.0, ap {B = ℕ} (λ (e : Bool). cond e 0 1) left)), omega (arith, p.1.0))
 
-copy-nodes-requires : tie.Need-copy-nodes-requires
+copy-nodes-requires : tie.Need-copy_nodes-requires
 copy-nodes-requires c κs =
-    let (start, at-put-root-words) : tie.Start × tie.After-put-root-words = search in
+    let (start, at-put-root-words) : tie.Start × tie.After-put_root_words-roots = search in
     let a = start.args in
-    let p = start.pre in
-    let r = at-put-root-words.put-root-words in (
-      (omega (arith, p.0), omega (arith, p.0, r.ensures.0, r.kept.1.1.0)),
+    let p = start.requires in
+    let r = at-put-root-words.put_root_words-roots in (
+      (omega (arith, p.0), omega (arith, p.0, r.ensures.0, r.auto.area)),
       subst (λ (k : ℕ). SmallNodes a.first.now k 0 a.m)
           (sym r.ensures.0) p.1.1.0,
     )
 
-copy-nodes-requires-2 : tie.Need-copy-nodes-requires-2
+copy-nodes-requires-2 : tie.Need-copy_nodes-requires-2
 copy-nodes-requires-2 c κs =
-    let (start, at-put-root-words, at-copy-nodes) : tie.Start × tie.After-put-root-words × tie.After-copy-nodes = search in
+    let (start, at-put-root-words, at-copy-nodes) : tie.Start × tie.After-put_root_words-roots × tie.After-copy_nodes = search in
     let a = start.args in
-    let p = start.pre in
-    let r = at-put-root-words.put-root-words in (
+    let p = start.requires in
+    let r = at-put-root-words.put_root_words-roots in (
       (
         omega (arith, p.0),
         omega
-            (arith, p.0, r.ensures.0, r.kept.1.1.0, at-copy-nodes.copy-nodes.kept.1.1.1.1.0),
+            (arith, p.0, r.ensures.0, r.auto.area, at-copy-nodes.copy_nodes.auto.area),
       ),
       subst (λ (k : ℕ). SmallNodes a.second.now (k + a.m) a.places a.n) (sym r.ensures.0) p.1.1.1,
     )
@@ -47,10 +47,10 @@ copy-nodes-requires-2 c κs =
 returns : tie.Need-returns
 returns c =
     let (start, at-put-root-words, at-copy-nodes, at-copy-nodes2) :
-    tie.Start × tie.After-put-root-words × tie.After-copy-nodes × tie.After-copy-nodes2 = search in
+    tie.Start × tie.After-put_root_words-roots × tie.After-copy_nodes × tie.After-copy_nodes-2 = search in
     let a = start.args in
-    let p = start.pre in
-    let r = at-put-root-words.put-root-words in
+    let p = start.requires in
+    let r = at-put-root-words.put_root_words-roots in
     let k = r.result in
     let e : ℕ = cond a.empty 0 1 in
     let xs = moved_nodes e 0 a.first.now a.m in
@@ -59,24 +59,24 @@ returns c =
     let lr = root_words_length a.empty 1 1 (1 + a.m) in
     let lx = length_nodes e 0 a.first.now a.m in
     let ly = length_nodes (e + a.m) a.places a.second.now a.n in
-    at-copy-nodes2.copy-nodes2.ensures
+    at-copy-nodes2.copy_nodes-2.ensures
     ∙ ap (λ (z : List ℕ). sets z (3 * (k + a.m)) (moved_nodes (k + a.m) a.places a.second.now a.n))
-    (at-copy-nodes.copy-nodes.ensures ∙ ap
+    (at-copy-nodes.copy_nodes.ensures ∙ ap
     (λ (z : List ℕ). sets z (3 * k) (moved_nodes k 0 a.first.now a.m)) r.ensures.1)
     ∙ ap (λ (j : ℕ). sets (sets (sets a.area.now 0 root) (3 * j) (moved_nodes j 0 a.first.now a.m)) (3 * (j + a.m))
     (moved_nodes (j + a.m) a.places a.second.now a.n)) r.ensures.0
     ∙ three_runs a.area.now root xs ys (3 * e) (3 * (e + a.m)) lr (omega (arith, lr, lx)) (omega (arith, lr, lx, ly, p.0.1))
 
-pub join-nodes-spec : {M : Type 1} → statement M
-join-nodes-spec =
+pub join_nodes_spec : {M : Type 1} → statement M
+join_nodes_spec =
     tie.close
     (tie.spec
     put-root-words-requires
-    (search rules)  -- mul-copy-nodes
+    (search rules)  -- overflow_mul-roots
     copy-nodes-requires
-    (search rules)  -- add-copy-nodes
-    (search rules)  -- add-copy-nodes-2
-    (search rules)  -- mul-copy-nodes-2
+    (search rules)  -- overflow_add-roots
+    (search rules)  -- overflow_add-roots-2
+    (search rules)  -- overflow_mul-roots-2
     copy-nodes-requires-2
-    (search rules)  -- same-length
+    (search rules)  -- shape_of-area
     returns)

@@ -12,16 +12,20 @@ use Rattle.tree_copy.proofs.joining.join_numbers.Tie as tie
 
 returns : tie.Need-returns
 returns c =
-    let (start, at-copy-numbers, at-copy-numbers2) : tie.Start × tie.After-copy-numbers × tie.After-copy-numbers2 = search in
+    let (start, at-copy-numbers, at-copy-numbers2) : tie.Start × tie.After-copy_numbers × tie.After-copy_numbers-2 = search in
     let a = start.args in
-    let p = start.pre in
-    at-copy-numbers2.copy-numbers2.ensures
+    let p = start.requires in
+    at-copy-numbers2.copy_numbers-2.ensures
     ∙ ap (λ (z : List Float). sets z a.m (take a.n a.second.now))
-    at-copy-numbers.copy-numbers.ensures
+    at-copy-numbers.copy_numbers.ensures
     ∙ two_runs a.area.now (take a.m a.first.now) (take a.n a.second.now) a.m
     (length-take-le a.m a.first.now p.0.0)
     (omega (arith, length-take-le a.m a.first.now p.0.0, length-take-le a.n a.second.now p.0.1, p.1))
 
-pub join-numbers-spec : {M : Type 1} → statement M
-join-numbers-spec =
-    tie.close (tie.spec (search rules) (search rules) (search rules) returns)
+pub join_numbers_spec : {M : Type 1} → statement M
+join_numbers_spec =
+    tie.close (tie.spec
+    (search rules)  -- copy_numbers-requires
+    (search rules)  -- copy_numbers-requires-2
+    (search rules)  -- shape_of-area
+    returns)

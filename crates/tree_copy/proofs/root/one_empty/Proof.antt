@@ -3,11 +3,11 @@ use borrow.Author.Tests.{eq-eqb, ne_eqb}
 use Rattle.tree_copy.proofs.root.one_empty.Statement.{statement}
 use Rattle.tree_copy.proofs.root.one_empty.Tie as tie
 
-returns : tie.Need-returns
-returns c = simp (eq-eqb _ 0 c.if1.true)
+returns : tie.Need-returns-then-n-eq0
+returns c = simp (eq-eqb _ 0 c.if-n-eq0.true)
 
-returns-2 : tie.Need-returns-2
-returns-2 c = simp (ne_eqb _ 0 c.if1.false)
+returns-2 : tie.Need-returns
+returns-2 c = simp (ne_eqb _ 0 c.if-n-eq0.false)
 
-pub one-empty-spec : {M : Type 1} → statement M
-one-empty-spec = tie.close (tie.spec returns returns-2)
+pub one_empty_spec : {M : Type 1} → statement M
+one_empty_spec = tie.close (tie.spec returns returns-2)

@@ -10,46 +10,46 @@ use borrow.Author.Rules.{rules}
 use Rattle.tree_copy.proofs.root.put_root_box.Statement.{statement}
 use Rattle.tree_copy.proofs.root.put_root_box.Tie as tie
 
-box-at-requires : tie.Need-box-at-requires
+box-at-requires : tie.Need-box_at-below-requires
 box-at-requires c κs =
     let start : tie.Start = search in
-    (start.pre c.if1.false).0.0
+    (start.requires c.if-empty.false).0.0
 
-box-at-requires-2 : tie.Need-box-at-requires-2
+box-at-requires-2 : tie.Need-box_at-requires
 box-at-requires-2 c κs =
-    let (start, else1) : tie.Start × tie.Else1 = search in
-    (start.pre else1.if1.left).0.1
+    let (start, else1) : tie.Start × tie.Else-empty = search in
+    (start.requires else1.if-empty.false).0.1
 
-put-box-requires : tie.Need-put-box-requires
+put-box-requires : tie.Need-put_box-requires
 put-box-requires c κs =
-    let (start, else1) : tie.Start × tie.Else1 = search in
-    (start.pre else1.if1.left).1
+    let (start, else1) : tie.Start × tie.Else-empty = search in
+    (start.requires else1.if-empty.false).1
 
-returns-2 : tie.Need-returns-2
+returns-2 : tie.Need-returns
 returns-2 c =
     let (start, else1, at-box-at, at-box-at2, at-union, at-put-box) :
-    tie.Start × tie.Else1 × tie.After-box-at × tie.After-box-at2 × tie.After-union × tie.After-put-box = search in
+    tie.Start × tie.Else-empty × tie.After-box_at-below × tie.After-box_at × tie.After-union × tie.After-put_box = search in
     let a = start.args in
-    let left = else1.if1.left in
+    let left = else1.if-empty.false in
     let b = box_at a.first.now 0 in
     let d = box_at a.second.now 0 in (
       ap (λ (e : Bool). cond e 0 1) (sym left),
-      at-put-box.put-box.ensures
+      at-put-box.put_box.ensures
           ∙ ap (λ (x : Aabb). sets a.area.now 0 (box_numbers x))
-          (at-union.union.ensures ∙ ap (λ (x : Aabb). union_of x at-box-at2.box-at2.result)
-          at-box-at.box-at.ensures
-          ∙ ap (union_of b) at-box-at2.box-at2.ensures)
+          (at-union.union.ensures ∙ ap (λ (x : Aabb). union_of x at-box-at2.box_at.result)
+          at-box-at.box_at-below.ensures
+          ∙ ap (union_of b) at-box-at2.box_at.ensures)
           ∙ ap (λ (e : Bool). sets a.area.now 0 (cond e [] (box_numbers (union_of b d)))) (sym left),
     )
 
-pub put-root-box-spec : {M : Type 1} → statement M
-put-root-box-spec =
+pub put_root_box_spec : {M : Type 1} → statement M
+put_root_box_spec =
     tie.close
     (tie.spec
-    (λ c. search rules)  -- returns
+    (λ c. search rules)  -- returns-then-empty
     box-at-requires
     box-at-requires-2
     (search rules)  -- union-requires
     put-box-requires
-    (search rules)  -- same-length
+    (search rules)  -- shape_of-area
     returns-2)

@@ -9,20 +9,25 @@ use borrow.Author.Rules.{rules}
 use Rattle.tree_copy.proofs.root.put_root_words.Statement.{statement}
 use Rattle.tree_copy.proofs.root.put_root_words.Tie as tie
 
-put-words-requires : tie.Need-put-words-requires
+put-words-requires : tie.Need-put_words-requires
 put-words-requires c κs =
     let start : tie.Start = search in
-    (start.pre.0 c.before.if1.false, (omega arith, omega (arith, start.pre.1)))
+    (start.requires.0 c.if-empty.false, (omega arith, omega (arith, start.requires.1)))
 
-returns-2 : tie.Need-returns-2
+returns-2 : tie.Need-returns
 returns-2 c =
-    let (start, else1, at-put-words) : tie.Start × tie.Else1 × tie.After-put-words = search in
+    let (start, else1, at-put-words) : tie.Start × tie.Else-empty × tie.After-put_words = search in
     let a = start.args in
-    let left = else1.if1.left in (
+    let left = else1.if-empty.false in (
       ap (λ (e : Bool). cond e 0 1) (sym left),
-      at-put-words.put-words.ensures ∙ ap (λ (e : Bool). sets a.area.now 0 (cond e [] (1 ∷ (1 ∷ ((1 + a.m) ∷ []))))) (sym left),
+      at-put-words.put_words.ensures ∙ ap (λ (e : Bool). sets a.area.now 0 (cond e [] (1 ∷ (1 ∷ ((1 + a.m) ∷ []))))) (sym left),
     )
 
-pub put-root-words-spec : {M : Type 1} → statement M
-put-root-words-spec =
-    tie.close (tie.spec (λ c. search rules) (search rules) put-words-requires (search rules) returns-2)
+pub put_root_words_spec : {M : Type 1} → statement M
+put_root_words_spec =
+    tie.close (tie.spec
+    (λ c. search rules)  -- returns-then-empty
+    (search rules)  -- overflow_add-m
+    put-words-requires
+    (search rules)  -- shape_of-area
+    returns-2)

@@ -7,36 +7,36 @@ use Rattle.tree_exact.proofs.apart.corners_touch.Statement.{statement}
 use Rattle.tree_exact.proofs.apart.corners_touch.Tie as tie
 
 -- apart on x
-returns : tie.Need-returns
+returns : tie.Need-returns-then-not-side_touches
 returns c =
-    apart_on_x _ _ (test_failed c.before.side_touches_lem.ensures c.if1.true)
+    apart_on_x _ _ (test_failed c.side_touches.ensures c.if-not-side_touches.true)
 
 -- apart on y
-returns-2 : tie.Need-returns-2
+returns-2 : tie.Need-returns-then-not-side_touches-2
 returns-2 c =
-    let (x, e) : tie.After-side-touches × tie.Else1 = search in
-    apart_on_y _ _ (test_passed x.side_touches_lem.ensures e.if1.left)
-    (test_failed c.before.side-touches2.ensures c.if2.true)
+    let (x, e) : tie.After-side_touches × tie.Else-not-side_touches = search in
+    apart_on_y _ _ (test_passed x.side_touches.ensures e.if-not-side_touches.false)
+    (test_failed c.side_touches-2.ensures c.if-not-side_touches-2.true)
 
 -- and else z decides
-returns-3 : tie.Need-returns-3
+returns-3 : tie.Need-returns
 returns-3 c =
-    let (x, e) : tie.After-side-touches × tie.Else1 = search in
-    let (y, f) : tie.After-side-touches2 × tie.Else2 = search in
-    c.side-touches3.ensures
-    ∙ by_z _ _ (test_passed x.side_touches_lem.ensures e.if1.left)
-    (test_passed y.side-touches2.ensures f.if2.left)
+    let (x, e) : tie.After-side_touches × tie.Else-not-side_touches = search in
+    let (y, f) : tie.After-side_touches-2 × tie.Else-not-side_touches-2 = search in
+    c.side_touches-3.ensures
+    ∙ by_z _ _ (test_passed x.side_touches.ensures e.if-not-side_touches.false)
+    (test_passed y.side_touches-2.ensures f.if-not-side_touches-2.false)
 
-pub corners-touch-spec : {M : Type 1} → statement M
-corners-touch-spec =
+pub corners_touch_spec : {M : Type 1} → statement M
+corners_touch_spec =
     tie.close
     (tie.spec
-    (search rules)  -- array-copy-out-first
-    (search rules)  -- array-copy-out-second
-    (search rules)  -- array-copy-out-third
-    (λ c κs. search rules)  -- side-touches-requires
+    (search rules)  -- bounds-corners-0
+    (search rules)  -- bounds-corners-1
+    (search rules)  -- bounds-corners-2
+    (λ c κs. search rules)  -- side_touches-requires
     returns
-    (λ c κs. search rules)  -- side-touches-requires-2
+    (λ c κs. search rules)  -- side_touches-requires-2
     returns-2
-    (λ c κs. search rules)  -- side-touches-requires-3
+    (λ c κs. search rules)  -- side_touches-requires-3
     returns-3)

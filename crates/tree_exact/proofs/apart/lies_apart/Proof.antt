@@ -5,19 +5,19 @@ use borrow.Author.Rules.{rules}
 use Rattle.tree_exact.proofs.apart.lies_apart.Statement.{statement}
 use Rattle.tree_exact.proofs.apart.lies_apart.Tie as tie
 
-returns : tie.Need-returns
+returns : tie.Need-returns-then-corners_touch
 returns c = λ e. absurd (false≢true e)
 
-returns-2 : tie.Need-returns-2
+returns-2 : tie.Need-returns
 returns-2 c =
-    let (t, e) : tie.After-corners-touch × tie.Else1 = search in
-    λ y. record { read = sym c.corners_read_lem.ensures ∙ y; apart = sym t.corners-touch.ensures ∙ e.if1.left }
+    let (t, e) : tie.After-corners_touch × tie.Else-corners_touch = search in
+    λ y. record { read = sym c.corners_read.ensures ∙ y; apart = sym t.corners_touch.ensures ∙ e.if-corners_touch.false }
 
-pub lies-apart-spec : {M : Type 1} → statement M
-lies-apart-spec =
+pub lies_apart_spec : {M : Type 1} → statement M
+lies_apart_spec =
     tie.close
     (tie.spec
-    (search rules)  -- corners-touch-requires
+    (search rules)  -- corners_touch-requires
     returns
-    (search rules)  -- corners-read-requires
+    (search rules)  -- corners_read-requires
     returns-2)

@@ -2,18 +2,18 @@
 use Rattle.tree_exact.proofs.apart.one_at_least.Statement.{statement}
 use Rattle.tree_exact.proofs.apart.one_at_least.Tie as tie
 
-returns : tie.Need-returns
-returns c = simp c.if1.true
+returns : tie.Need-returns-then-limit-a
+returns c = simp c.if-limit-a.true
 
-returns-2 : tie.Need-returns-2
+returns-2 : tie.Need-returns-then-limit-b
 returns-2 c =
-    let e : tie.Else1 = search in
-    simp (e.if1.left, c.if2.true)
+    let e : tie.Else-limit-a = search in
+    simp (e.if-limit-a.false, c.if-limit-b.true)
 
-returns-3 : tie.Need-returns-3
+returns-3 : tie.Need-returns
 returns-3 c =
-    let (e, f) : tie.Else1 × tie.Else2 = search in
-    simp (e.if1.left, f.if2.left)
+    let (e, f) : tie.Else-limit-a × tie.Else-limit-b = search in
+    simp (e.if-limit-a.false, f.if-limit-b.false)
 
-pub one-at-least-spec : {M : Type 1} → statement M
-one-at-least-spec = tie.close (tie.spec returns returns-2 returns-3)
+pub one_at_least_spec : {M : Type 1} → statement M
+one_at_least_spec = tie.close (tie.spec returns returns-2 returns-3)

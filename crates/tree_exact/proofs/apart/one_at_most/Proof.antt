@@ -2,18 +2,18 @@
 use Rattle.tree_exact.proofs.apart.one_at_most.Statement.{statement}
 use Rattle.tree_exact.proofs.apart.one_at_most.Tie as tie
 
-returns : tie.Need-returns
-returns c = simp c.if1.true
+returns : tie.Need-returns-then-a-limit
+returns c = simp c.if-a-limit.true
 
-returns-2 : tie.Need-returns-2
+returns-2 : tie.Need-returns-then-b-limit
 returns-2 c =
-    let e : tie.Else1 = search in
-    simp (e.if1.left, c.if2.true)
+    let e : tie.Else-a-limit = search in
+    simp (e.if-a-limit.false, c.if-b-limit.true)
 
-returns-3 : tie.Need-returns-3
+returns-3 : tie.Need-returns
 returns-3 c =
-    let (e, f) : tie.Else1 × tie.Else2 = search in
-    simp (e.if1.left, f.if2.left)
+    let (e, f) : tie.Else-a-limit × tie.Else-b-limit = search in
+    simp (e.if-a-limit.false, f.if-b-limit.false)
 
-pub one-at-most-spec : {M : Type 1} → statement M
-one-at-most-spec = tie.close (tie.spec returns returns-2 returns-3)
+pub one_at_most_spec : {M : Type 1} → statement M
+one_at_most_spec = tie.close (tie.spec returns returns-2 returns-3)

@@ -9,39 +9,39 @@ use Rattle.tree_exact.proofs.boxes.box_met.Statement.{statement}
 use Rattle.tree_exact.proofs.boxes.box_met.Tie as tie
 
 -- apart from the segment's box
-returns : tie.Need-returns
+returns : tie.Need-returns-then-not-touches
 returns c =
-    let (s, a, e, k) : tie.Start × tie.After-touches × tie.Then1 × tie.After-is-read = search in
+    let (s, a, e, k) : tie.Start × tie.After-touches × tie.Then-not-touches × tie.After-is_read = search in
     λ l limit sees box past. apart_met l limit s.args.bounds _ box
-    (test_failed a.touches.ensures e.if1.taken) k.is_read.ensures
+    (test_failed a.touches.ensures e.if-not-touches.true) k.is_read.ensures
 
-is-short-requires : tie.Need-is-short-requires
-is-short-requires c κs = let s : tie.Start = search in s.pre
+is-short-requires : tie.Need-is_short-requires
+is-short-requires c κs = let s : tie.Start = search in s.requires
 
 -- a short segment
-returns-2 : tie.Need-returns-2
+returns-2 : tie.Need-returns-then-is_short
 returns-2 c =
-    let (s, a, e, k, f) : tie.Start × tie.After-touches × tie.Else1 × tie.After-is-short × tie.Then2 = search in
+    let (s, a, e, k, f) : tie.Start × tie.After-touches × tie.Else-not-touches × tie.After-is_short × tie.Then-is_short = search in
     λ l limit sees box past. short_met l limit s.args.bounds _ box
-    (test_passed a.touches.ensures e.if1.left) (sym (k.is_short.ensures l sees) ∙ f.if2.taken)
+    (test_passed a.touches.ensures e.if-not-touches.false) (sym (k.is_short.ensures l sees) ∙ f.if-is_short.true)
 
-line-met-requires : tie.Need-line-met-requires
-line-met-requires c κs = let s : tie.Start = search in s.pre
+line-met-requires : tie.Need-line_met-requires
+line-met-requires c κs = let s : tie.Start = search in s.requires
 
 -- the line decides
-returns-3 : tie.Need-returns-3
+returns-3 : tie.Need-returns
 returns-3 c =
-    let (s, a, e, k, f) : tie.Start × tie.After-touches × tie.Else1 × tie.After-is-short × tie.Else2 = search in
+    let (s, a, e, k, f) : tie.Start × tie.After-touches × tie.Else-not-touches × tie.After-is_short × tie.Else-is_short = search in
     λ l limit sees box past. long_met l limit s.args.bounds _ box
-    (test_passed a.touches.ensures e.if1.left) (sym (k.is_short.ensures l sees) ∙ f.if2.left)
-    (c.line-met.ensures l limit sees (to_z-of_z w64 s.args.past s.fits.past ∙ past))
+    (test_passed a.touches.ensures e.if-not-touches.false) (sym (k.is_short.ensures l sees) ∙ f.if-is_short.false)
+    (c.line_met.ensures l limit sees (to_z-of_z w64 s.args.past s.ranges.past ∙ past))
 
-pub box-met-spec : {M : Type 1} → statement M
-box-met-spec =
+pub box_met_spec : {M : Type 1} → statement M
+box_met_spec =
     tie.close
     (tie.spec
     (search rules)  -- touches-requires
-    (search rules)  -- is-read-requires
+    (search rules)  -- is_read-requires
     returns
     is-short-requires
     returns-2

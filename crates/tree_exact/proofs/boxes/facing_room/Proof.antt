@@ -8,30 +8,30 @@ use Rattle.tree_exact.proofs.boxes.facing_room.Statement.{statement}
 use Rattle.tree_exact.proofs.boxes.facing_room.Tie as tie
 
 -- along x
-returns : tie.Need-returns
+returns : tie.Need-returns-in-X
 returns c =
-    let (s, e) : tie.Start × tie.After-enum-told = search in
-    sym (ap (λ (a : Axis). facing_room (main_as a) s.args.x s.args.y s.args.z) e.enum_told.given.1)
+    let (s, e) : tie.Start × tie.In-X = search in
+    sym (ap (λ (a : Axis). facing_room (main_as a) s.args.x s.args.y s.args.z) e.in-X.is)
 
 -- along y
-returns-2 : tie.Need-returns-2
+returns-2 : tie.Need-returns-in-Y
 returns-2 c =
-    let (s, e) : tie.Start × tie.After-enum-told2 = search in
-    sym (ap (λ (a : Axis). facing_room (main_as a) s.args.x s.args.y s.args.z) e.enum-told2.given.1)
+    let (s, e) : tie.Start × tie.In-Y = search in
+    sym (ap (λ (a : Axis). facing_room (main_as a) s.args.x s.args.y s.args.z) e.in-Y.is)
 
 -- along z
-returns-3 : tie.Need-returns-3
+returns-3 : tie.Need-returns-in-Z
 returns-3 c =
-    let (s, e) : tie.Start × tie.After-enum-told3 = search in
-    sym (ap (λ (a : Axis). facing_room (main_as a) s.args.x s.args.y s.args.z) e.enum-told3.given.1)
+    let (s, e) : tie.Start × tie.In-Z = search in
+    sym (ap (λ (a : Axis). facing_room (main_as a) s.args.x s.args.y s.args.z) e.in-Z.is)
 
-pub facing-room-spec : {M : Type 1} → statement M
-facing-room-spec =
+pub facing_room_spec : {M : Type 1} → statement M
+facing_room_spec =
     tie.close
     (tie.spec
-    (search rules)  -- enum_told
+    (search rules)  -- enum_told-1
     returns
-    (search rules)  -- enum-told-2
+    (search rules)  -- enum_told-in-Y
     returns-2
-    (search rules)  -- enum-told-3
+    (search rules)  -- enum_told-in-Z
     returns-3)

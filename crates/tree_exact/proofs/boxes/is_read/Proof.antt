@@ -8,23 +8,23 @@ use Rattle.tree_exact.proofs.boxes.is_read.Statement.{statement}
 use Rattle.tree_exact.proofs.boxes.is_read.Tie as tie
 
 -- the lower corner is out of range
-returns : tie.Need-returns
+returns : tie.Need-returns-then-not-all_within
 returns c =
-    let (s, a) : tie.Start × tie.After-all-within = search in
-    sym (ap (λ (k : Bool). k && all_within furthest s.args.bounds.max) (test_failed a.all_within_lem.ensures c.if1.true))
+    let (s, a) : tie.Start × tie.After-all_within = search in
+    sym (ap (λ (k : Bool). k && all_within furthest s.args.bounds.max) (test_failed a.all_within.ensures c.if-not-all_within.true))
 
 -- the upper one decides
-returns-2 : tie.Need-returns-2
+returns-2 : tie.Need-returns
 returns-2 c =
-    let (s, a, e) : tie.Start × tie.After-all-within × tie.Else1 = search in
-    c.all-within2.ensures
-    ∙ sym (ap (λ (k : Bool). k && all_within furthest s.args.bounds.max) (test_passed a.all_within_lem.ensures e.if1.left))
+    let (s, a, e) : tie.Start × tie.After-all_within × tie.Else-not-all_within = search in
+    c.all_within-2.ensures
+    ∙ sym (ap (λ (k : Bool). k && all_within furthest s.args.bounds.max) (test_passed a.all_within.ensures e.if-not-all_within.false))
 
-pub is-read-spec : {M : Type 1} → statement M
-is-read-spec =
+pub is_read_spec : {M : Type 1} → statement M
+is_read_spec =
     tie.close
     (tie.spec
-    (search rules)  -- all-within-requires
+    (search rules)  -- all_within-requires
     returns
-    (search rules)  -- all-within-requires-2
+    (search rules)  -- all_within-requires-2
     returns-2)

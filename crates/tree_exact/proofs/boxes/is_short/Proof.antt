@@ -16,25 +16,22 @@ far-plain s = plain (widen s.requires.far (lit≤ tt))
 near-plain : (s : tie.Start) → bits s.args.line.near ≡ s.args.line.near
 near-plain s = plain (widen s.requires.near (lit≤ tt))
 
-sub-length : tie.Need-overflow-sub-length
-sub-length c = let s : tie.Start = search in sub-fits (far-plain s) (near-plain s) s.pre.far s.pre.near
+sub-length : tie.Need-overflow_sub-length
+sub-length c = let s : tie.Start = search in sub-fits (far-plain s) (near-plain s) s.requires.far s.requires.near
 
-mul_most : tie.Need-overflow-mul-most
-mul_most c = let s : tie.Start = search in fixed_fits 2097152 s.pre.gain (lit≤ tt) (lit≤ tt)
+mul_most : tie.Need-overflow_mul-most
+mul_most c = let s : tie.Start = search in fixed_fits 2097152 s.requires.gain (lit≤ tt) (lit≤ tt)
 
 returns : tie.Need-returns
 unfolding short_segment
 returns c =
     let s : tie.Start = search in
     λ l sees.
-    let length = sub_read (far-plain s) (near-plain s) s.pre.far s.pre.near ∙ (λ i. sees.far i -ℤ sees.near i) in
-    let most = fixed_once 2097152 s.pre.gain (lit≤ tt) (lit≤ tt) ∙ ap (λ (z : ℤ). z *ℤ pos 2097152) sees.gain in
+    let length = sub_read (far-plain s) (near-plain s) s.requires.far s.requires.near ∙ (λ i. sees.far i -ℤ sees.near i) in
+    let most = fixed_once 2097152 s.requires.gain (lit≤ tt) (lit≤ tt) ∙ ap (λ (z : ℤ). z *ℤ pos 2097152) sees.gain in
     λ i. le_z (length i) (most i)
 
-pub is-short-spec : {M : Type 1} → statement M
-is-short-spec =
+pub is_short_spec : {M : Type 1} → statement M
+is_short_spec =
     tie.close
-    (tie.spec
-    sub-length
-    mul_most
-    returns)
+    (tie.spec sub-length mul_most returns)

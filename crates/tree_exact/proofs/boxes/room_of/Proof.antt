@@ -17,52 +17,52 @@ use Rattle.tree_exact.proofs.boxes.room_of.Tie as tie
 read : {z : ℤ} → Sized 268435456 z → bits z ≡ z
 read h = plain (widen h (lit≤ tt))
 
-side-of-requires : tie.Need-side-of-requires
+side-of-requires : tie.Need-side_of-x-requires
 side-of-requires c κs =
     let s : tie.Start = search in
     let b = s.args.bounds in (
-      (within_x furthest b.min (low_read b s.pre.1), within_x furthest b.max (high_read b s.pre.1)),
-      sized_bits s.pre.0.origin.x (lit≤ tt),
+      (within_x furthest b.min (low_read b s.requires.1), within_x furthest b.max (high_read b s.requires.1)),
+      sized_bits s.requires.0.origin.x (lit≤ tt),
     )
 
-side-of-requires-2 : tie.Need-side-of-requires-2
+side-of-requires-2 : tie.Need-side_of-y-requires
 side-of-requires-2 c κs =
     let s : tie.Start = search in
     let b = s.args.bounds in (
-      (within_y furthest b.min (low_read b s.pre.1), within_y furthest b.max (high_read b s.pre.1)),
-      sized_bits s.pre.0.origin.y (lit≤ tt),
+      (within_y furthest b.min (low_read b s.requires.1), within_y furthest b.max (high_read b s.requires.1)),
+      sized_bits s.requires.0.origin.y (lit≤ tt),
     )
 
-side-of-requires-3 : tie.Need-side-of-requires-3
+side-of-requires-3 : tie.Need-side_of-z-requires
 side-of-requires-3 c κs =
     let s : tie.Start = search in
     let b = s.args.bounds in (
-      (within_z furthest b.min (low_read b s.pre.1), within_z furthest b.max (high_read b s.pre.1)),
-      sized_bits s.pre.0.origin.z (lit≤ tt),
+      (within_z furthest b.min (low_read b s.requires.1), within_z furthest b.max (high_read b s.requires.1)),
+      sized_bits s.requires.0.origin.z (lit≤ tt),
     )
 
 -- the three sides, faced
 returns : tie.Need-returns
 returns c =
-    let (s, x, y, z) : tie.Start × tie.After-side-of × tie.After-side-of2 × tie.After-side-of3 = search in
+    let (s, x, y, z) : tie.Start × tie.After-side_of-x × tie.After-side_of-y × tie.After-side_of-z = search in
     let v = s.args.line in
     let b = s.args.bounds in
-    let near = s.pre.0.origin in
+    let near = s.requires.0.origin in
     let main = main_as v.axis in
-    let p = x.side-of.ensures.0 ∙ ap (λ (o : ℤ). side_on o b.min.x b.max.x) (read near.x) in
-    let q = y.side-of2.ensures.0 ∙ ap (λ (o : ℤ). side_on o b.min.y b.max.y) (read near.y) in
-    let r = z.side-of3.ensures.0 ∙ ap (λ (o : ℤ). side_on o b.min.z b.max.z) (read near.z) in (
-      c.facing-room.ensures ∙ (λ i. facing_room main (p i) (q i) (r i)),
-      subst RoomSized (sym c.facing-room.ensures)
-          (faced_sized main x.side-of.ensures.1 y.side-of2.ensures.1 z.side-of3.ensures.1),
+    let p = x.side_of-x.ensures.0 ∙ ap (λ (o : ℤ). side_on o b.min.x b.max.x) (read near.x) in
+    let q = y.side_of-y.ensures.0 ∙ ap (λ (o : ℤ). side_on o b.min.y b.max.y) (read near.y) in
+    let r = z.side_of-z.ensures.0 ∙ ap (λ (o : ℤ). side_on o b.min.z b.max.z) (read near.z) in (
+      c.facing_room.ensures ∙ (λ i. facing_room main (p i) (q i) (r i)),
+      subst RoomSized (sym c.facing_room.ensures)
+          (faced_sized main x.side_of-x.ensures.1 y.side_of-y.ensures.1 z.side_of-z.ensures.1),
     )
 
-pub room-of-spec : {M : Type 1} → statement M
-room-of-spec =
+pub room_of_spec : {M : Type 1} → statement M
+room_of_spec =
     tie.close
     (tie.spec
     side-of-requires
     side-of-requires-2
     side-of-requires-3
-    (search rules)  -- facing-room-requires
+    (search rules)  -- facing_room-requires
     returns)

@@ -19,23 +19,23 @@ use Rattle.tree_exact.proofs.cast.ray_mesh_exact.Statement.{statement}
 use Rattle.tree_exact.proofs.cast.ray_mesh_exact.Tie as tie
 
 -- past refusal 1
-start₁ : tie.Else1 → tie.Start
+start₁ : tie.Else-not-validate → tie.Start
 start₁ e = search
 
-valid : (e : tie.Else1) → ray_admitted (start₁ e).args.ray ≡ true
+valid : (e : tie.Else-not-validate) → ray_admitted (start₁ e).args.ray ≡ true
 unfolding start₁
-valid e = test_passed e.before.validate.ensures e.if1.false
+valid e = test_passed e.validate.ensures e.if-not-validate.false
 
 -- past the ray's 12
-start₂ : tie.Else2 → tie.Start
+start₂ : tie.Else-not-admitted → tie.Start
 start₂ e = search
 
-read : (e : tie.Else2) → grid_admitted (start₂ e).args.ray ≡ true
+read : (e : tie.Else-not-admitted) → grid_admitted (start₂ e).args.ray ≡ true
 unfolding start₂
-read e = test_passed e.before.admitted.ensures e.if2.false
+read e = test_passed e.admitted.ensures e.if-not-admitted.false
 
 -- past refusal 2
-start₃ : tie.Else3 → tie.Start
+start₃ : tie.Else-not-shape_admitted → tie.Start
 start₃ e = search
 
 abbrev admitted : tie.Start → Bool
@@ -45,109 +45,109 @@ admitted s =
     lengths_admitted (length a.vertices.now) count
     && (lengths_admitted (length a.pose.now) count && leb a.nodes (2 * thirds count))
 
-shaped : (e : tie.Else3) → admitted (start₃ e) ≡ true
+shaped : (e : tie.Else-not-shape_admitted) → admitted (start₃ e) ≡ true
 unfolding start₃
-shaped e = test_passed e.before.shape_admitted_lem.ensures e.if3.false
+shaped e = test_passed e.shape_admitted.ensures e.if-not-shape_admitted.false
 
 -- past refusal 3
-start₄ : tie.Else4 → tie.Start
+start₄ : tie.Else-not-room_fits → tie.Start
 start₄ e = search
 
 abbrev tree : tie.Start → Tree
 tree s =
     let a = s.args in
-    tree_of a.nodes a.node_boxes_lem.now a.triangle_boxes_lem.now a.node_words_lem.now a.order.now
+    tree_of a.nodes a.node_boxes.now a.triangle_boxes.now a.node_words.now a.order.now
 
 abbrev fitting : tie.Start → Bool
 fitting s =
     let a = s.args in
     tree_fits (thirds (length a.triangles.now)) (tree s) && leb (a.nodes + 1) (length a.stack.now)
 
-fits : (e : tie.Else4) → fitting (start₄ e) ≡ true
+fits : (e : tie.Else-not-room_fits) → fitting (start₄ e) ≡ true
 unfolding start₄
-fits e = test_passed e.before.room-fits.ensures e.if4.false
+fits e = test_passed e.room_fits.ensures e.if-not-room_fits.false
 
-first : tie.Else4 → tie.Else1
+first : tie.Else-not-room_fits → tie.Else-not-validate
 first e = search
 
-second : tie.Else4 → tie.Else2
+second : tie.Else-not-room_fits → tie.Else-not-admitted
 second e = search
 
-third : tie.Else4 → tie.Else3
+third : tie.Else-not-room_fits → tie.Else-not-shape_admitted
 third e = search
 
 -- refusal 1
-returns : tie.Need-returns
+returns : tie.Need-returns-then-not-validate
 returns c =
-    with_agreement _ _ _ _ _ _ _ (exact_invalid _ _ _ _ _ (test_failed c.before.validate.ensures c.if1.true)) (λ _. refl)
+    with_agreement _ _ _ _ _ _ _ (exact_invalid _ _ _ _ _ (test_failed c.validate.ensures c.if-not-validate.true)) (λ _. refl)
 
 -- refusal 12
-returns-2 : tie.Need-returns-2
+returns-2 : tie.Need-returns-then-not-admitted
 unfolding start₁
 returns-2 c =
-    let e : tie.Else1 = search in
-    with_agreement _ _ _ _ _ _ _ (exact_off _ _ _ _ _ (valid e) (test_failed c.before.admitted.ensures c.if2.true)) (λ _. refl)
+    let e : tie.Else-not-validate = search in
+    with_agreement _ _ _ _ _ _ _ (exact_off _ _ _ _ _ (valid e) (test_failed c.admitted.ensures c.if-not-admitted.true)) (λ _. refl)
 
 -- refusal 2
-returns-3 : tie.Need-returns-3
+returns-3 : tie.Need-returns-then-not-shape_admitted
 unfolding start₁ start₂
 returns-3 c =
-    let (s, e, k) : tie.Start × tie.Else1 × tie.Else2 = search in
-    let failed = test_failed {b = admitted s} c.before.shape_admitted_lem.ensures c.if3.true in
+    let (s, e, k) : tie.Start × tie.Else-not-validate × tie.Else-not-admitted = search in
+    let failed = test_failed {b = admitted s} c.shape_admitted.ensures c.if-not-shape_admitted.true in
     with_agreement _ _ _ _ _ _ _ (exact_bad _ _ _ _ _ (valid e) (read k) failed) (λ _. refl)
 
-room-fits-requires : tie.Need-room-fits-requires
+room-fits-requires : tie.Need-room_fits-requires
 unfolding start₃
-room-fits-requires c κs = let e : tie.Else3 = search in triangles_few _ _ _ _ (shaped e)
+room-fits-requires c κs = let e : tie.Else-not-shape_admitted = search in triangles_few _ _ _ _ (shaped e)
 
 -- refusal 3
-returns-4 : tie.Need-returns-4
+returns-4 : tie.Need-returns-then-not-room_fits
 unfolding start₁ start₂ start₃
 returns-4 c =
-    let (s, e, k, h) : tie.Start × tie.Else1 × tie.Else2 × tie.Else3 = search in
-    let failed = test_failed {b = fitting s} c.before.room-fits.ensures c.if4.true in
+    let (s, e, k, h) : tie.Start × tie.Else-not-validate × tie.Else-not-admitted × tie.Else-not-shape_admitted = search in
+    let failed = test_failed {b = fitting s} c.room_fits.ensures c.if-not-room_fits.true in
     with_agreement _ _ _ _ _ _ _ (exact_short _ _ _ (tree s) _ (valid e) (read k) (shaped h) failed) (λ _. refl)
 
 -- refusal 4
-returns-5 : tie.Need-returns-5
+returns-5 : tie.Need-returns-then-pose-vertices
 unfolding start₁ start₂ start₃ start₄ first second third
 returns-5 c =
-    let e : tie.Else4 = search in
+    let e : tie.Else-not-room_fits = search in
     with_agreement _ _ _ _ _ _ _
-    (exact_posed _ _ _ _ _ (valid (first e)) (read (second e)) (shaped (third e)) (fits e) c.if5.true) (λ _. refl)
+    (exact_posed _ _ _ _ _ (valid (first e)) (read (second e)) (shaped (third e)) (fits e) c.if-pose-vertices.true) (λ _. refl)
 
-exact-through-requires : tie.Need-exact-through-requires
+exact-through-requires : tie.Need-exact_through-requires
 unfolding start₁ start₂ start₃ start₄ first second third
 exact-through-requires c κs =
-    let e : tie.Else4 = search in (
+    let e : tie.Else-not-room_fits = search in (
       (valid (first e), read (second e)),
       room_of _ (tree (start₄ e)) (start₄ e).args.stack.now (nodes_few _ _ _ _ (shaped (third e))) (fits e),
     )
 
 -- past them all
-returns-6 : tie.Need-returns-6
+returns-6 : tie.Need-returns
 unfolding start₁ start₂ start₃ start₄ first second third
 returns-6 c =
-    let (e, p, l) : tie.Else4 × tie.Else5 × tie.After-exact-through = search in
+    let (e, p, l) : tie.Else-not-room_fits × tie.Else-pose-vertices × tie.After-exact_through = search in
     with_agreement _ _ _ _ _ _ _
-    (exact_passed _ _ _ _ _ (valid (first e)) (read (second e)) (shaped (third e)) (fits e) p.if5.left _
-    l.exact-through.ensures)
-    (λ failed. absurd (tests_passed _ _ _ _ _ (valid (first e)) (read (second e)) (shaped (third e)) (fits e) p.if5.left
+    (exact_passed _ _ _ _ _ (valid (first e)) (read (second e)) (shaped (third e)) (fits e) p.if-pose-vertices.false _
+    l.exact_through.ensures)
+    (λ failed. absurd (tests_passed _ _ _ _ _ (valid (first e)) (read (second e)) (shaped (third e)) (fits e) p.if-pose-vertices.false
     failed))
 
-pub ray-mesh-exact-spec : {M : Type 1} → statement M
-ray-mesh-exact-spec =
+pub ray_mesh_exact_spec : {M : Type 1} → statement M
+ray_mesh_exact_spec =
     tie.close
     (tie.spec
     (search rules)  -- validate-requires
     returns
     (search rules)  -- admitted-requires
     returns-2
-    (search rules)  -- shape-admitted-requires
+    (search rules)  -- shape_admitted-requires
     returns-3
     room-fits-requires
     returns-4
     returns-5
     exact-through-requires
-    (search rules)  -- same-length
+    (search rules)  -- shape_of-stack
     returns-6)

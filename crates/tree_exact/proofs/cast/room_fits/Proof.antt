@@ -7,19 +7,19 @@ use Rattle.tree_exact.proofs.cast.room_fits.Statement.{statement}
 use Rattle.tree_exact.proofs.cast.room_fits.Tie as tie
 
 -- the tree's areas are too short
-returns : tie.Need-returns
-returns c = simp (sym c.before.tree-fits.ensures, not-true c.before.tree-fits.result c.if1.true)
+returns : tie.Need-returns-then-not-tree_fits
+returns c = simp (sym c.tree_fits.ensures, c.if-not-tree_fits.true)
 
 -- the stack decides
-returns-2 : tie.Need-returns-2
+returns-2 : tie.Need-returns
 returns-2 c =
-    let (k, e) : tie.After-tree-fits × tie.Else1 = search in
-    simp (sym k.tree-fits.ensures, not-false k.tree-fits.result e.if1.left, add-one)
+    let (k, e) : tie.After-tree_fits × tie.Else-not-tree_fits = search in
+    simp (sym k.tree_fits.ensures, e.if-not-tree_fits.false, add-one)
 
-pub room-fits-spec : {M : Type 1} → statement M
-room-fits-spec =
+pub room_fits_spec : {M : Type 1} → statement M
+room_fits_spec =
     tie.close
     (tie.spec
-    (search rules)  -- tree-fits-requires
+    (search rules)  -- tree_fits-requires
     returns
     returns-2)

@@ -15,60 +15,60 @@ abbrev own : tie.Start → Mesh
 own s = mesh s.args.vertices.now s.args.triangles.now
 
 -- an index past the vertices
-returns : tie.Need-returns
+returns : tie.Need-returns-then-not-corners_inside
 returns c =
-    let (s, k) : tie.Start × tie.After-corners-inside = search in
-    outside_fails (own s) s.args.index (test_failed k.corners-inside.ensures c.if1.true)
+    let (s, k) : tie.Start × tie.After-corners_inside = search in
+    outside_fails (own s) s.args.index (test_failed k.corners_inside.ensures c.if-not-corners_inside.true)
 
-corners-of-requires : tie.Need-corners-of-requires
+corners-of-requires : tie.Need-corners_of-corners-requires
 corners-of-requires c κs =
-    let (s, k, e) : tie.Start × tie.After-corners-inside × tie.Else1 = search in
-    (s.pre, test_passed k.corners-inside.ensures e.if1.left)
+    let (s, k, e) : tie.Start × tie.After-corners_inside × tie.Else-not-corners_inside = search in
+    (s.requires, test_passed k.corners_inside.ensures e.if-not-corners_inside.false)
 
 -- the first corner has none
-returns-2 : tie.Need-returns-2
+returns-2 : tie.Need-returns-then-not-numbers_in
 unfolding corners_of
 returns-2 c =
-    let (s, k, e, v, a) : tie.Start × tie.After-corners-inside × tie.Else1 × tie.After-corners-of × tie.After-numbers-in = search in
-    first_fails (own s) s.args.index (test_passed k.corners-inside.ensures e.if1.left)
-    (sym (ap (λ (vs : List Vec3). numbers_in (corner vs 0)) v.corners-of.ensures) ∙ test_failed a.numbers-in.ensures c.if2.true)
+    let (s, k, e, v, a) : tie.Start × tie.After-corners_inside × tie.Else-not-corners_inside × tie.After-corners_of-corners × tie.After-numbers_in = search in
+    first_fails (own s) s.args.index (test_passed k.corners_inside.ensures e.if-not-corners_inside.false)
+    (sym (ap (λ (vs : List Vec3). numbers_in (corner vs 0)) v.corners_of-corners.ensures) ∙ test_failed a.numbers_in.ensures c.if-not-numbers_in.true)
 
 -- the second has none
-returns-3 : tie.Need-returns-3
+returns-3 : tie.Need-returns-then-not-numbers_in-2
 unfolding corners_of
 returns-3 c =
-    let (s, k, e, v, a) : tie.Start × tie.After-corners-inside × tie.Else1 × tie.After-corners-of × tie.After-numbers-in = search in
-    let (f, b) : tie.Else2 × tie.After-numbers-in2 = search in
-    second_fails (own s) s.args.index (test_passed k.corners-inside.ensures e.if1.left)
-    (sym (ap (λ (vs : List Vec3). numbers_in (corner vs 0)) v.corners-of.ensures) ∙ test_passed a.numbers-in.ensures f.if2.left)
-    (sym (ap (λ (vs : List Vec3). numbers_in (corner vs 1)) v.corners-of.ensures)
-    ∙ test_failed b.numbers-in2.ensures c.if3.true)
+    let (s, k, e, v, a) : tie.Start × tie.After-corners_inside × tie.Else-not-corners_inside × tie.After-corners_of-corners × tie.After-numbers_in = search in
+    let (f, b) : tie.Else-not-numbers_in × tie.After-numbers_in-2 = search in
+    second_fails (own s) s.args.index (test_passed k.corners_inside.ensures e.if-not-corners_inside.false)
+    (sym (ap (λ (vs : List Vec3). numbers_in (corner vs 0)) v.corners_of-corners.ensures) ∙ test_passed a.numbers_in.ensures f.if-not-numbers_in.false)
+    (sym (ap (λ (vs : List Vec3). numbers_in (corner vs 1)) v.corners_of-corners.ensures)
+    ∙ test_failed b.numbers_in-2.ensures c.if-not-numbers_in-2.true)
 
 -- the third decides
-returns-4 : tie.Need-returns-4
+returns-4 : tie.Need-returns
 unfolding corners_of
 returns-4 c =
-    let (s, k, e, v, a) : tie.Start × tie.After-corners-inside × tie.Else1 × tie.After-corners-of × tie.After-numbers-in = search in
-    let (f, b, g) : tie.Else2 × tie.After-numbers-in2 × tie.Else3 = search in
-    third_tells (own s) s.args.index (test_passed k.corners-inside.ensures e.if1.left)
-    (sym (ap (λ (vs : List Vec3). numbers_in (corner vs 0)) v.corners-of.ensures) ∙ test_passed a.numbers-in.ensures f.if2.left)
-    (sym (ap (λ (vs : List Vec3). numbers_in (corner vs 1)) v.corners-of.ensures) ∙ test_passed b.numbers-in2.ensures g.if3.left)
-    c.numbers-in3.result
-    (c.numbers-in3.ensures ∙ ap (λ (vs : List Vec3). numbers_in (corner vs 2)) v.corners-of.ensures)
+    let (s, k, e, v, a) : tie.Start × tie.After-corners_inside × tie.Else-not-corners_inside × tie.After-corners_of-corners × tie.After-numbers_in = search in
+    let (f, b, g) : tie.Else-not-numbers_in × tie.After-numbers_in-2 × tie.Else-not-numbers_in-2 = search in
+    third_tells (own s) s.args.index (test_passed k.corners_inside.ensures e.if-not-corners_inside.false)
+    (sym (ap (λ (vs : List Vec3). numbers_in (corner vs 0)) v.corners_of-corners.ensures) ∙ test_passed a.numbers_in.ensures f.if-not-numbers_in.false)
+    (sym (ap (λ (vs : List Vec3). numbers_in (corner vs 1)) v.corners_of-corners.ensures) ∙ test_passed b.numbers_in-2.ensures g.if-not-numbers_in-2.false)
+    c.numbers_in-3.result
+    (c.numbers_in-3.ensures ∙ ap (λ (vs : List Vec3). numbers_in (corner vs 2)) v.corners_of-corners.ensures)
 
-pub corners-numbered-spec : {M : Type 1} → statement M
-corners-numbered-spec =
+pub corners_numbered_spec : {M : Type 1} → statement M
+corners_numbered_spec =
     tie.close
     (tie.spec
-    (search rules)  -- corners-inside-requires
+    (search rules)  -- corners_inside-requires
     returns
     corners-of-requires
-    (search rules)  -- array-copy-out-numbers-in
-    (search rules)  -- numbers-in-requires
+    (search rules)  -- bounds-corners-0
+    (search rules)  -- numbers_in-requires
     returns-2
-    (search rules)  -- array-copy-out-numbers-in-2
-    (search rules)  -- numbers-in-requires-2
+    (search rules)  -- bounds-corners-1
+    (search rules)  -- numbers_in-requires-2
     returns-3
-    (search rules)  -- array-copy-out-numbers-in-3
-    (search rules)  -- numbers-in-requires-3
+    (search rules)  -- bounds-corners-2
+    (search rules)  -- numbers_in-requires-3
     returns-4)

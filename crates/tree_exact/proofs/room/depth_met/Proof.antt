@@ -11,29 +11,26 @@ use Rattle.tree_exact.proofs.room.depth_met.Tie as tie
 factor : (s : tie.Start) → bits s.args.ahead ≡ s.args.ahead
 factor s = to_z-of_z w64 s.args.ahead s.ranges.ahead
 
-multiple-requires : tie.Need-multiple-requires
-multiple-requires c κs = let s : tie.Start = search in (s.pre.0, sized_read (factor s) s.pre.1)
+multiple-requires : tie.Need-multiple-deep-requires
+multiple-requires c κs = let s : tie.Start = search in (s.requires.0, sized_read (factor s) s.requires.1)
 
 -- from near on
-returns : tie.Need-returns
+returns : tie.Need-returns-then-near-deep
 returns c =
-    let (s, k, t) : tie.Start × tie.After-multiple × tie.Then1 = search in
+    let (s, k, t) : tie.Start × tie.After-multiple-deep × tie.Then-near-deep = search in
     let v = s.args in
-    near_reached v.depth v.ahead v.near v.past k.multiple.ensures (factor s) s.pre.0 s.pre.1
-    (to_z-of_z w64 v.near s.fits.near) (to_z-of_z w64 v.past s.fits.past) t.if1.taken
+    near_reached v.depth v.ahead v.near v.past k.multiple-deep.ensures (factor s) s.requires.0 s.requires.1
+    (to_z-of_z w64 v.near s.ranges.near) (to_z-of_z w64 v.past s.ranges.past) t.if-near-deep.true
 
 -- before near
-returns-2 : tie.Need-returns-2
+returns-2 : tie.Need-returns
 returns-2 c =
-    let (s, k) : tie.Start × tie.After-multiple = search in
+    let (s, k) : tie.Start × tie.After-multiple-deep = search in
     let v = s.args in
-    near_missed v.depth v.ahead v.near v.past k.multiple.ensures (factor s) s.pre.0 s.pre.1
-    (to_z-of_z w64 v.near s.fits.near) (to_z-of_z w64 v.past s.fits.past) c.if1.false
+    near_missed v.depth v.ahead v.near v.past k.multiple-deep.ensures (factor s) s.requires.0 s.requires.1
+    (to_z-of_z w64 v.near s.ranges.near) (to_z-of_z w64 v.past s.ranges.past) c.if-near-deep.false
 
-pub depth-met-spec : {M : Type 1} → statement M
-depth-met-spec =
+pub depth_met_spec : {M : Type 1} → statement M
+depth_met_spec =
     tie.close
-    (tie.spec
-    multiple-requires
-    returns
-    returns-2)
+    (tie.spec multiple-requires returns returns-2)

@@ -5,15 +5,15 @@ use Rattle.tree_exact.proofs.RoomSteps.{zero_inside, zero_above}
 use Rattle.tree_exact.proofs.room.holds_zero.Statement.{statement}
 use Rattle.tree_exact.proofs.room.holds_zero.Tie as tie
 
-returns : tie.Need-returns
+returns : tie.Need-returns-then-s-le0
 returns c =
-    let (s, e) : tie.Start × tie.Then1 = search in
-    zero_inside s.args.s (plain (widen s.pre.low (lit≤ tt))) (plain (widen s.pre.high (lit≤ tt))) e.if1.taken
+    let (s, e) : tie.Start × tie.Then-s-le0 = search in
+    zero_inside s.args.s (plain (widen s.requires.low (lit≤ tt))) (plain (widen s.requires.high (lit≤ tt))) e.if-s-le0.true
 
-returns-2 : tie.Need-returns-2
+returns-2 : tie.Need-returns
 returns-2 c =
     let s : tie.Start = search in
-    zero_above s.args.s (plain (widen s.pre.low (lit≤ tt))) c.if1.false
+    zero_above s.args.s (plain (widen s.requires.low (lit≤ tt))) c.if-s-le0.false
 
-pub holds-zero-spec : {M : Type 1} → statement M
-holds-zero-spec = tie.close (tie.spec returns returns-2)
+pub holds_zero_spec : {M : Type 1} → statement M
+holds_zero_spec = tie.close (tie.spec returns returns-2)

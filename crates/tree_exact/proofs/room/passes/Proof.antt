@@ -20,24 +20,24 @@ read h = plain (widen h (lit≤ tt))
 abbrev seen : tie.Start → Room
 seen s = sheared_room_by s.args.d s.args.ahead s.args.room
 
-side-met-requires : tie.Need-side-met-requires
+side-met-requires : tie.Need-side_met-requires
 side-met-requires c κs =
     let s : tie.Start = search in
-    let (r, t) = s.pre in
+    let (r, t) = s.requires in
     let d = t.heading in
     ((r.across, r.depth), (sized_read (read d.depth) d.depth, sized_read (read d.across) d.across))
 
-side-met-requires-2 : tie.Need-side-met-requires-2
+side-met-requires-2 : tie.Need-side_met-requires-2
 side-met-requires-2 c κs =
     let s : tie.Start = search in
-    let (r, t) = s.pre in
+    let (r, t) = s.requires in
     let d = t.heading in
     ((r.up, r.depth), (sized_read (read d.depth) d.depth, sized_read (read d.up) d.up))
 
-depth-met-requires : tie.Need-depth-met-requires
+depth-met-requires : tie.Need-depth_met-requires
 depth-met-requires c κs =
     let s : tie.Start = search in
-    (s.pre.0.depth, sized_read (to_z-of_z w64 s.args.ahead s.fits.ahead) (widen s.pre.1.ahead (lit≤ tt)))
+    (s.requires.0.depth, sized_read (to_z-of_z w64 s.args.ahead s.ranges.ahead) (widen s.requires.1.ahead (lit≤ tt)))
 
 -- what each test says
 across : (s : tie.Start) (b : Bool) → b ≡ holds_zero (difference (multiple (bits s.args.d.depth) s.args.room.across)
@@ -56,26 +56,26 @@ depth s b h =
     depth_plain s.args.room.depth h (to_z-of_z w64 s.args.ahead s.ranges.ahead) (to_z-of_z w64 s.args.near s.ranges.near)
     (to_z-of_z w64 s.args.past s.ranges.past)
 
-returns : tie.Need-returns
+returns : tie.Need-returns-then-not-side_met
 returns c =
-    let (s, k) : tie.Start × tie.After-side-met = search in
+    let (s, k) : tie.Start × tie.After-side_met = search in
     first_fails (holds_zero (seen s).up) (reaches s.args.near s.args.past (seen s).depth)
-    (across s k.side-met.result k.side-met.ensures) c.if1.true
+    (across s k.side_met.result k.side_met.ensures) c.if-not-side_met.true
 
-returns-2 : tie.Need-returns-2
+returns-2 : tie.Need-returns-then-not-side_met-2
 returns-2 c =
-    let (s, k, e, l) : tie.Start × tie.After-side-met × tie.Else1 × tie.After-side-met2 = search in
-    second_fails (reaches s.args.near s.args.past (seen s).depth) (across s k.side-met.result k.side-met.ensures)
-    e.if1.left (up s l.side-met2.result l.side-met2.ensures) c.if2.true
+    let (s, k, e, l) : tie.Start × tie.After-side_met × tie.Else-not-side_met × tie.After-side_met-2 = search in
+    second_fails (reaches s.args.near s.args.past (seen s).depth) (across s k.side_met.result k.side_met.ensures)
+    e.if-not-side_met.false (up s l.side_met-2.result l.side_met-2.ensures) c.if-not-side_met-2.true
 
-returns-3 : tie.Need-returns-3
+returns-3 : tie.Need-returns
 returns-3 c =
-    let (s, k, e, l, f) : tie.Start × tie.After-side-met × tie.Else1 × tie.After-side-met2 × tie.Else2 = search in
-    last_decides (across s k.side-met.result k.side-met.ensures) e.if1.left
-    (up s l.side-met2.result l.side-met2.ensures) f.if2.left (depth s c.depth-met.result c.depth-met.ensures)
+    let (s, k, e, l, f) : tie.Start × tie.After-side_met × tie.Else-not-side_met × tie.After-side_met-2 × tie.Else-not-side_met-2 = search in
+    last_decides (across s k.side_met.result k.side_met.ensures) e.if-not-side_met.false
+    (up s l.side_met-2.result l.side_met-2.ensures) f.if-not-side_met-2.false (depth s c.depth_met.result c.depth_met.ensures)
 
-pub passes-spec : {M : Type 1} → statement M
-passes-spec =
+pub passes_spec : {M : Type 1} → statement M
+passes_spec =
     tie.close
     (tie.spec
     side-met-requires

@@ -16,39 +16,39 @@ aside : (s : tie.Start) → bits s.args.aside ≡ s.args.aside
 aside s = to_z-of_z w64 s.args.aside s.ranges.aside
 
 multiple-requires : tie.Need-multiple-requires
-multiple-requires c κs = let s : tie.Start = search in (s.pre.0.0, sized_read (onward s) s.pre.1.0)
+multiple-requires c κs = let s : tie.Start = search in (s.requires.0.0, sized_read (onward s) s.requires.1.0)
 
 multiple-requires-2 : tie.Need-multiple-requires-2
-multiple-requires-2 c κs = let s : tie.Start = search in (s.pre.0.1, sized_read (aside s) s.pre.1.1)
+multiple-requires-2 c κs = let s : tie.Start = search in (s.requires.0.1, sized_read (aside s) s.requires.1.1)
 
 difference-requires : tie.Need-difference-requires
 difference-requires c κs =
     let (s, k) : tie.Start × tie.After-multiple = search in
-    let h = s.pre in
+    let h = s.requires in
     let v = s.args in (
       multiple_small v.side v.onward k.multiple.ensures (onward s) h.0.0 h.1.0,
-      multiple_small v.depth v.aside c.multiple2.ensures (aside s) h.0.1 h.1.1,
+      multiple_small v.depth v.aside c.multiple-2.ensures (aside s) h.0.1 h.1.1,
     )
 
-holds-zero-requires : tie.Need-holds-zero-requires
+holds-zero-requires : tie.Need-holds_zero-requires
 holds-zero-requires c κs =
-    let (s, k, l) : tie.Start × tie.After-multiple × tie.After-multiple2 = search in
-    let h = s.pre in
+    let (s, k, l) : tie.Start × tie.After-multiple × tie.After-multiple-2 = search in
+    let h = s.requires in
     let v = s.args in
     difference_small _ _ c.difference.ensures (multiple_small v.side v.onward k.multiple.ensures (onward s) h.0.0
     h.1.0)
-    (multiple_small v.depth v.aside l.multiple2.ensures (aside s) h.0.1 h.1.1)
+    (multiple_small v.depth v.aside l.multiple-2.ensures (aside s) h.0.1 h.1.1)
 
 returns : tie.Need-returns
 returns c =
-    let (s, k, l, m) : tie.Start × tie.After-multiple × tie.After-multiple2 × tie.After-difference = search in
+    let (s, k, l, m) : tie.Start × tie.After-multiple × tie.After-multiple-2 × tie.After-difference = search in
     let v = s.args in
-    side_is _ _ _ v.side v.depth v.onward v.aside c.holds-zero.ensures m.difference.ensures
+    side_is _ _ _ v.side v.depth v.onward v.aside c.holds_zero.ensures m.difference.ensures
     (multiple_is v.side v.onward k.multiple.ensures (onward s))
-    (multiple_is v.depth v.aside l.multiple2.ensures (aside s))
+    (multiple_is v.depth v.aside l.multiple-2.ensures (aside s))
 
-pub side-met-spec : {M : Type 1} → statement M
-side-met-spec =
+pub side_met_spec : {M : Type 1} → statement M
+side_met_spec =
     tie.close
     (tie.spec
     multiple-requires

@@ -8,26 +8,26 @@ use Rattle.tree_exact.proofs.root.misses_root.Statement.{statement}
 use Rattle.tree_exact.proofs.root.misses_root.Tie as tie
 
 -- no root
-returns : tie.Need-returns
+returns : tie.Need-returns-then-nodes-eq0
 returns c = λ e. absurd (false≢true e)
 
 -- one whose box touches
-returns-2 : tie.Need-returns-2
+returns-2 : tie.Need-returns-then-touches
 returns-2 c = λ e. absurd (false≢true e)
 
-returns-3 : tie.Need-returns-3
+returns-3 : tie.Need-returns
 returns-3 c =
-    let (s, n, b, t, e) : tie.Start × tie.Else1 × tie.After-box-at × tie.After-touches × tie.Else2 = search in
-    λ y. apart_misses s.args.reach s.args.nodes s.args.node_boxes_lem.now (omega (arith, n.if1.left)) b.box-at.result
-    b.box-at.ensures (sym t.touches.ensures ∙ e.if2.left) (sym c.is_read.ensures ∙ y)
+    let (s, n, b, t, e) : tie.Start × tie.Else-nodes-eq0 × tie.After-box_at-root × tie.After-touches × tie.Else-touches = search in
+    λ y. apart_misses s.args.reach s.args.nodes s.args.node_boxes.now (omega (arith, n.if-nodes-eq0.false)) b.box_at-root.result
+    b.box_at-root.ensures (sym t.touches.ensures ∙ e.if-touches.false) (sym c.is_read.ensures ∙ y)
 
-pub misses-root-spec : {M : Type 1} → statement M
-misses-root-spec =
+pub misses_root_spec : {M : Type 1} → statement M
+misses_root_spec =
     tie.close
     (tie.spec
     returns
-    (search rules)  -- box-at-requires
+    (search rules)  -- box_at-root-requires
     (search rules)  -- touches-requires
     returns-2
-    (search rules)  -- is-read-requires
+    (search rules)  -- is_read-requires
     returns-3)

@@ -12,32 +12,32 @@ use borrow.Author.Rules.{rules}
 use Rattle.tree_exact.proofs.walk.is_culled.Statement.{statement}
 use Rattle.tree_exact.proofs.walk.is_culled.Tie as tie
 
-returns : tie.Need-returns
+returns : tie.Need-returns-then-not-corners_inside
 returns c = λ e. absurd (false≢true e)
 
-corners-of-requires : tie.Need-corners-of-requires
+corners-of-requires : tie.Need-corners_of-requires
 corners-of-requires c κs =
-    let (s, k, e) : tie.Start × tie.After-corners-inside × tie.Else1 = search in
-    (s.pre, test_passed k.corners-inside.ensures e.if1.left)
+    let (s, k, e) : tie.Start × tie.After-corners_inside × tie.Else-not-corners_inside = search in
+    (s.requires, test_passed k.corners_inside.ensures e.if-not-corners_inside.false)
 
-returns-2 : tie.Need-returns-2
+returns-2 : tie.Need-returns
 returns-2 c =
-    let (s, k, e, o, a) : tie.Start × tie.After-corners-inside × tie.Else1 × tie.After-corners-of × tie.After-lies-apart = search in
+    let (s, k, e, o, a) : tie.Start × tie.After-corners_inside × tie.Else-not-corners_inside × tie.After-corners_of × tie.After-lies_apart = search in
     let v = s.args in
     λ y. record {
       missed = λ ray line on.
-          let p = subst (λ (vs : List Vec3). LiesApart vs v.reach) o.corners-of.ensures (a.lies-apart.ensures y) in
+          let p = subst (λ (vs : List Vec3). LiesApart vs v.reach) o.corners_of.ensures (a.lies_apart.ensures y) in
           sym (apart_reach ray v.pose.now v.triangles.now v.index on.casts.valid on.casts.shown.admitted
-          (test_passed k.corners-inside.ensures e.if1.left) p.read
+          (test_passed k.corners_inside.ensures e.if-not-corners_inside.false) p.read
           (sym (ap (touches (corners_box (corners_of v.pose.now v.triangles.now v.index))) on.box) ∙ p.apart));
     }
 
-pub is-culled-spec : {M : Type 1} → statement M
-is-culled-spec =
+pub is_culled_spec : {M : Type 1} → statement M
+is_culled_spec =
     tie.close
     (tie.spec
-    (search rules)  -- corners-inside-requires
+    (search rules)  -- corners_inside-requires
     returns
     corners-of-requires
-    (search rules)  -- lies-apart-requires
+    (search rules)  -- lies_apart-requires
     returns-2)

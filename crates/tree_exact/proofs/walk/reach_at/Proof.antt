@@ -6,26 +6,26 @@ use Rattle.tree_exact.proofs.walk.reach_at.Statement.{statement}
 use Rattle.tree_exact.proofs.walk.reach_at.Tie as tie
 
 -- an index past the vertices
-returns : tie.Need-returns
+returns : tie.Need-returns-then-not-corners_inside
 returns c =
-    let (s, k) : tie.Start × tie.After-corners-inside = search in
+    let (s, k) : tie.Start × tie.After-corners_inside = search in
     λ ray on. outside_refused ray s.args.pose.now s.args.triangles.now s.args.index
-    (test_failed k.corners-inside.ensures c.if1.true)
+    (test_failed k.corners_inside.ensures c.if-not-corners_inside.true)
 
-reach-of-requires : tie.Need-reach-of-requires
+reach-of-requires : tie.Need-reach_of-requires
 reach-of-requires c κs =
-    let (s, k, e) : tie.Start × tie.After-corners-inside × tie.Else1 = search in
-    ((s.pre.1, test_passed k.corners-inside.ensures e.if1.left), s.pre.0)
+    let (s, k, e) : tie.Start × tie.After-corners_inside × tie.Else-not-corners_inside = search in
+    ((s.requires.1, test_passed k.corners_inside.ensures e.if-not-corners_inside.false), s.requires.0)
 
 -- a triangle of the mesh
-returns-2 : tie.Need-returns-2
+returns-2 : tie.Need-returns
 returns-2 c = c.reach_of.ensures
 
-pub reach-at-spec : {M : Type 1} → statement M
-reach-at-spec =
+pub reach_at_spec : {M : Type 1} → statement M
+reach_at_spec =
     tie.close
     (tie.spec
-    (search rules)  -- corners-inside-requires
+    (search rules)  -- corners_inside-requires
     returns
     reach-of-requires
     returns-2)

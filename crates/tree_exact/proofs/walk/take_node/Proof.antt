@@ -9,59 +9,59 @@ use Rattle.tree_exact.proofs.walk.take_node.Statement.{statement}
 use Rattle.tree_exact.proofs.walk.take_node.Tie as tie
 
 -- a node that is none
-returns : tie.Need-returns
+returns : tie.Need-returns-then-node-nodes
 returns c =
-    let (s, w) : tie.Start × tie.After-word-at = search in
+    let (s, w) : tie.Start × tie.After-word_at-node = search in
     let v = s.args in
-    takes_bad v.line v.reach v.pose.now v.triangles.now v.nodes v.node_boxes_lem.now v.node_words_lem.now v.order.now
-    v.stack.now v.top v.best s.pre.1.1.0 w.word_at.result w.word_at.ensures (omega arith)
+    takes_bad v.line v.reach v.pose.now v.triangles.now v.nodes v.node_boxes.now v.node_words.now v.order.now
+    v.stack.now v.top v.best s.requires.1.1.0 w.word_at-node.result w.word_at-node.ensures (omega arith)
 
-box-met-requires : tie.Need-box-met-requires
-box-met-requires c κs = let s : tie.Start = search in s.pre.0.0
+box-met-requires : tie.Need-box_met-requires
+box-met-requires c κs = let s : tie.Start = search in s.requires.0.0
 
 -- one that is passed over
-returns-2 : tie.Need-returns-2
+returns-2 : tie.Need-returns-then-not-box_met
 returns-2 c =
-    let (s, w, e, b, m, f) : tie.Start × tie.After-word-at × tie.Else1 × tie.After-box-at × tie.After-box-met × tie.Then2 = search in
+    let (s, w, e, b, m, f) : tie.Start × tie.After-word_at-node × tie.Else-node-nodes × tie.After-box_at × tie.After-box_met × tie.Then-not-box_met = search in
     let v = s.args in
-    let limited = s.pre.0.1 in
-    takes_past v.line v.reach v.pose.now v.triangles.now v.nodes v.node_boxes_lem.now v.node_words_lem.now v.order.now
-    v.stack.now v.top v.best s.pre.1.1.0 w.word_at.result w.word_at.ensures (omega (arith, e.if1.left)) limited
-    b.box-at.result b.box-at.ensures m.box-met.result
-    (λ l limit sees box past. m.box-met.ensures l limit sees box (plain limited.fits ∙ past))
-    (not-true m.box-met.result f.if2.taken)
+    let limited = s.requires.0.1 in
+    takes_past v.line v.reach v.pose.now v.triangles.now v.nodes v.node_boxes.now v.node_words.now v.order.now
+    v.stack.now v.top v.best s.requires.1.1.0 w.word_at-node.result w.word_at-node.ensures (omega (arith, e.if-node-nodes.false)) limited
+    b.box_at.result b.box_at.ensures m.box_met.result
+    (λ l limit sees box past. m.box_met.ensures l limit sees box (plain limited.fits ∙ past))
+    f.if-not-box_met.true
 
-open-node-requires : tie.Need-open-node-requires
+open-node-requires : tie.Need-open_node-requires
 open-node-requires c κs =
-    let (s, e) : tie.Start × tie.Else1 = search in
-    (s.pre.0, (s.pre.1.0, (omega (arith, e.if1.left), omega (arith, s.pre.1.1))))
+    let (s, e) : tie.Start × tie.Else-node-nodes = search in
+    (s.requires.0, (s.requires.1.0, (omega (arith, e.if-node-nodes.false), omega (arith, s.requires.1.1))))
 
 -- one that is opened
-returns-3 : tie.Need-returns-3
+returns-3 : tie.Need-returns
 returns-3 c =
-    let (s, w, e, b, m, f) : tie.Start × tie.After-word-at × tie.Else1 × tie.After-box-at × tie.After-box-met × tie.Else2 = search in
-    let o : tie.After-open-node = search in
+    let (s, w, e, b, m, f) : tie.Start × tie.After-word_at-node × tie.Else-node-nodes × tie.After-box_at × tie.After-box_met × tie.Else-not-box_met = search in
+    let o : tie.After-open_node = search in
     let v = s.args in
-    let limited = s.pre.0.1 in
-    takes_open v.line v.reach v.pose.now v.triangles.now v.nodes v.node_boxes_lem.now v.node_words_lem.now v.order.now
-    v.stack.now v.top v.best s.pre.1.1.0 w.word_at.result w.word_at.ensures (omega (arith, e.if1.left)) limited
-    b.box-at.result b.box-at.ensures m.box-met.result
-    (λ l limit sees box past. m.box-met.ensures l limit sees box (plain limited.fits ∙ past))
-    (not-false m.box-met.result f.if2.left)
-    o.open-node.ensures
+    let limited = s.requires.0.1 in
+    takes_open v.line v.reach v.pose.now v.triangles.now v.nodes v.node_boxes.now v.node_words.now v.order.now
+    v.stack.now v.top v.best s.requires.1.1.0 w.word_at-node.result w.word_at-node.ensures (omega (arith, e.if-node-nodes.false)) limited
+    b.box_at.result b.box_at.ensures m.box_met.result
+    (λ l limit sees box past. m.box_met.ensures l limit sees box (plain limited.fits ∙ past))
+    f.if-not-box_met.false
+    o.open_node.ensures
 
-pub take-node-spec : {M : Type 1} → statement M
-take-node-spec =
+pub take_node_spec : {M : Type 1} → statement M
+take_node_spec =
     tie.close
     (tie.spec
-    (search rules)  -- sub-below
-    (search rules)  -- word-at-requires
-    (search rules)  -- same-length
+    (search rules)  -- overflow_sub-below
+    (search rules)  -- word_at-node-requires
+    (search rules)  -- shape_of-stack-then-node-nodes
     returns
-    (search rules)  -- box-at-requires
+    (search rules)  -- box_at-requires
     box-met-requires
-    (search rules)  -- same-length-2
+    (search rules)  -- shape_of-stack-then-not-box_met
     returns-2
     open-node-requires
-    (search rules)  -- same-length-3
+    (search rules)  -- shape_of-stack
     returns-3)

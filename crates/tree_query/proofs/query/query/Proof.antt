@@ -17,99 +17,99 @@ use Rattle.tree_query.proofs.query.query.Tie as tie
 abbrev tree : tie.Start → Tree
 tree s =
     let a = s.args in
-    tree_of a.nodes a.node_boxes_lem.now a.triangle_boxes_lem.now a.node_words_lem.now a.order.now
+    tree_of a.nodes a.node_boxes.now a.triangle_boxes.now a.node_words.now a.order.now
 
 -- the third test
 abbrev fitting : tie.Start → Bool
 fitting s = walk_fits s.args.count (tree s) (length s.args.list.now) (length s.args.stack.now)
 
 -- past the three tests: what each says
-start : tie.Else3 → tie.Start
+start : tie.Else-not-walk_fits → tie.Start
 start e = search
 
-valid : (e : tie.Else3) → valid_box (start e).args.bounds ≡ true
+valid : (e : tie.Else-not-walk_fits) → valid_box (start e).args.bounds ≡ true
 unfolding start
 valid e =
-    let e1 : tie.Else1 = search in
-    test_passed e1.before.is-valid.ensures e1.if1.left
+    let e1 : tie.Else-not-is_valid = search in
+    test_passed e1.is_valid.ensures e1.if-not-is_valid.false
 
-admitted : (e : tie.Else3) → counts_admitted (start e).args.count (start e).args.nodes ≡ true
+admitted : (e : tie.Else-not-walk_fits) → counts_admitted (start e).args.count (start e).args.nodes ≡ true
 unfolding start
 admitted e =
-    let e2 : tie.Else2 = search in
-    test_passed e2.before.counts-admitted.ensures e2.if2.left
+    let e2 : tie.Else-not-counts_admitted = search in
+    test_passed e2.counts_admitted.ensures e2.if-not-counts_admitted.false
 
-fits : (e : tie.Else3) → fitting (start e) ≡ true
+fits : (e : tie.Else-not-walk_fits) → fitting (start e) ≡ true
 unfolding start
-fits e = test_passed {b = fitting (start e)} e.before.walk-fits.ensures e.if3.false
+fits e = test_passed {b = fitting (start e)} e.walk_fits.ensures e.if-not-walk_fits.false
 
 -- the box is not valid
-returns : tie.Need-returns
-returns c = (query_invalid _ _ _ _ _ (test_failed c.before.is-valid.ensures c.if1.true), λ _. refl)
+returns : tie.Need-returns-then-not-is_valid
+returns c = (query_invalid _ _ _ _ _ (test_failed c.is_valid.ensures c.if-not-is_valid.true), λ _. refl)
 
 -- the counts are not admitted
-returns-2 : tie.Need-returns-2
+returns-2 : tie.Need-returns-then-not-counts_admitted
 returns-2 c =
-    let e1 : tie.Else1 = search in
-    let v = test_passed e1.before.is-valid.ensures e1.if1.left in
-    (query_bad _ _ _ _ _ v (test_failed c.before.counts-admitted.ensures c.if2.true), λ _. refl)
+    let e1 : tie.Else-not-is_valid = search in
+    let v = test_passed e1.is_valid.ensures e1.if-not-is_valid.false in
+    (query_bad _ _ _ _ _ v (test_failed c.counts_admitted.ensures c.if-not-counts_admitted.true), λ _. refl)
 
-walk-fits-requires : tie.Need-walk-fits-requires
-walk-fits-requires c κs = counts_few _ _ (test_passed c.before.counts-admitted.ensures c.if2.false)
+walk-fits-requires : tie.Need-walk_fits-requires
+walk-fits-requires c κs = counts_few _ _ (test_passed c.counts_admitted.ensures c.if-not-counts_admitted.false)
 
 -- an area is too short
-returns-3 : tie.Need-returns-3
+returns-3 : tie.Need-returns-then-not-walk_fits
 returns-3 c =
-    let (s, e1, e2) : tie.Start × tie.Else1 × tie.Else2 = search in
-    let v = test_passed e1.before.is-valid.ensures e1.if1.left in
-    let a = test_passed e2.before.counts-admitted.ensures e2.if2.left in
-    let short = test_failed {b = fitting s} c.before.walk-fits.ensures c.if3.true in
+    let (s, e1, e2) : tie.Start × tie.Else-not-is_valid × tie.Else-not-counts_admitted = search in
+    let v = test_passed e1.is_valid.ensures e1.if-not-is_valid.false in
+    let a = test_passed e2.counts_admitted.ensures e2.if-not-counts_admitted.false in
+    let short = test_failed {b = fitting s} c.walk_fits.ensures c.if-not-walk_fits.true in
     (query_short _ _ (tree s) _ _ v a short, λ _. refl)
 
-walk-requires : tie.Need-walk-requires
+walk-requires : tie.Need-walk-walked-requires
 unfolding start
 walk-requires c κs =
-    let e : tie.Else3 = search in
+    let e : tie.Else-not-walk_fits = search in
     (omega (arith, counts_few _ _ (admitted e)), fits_room _ (tree (start e)) _ _ (counts_nodes _ _ (admitted e)) (fits e))
 
 -- the walk is broken off, and the list is cleared
-returns-4 : tie.Need-returns-4
+returns-4 : tie.Need-returns-in_default
 unfolding start
 returns-4 c =
-    let (e, w, told, z) : tie.Else3 × tie.After-walk × tie.After-enum-told × tie.After-zero-words = search in
-    let same-long = w.walk.kept.1.1.1.1.1.1.1.0 in (
-      query_broken _ _ (tree (start e)) _ _ (valid e) (admitted e) (fits e) _ _ w.walk.ensures.0 w.walk.ensures.1
-          _ told.enum_told.given.1 same-long z.zero-words.ensures,
+    let (e, w, told, z) : tie.Else-not-walk_fits × tie.After-walk-walked × tie.In_default × tie.After-zero_words = search in
+    let same-long = w.walk-walked.auto.list in (
+      query_broken _ _ (tree (start e)) _ _ (valid e) (admitted e) (fits e) _ _ w.walk-walked.ensures.0 w.walk-walked.ensures.1
+          _ told.in_default.is same-long z.zero_words.ensures,
       λ failed. absurd (tests_passed _ _ (tree (start e)) _ _ (valid e) (admitted e) (fits e) failed),
     )
 
 -- the walk ends
-returns-5 : tie.Need-returns-5
+returns-5 : tie.Need-returns
 unfolding start
 returns-5 c =
-    let (e, w, k) : tie.Else3 × tie.After-walk × tie.After-walked = search in (
-      query_listed _ _ (tree (start e)) _ _ (valid e) (admitted e) (fits e) _ _ w.walk.ensures.0 w.walk.ensures.1
-          _ k.walked.given.1,
+    let (e, w, k) : tie.Else-not-walk_fits × tie.After-walk-walked × tie.In-Count = search in (
+      query_listed _ _ (tree (start e)) _ _ (valid e) (admitted e) (fits e) _ _ w.walk-walked.ensures.0 w.walk-walked.ensures.1
+          _ k.in-Count.is,
       λ failed. absurd (tests_passed _ _ (tree (start e)) _ _ (valid e) (admitted e) (fits e) failed),
     )
 
-pub query-spec : {M : Type 1} → statement M
-query-spec =
+pub query_spec : {M : Type 1} → statement M
+query_spec =
     tie.close
     (tie.spec
-    (search rules)  -- is-valid-requires
+    (search rules)  -- is_valid-requires
     returns
-    (search rules)  -- counts-admitted-requires
+    (search rules)  -- counts_admitted-requires
     returns-2
     walk-fits-requires
     returns-3
     walk-requires
-    (search rules)  -- enum-known-walked
-    (search rules)  -- enum_told
-    (search rules)  -- zero-words-requires
-    (search rules)  -- same-length
-    (search rules)  -- same-length-2
+    (search rules)  -- enum_known-walked
+    (search rules)  -- enum_told-1
+    (search rules)  -- zero_words-requires
+    (search rules)  -- shape_of-list-in_default
+    (search rules)  -- shape_of-stack-in_default
     returns-4
-    (search rules)  -- same-length-3
-    (search rules)  -- same-length-4
+    (search rules)  -- shape_of-list
+    (search rules)  -- shape_of-stack
     returns-5)

@@ -6,7 +6,9 @@ use Rattle.tree_query.proofs.query.tree_fits.Tie as tie
 
 returns : tie.Need-returns
 unfolding tree_fits
-returns c = c.lengths-fit.ensures
+returns c = c.lengths_fit.ensures
 
-pub tree-fits-spec : {M : Type 1} → statement M
-tree-fits-spec = tie.close (tie.spec (search rules) returns)
+pub tree_fits_spec : {M : Type 1} → statement M
+tree_fits_spec = tie.close (tie.spec
+    (search rules)  -- lengths_fit-requires
+    returns)

@@ -7,32 +7,36 @@ use borrow.Author.Rules.{rules}
 use Rattle.tree_query.proofs.query.walk_fits.Statement.{statement}
 use Rattle.tree_query.proofs.query.walk_fits.Tie as tie
 
-returns : tie.Need-returns
+returns : tie.Need-returns-then-not-tree_fits
 unfolding walk_fits
-returns c = simp (sym c.before.tree-fits.ensures, not-true c.before.tree-fits.result c.if1.true)
+returns c = simp (sym c.tree_fits.ensures, c.if-not-tree_fits.true)
 
-returns-2 : tie.Need-returns-2
+returns-2 : tie.Need-returns-then-list-count
 unfolding walk_fits
 returns-2 c =
-    let at-tree-fits : tie.After-tree-fits = search in
+    let at-tree-fits : tie.After-tree_fits = search in
     simp (
-      sym at-tree-fits.tree-fits.ensures,
-      not-false at-tree-fits.tree-fits.result c.before.if1.false,
+      sym at-tree-fits.tree_fits.ensures,
+      c.if-not-tree_fits.false,
       lt-leb _ _
-          c.if2.true,
+          c.if-list-count.true,
     )
 
-returns-3 : tie.Need-returns-3
+returns-3 : tie.Need-returns
 unfolding walk_fits
 returns-3 c =
-    let at-tree-fits : tie.After-tree-fits = search in
+    let at-tree-fits : tie.After-tree_fits = search in
     simp (
-      sym at-tree-fits.tree-fits.ensures,
-      not-false at-tree-fits.tree-fits.result c.before.if1.false,
+      sym at-tree-fits.tree_fits.ensures,
+      c.if-not-tree_fits.false,
       le-leb _ _
-          c.if2.false,
+          c.if-list-count.false,
       add-one,
     )
 
-pub walk-fits-spec : {M : Type 1} → statement M
-walk-fits-spec = tie.close (tie.spec (search rules) returns returns-2 returns-3)
+pub walk_fits_spec : {M : Type 1} → statement M
+walk_fits_spec = tie.close (tie.spec
+    (search rules)  -- tree_fits-requires
+    returns
+    returns-2
+    returns-3)

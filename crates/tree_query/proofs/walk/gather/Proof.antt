@@ -12,40 +12,40 @@ use Rattle.tree_query.proofs.walk.gather.Tie as tie
 abbrev tree : tie.Start → Tree
 tree s =
     let a = s.args in
-    tree_of a.nodes a.node_boxes_lem.now a.triangle_boxes_lem.now a.node_words_lem.now a.order.now
+    tree_of a.nodes a.node_boxes.now a.triangle_boxes.now a.node_words.now a.order.now
 
 -- no node
-returns : tie.Need-returns
+returns : tie.Need-returns-then-nodes-eq0
 returns c =
     let s : tie.Start = search in
-    walks_none (tree s) _ _ _ c.if1.true
+    walks_none (tree s) _ _ _ c.if-nodes-eq0.true
 
 -- there is a first node, so its box is within the area
-box-at-requires : tie.Need-box-at-requires
+box-at-requires : tie.Need-box_at-requires
 box-at-requires c κs =
-    let (s, e) : tie.Start × tie.Else1 = search in
-    omega (arith, s.pre.boxed, e.if1.left)
+    let (s, e) : tie.Start × tie.Else-nodes-eq0 = search in
+    omega (arith, s.requires.boxed, e.if-nodes-eq0.false)
 
 -- the box does not touch that of the first node
-returns-2 : tie.Need-returns-2
+returns-2 : tie.Need-returns-then-not-touches
 returns-2 c =
-    let (s, e, b) : tie.Start × tie.Else1 × tie.After-box-at = search in
-    let t = c.before.touches in
-    root_apart (tree s) _ _ _ e.if1.left (touch_is _ _ _ _ t.ensures b.box-at.ensures _ (not-true t.result c.if2.true))
+    let (s, e, b) : tie.Start × tie.Else-nodes-eq0 × tie.After-box_at = search in
+    let t = c.touches in
+    root_apart (tree s) _ _ _ e.if-nodes-eq0.false (touch_is _ _ _ _ t.ensures b.box_at.ensures _ c.if-not-touches.true)
 
-gather-ahead-requires : tie.Need-gather-ahead-requires
+gather-ahead-requires : tie.Need-gather_ahead-requires
 gather-ahead-requires c κs =
     let s : tie.Start = search in
-    s.pre
+    s.requires
 
 -- what the walk gives
-returns-3 : tie.Need-returns-3
+returns-3 : tie.Need-returns
 returns-3 c =
-    let g : tie.After-gather-ahead = search in
-    g.gather-ahead.ensures
+    let g : tie.After-gather_ahead = search in
+    g.gather_ahead.ensures
 
-pub gather-spec : {M : Type 1} → statement M
-gather-spec =
+pub gather_spec : {M : Type 1} → statement M
+gather_spec =
     tie.close
     (tie.spec
     returns
@@ -53,6 +53,6 @@ gather-spec =
     (λ c κs. search rules)  -- touches-requires
     returns-2
     gather-ahead-requires
-    (search rules)  -- same-length
-    (search rules)  -- same-length-2
+    (search rules)  -- shape_of-list
+    (search rules)  -- shape_of-stack
     returns-3)

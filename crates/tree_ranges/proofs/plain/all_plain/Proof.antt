@@ -29,60 +29,60 @@ module _ (p : ℕ → Bool) (ts : List ℕ) (i : ℕ) where
   unfolding every
   every-end h = rw (drop_of_length-le ts {i = i} h)
 
-abbrev invariant-loop : tie.invariant-loop
+abbrev invariant-loop : tie.invariant-loop-i
 invariant-loop boxes order i₀ i = (every (λ (t : ℕ). plain_box (box_at boxes t)) (drop i order) ≡ plain_range boxes order) × (i ≤ length order)
 
-abbrev decreases-loop : tie.decreases-loop
+abbrev decreases-loop : tie.decreases-loop-i
 decreases-loop boxes order i₀ i = length order - i
 
-loop-holds : tie.Need-loop-init invariant-loop decreases-loop
+loop-holds : tie.Need-loop-i-init invariant-loop decreases-loop
 unfolding plain_range
 loop-holds c = (refl, omega arith)
 
 -- one box that is not plain
-returns : tie.Need-returns invariant-loop decreases-loop
+returns : tie.Need-returns-then-not-box_is_plain invariant-loop decreases-loop
 returns c =
-    let (s, l, t) : (tie.Start invariant-loop decreases-loop) × (tie.At-loop invariant-loop decreases-loop) × (tie.In-loop invariant-loop decreases-loop) = search in
-    let (b, p) : (tie.After-box-of invariant-loop decreases-loop) × (tie.After-box-is-plain invariant-loop decreases-loop) = search in
+    let (s, l, t) : (tie.Start invariant-loop decreases-loop) × (tie.At-loop-i invariant-loop decreases-loop) × (tie.In-loop-i invariant-loop decreases-loop) = search in
+    let (b, p) : (tie.After-box_of invariant-loop decreases-loop) × (tie.After-box_is_plain invariant-loop decreases-loop) = search in
     let a = s.args in
     sym
-    (every-fails (λ (t : ℕ). plain_box (box_at a.boxes.now t)) a.order.now l.loop.i t.loop-test.taken
-    (ap plain_box (sym b.box_of.ensures) ∙ test_failed p.box-is-plain.ensures c.if1.true))
-    ∙ l.loop.inv.0
+    (every-fails (λ (t : ℕ). plain_box (box_at a.boxes.now t)) a.order.now l.loop-i.i t.loop-i-test.true
+    (ap plain_box (sym b.box_of.ensures) ∙ test_failed p.box_is_plain.ensures c.if-not-box_is_plain.true))
+    ∙ l.loop-i.invariant.0
 
 -- the next box is plain
-loop-again : tie.Need-loop-preserved invariant-loop decreases-loop
+loop-again : tie.Need-loop-i-preserved invariant-loop decreases-loop
 loop-again c =
-    let (s, l, t) : (tie.Start invariant-loop decreases-loop) × (tie.At-loop invariant-loop decreases-loop) × (tie.In-loop invariant-loop decreases-loop) = search in
-    let (b, p, e) : (tie.After-box-of invariant-loop decreases-loop) × (tie.After-box-is-plain invariant-loop decreases-loop) × (tie.Else1 invariant-loop decreases-loop) = search in
+    let (s, l, t) : (tie.Start invariant-loop decreases-loop) × (tie.At-loop-i invariant-loop decreases-loop) × (tie.In-loop-i invariant-loop decreases-loop) = search in
+    let (b, p, e) : (tie.After-box_of invariant-loop decreases-loop) × (tie.After-box_is_plain invariant-loop decreases-loop) × (tie.Else-not-box_is_plain invariant-loop decreases-loop) = search in
     let a = s.args in (
-      every-next (λ (t : ℕ). plain_box (box_at a.boxes.now t)) a.order.now l.loop.i t.loop-test.taken
-          (ap plain_box (sym b.box_of.ensures) ∙ test_passed p.box-is-plain.ensures e.if1.left)
-          ∙ l.loop.inv.0,
+      every-next (λ (t : ℕ). plain_box (box_at a.boxes.now t)) a.order.now l.loop-i.i t.loop-i-test.true
+          (ap plain_box (sym b.box_of.ensures) ∙ test_passed p.box_is_plain.ensures e.if-not-box_is_plain.false)
+          ∙ l.loop-i.invariant.0,
       omega arith,
     )
 
 -- all of them
-returns-2 : tie.Need-returns-2 invariant-loop decreases-loop
+returns-2 : tie.Need-returns invariant-loop decreases-loop
 returns-2 c =
     let s : tie.Start invariant-loop decreases-loop = search in
-    let l = c.before.loop in
+    let l = c.loop-i in
     let a = s.args in
-    sym (every-end (λ (t : ℕ). plain_box (box_at a.boxes.now t)) a.order.now l.i c.loop-test.false) ∙ l.invariant.0
+    sym (every-end (λ (t : ℕ). plain_box (box_at a.boxes.now t)) a.order.now l.i c.loop-i-test.false) ∙ l.invariant.0
 
-pub all-plain-spec : {M : Type 1} → statement M
-all-plain-spec =
+pub all_plain_spec : {M : Type 1} → statement M
+all_plain_spec =
     tie.close
     (tie.spec
     invariant-loop
     decreases-loop
     loop-holds
-    (search rules)  -- mul-box-of
-    (search rules)  -- shared-slice-read-box-of
-    (search rules)  -- box-of-requires
-    (search rules)  -- box-is-plain-requires
+    (search rules)  -- offset_bounds-order-i
+    (search rules)  -- bounds-order-i
+    (search rules)  -- box_of-requires
+    (search rules)  -- box_is_plain-requires
     returns
-    (search rules)  -- add-i
-    (search rules)  -- loop-less
+    (search rules)  -- overflow_add-i
+    (search rules)  -- loop-i-smaller
     loop-again
     returns-2)

@@ -8,26 +8,33 @@ use borrow.Author.Rules.{rules}
 use Rattle.tree_ranges.proofs.plain.box_is_plain.Statement.{statement}
 use Rattle.tree_ranges.proofs.plain.box_is_plain.Tie as tie
 
-returns : tie.Need-returns
+returns : tie.Need-returns-then-not-vector_is_plain
 unfolding plain_box
-returns c = simp (test_failed c.before.vector-is-plain.ensures c.if1.true)
+returns c = simp (test_failed c.vector_is_plain.ensures c.if-not-vector_is_plain.true)
 
-returns-2 : tie.Need-returns-2
+returns-2 : tie.Need-returns-then-not-vector_is_plain-2
 unfolding plain_box
 returns-2 c =
-    let (a, x) : tie.After-vector-is-plain × tie.Else1 = search in
-    simp (test_passed a.vector-is-plain.ensures x.if1.left, test_failed c.before.vector-is-plain2.ensures c.if2.true)
+    let (a, x) : tie.After-vector_is_plain × tie.Else-not-vector_is_plain = search in
+    simp (test_passed a.vector_is_plain.ensures x.if-not-vector_is_plain.false, test_failed c.vector_is_plain-2.ensures c.if-not-vector_is_plain-2.true)
 
-returns-3 : tie.Need-returns-3
+returns-3 : tie.Need-returns
 unfolding plain_box
 returns-3 c =
     let (s, a, x, b, y, m) :
-    tie.Start × tie.After-vector-is-plain × tie.Else1 × tie.After-vector-is-plain2 × tie.Else2 × tie.After-center = search in
-    c.vector-is-plain3.ensures
+    tie.Start × tie.After-vector_is_plain × tie.Else-not-vector_is_plain × tie.After-vector_is_plain-2 × tie.Else-not-vector_is_plain-2 × tie.After-center = search in
+    c.vector_is_plain-3.ensures
     ∙ ap plain_vec m.center.ensures
     ∙ last_decides (plain_vec s.args.b.min) (plain_vec s.args.b.max) (plain_vec (centre s.args.b))
-    (test_passed a.vector-is-plain.ensures x.if1.left) (test_passed b.vector-is-plain2.ensures y.if2.left)
+    (test_passed a.vector_is_plain.ensures x.if-not-vector_is_plain.false) (test_passed b.vector_is_plain-2.ensures y.if-not-vector_is_plain-2.false)
 
-pub box-is-plain-spec : {M : Type 1} → statement M
-box-is-plain-spec =
-    tie.close (tie.spec (search rules) returns (search rules) returns-2 (search rules) (search rules) returns-3)
+pub box_is_plain_spec : {M : Type 1} → statement M
+box_is_plain_spec =
+    tie.close (tie.spec
+    (search rules)  -- vector_is_plain-requires
+    returns
+    (search rules)  -- vector_is_plain-requires-2
+    returns-2
+    (search rules)  -- center-requires
+    (search rules)  -- vector_is_plain-requires-3
+    returns-3)

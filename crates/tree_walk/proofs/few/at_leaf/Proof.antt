@@ -6,65 +6,65 @@ use borrow.Author.Rules.{rules}
 use Rattle.tree_walk.proofs.few.at_leaf.Statement.{statement}
 use Rattle.tree_walk.proofs.few.at_leaf.Tie as tie
 
-add-if1 : tie.Need-overflow-add-if1
+add-if1 : tie.Need-overflow_add-start
 add-if1 c =
-    let (start, at-known) : tie.Start × tie.After-shared-slice-known2 = search in
+    let (start, at-known) : tie.Start × tie.After-shared_slice_known-2-1 = search in
     omega (
       arith,
-      at-known.shared-slice-known2.given (3 * start.args.node + 1),
-      at-known.shared-slice-known2.given (3 * start.args.node + 2),
-      c.before.word_at.ensures,
-      c.word-at2.ensures,
+      at-known.shared_slice_known-2-1.given (3 * start.args.node + 1),
+      at-known.shared_slice_known-2-1.given (3 * start.args.node + 2),
+      c.word_at-start.ensures,
+      c.word_at-size.ensures,
     )
 
-returns : tie.Need-returns
+returns : tie.Need-returns-then-start-size
 returns c =
-    let at-word-at : tie.After-word-at = search in
-    leaf_outside _ _ _ _ _ _ _ _ _ _ at-word-at.word_at.ensures c.before.word-at2.ensures c.if1.true
+    let at-word-at : tie.After-word_at-start = search in
+    leaf_outside _ _ _ _ _ _ _ _ _ _ at-word-at.word_at-start.ensures c.word_at-size.ensures c.if-start-size.true
 
-take-few-requires : tie.Need-take-few-requires
+take-few-requires : tie.Need-take_few-requires
 take-few-requires c κs =
-    let (start, few, wide) : tie.Start × tie.Then2 × tie.Then3 = search in
-    (omega arith, (omega arith, (omega (arith, few.if2.taken), (omega (arith, wide.if3.taken), start.pre.1))))
+    let (start, few, wide) : tie.Start × tie.Then-size-le4 × tie.Then-found-count = search in
+    (omega arith, (omega arith, (omega (arith, few.if-size-le4.true), (omega (arith, wide.if-found-count.true), start.requires.1))))
 
 -- the few of them
-returns-2 : tie.Need-returns-2
+returns-2 : tie.Need-returns-then-found-count
 returns-2 c =
-    let (at-word-at, at-word-at2, else1, at-take-few) : tie.After-word-at × tie.After-word-at2 × tie.Else1 × tie.After-take-few = search in
-    leaf_taken _ _ _ _ _ _ _ _ _ _ at-word-at.word_at.ensures at-word-at2.word-at2.ensures else1.if1.left _ _
-    at-take-few.take-few.ensures
+    let (at-word-at, at-word-at2, else1, at-take-few) : tie.After-word_at-start × tie.After-word_at-size × tie.Else-start-size × tie.After-take_few = search in
+    leaf_taken _ _ _ _ _ _ _ _ _ _ at-word-at.word_at-start.ensures at-word-at2.word_at-size.ensures else1.if-start-size.false _ _
+    at-take-few.take_few.ensures
 
-take-places-requires : tie.Need-take-places-requires
+take-places-requires : tie.Need-take_places-requires
 take-places-requires c κs =
-    let (start, else1) : tie.Start × tie.Else1 = search in
-    (omega arith, (omega (arith, else1.if1.left), start.pre.1))
+    let (start, else1) : tie.Start × tie.Else-start-size = search in
+    (omega arith, (omega (arith, else1.if-start-size.false), start.requires.1))
 
 -- or all, one after another
-returns-3 : tie.Need-returns-3
+returns-3 : tie.Need-returns
 returns-3 c =
     let (at-word-at, at-word-at2, else1, at-take-places) :
-    tie.After-word-at × tie.After-word-at2 × tie.Else1 × tie.After-take-places = search in
-    leaf_taken _ _ _ _ _ _ _ _ _ _ at-word-at.word_at.ensures at-word-at2.word-at2.ensures else1.if1.left _ _
+    tie.After-word_at-start × tie.After-word_at-size × tie.Else-start-size × tie.After-take_places = search in
+    leaf_taken _ _ _ _ _ _ _ _ _ _ at-word-at.word_at-start.ensures at-word-at2.word_at-size.ensures else1.if-start-size.false _ _
     at-take-places.take_places.ensures
 
-pub at-leaf-spec : {M : Type 1} → statement M
-at-leaf-spec =
+pub at_leaf_spec : {M : Type 1} → statement M
+at_leaf_spec =
     tie.close
     (tie.spec
-    (search rules)  -- mul-word-at
-    (search rules)  -- add-word-at
-    (search rules)  -- word-at-requires
-    (search rules)  -- mul-word-at-2
-    (search rules)  -- add-word-at-2
-    (search rules)  -- word-at-requires-2
+    (search rules)  -- overflow_mul-node
+    (search rules)  -- overflow_add-node
+    (search rules)  -- word_at-start-requires
+    (search rules)  -- overflow_mul-node-2
+    (search rules)  -- overflow_add-node-2
+    (search rules)  -- word_at-size-requires
     add-if1
     returns
-    (search rules)  -- add-if3
-    (search rules)  -- add-take-few
+    (search rules)  -- overflow_add-found
+    (search rules)  -- overflow_add-start-then-found-count
     take-few-requires
-    (search rules)  -- same-length
+    (search rules)  -- shape_of-list-then-found-count
     returns-2
-    (search rules)  -- add-take-places
+    (search rules)  -- overflow_add-start-2
     take-places-requires
-    (search rules)  -- same-length-2
+    (search rules)  -- shape_of-list
     returns-3)

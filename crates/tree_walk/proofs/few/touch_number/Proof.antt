@@ -8,7 +8,7 @@ use borrow.Author.Rules.{rules}
 use Rattle.tree_walk.proofs.few.touch_number.Statement.{statement}
 use Rattle.tree_walk.proofs.few.touch_number.Tie as tie
 
-mul_low : tie.Need-overflow-mul-low
+mul_low : tie.Need-overflow_mul-low
 mul_low c =
     let s : tie.Start = search in
     let a = s.args.near in
@@ -17,7 +17,7 @@ mul_low c =
     let q = le a.min.y b.max.y in
     omega (arith, numbers_joined p q, number_small (p && q))
 
-mul-high : tie.Need-overflow-mul-high
+mul-high : tie.Need-overflow_mul-high
 mul-high c =
     let s : tie.Start = search in
     let a = s.args.near in
@@ -26,7 +26,7 @@ mul-high c =
     let q = le b.min.z a.max.z in
     omega (arith, numbers_joined p q, number_small (p && q))
 
-mul-rest : tie.Need-overflow-mul-rest
+mul-rest : tie.Need-overflow_mul-rest
 mul-rest c =
     let s : tie.Start = search in
     let a = s.args.near in
@@ -35,7 +35,7 @@ mul-rest c =
     let q = le b.min.x a.max.x in
     omega (arith, numbers_joined p q, number_small (p && q))
 
-mul-result : tie.Need-overflow-mul-result
+mul-result : tie.Need-overflow_mul-result
 mul-result c =
     let s : tie.Start = search in
     let a = s.args.near in
@@ -46,7 +46,7 @@ mul-result c =
     let t = le b.min.z a.max.z in
     omega (arith, four_joined p q r t, number_small ((p && q) && (r && t)))
 
-mul-result-2 : tie.Need-overflow-mul-result-2
+mul-result-2 : tie.Need-overflow_mul-result-2
 mul-result-2 c =
     let s : tie.Start = search in
     omega (arith, touch_number_is s.args.near s.args.bounds, number_small (touches s.args.near s.args.bounds))
@@ -56,18 +56,18 @@ returns c =
     let s : tie.Start = search in
     touch_number_is s.args.near s.args.bounds
 
-pub touch-number-spec : {M : Type 1} → statement M
-touch-number-spec =
+pub touch_number_spec : {M : Type 1} → statement M
+touch_number_spec =
     tie.close
     (tie.spec
-    (search rules)  -- cast-low
-    (search rules)  -- cast-low-2
+    (search rules)  -- overflow_cast-low
+    (search rules)  -- overflow_cast-low-2
     mul_low
-    (search rules)  -- cast-high
-    (search rules)  -- cast-high-2
+    (search rules)  -- overflow_cast-high
+    (search rules)  -- overflow_cast-high-2
     mul-high
-    (search rules)  -- cast-rest
-    (search rules)  -- cast-rest-2
+    (search rules)  -- overflow_cast-rest
+    (search rules)  -- overflow_cast-rest-2
     mul-rest
     mul-result
     mul-result-2

@@ -8,52 +8,52 @@ use borrow.Author.Rules.{rules}
 use Rattle.tree_walk.proofs.step.at_branch.Statement.{statement}
 use Rattle.tree_walk.proofs.step.at_branch.Tie as tie
 
-cast-left : tie.Need-overflow-cast-left
+cast-left : tie.Need-overflow_cast-left
 cast-left c =
     let start : tie.Start = search in
-    omega (arith, c.shared-slice-known2.given (3 * start.args.node + 1))
+    omega (arith, c.shared_slice_known-2-1.given (3 * start.args.node + 1))
 
-returns : tie.Need-returns
-returns c = left_unfit _ _ _ _ _ _ _ (sym c.before.child_fits.ensures ∙ not-true c.before.child_fits.result c.if1.true)
+returns : tie.Need-returns-then-not-child_fits
+returns c = left_unfit _ _ _ _ _ _ _ (sym c.child_fits.ensures ∙ c.if-not-child_fits.true)
 
-cast-child-fits : tie.Need-overflow-cast-child-fits
+cast-child-fits : tie.Need-overflow_cast-right
 cast-child-fits c =
-    let (start, at-shared-slice-known2) : tie.Start × tie.After-shared-slice-known2 = search in
-    omega (arith, at-shared-slice-known2.shared-slice-known2.given (3 * start.args.node + 2))
+    let (start, at-shared-slice-known2) : tie.Start × tie.After-shared_slice_known-2-1 = search in
+    omega (arith, at-shared-slice-known2.shared_slice_known-2-1.given (3 * start.args.node + 2))
 
-returns-2 : tie.Need-returns-2
+returns-2 : tie.Need-returns-then-not-child_fits-2
 returns-2 c =
-    let (at-child-fits, else1) : tie.After-child-fits × tie.Else1 = search in
-    right_unfit _ _ _ _ _ _ _ (sym at-child-fits.child_fits.ensures ∙ not-false at-child-fits.child_fits.result else1.if1.left)
-    (sym c.before.child-fits2.ensures ∙ not-true c.before.child-fits2.result c.if2.true)
+    let (at-child-fits, else1) : tie.After-child_fits × tie.Else-not-child_fits = search in
+    right_unfit _ _ _ _ _ _ _ (sym at-child-fits.child_fits.ensures ∙ else1.if-not-child_fits.false)
+    (sym c.child_fits-2.ensures ∙ c.if-not-child_fits-2.true)
 
-returns-3 : tie.Need-returns-3
+returns-3 : tie.Need-returns
 returns-3 c =
-    let (start, at-child-fits, else1) : tie.Start × tie.After-child-fits × tie.Else1 = search in
-    right_pushed _ _ _ _ _ _ _ (sym at-child-fits.child_fits.ensures ∙ not-false at-child-fits.child_fits.result else1.if1.left)
-    (sym c.before.child-fits2.ensures ∙ not-false c.before.child-fits2.result c.if2.false) start.pre.1.0
-    start.pre.1.1
+    let (start, at-child-fits, else1) : tie.Start × tie.After-child_fits × tie.Else-not-child_fits = search in
+    right_pushed _ _ _ _ _ _ _ (sym at-child-fits.child_fits.ensures ∙ else1.if-not-child_fits.false)
+    (sym c.child_fits-2.ensures ∙ c.if-not-child_fits-2.false) start.requires.1.0
+    start.requires.1.1
 
-pub at-branch-spec : {M : Type 1} → statement M
-at-branch-spec =
+pub at_branch_spec : {M : Type 1} → statement M
+at_branch_spec =
     tie.close
     (tie.spec
-    (search rules)  -- mul-left
-    (search rules)  -- add-left
-    (search rules)  -- mul-left-2
-    (search rules)  -- shared-slice-read-left
+    (search rules)  -- overflow_mul-left
+    (search rules)  -- overflow_add-left
+    (search rules)  -- offset_bounds-node_words-node
+    (search rules)  -- bounds-node_words-node
     cast-left
-    (search rules)  -- mul-right
-    (search rules)  -- add-right
-    (search rules)  -- mul-right-2
-    (search rules)  -- shared-slice-read-right
-    (search rules)  -- child-fits-requires
+    (search rules)  -- overflow_mul-right
+    (search rules)  -- overflow_add-right
+    (search rules)  -- offset_bounds-node_words-node-2
+    (search rules)  -- bounds-node_words-node-2
+    (search rules)  -- child_fits-requires
     returns
     cast-child-fits
-    (search rules)  -- child-fits-requires-2
+    (search rules)  -- child_fits-requires-2
     returns-2
-    (search rules)  -- mul-stack
-    (search rules)  -- slice-write-stack
-    (search rules)  -- add-t11
-    (search rules)  -- same-length
+    (search rules)  -- offset_bounds-stack-top
+    (search rules)  -- bounds-stack-top
+    (search rules)  -- overflow_add-result
+    (search rules)  -- shape_of-stack
     returns-3)

@@ -9,49 +9,46 @@ use borrow.Author.Rules.{rules}
 use Rattle.tree_walk.proofs.step.take_place.Statement.{statement}
 use Rattle.tree_walk.proofs.step.take_place.Tie as tie
 
-cast-index : tie.Need-overflow-cast-index
+cast-index : tie.Need-overflow_cast-index
 cast-index c =
     let start : tie.Start = search in
-    omega (arith, c.shared-slice-known3.given start.args.place)
+    omega (arith, c.shared_slice_known-3-1.given start.args.place)
 
-returns : tie.Need-returns
-returns c = place_outside _ _ _ _ _ _ _ c.if1.true
+returns : tie.Need-returns-then-index-count
+returns c = place_outside _ _ _ _ _ _ _ c.if-index-count.true
 
-returns-2 : tie.Need-returns-2
+returns-2 : tie.Need-returns-then-not-touches
 returns-2 c =
-    let (start, else1, at-box-at) : tie.Start × tie.Else1 × tie.After-box-at = search in
-    place_missed _ _ _ _ _ _ _ start.pre.1 else1.if1.left
-    (sym (c.before.touches.ensures ∙ ap (λ (b : Aabb). touches b start.args.bounds) at-box-at.box-at.ensures) ∙ not-true
-    c.before.touches.result c.if2.true)
+    let (start, else1, at-box-at) : tie.Start × tie.Else-index-count × tie.After-box_at = search in
+    place_missed _ _ _ _ _ _ _ start.requires.1 else1.if-index-count.false
+    (sym (c.touches.ensures ∙ ap (λ (b : Aabb). touches b start.args.bounds) at-box-at.box_at.ensures) ∙ c.if-not-touches.true)
 
-returns-3 : tie.Need-returns-3
+returns-3 : tie.Need-returns-then-found-count
 returns-3 c =
-    let (start, else1, at-box-at, at-touches) : tie.Start × tie.Else1 × tie.After-box-at × tie.After-touches = search in
-    place_full _ _ _ _ _ _ _ start.pre.1 else1.if1.left
-    (sym (at-touches.touches.ensures ∙ ap (λ (b : Aabb). touches b start.args.bounds) at-box-at.box-at.ensures) ∙ not-false
-    at-touches.touches.result c.before.if2.false) c.if3.true
+    let (start, else1, at-box-at, at-touches) : tie.Start × tie.Else-index-count × tie.After-box_at × tie.After-touches = search in
+    place_full _ _ _ _ _ _ _ start.requires.1 else1.if-index-count.false
+    (sym (at-touches.touches.ensures ∙ ap (λ (b : Aabb). touches b start.args.bounds) at-box-at.box_at.ensures) ∙ c.if-not-touches.false) c.if-found-count.true
 
-returns-4 : tie.Need-returns-4
+returns-4 : tie.Need-returns
 returns-4 c =
-    let (start, else1, at-box-at, at-touches) : tie.Start × tie.Else1 × tie.After-box-at × tie.After-touches = search in
-    place_listed _ _ _ _ _ _ _ start.pre.1 else1.if1.left
-    (sym (at-touches.touches.ensures ∙ ap (λ (b : Aabb). touches b start.args.bounds) at-box-at.box-at.ensures) ∙ not-false
-    at-touches.touches.result c.before.if2.false) c.if3.false
+    let (start, else1, at-box-at, at-touches) : tie.Start × tie.Else-index-count × tie.After-box_at × tie.After-touches = search in
+    place_listed _ _ _ _ _ _ _ start.requires.1 else1.if-index-count.false
+    (sym (at-touches.touches.ensures ∙ ap (λ (b : Aabb). touches b start.args.bounds) at-box-at.box_at.ensures) ∙ c.if-not-touches.false) c.if-found-count.false
 
-pub take-place-spec : {M : Type 1} → statement M
-take-place-spec =
+pub take_place_spec : {M : Type 1} → statement M
+take_place_spec =
     tie.close
     (tie.spec
-    (search rules)  -- mul-triangle
-    (search rules)  -- shared-slice-read-triangle
+    (search rules)  -- offset_bounds-order-place
+    (search rules)  -- bounds-order-place
     cast-index
     returns
-    (search rules)  -- box-at-requires
+    (search rules)  -- box_at-requires
     (search rules)  -- touches-requires
     returns-2
     returns-3
-    (search rules)  -- mul-list
-    (search rules)  -- slice-write-list
-    (search rules)  -- add-t10
-    (search rules)  -- same-length
+    (search rules)  -- offset_bounds-list-found
+    (search rules)  -- bounds-list-found
+    (search rules)  -- overflow_add-result
+    (search rules)  -- shape_of-list
     returns-4)

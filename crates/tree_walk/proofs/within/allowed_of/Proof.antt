@@ -3,11 +3,11 @@ use borrow.Author.Tests.{lt-ltb, le-ltb}
 use Rattle.tree_walk.proofs.within.allowed_of.Statement.{statement}
 use Rattle.tree_walk.proofs.within.allowed_of.Tie as tie
 
-returns : tie.Need-returns
-returns c = simp (lt-ltb _ _ c.if1.true)
+returns : tie.Need-returns-then-limit-nodes
+returns c = simp (lt-ltb _ _ c.if-limit-nodes.true)
 
-returns-2 : tie.Need-returns-2
-returns-2 c = simp (le-ltb _ _ c.if1.false)
+returns-2 : tie.Need-returns
+returns-2 c = simp (le-ltb _ _ c.if-limit-nodes.false)
 
-pub allowed-of-spec : {M : Type 1} → statement M
-allowed-of-spec = tie.close (tie.spec returns returns-2)
+pub allowed_of_spec : {M : Type 1} → statement M
+allowed_of_spec = tie.close (tie.spec returns returns-2)

@@ -8,17 +8,17 @@ use Rattle.triangle_cast.proofs.triangle.at_least_size.Tie as tie
 greater-requires : tie.Need-greater-requires
 greater-requires c κs =
     let s : tie.Start = search in
-    s.pre
+    s.requires
 
 returns : tie.Need-returns
 returns c =
     let (s, g) : tie.Start × tie.After-greater = search in (
-      c.greater2.ensures.0 ∙ ap (λ (m : Float). maximum_of m (neg s.args.x)) g.greater.ensures.0,
-      c.greater2.ensures.1,
+      c.greater-2.ensures.0 ∙ ap (λ (m : Float). maximum_of m (neg s.args.x)) g.greater.ensures.0,
+      c.greater-2.ensures.1,
     )
 
-pub at-least-size-spec : {M : Type 1} → statement M
-at-least-size-spec =
+pub at_least_size_spec : {M : Type 1} → statement M
+at_least_size_spec =
     tie.close
     (tie.spec
     greater-requires

@@ -6,26 +6,26 @@ use Rattle.triangle_cast.proofs.triangle.cast_within.Statement.{statement}
 use Rattle.triangle_cast.proofs.triangle.cast_within.Tie as tie
 
 -- a miss
-returns : tie.Need-returns
+returns : tie.Need-returns-in_default
 returns c =
-    let (s, w) : tie.Start × tie.After-distance-within = search in
-    let told = sym w.distance-within.ensures ∙ c.enum_told.given.1 in
+    let (s, w) : tie.Start × tie.After-distance_within-found = search in
+    let told = sym w.distance_within-found.ensures ∙ c.in_default.is in
     no_distance _ _ _ _ s.args.determinant _ _ told
 
 -- the rest at a distance
-returns-2 : tie.Need-returns-2
+returns-2 : tie.Need-returns
 returns-2 c =
-    let (s, w, f) : tie.Start × tie.After-distance-within × tie.After-found = search in
-    let told = sym w.distance-within.ensures ∙ f.found.given.1 in
-    c.settled-cast.ensures ∙ from_distance _ _ _ _ s.args.determinant _ _ _ told
+    let (s, w, f) : tie.Start × tie.After-distance_within-found × tie.In-At = search in
+    let told = sym w.distance_within-found.ensures ∙ f.in-At.is in
+    c.settled_cast.ensures ∙ from_distance _ _ _ _ s.args.determinant _ _ _ told
 
-pub cast-within-spec : {M : Type 1} → statement M
-cast-within-spec =
+pub cast_within_spec : {M : Type 1} → statement M
+cast_within_spec =
     tie.close
     (tie.spec
-    (λ c κs. search rules)  -- distance-within-requires
-    (search rules)  -- enum-known-found
-    (search rules)  -- enum_told
+    (λ c κs. search rules)  -- distance_within-found-requires
+    (search rules)  -- enum_known-found
+    (search rules)  -- enum_told-1
     returns
-    (λ c κs. search rules)  -- settled-cast-requires
+    (λ c κs. search rules)  -- settled_cast-requires
     returns-2)

@@ -8,12 +8,12 @@ use Rattle.triangle_cast.proofs.triangle.has_normal.Tie as tie
 
 returns : tie.Need-returns
 unfolding has_normal
-returns c = c.has-direction.ensures ∙ ap normalizable c.before.cross.ensures
+returns c = c.has_direction.ensures ∙ ap normalizable c.cross.ensures
 
-pub has-normal-spec : {M : Type 1} → statement M
-has-normal-spec =
+pub has_normal_spec : {M : Type 1} → statement M
+has_normal_spec =
     tie.close
     (tie.spec
     (search rules)  -- cross-requires
-    (search rules)  -- has-direction-requires
+    (search rules)  -- has_direction-requires
     returns)

@@ -7,16 +7,16 @@ use Rattle.triangle_cast.proofs.triangle.hit_at.Tie as tie
 returns : tie.Need-returns
 returns c =
     let at-sub : tie.After-sub = search in
-    simp (sym at-sub.sub.ensures, sym c.before.sub2.ensures, sym c.triangle-normal.ensures)
+    simp (sym at-sub.sub.ensures, sym c.sub-2.ensures, sym c.triangle_normal.ensures)
 
-pub hit-at-spec : {M : Type 1} → statement M
-hit-at-spec =
+pub hit_at_spec : {M : Type 1} → statement M
+hit_at_spec =
     tie.close
     (tie.spec
-    (search rules)  -- array-copy-out-first
-    (search rules)  -- array-copy-out-second
-    (search rules)  -- array-copy-out-third
+    (search rules)  -- bounds-corners-0
+    (search rules)  -- bounds-corners-1
+    (search rules)  -- bounds-corners-2
     (search rules)  -- sub-requires
     (search rules)  -- sub-requires-2
-    (search rules)  -- triangle-normal-requires
+    (search rules)  -- triangle_normal-requires
     returns)

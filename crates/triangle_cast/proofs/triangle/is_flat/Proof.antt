@@ -6,16 +6,16 @@ use Rattle.triangle_cast.proofs.triangle.is_flat.Tie as tie
 
 returns : tie.Need-returns
 returns c =
-    let (s, a, b, g) : tie.Start × tie.After-size-from-one × tie.After-size-from-one2 × tie.After-greater = search in
-    rw (g.greater.ensures.0, a.size-from-one.ensures.0, b.size-from-one2.ensures.0, c.abs.ensures)
+    let (s, a, b, g) : tie.Start × tie.After-size_from_one × tie.After-size_from_one-2 × tie.After-greater-scale = search in
+    rw (g.greater-scale.ensures.0, a.size_from_one.ensures.0, b.size_from_one-2.ensures.0, c.abs.ensures)
     (flat_by_size s.args.determinant s.args.a s.args.b)
 
-pub is-flat-spec : {M : Type 1} → statement M
-is-flat-spec =
+pub is_flat_spec : {M : Type 1} → statement M
+is_flat_spec =
     tie.close
     (tie.spec
-    (λ c κs. search rules)  -- size-from-one-requires
-    (λ c κs. search rules)  -- size-from-one-requires-2
-    (λ c κs. c.before.size-from-one.ensures.1)  -- greater-requires
+    (λ c κs. search rules)  -- size_from_one-requires
+    (λ c κs. search rules)  -- size_from_one-requires-2
+    (λ c κs. c.size_from_one.ensures.1)  -- greater-scale-requires
     (λ c κs. search rules)  -- abs-requires
     returns)

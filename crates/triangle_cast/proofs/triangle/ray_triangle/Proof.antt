@@ -6,20 +6,24 @@ use borrow.Author.Rules.{rules}
 use Rattle.triangle_cast.proofs.triangle.ray_triangle.Statement.{statement}
 use Rattle.triangle_cast.proofs.triangle.ray_triangle.Tie as tie
 
-returns : tie.Need-returns
+returns : tie.Need-returns-then-not-validate
 unfolding ray_triangle
-returns c = simp (sym c.before.validate.ensures, not-true c.before.validate.result c.if1.true)
+returns c = simp (sym c.validate.ensures, c.if-not-validate.true)
 
-returns-2 : tie.Need-returns-2
+returns-2 : tie.Need-returns
 unfolding ray_triangle
 returns-2 c =
     let at-validate : tie.After-validate = search in
     simp (
       sym at-validate.validate.ensures,
-      not-false at-validate.validate.result c.before.if1.false,
+      c.if-not-validate.false,
       sym
-          c.triangle-cast.ensures,
+          c.triangle_cast.ensures,
     )
 
-pub ray-triangle-spec : {M : Type 1} → statement M
-ray-triangle-spec = tie.close (tie.spec (search rules) returns (search rules) returns-2)
+pub ray_triangle_spec : {M : Type 1} → statement M
+ray_triangle_spec = tie.close (tie.spec
+    (search rules)  -- validate-requires
+    returns
+    (search rules)  -- triangle_cast-requires
+    returns-2)

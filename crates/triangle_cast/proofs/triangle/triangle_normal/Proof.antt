@@ -5,32 +5,32 @@ use borrow.Author.Rules.{rules}
 use Rattle.triangle_cast.proofs.triangle.triangle_normal.Statement.{statement}
 use Rattle.triangle_cast.proofs.triangle.triangle_normal.Tie as tie
 
-returns : tie.Need-returns
+returns : tie.Need-returns-in_default
 unfolding triangle_normal
 returns c =
-    let (at-cross, at-normalize) : tie.After-cross × tie.After-normalize = search in
-    simp (sym at-cross.cross.ensures, sym at-normalize.normalize.ensures, c.enum_told.given.1)
+    let (at-cross, at-normalize) : tie.After-cross × tie.After-normalize-unit = search in
+    simp (sym at-cross.cross.ensures, sym at-normalize.normalize-unit.ensures, c.in_default.is)
 
-returns-2 : tie.Need-returns-2
+returns-2 : tie.Need-returns
 unfolding triangle_normal
 returns-2 c =
-    let (at-cross, at-normalize, at_unit) : tie.After-cross × tie.After-normalize × tie.After-unit = search in
+    let (at-cross, at-normalize, at_unit) : tie.After-cross × tie.After-normalize-unit × tie.In-Unit = search in
     simp (
       sym at-cross.cross.ensures,
-      sym at-normalize.normalize.ensures,
-      at_unit.unit.given.1,
-      sym c.before.dot.ensures,
+      sym at-normalize.normalize-unit.ensures,
+      at_unit.in-Unit.is,
+      sym c.dot.ensures,
       sym c.facing.ensures,
     )
 
-pub triangle-normal-spec : {M : Type 1} → statement M
-triangle-normal-spec =
+pub triangle_normal_spec : {M : Type 1} → statement M
+triangle_normal_spec =
     tie.close
     (tie.spec
     (search rules)  -- cross-requires
-    (search rules)  -- normalize-requires
-    (search rules)  -- enum-known-unit
-    (search rules)  -- enum_told
+    (search rules)  -- normalize-unit-requires
+    (search rules)  -- enum_known-unit
+    (search rules)  -- enum_told-1
     returns
     (search rules)  -- dot-requires
     (search rules)  -- facing-requires

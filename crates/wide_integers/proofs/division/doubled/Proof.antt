@@ -8,57 +8,57 @@ use Rattle.wide_integers.proofs.DivisionLaws.{few_powers}
 use Rattle.wide_integers.proofs.division.doubled.Statement.{statement}
 use Rattle.wide_integers.proofs.division.doubled.Tie as tie
 
-abbrev invariant-loop : tie.invariant-loop
+abbrev invariant-loop : tie.invariant-loop-limit
 invariant-loop limit whole₀ power₀ whole power =
     Counts limit (magnitude limit) × Growing (magnitude limit) (magnitude whole₀) power whole
 
-abbrev decreases-loop : tie.decreases-loop
+abbrev decreases-loop : tie.decreases-loop-limit
 decreases-loop limit whole₀ power₀ whole power = magnitude limit - magnitude whole
 
-loop-holds : tie.Need-loop-init invariant-loop decreases-loop
-loop-holds c = let s : tie.Start invariant-loop decreases-loop = search in (s.pre.limit, growing_first s.pre)
+loop-holds : tie.Need-loop-limit-init invariant-loop decreases-loop
+loop-holds c = let s : tie.Start invariant-loop decreases-loop = search in (s.requires.limit, growing_first s.requires)
 
-difference-requires : tie.Need-difference-requires invariant-loop decreases-loop
+difference-requires : tie.Need-difference-room-requires invariant-loop decreases-loop
 difference-requires c κs =
-    let a : tie.At-loop invariant-loop decreases-loop = search in
-    room_held a.loop.inv.0 a.loop.inv.1
+    let a : tie.At-loop-limit invariant-loop decreases-loop = search in
+    room_held a.loop-limit.invariant.0 a.loop-limit.invariant.1
 
-returns : tie.Need-returns invariant-loop decreases-loop
+returns : tie.Need-returns-then-below invariant-loop decreases-loop
 returns c =
-    let (a, d, b) : (tie.At-loop invariant-loop decreases-loop) × (tie.After-difference invariant-loop decreases-loop) × (tie.After-below invariant-loop decreases-loop) = search in
-    grown_last a.loop.inv.0 a.loop.inv.1 d.difference.result d.difference.ensures b.below.ensures c.if1.true
+    let (a, d, b) : (tie.At-loop-limit invariant-loop decreases-loop) × (tie.After-difference-room invariant-loop decreases-loop) × (tie.After-below invariant-loop decreases-loop) = search in
+    grown_last a.loop-limit.invariant.0 a.loop-limit.invariant.1 d.difference-room.result d.difference-room.ensures b.below.ensures c.if-below.true
 
-sum-requires : tie.Need-sum-requires invariant-loop decreases-loop
+sum-requires : tie.Need-sum-whole-requires invariant-loop decreases-loop
 sum-requires c κs =
-    let (a, d, b) : (tie.At-loop invariant-loop decreases-loop) × (tie.After-difference invariant-loop decreases-loop) × (tie.After-below invariant-loop decreases-loop) = search in
-    twice_held a.loop.inv.0 a.loop.inv.1 d.difference.result d.difference.ensures b.below.ensures c.if1.false
+    let (a, d, b) : (tie.At-loop-limit invariant-loop decreases-loop) × (tie.After-difference-room invariant-loop decreases-loop) × (tie.After-below invariant-loop decreases-loop) = search in
+    twice_held a.loop-limit.invariant.0 a.loop-limit.invariant.1 d.difference-room.result d.difference-room.ensures b.below.ensures c.if-below.false
 
-add-power : tie.Need-overflow-add-power invariant-loop decreases-loop
+add-power : tie.Need-overflow_add-power invariant-loop decreases-loop
 add-power c =
-    let a : tie.At-loop invariant-loop decreases-loop = search in
-    let g = a.loop.inv.1 in
+    let a : tie.At-loop-limit invariant-loop decreases-loop = search in
+    let g = a.loop-limit.invariant.1 in
     let f = few_powers _ _ g.start g.whole.small in
     record { fits = omega (arith, f) }
 
-loop-less : tie.Need-loop-smaller invariant-loop decreases-loop
+loop-less : tie.Need-loop-limit-smaller invariant-loop decreases-loop
 loop-less c =
-    let (a, d, b, e) : (tie.At-loop invariant-loop decreases-loop) × (tie.After-difference invariant-loop decreases-loop) × (tie.After-below invariant-loop decreases-loop)
-    × (tie.Else1 invariant-loop decreases-loop) = search in
-    growing_less a.loop.inv.0 a.loop.inv.1 d.difference.result d.difference.ensures b.below.ensures
-    c.sum.result e.if1.left c.sum.ensures
+    let (a, d, b, e) : (tie.At-loop-limit invariant-loop decreases-loop) × (tie.After-difference-room invariant-loop decreases-loop) × (tie.After-below invariant-loop decreases-loop)
+    × (tie.Else-below invariant-loop decreases-loop) = search in
+    growing_less a.loop-limit.invariant.0 a.loop-limit.invariant.1 d.difference-room.result d.difference-room.ensures b.below.ensures
+    c.sum-whole.result e.if-below.false c.sum-whole.ensures
 
-loop-again : tie.Need-loop-preserved invariant-loop decreases-loop
+loop-again : tie.Need-loop-limit-preserved invariant-loop decreases-loop
 loop-again c =
-    let (a, d, b, e) : (tie.At-loop invariant-loop decreases-loop) × (tie.After-difference invariant-loop decreases-loop) × (tie.After-below invariant-loop decreases-loop)
-    × (tie.Else1 invariant-loop decreases-loop) = search in (
-      a.loop.inv.0,
-      growing_again a.loop.inv.0 a.loop.inv.1 d.difference.result d.difference.ensures b.below.ensures
-          c.sum.result
-          e.if1.left c.sum.ensures,
+    let (a, d, b, e) : (tie.At-loop-limit invariant-loop decreases-loop) × (tie.After-difference-room invariant-loop decreases-loop) × (tie.After-below invariant-loop decreases-loop)
+    × (tie.Else-below invariant-loop decreases-loop) = search in (
+      a.loop-limit.invariant.0,
+      growing_again a.loop-limit.invariant.0 a.loop-limit.invariant.1 d.difference-room.result d.difference-room.ensures b.below.ensures
+          c.sum-whole.result
+          e.if-below.false c.sum-whole.ensures,
     )
 
-pub doubled-spec : {M : Type 1} → statement M
-doubled-spec =
+pub doubled_spec : {M : Type 1} → statement M
+doubled_spec =
     tie.close
     (tie.spec
     invariant-loop

@@ -4,34 +4,34 @@ use Rattle.wide_integers.proofs.DivisionLaws.{left_held, rounded_down, rounded_u
 use Rattle.wide_integers.proofs.division.rounded.Statement.{statement}
 use Rattle.wide_integers.proofs.division.rounded.Tie as tie
 
-difference-requires : tie.Need-difference-requires
-difference-requires c κs = let s : tie.Start = search in left_held s.args.at s.pre.less
+difference-requires : tie.Need-difference-room-requires
+difference-requires c κs = let s : tie.Start = search in left_held s.args.at s.requires.less
 
-returns : tie.Need-returns
+returns : tie.Need-returns-then-below
 returns c =
-    let (s, d, b, t) : tie.Start × tie.After-difference × tie.After-below × tie.Then1 = search in
-    rounded_down s.args.at s.pre.less d.difference.result d.difference.ensures b.below.ensures t.if1.taken
+    let (s, d, b, t) : tie.Start × tie.After-difference-room × tie.After-below × tie.Then-below = search in
+    rounded_down s.args.at s.requires.less d.difference-room.result d.difference-room.ensures b.below.ensures t.if-below.true
 
-returns-2 : tie.Need-returns-2
+returns-2 : tie.Need-returns-then-below-2
 returns-2 c =
-    let (s, d, b, e, g, t) : tie.Start × tie.After-difference × tie.After-below × tie.Else1 × tie.After-below2 × tie.Then2 = search in
-    rounded_up s.args.at s.pre.less d.difference.result d.difference.ensures b.below.ensures e.if1.left
-    g.below2.ensures t.if2.taken
+    let (s, d, b, e, g, t) : tie.Start × tie.After-difference-room × tie.After-below × tie.Else-below × tie.After-below-2 × tie.Then-below-2 = search in
+    rounded_up s.args.at s.requires.less d.difference-room.result d.difference-room.ensures b.below.ensures e.if-below.false
+    g.below-2.ensures t.if-below-2.true
 
-returns-3 : tie.Need-returns-3
+returns-3 : tie.Need-returns
 returns-3 c =
-    let (s, d, b, e, g, t) : tie.Start × tie.After-difference × tie.After-below × tie.Else1 × tie.After-below2 × tie.Else2 = search in
-    rounded_even s.args.at s.pre.less d.difference.result d.difference.ensures b.below.ensures e.if1.left
-    g.below2.ensures t.if2.left
+    let (s, d, b, e, g, t) : tie.Start × tie.After-difference-room × tie.After-below × tie.Else-below × tie.After-below-2 × tie.Else-below-2 = search in
+    rounded_even s.args.at s.requires.less d.difference-room.result d.difference-room.ensures b.below.ensures e.if-below.false
+    g.below-2.ensures t.if-below-2.false
 
-add-result : tie.Need-overflow-add-result
-add-result c = let s : tie.Start = search in omega (arith, s.pre.most)
+add-result : tie.Need-overflow_add-result
+add-result c = let s : tie.Start = search in omega (arith, s.requires.most)
 
-add-result-2 : tie.Need-overflow-add-result-2
-add-result-2 c = let s : tie.Start = search in omega (arith, s.pre.most)
+add-result-2 : tie.Need-overflow_add-result-2
+add-result-2 c = let s : tie.Start = search in omega (arith, s.requires.most)
 
-pub rounded-spec : {M : Type 1} → statement M
-rounded-spec =
+pub rounded_spec : {M : Type 1} → statement M
+rounded_spec =
     tie.close
     (tie.spec
     difference-requires

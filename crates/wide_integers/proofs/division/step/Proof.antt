@@ -4,39 +4,39 @@ use Rattle.wide_integers.proofs.DivisionLaws.{left_held, low_held, stepped_low, 
 use Rattle.wide_integers.proofs.division.step.Statement.{statement}
 use Rattle.wide_integers.proofs.division.step.Tie as tie
 
-difference-requires : tie.Need-difference-requires
-difference-requires c κs = let s : tie.Start = search in left_held s.args.at s.pre.less
+difference-requires : tie.Need-difference-room-requires
+difference-requires c κs = let s : tie.Start = search in left_held s.args.at s.requires.less
 
-add-t6 : tie.Need-overflow-add-t6
-add-t6 c = let s : tie.Start = search in omega (arith, s.pre.few)
+add-t6 : tie.Need-overflow_add-result
+add-t6 c = let s : tie.Start = search in omega (arith, s.requires.few)
 
 sum-requires : tie.Need-sum-requires
 sum-requires c κs =
-    let (s, d, b, t) : tie.Start × tie.After-difference × tie.After-below × tie.Then1 = search in
-    low_held s.args.at s.pre.less d.difference.result d.difference.ensures b.below.ensures t.if1.taken
+    let (s, d, b, t) : tie.Start × tie.After-difference-room × tie.After-below × tie.Then-below = search in
+    low_held s.args.at s.requires.less d.difference-room.result d.difference-room.ensures b.below.ensures t.if-below.true
 
-returns : tie.Need-returns
+returns : tie.Need-returns-then-below
 returns c =
-    let (s, d, b, t) : tie.Start × tie.After-difference × tie.After-below × tie.Then1 = search in
-    stepped_low s.args.at s.pre.less d.difference.result d.difference.ensures b.below.ensures c.sum.result
-    t.if1.taken c.sum.ensures
+    let (s, d, b, t) : tie.Start × tie.After-difference-room × tie.After-below × tie.Then-below = search in
+    stepped_low s.args.at s.requires.less d.difference-room.result d.difference-room.ensures b.below.ensures c.sum.result
+    t.if-below.true c.sum.ensures
 
-add-t8 : tie.Need-overflow-add-t8
-add-t8 c = let s : tie.Start = search in omega (arith, s.pre.few)
+add-t8 : tie.Need-overflow_add-result-2
+add-t8 c = let s : tie.Start = search in omega (arith, s.requires.few)
 
-add-t9 : tie.Need-overflow-add-t9
-add-t9 c = let s : tie.Start = search in omega (arith, s.pre.few)
+add-t9 : tie.Need-overflow_add-result-3
+add-t9 c = let s : tie.Start = search in omega (arith, s.requires.few)
 
-difference-requires-2 : tie.Need-difference-requires-2
+difference-requires-2 : tie.Need-difference-requires
 difference-requires-2 c κs =
-    let (s, d, b, e) : tie.Start × tie.After-difference × tie.After-below × tie.Else1 = search in
-    high_held s.args.at s.pre.less d.difference.result d.difference.ensures b.below.ensures e.if1.left
+    let (s, d, b, e) : tie.Start × tie.After-difference-room × tie.After-below × tie.Else-below = search in
+    high_held s.args.at s.requires.less d.difference-room.result d.difference-room.ensures b.below.ensures e.if-below.false
 
-returns-2 : tie.Need-returns-2
+returns-2 : tie.Need-returns
 returns-2 c =
-    let (s, d, b, e) : tie.Start × tie.After-difference × tie.After-below × tie.Else1 = search in
-    stepped_high s.args.at s.pre.less d.difference.result d.difference.ensures b.below.ensures
-    c.difference2.result e.if1.left c.difference2.ensures
+    let (s, d, b, e) : tie.Start × tie.After-difference-room × tie.After-below × tie.Else-below = search in
+    stepped_high s.args.at s.requires.less d.difference-room.result d.difference-room.ensures b.below.ensures
+    c.difference.result e.if-below.false c.difference.ensures
 
 pub step_spec : {M : Type 1} → statement M
 step_spec =

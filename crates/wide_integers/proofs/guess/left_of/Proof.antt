@@ -8,26 +8,26 @@ use Rattle.wide_integers.proofs.guess.left_of.Tie as tie
 
 difference-requires : tie.Need-difference-requires
 difference-requires c κs =
-    let (s, m, h, b) : tie.Start × tie.After-multiple × tie.After-held × tie.After-below = search in
-    left_asks s.pre.0 (subst (Holds (magnitude s.args.d * s.args.m)) h.held.given.1 m.multiple.ensures)
+    let (s, m, h, b) : tie.Start × tie.After-multiple-held × tie.In-Is × tie.After-below = search in
+    left_asks s.requires.0 (subst (Holds (magnitude s.args.d * s.args.m)) h.in-Is.is m.multiple-held.ensures)
     b.below.ensures
-    c.if1.false
+    c.if-below.false
 
-returns-3 : tie.Need-returns-3
+returns-3 : tie.Need-returns
 returns-3 c =
-    let (s, m, h, b, e) : tie.Start × tie.After-multiple × tie.After-held × tie.After-below × tie.Else1 = search in
-    left_is s.pre.0 (subst (Holds (magnitude s.args.d * s.args.m)) h.held.given.1 m.multiple.ensures) b.below.ensures
-    e.if1.left c.difference.result c.difference.ensures
+    let (s, m, h, b, e) : tie.Start × tie.After-multiple-held × tie.In-Is × tie.After-below × tie.Else-below = search in
+    left_is s.requires.0 (subst (Holds (magnitude s.args.d * s.args.m)) h.in-Is.is m.multiple-held.ensures) b.below.ensures
+    e.if-below.false c.difference.result c.difference.ensures
 
-pub left-of-spec : {M : Type 1} → statement M
-left-of-spec =
+pub left_of_spec : {M : Type 1} → statement M
+left_of_spec =
     tie.close
     (tie.spec
-    (λ c κs. c.requires.1)  -- multiple-requires
-    (search rules)  -- enum-known-held
-    (search rules)  -- enum-told
-    (λ c. search rules)  -- returns
+    (λ c κs. c.requires.1)  -- multiple-held-requires
+    (search rules)  -- enum_known-held
+    (search rules)  -- enum_told-1
+    (λ c. search rules)  -- returns-in_default
     (search rules)  -- below-requires
-    (λ c. search rules)  -- returns-2
+    (λ c. search rules)  -- returns-then-below
     difference-requires
     returns-3)

@@ -10,85 +10,85 @@ use Rattle.wide_integers.proofs.guess.nearest.Statement.{statement}
 use Rattle.wide_integers.proofs.guess.nearest.Tie as tie
 
 first_fits : (s : tie.Start) → Fitting s.args.t
-first_fits s = record { high = omega (arith, s.well-formed); middle = omega (arith, s.well-formed); low = omega (arith, s.well-formed) }
+first_fits s = record { high = omega (arith, s.well_formed); middle = omega (arith, s.well_formed); low = omega (arith, s.well_formed) }
 
 second_fits : (s : tie.Start) → Fitting s.args.w
-second_fits s = record { high = omega (arith, s.well-formed); middle = omega (arith, s.well-formed); low = omega (arith, s.well-formed) }
+second_fits s = record { high = omega (arith, s.well_formed); middle = omega (arith, s.well_formed); low = omega (arith, s.well_formed) }
 
 -- t is below 0
-returns : tie.Need-returns
+returns : tie.Need-returns-then-is_negative
 unfolding of_bits div
 returns c =
-    let (s, n) : tie.Start × tie.After-is-negative = search in
-    fraction_negative (value s.args.t) (value s.args.w) (sym n.is_negative.ensures ∙ c.if1.true)
+    let (s, n) : tie.Start × tie.After-is_negative = search in
+    fraction_negative (value s.args.t) (value s.args.w) (sym n.is_negative.ensures ∙ c.if-is_negative.true)
 
 -- both are above 0
-abbrev begun : tie.Then3 → tie.Start
+abbrev begun : tie.Then-is_positive-2 → tie.Start
 begun t = search
 
-both : (t : tie.Then3) → Positive (begun t).args.t × Positive (begun t).args.w
+both : (t : tie.Then-is_positive-2) → Positive (begun t).args.t × Positive (begun t).args.w
 both t =
-    let (s, p, u, q) : tie.Start × tie.After-is-positive × tie.Then2 × tie.After-is-positive2 = search in (
-      whole_positive s.args.t (first_fits s) (sym q.is-positive2.ensures ∙ t.if3.true),
-      whole_positive s.args.w (second_fits s) (sym p.is_positive.ensures ∙ u.if2.taken),
+    let (s, p, u, q) : tie.Start × tie.After-is_positive × tie.Then-is_positive × tie.After-is_positive-then-is_positive = search in (
+      whole_positive s.args.t (first_fits s) (sym q.is_positive-then-is_positive.ensures ∙ t.if-is_positive-2.true),
+      whole_positive s.args.w (second_fits s) (sym p.is_positive.ensures ∙ u.if-is_positive.true),
     )
 
 -- what the contract asks is the rounded fraction
-asked : (t : tie.Then3)
+asked : (t : tie.Then-is_positive-2)
     → round binary64 false (magnitude (begun t).args.t) (magnitude (begun t).args.w)
     ≡ fraction_of (value (begun t).args.t) (value (begun t).args.w)
 asked t =
-    let (s, n, e, p, u) : tie.Start × tie.After-is-negative × tie.Else1 × tie.After-is-positive × tie.Then2 = search in
-    fraction_is (value s.args.t) (value s.args.w) (sym n.is_negative.ensures ∙ e.if1.left)
-    (sym p.is_positive.ensures ∙ u.if2.taken)
+    let (s, n, e, p, u) : tie.Start × tie.After-is_negative × tie.Else-is_negative × tie.After-is_positive × tie.Then-is_positive = search in
+    fraction_is (value s.args.t) (value s.args.w) (sym n.is_negative.ensures ∙ e.if-is_negative.false)
+    (sym p.is_positive.ensures ∙ u.if-is_positive.true)
 
-quick-requires : tie.Need-quick-requires
+quick-requires : tie.Need-quick-found-requires
 quick-requires c κs = both c
 
 careful-requires : tie.Need-careful-requires
-careful-requires c κs = let t : tie.Then3 = search in both t
+careful-requires c κs = let t : tie.Then-is_positive-2 = search in both t
 
-returns-2 : tie.Need-returns-2
-returns-2 c = let t : tie.Then3 = search in c.careful.ensures ∙ asked t
+returns-2 : tie.Need-returns-in_default
+returns-2 c = let t : tie.Then-is_positive-2 = search in c.careful.ensures ∙ asked t
 
 -- the guess was right
-returns-3 : tie.Need-returns-3
+returns-3 : tie.Need-returns-then-is_positive-2
 returns-3 c =
-    let (s, t, q, k) : tie.Start × tie.Then3 × tie.After-quick × tie.After-found = search in
-    subst (Answers (magnitude s.args.t) (magnitude s.args.w)) k.found.given.1 q.quick.ensures ∙ asked t
+    let (s, t, q, k) : tie.Start × tie.Then-is_positive-2 × tie.After-quick-found × tie.In-At = search in
+    subst (Answers (magnitude s.args.t) (magnitude s.args.w)) k.in-At.is q.quick-found.ensures ∙ asked t
 
 -- t is 0
-returns-4 : tie.Need-returns-4
+returns-4 : tie.Need-returns-then-is_positive
 unfolding of_bits
 returns-4 c =
-    let (s, n, e, p, t, q) : tie.Start × tie.After-is-negative × tie.Else1 × tie.After-is-positive × tie.Then2
-    × tie.After-is-positive2 = search in
-    let a = sym n.is_negative.ensures ∙ e.if1.left in
-    let b = sym p.is_positive.ensures ∙ t.if2.taken in
-    let z = none_above (value s.args.t) a (sym q.is-positive2.ensures ∙ c.if3.false) in
+    let (s, n, e, p, t, q) : tie.Start × tie.After-is_negative × tie.Else-is_negative × tie.After-is_positive × tie.Then-is_positive
+    × tie.After-is_positive-then-is_positive = search in
+    let a = sym n.is_negative.ensures ∙ e.if-is_negative.false in
+    let b = sym p.is_positive.ensures ∙ t.if-is_positive.true in
+    let z = none_above (value s.args.t) a (sym q.is_positive-then-is_positive.ensures ∙ c.if-is_positive-2.false) in
     sym (round_zero (magnitude s.args.w) (whole_positive s.args.w (second_fits s) b).positive)
     ∙ sym (ap (λ (k : ℕ). round binary64 false k (magnitude s.args.w)) z)
     ∙ fraction_is (value s.args.t) (value s.args.w) a b
 
 -- w is not above 0
-returns-5 : tie.Need-returns-5
+returns-5 : tie.Need-returns
 unfolding of_bits div
 returns-5 c =
-    let (s, n, e, p) : tie.Start × tie.After-is-negative × tie.Else1 × tie.After-is-positive = search in
-    fraction_none (value s.args.t) (value s.args.w) (sym n.is_negative.ensures ∙ e.if1.left)
-    (sym p.is_positive.ensures ∙ c.if2.false)
+    let (s, n, e, p) : tie.Start × tie.After-is_negative × tie.Else-is_negative × tie.After-is_positive = search in
+    fraction_none (value s.args.t) (value s.args.w) (sym n.is_negative.ensures ∙ e.if-is_negative.false)
+    (sym p.is_positive.ensures ∙ c.if-is_positive.false)
 
-pub nearest-spec : {M : Type 1} → statement M
-nearest-spec =
+pub nearest_spec : {M : Type 1} → statement M
+nearest_spec =
     tie.close
     (tie.spec
-    (search rules)  -- is-negative-requires
+    (search rules)  -- is_negative-requires
     returns
-    (search rules)  -- is-positive-requires
-    (search rules)  -- is-positive-requires-2
+    (search rules)  -- is_positive-requires
+    (search rules)  -- is_positive-requires-then-is_positive
     quick-requires
-    (search rules)  -- enum-known-found
-    (search rules)  -- enum-told
+    (search rules)  -- enum_known-found
+    (search rules)  -- enum_told-1
     careful-requires
     returns-2
     returns-3

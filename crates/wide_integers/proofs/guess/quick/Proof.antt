@@ -23,22 +23,22 @@ shifted-few b g = lt_of_le_of_lt (part (digits b / 2 ^ g * 2 ^ g) (digits b % 2 
     part a r n e = omega (arith, e)
 
 -- ---- below 8
-abbrev start_of : tie.After-raised → tie.Start
+abbrev start_of : tie.In-Is → tie.Start
 start_of k = search
 
-raised : (k : tie.After-raised) → Counts k.raised.given.0.0 (magnitude (start_of k).args.t * 67108864)
+raised : (k : tie.In-Is) → Counts k.in-Is.n (magnitude (start_of k).args.t * 67108864)
 raised k =
-    let m : tie.After-multiple = search in
-    subst (Holds (magnitude (start_of k).args.t * 67108864)) k.raised.given.1 m.multiple.ensures
+    let m : tie.After-multiple-raised = search in
+    subst (Holds (magnitude (start_of k).args.t * 67108864)) k.in-Is.is m.multiple-raised.ensures
 
 seek-requires : tie.Need-seek-requires
 seek-requires c κs =
-    let (s, b, e, t, k) : tie.Start × tie.After-near-bits × tie.Else1 × tie.Then3 × tie.After-raised = search in
-    let f = b.near-bits.result / 4503599627370496 in (
-      (counted (raised k), s.pre.1.counts),
+    let (s, b, e, t, k) : tie.Start × tie.After-near_bits-bits × tie.Else-field-lt1000 × tie.Then-field-lt1026 × tie.In-Is = search in
+    let f = b.near_bits-bits.result / 4503599627370496 in (
+      (counted (raised k), s.requires.1.counts),
       (
-        low f e.if1.left,
-        (shifted-few b.near-bits.result (1049 - f), high f t.if3.taken),
+        low f e.if-field-lt1000.false,
+        (shifted-few b.near_bits-bits.result (1049 - f), high f t.if-field-lt1026.true),
       ),
     )
   where
@@ -48,26 +48,26 @@ seek-requires c κs =
     high : (f : ℕ) → f < 1026 → f - 1 ≤ 1500
     high f h = omega (arith, h)
 
-returns-4 : tie.Need-returns-4
+returns-4 : tie.Need-returns-then-field-lt1026
 returns-4 c =
-    let (s, b, e, t, k) : tie.Start × tie.After-near-bits × tie.Else1 × tie.Then3 × tie.After-raised = search in
-    let f = b.near-bits.result / 4503599627370496 in
-    answers_low (magnitude s.args.t) (magnitude k.raised.given.0.0) (magnitude s.args.w) (1049 - f) (f - 1)
-    s.pre.1.positive
-    (magnitude_is (raised k)) (all f e.if1.left t.if3.taken) c.seek.result c.seek.ensures
+    let (s, b, e, t, k) : tie.Start × tie.After-near_bits-bits × tie.Else-field-lt1000 × tie.Then-field-lt1026 × tie.In-Is = search in
+    let f = b.near_bits-bits.result / 4503599627370496 in
+    answers_low (magnitude s.args.t) (magnitude k.in-Is.n) (magnitude s.args.w) (1049 - f) (f - 1)
+    s.requires.1.positive
+    (magnitude_is (raised k)) (all f e.if-field-lt1000.false t.if-field-lt1026.true) c.seek.result c.seek.ensures
   where
     all : (f : ℕ) → 1000 ≤ f → f < 1026 → 1049 - f + (f - 1) ≡ 1048
     all f h k = omega (arith, h, k)
 
 -- ---- digits behind the point
-seek-requires-2 : tie.Need-seek-requires-2
+seek-requires-2 : tie.Need-seek-requires-then-field-lt1075
 seek-requires-2 c κs =
-    let (s, b, e) : tie.Start × tie.After-near-bits × tie.Else3 = search in
-    let f = b.near-bits.result / 4503599627370496 in (
-      (s.pre.0.counts, s.pre.1.counts),
+    let (s, b, e) : tie.Start × tie.After-near_bits-bits × tie.Else-field-lt1026 = search in
+    let f = b.near_bits-bits.result / 4503599627370496 in (
+      (s.requires.0.counts, s.requires.1.counts),
       (
-        low f e.if3.left,
-        (shifted-few b.near-bits.result (1075 - f), high f c.if4.true),
+        low f e.if-field-lt1026.false,
+        (shifted-few b.near_bits-bits.result (1075 - f), high f c.if-field-lt1075.true),
       ),
     )
   where
@@ -77,22 +77,22 @@ seek-requires-2 c κs =
     high : (f : ℕ) → f < 1075 → f - 1 ≤ 1500
     high f h = omega (arith, h)
 
-returns-5 : tie.Need-returns-5
+returns-5 : tie.Need-returns-then-field-lt1075
 returns-5 c =
-    let (s, b, e, t) : tie.Start × tie.After-near-bits × tie.Else3 × tie.Then4 = search in
-    let f = b.near-bits.result / 4503599627370496 in
-    answers_fine (magnitude s.args.t) (magnitude s.args.w) (1075 - f) (f - 1) s.pre.1.positive
-    (all f e.if3.left t.if4.taken) c.seek2.result c.seek2.ensures
+    let (s, b, e, t) : tie.Start × tie.After-near_bits-bits × tie.Else-field-lt1026 × tie.Then-field-lt1075 = search in
+    let f = b.near_bits-bits.result / 4503599627370496 in
+    answers_fine (magnitude s.args.t) (magnitude s.args.w) (1075 - f) (f - 1) s.requires.1.positive
+    (all f e.if-field-lt1026.false t.if-field-lt1075.true) c.seek-then-field-lt1075.result c.seek-then-field-lt1075.ensures
   where
     all : (f : ℕ) → 1026 ≤ f → f < 1075 → 1075 - f + (f - 1) ≡ 1074
     all f h k = omega (arith, h, k)
 
 -- ---- none
-seek-whole-requires : tie.Need-seek-whole-requires
+seek-whole-requires : tie.Need-seek_whole-requires
 seek-whole-requires c κs =
-    let (s, b, e) : tie.Start × tie.After-near-bits × tie.Else2 = search in
-    let f = b.near-bits.result / 4503599627370496 in
-    ((s.pre.0.counts, s.pre.1), (digits-few b.near-bits.result, (few f e.if2.left, high f e.if2.left)))
+    let (s, b, e) : tie.Start × tie.After-near_bits-bits × tie.Else-field-gt1083 = search in
+    let f = b.near_bits-bits.result / 4503599627370496 in
+    ((s.requires.0.counts, s.requires.1), (digits-few b.near_bits-bits.result, (few f e.if-field-gt1083.false, high f e.if-field-gt1083.false)))
   where
     few : (f : ℕ) → f ≤ 1083 → f - 1075 ≤ 8
     few f h = omega (arith, h)
@@ -100,38 +100,38 @@ seek-whole-requires c κs =
     high : (f : ℕ) → f ≤ 1083 → f - 1 ≤ 1500
     high f h = omega (arith, h)
 
-returns-6 : tie.Need-returns-6
+returns-6 : tie.Need-returns
 returns-6 c =
-    let (s, b, e) : tie.Start × tie.After-near-bits × tie.Else4 = search in
-    let f = b.near-bits.result / 4503599627370496 in
+    let (s, b, e) : tie.Start × tie.After-near_bits-bits × tie.Else-field-lt1075 = search in
+    let f = b.near_bits-bits.result / 4503599627370496 in
     answers_coarse (magnitude s.args.t) (magnitude s.args.w) (magnitude s.args.w * 2 ^ (f - 1075)) (f - 1075) (f - 1)
-    s.pre.1.positive (all f e.if4.left) refl c.seek-whole.result c.seek-whole.ensures
+    s.requires.1.positive (all f e.if-field-lt1075.false) refl c.seek_whole.result c.seek_whole.ensures
   where
     all : (f : ℕ) → 1075 ≤ f → f - 1075 + 1074 ≡ f - 1
     all f h = omega (arith, h)
 
-pub quick-spec : {M : Type 1} → statement M
-quick-spec =
+pub quick_spec : {M : Type 1} → statement M
+quick_spec =
     tie.close
     (tie.spec
-    (search rules)  -- near-bits-requires
-    (λ c. search rules)  -- returns
-    (λ c. search rules)  -- returns-2
-    (λ c. search rules)  -- add-digits
-    (λ c. search rules)  -- sub-i
-    (λ c κs. let s : tie.Start = search in s.pre.0.counts)  -- multiple-requires
-    (search rules)  -- enum-known-raised
-    (search rules)  -- enum-told
-    (λ c. search rules)  -- returns-3
-    (λ c. search rules)  -- shr-seek
-    (λ c. search rules)  -- sub-seek
+    (search rules)  -- near_bits-bits-requires
+    (λ c. search rules)  -- returns-then-field-lt1000
+    (λ c. search rules)  -- returns-then-field-gt1083
+    (λ c. search rules)  -- overflow_add-digits
+    (λ c. search rules)  -- overflow_sub-i
+    (λ c κs. let s : tie.Start = search in s.requires.0.counts)  -- multiple-raised-requires
+    (search rules)  -- enum_known-raised
+    (search rules)  -- enum_told-1
+    (λ c. search rules)  -- returns-in_default
+    (λ c. search rules)  -- overflow_shr-digits
+    (λ c. search rules)  -- overflow_sub-field
     seek-requires
     returns-4
-    (λ c. search rules)  -- sub-g
-    (λ c. search rules)  -- shr-seek-2
-    (λ c. search rules)  -- sub-seek-2
+    (λ c. search rules)  -- overflow_sub-g
+    (λ c. search rules)  -- overflow_shr-digits-then-field-lt1075
+    (λ c. search rules)  -- overflow_sub-field-then-field-lt1075
     seek-requires-2
     returns-5
-    (λ c. search rules)  -- sub-seek-whole
+    (λ c. search rules)  -- overflow_sub-field-3
     seek-whole-requires
     returns-6)

@@ -7,5 +7,7 @@ use Rattle.wide_integers.proofs.guess.two_to.Tie as tie
 returns : tie.Need-returns
 returns c = power_word c.args.g c.requires
 
-pub two-to-spec : {M : Type 1} → statement M
-two-to-spec = tie.close (tie.spec (search rules) returns)
+pub two_to_spec : {M : Type 1} → statement M
+two_to_spec = tie.close (tie.spec
+    (search rules)  -- overflow_shl-result
+    returns)

@@ -10,8 +10,8 @@ returns c =
     let (s, b) : tie.Start × tie.After-below = search in
     ap (λ (x : Bool). not x) b.below.ensures ∙ at_most_told (long_value s.args.a) (long_value s.args.b)
 
-pub at-most-spec : {M : Type 1} → statement M
-at-most-spec =
+pub at_most_spec : {M : Type 1} → statement M
+at_most_spec =
     tie.close
     (tie.spec
     (search rules)  -- below-requires

@@ -6,13 +6,13 @@ use Rattle.wide_integers.proofs.long.below.Tie as tie
 
 returns : tie.Need-returns
 returns c =
-    let (s, l, h) : tie.Start × tie.After-subtract × tie.After-subtract2 = search in
-    below_decides s.args.a s.args.b l.subtract.result h.subtract2.result l.subtract.ensures h.subtract2.ensures
+    let (s, l, h) : tie.Start × tie.After-subtract-low × tie.After-subtract-high = search in
+    below_decides s.args.a s.args.b l.subtract-low.result h.subtract-high.result l.subtract-low.ensures h.subtract-high.ensures
 
-pub below-spec : {M : Type 1} → statement M
-below-spec =
+pub below_spec : {M : Type 1} → statement M
+below_spec =
     tie.close
     (tie.spec
-    (search rules)  -- subtract-requires
-    (λ c κs. let l : tie.After-subtract = search in l.subtract.ensures.over)  -- subtract-requires-2
+    (search rules)  -- subtract-low-requires
+    (λ c κs. let l : tie.After-subtract-low = search in l.subtract-low.ensures.over)  -- subtract-high-requires
     returns)

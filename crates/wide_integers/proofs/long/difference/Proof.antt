@@ -6,16 +6,16 @@ use Rattle.wide_integers.proofs.long.difference.Tie as tie
 
 returns : tie.Need-returns
 returns c =
-    let (s, l, h, t) : tie.Start × tie.After-subtract × tie.After-subtract2 × tie.After-signed = search in
-    difference_is s.args.a s.args.b l.subtract.result h.subtract2.result t.signed.result
-    t.signed.ensures l.subtract.ensures
-    h.subtract2.ensures s.pre
+    let (s, l, h, t) : tie.Start × tie.After-subtract-low × tie.After-subtract-high × tie.After-signed-top = search in
+    difference_is s.args.a s.args.b l.subtract-low.result h.subtract-high.result t.signed-top.result
+    t.signed-top.ensures l.subtract-low.ensures
+    h.subtract-high.ensures s.requires
 
-pub difference-spec : {M : Type 1} → statement M
-difference-spec =
+pub difference_spec : {M : Type 1} → statement M
+difference_spec =
     tie.close
     (tie.spec
-    (search rules)  -- subtract-requires
-    (λ c κs. let l : tie.After-subtract = search in l.subtract.ensures.over)  -- subtract-requires-2
-    (search rules)  -- signed-requires
+    (search rules)  -- subtract-low-requires
+    (λ c κs. let l : tie.After-subtract-low = search in l.subtract-low.ensures.over)  -- subtract-high-requires
+    (search rules)  -- signed-top-requires
     returns)

@@ -6,12 +6,12 @@ use Rattle.wide_integers.proofs.long.narrow.Tie as tie
 
 returns : tie.Need-returns
 returns c =
-    let (s, t) : tie.Start × tie.After-signed = search in
-    narrow_is s.args.a t.signed.result t.signed.ensures s.pre
+    let (s, t) : tie.Start × tie.After-signed-top = search in
+    narrow_is s.args.a t.signed-top.result t.signed-top.ensures s.requires
 
-pub narrow-spec : {M : Type 1} → statement M
-narrow-spec =
+pub narrow_spec : {M : Type 1} → statement M
+narrow_spec =
     tie.close
     (tie.spec
-    (λ c κs. search rules)  -- signed-requires
+    (λ c κs. search rules)  -- signed-top-requires
     returns)

@@ -7,26 +7,26 @@ use Rattle.wide_integers.proofs.long.product.Tie as tie
 
 returns : tie.Need-returns
 returns c =
-    let (s, x, y, m, u, o) : tie.Start × tie.After-signed × tie.After-signed2 × tie.After-multiply × tie.After-chosen
-    × tie.After-subtract = search in
-    let (v, w, t) : tie.After-chosen2 × tie.After-subtract2 × tie.After-signed3 = search in
-    product_is x.signed.ensures y.signed2.ensures m.multiply.result m.multiply.ensures o.subtract.result
-    w.subtract2.result t.signed3.result u.chosen.ensures v.chosen2.ensures o.subtract.ensures
-    w.subtract2.ensures t.signed3.ensures
+    let (s, x, y, m, u, o) : tie.Start × tie.After-signed-x × tie.After-signed-y × tie.After-multiply-whole × tie.After-chosen
+    × tie.After-subtract-once = search in
+    let (v, w, t) : tie.After-chosen-2 × tie.After-subtract-twice × tie.After-signed-top = search in
+    product_is x.signed-x.ensures y.signed-y.ensures m.multiply-whole.result m.multiply-whole.ensures o.subtract-once.result
+    w.subtract-twice.result t.signed-top.result u.chosen.ensures v.chosen-2.ensures o.subtract-once.ensures
+    w.subtract-twice.ensures t.signed-top.ensures
     (product_fits s.args.a s.args.b
-    (record { high = omega (arith, s.good); middle = omega (arith, s.good); low = omega (arith, s.good) })
-    (record { high = omega (arith, s.good); middle = omega (arith, s.good); low = omega (arith, s.good) }))
+    (record { high = omega (arith, s.well_formed); middle = omega (arith, s.well_formed); low = omega (arith, s.well_formed) })
+    (record { high = omega (arith, s.well_formed); middle = omega (arith, s.well_formed); low = omega (arith, s.well_formed) }))
 
-pub product-spec : {M : Type 1} → statement M
-product-spec =
+pub product_spec : {M : Type 1} → statement M
+product_spec =
     tie.close
     (tie.spec
-    (search rules)  -- signed-requires
-    (search rules)  -- signed-requires-2
-    (search rules)  -- multiply-requires
-    (λ c κs. let y : tie.After-signed2 = search in y.signed2.ensures.over)  -- chosen-requires
-    (search rules)  -- subtract-requires
-    (λ c κs. let x : tie.After-signed = search in x.signed.ensures.over)  -- chosen-requires-2
-    (search rules)  -- subtract-requires-2
-    (search rules)  -- signed-requires-3
+    (search rules)  -- signed-x-requires
+    (search rules)  -- signed-y-requires
+    (search rules)  -- multiply-whole-requires
+    (λ c κs. let y : tie.After-signed-y = search in y.signed-y.ensures.over)  -- chosen-requires
+    (search rules)  -- subtract-once-requires
+    (λ c κs. let x : tie.After-signed-x = search in x.signed-x.ensures.over)  -- chosen-requires-2
+    (search rules)  -- subtract-twice-requires
+    (search rules)  -- signed-top-requires
     returns)

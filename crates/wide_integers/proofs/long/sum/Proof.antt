@@ -6,15 +6,15 @@ use Rattle.wide_integers.proofs.long.sum.Tie as tie
 
 returns : tie.Need-returns
 returns c =
-    let (s, l, h, t) : tie.Start × tie.After-add × tie.After-add2 × tie.After-signed = search in
-    sum_is s.args.a s.args.b l.add.result h.add2.result t.signed.result t.signed.ensures l.add.ensures
-    h.add2.ensures s.pre
+    let (s, l, h, t) : tie.Start × tie.After-add-low × tie.After-add-high × tie.After-signed-top = search in
+    sum_is s.args.a s.args.b l.add-low.result h.add-high.result t.signed-top.result t.signed-top.ensures l.add-low.ensures
+    h.add-high.ensures s.requires
 
-pub sum-spec : {M : Type 1} → statement M
-sum-spec =
+pub sum_spec : {M : Type 1} → statement M
+sum_spec =
     tie.close
     (tie.spec
-    (search rules)  -- add-requires
-    (λ c κs. let l : tie.After-add = search in l.add.ensures.over)  -- add-requires-2
-    (search rules)  -- signed-requires
+    (search rules)  -- add-low-requires
+    (λ c κs. let l : tie.After-add-low = search in l.add-low.ensures.over)  -- add-high-requires
+    (search rules)  -- signed-top-requires
     returns)

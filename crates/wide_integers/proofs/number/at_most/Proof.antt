@@ -10,8 +10,8 @@ returns c =
     let s : tie.Start = search in
     ap not c.below.ensures ∙ at_most_told (value s.args.a) (value s.args.b)
 
-pub at-most-spec : {M : Type 1} → statement M
-at-most-spec =
+pub at_most_spec : {M : Type 1} → statement M
+at_most_spec =
     tie.close
     (tie.spec
     (search rules)  -- below-requires

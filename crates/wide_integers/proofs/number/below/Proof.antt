@@ -6,15 +6,15 @@ use Rattle.wide_integers.proofs.number.below.Tie as tie
 
 returns : tie.Need-returns
 returns c =
-    let (s, l, m, h) : tie.Start × tie.After-subtract × tie.After-subtract2 × tie.After-subtract3 = search in
-    below_told s.args.a s.args.b l.subtract.result m.subtract2.result h.subtract3.result l.subtract.ensures
-    m.subtract2.ensures h.subtract3.ensures
+    let (s, l, m, h) : tie.Start × tie.After-subtract-low × tie.After-subtract-middle × tie.After-subtract-high = search in
+    below_told s.args.a s.args.b l.subtract-low.result m.subtract-middle.result h.subtract-high.result l.subtract-low.ensures
+    m.subtract-middle.ensures h.subtract-high.ensures
 
-pub below-spec : {M : Type 1} → statement M
-below-spec =
+pub below_spec : {M : Type 1} → statement M
+below_spec =
     tie.close
     (tie.spec
-    (search rules)  -- subtract-requires
-    (λ c κs. let l : tie.After-subtract = search in l.subtract.ensures.over)  -- subtract-requires-2
-    (λ c κs. let m : tie.After-subtract2 = search in m.subtract2.ensures.over)  -- subtract-requires-3
+    (search rules)  -- subtract-low-requires
+    (λ c κs. let l : tie.After-subtract-low = search in l.subtract-low.ensures.over)  -- subtract-middle-requires
+    (λ c κs. let m : tie.After-subtract-middle = search in m.subtract-middle.ensures.over)  -- subtract-high-requires
     returns)

@@ -25,16 +25,16 @@ small s =
 
 difference-requires : tie.Need-difference-requires
 difference-requires c κs =
-    let (s, x, y) : tie.Start × tie.After-product × tie.After-product2 = search in
-    subst FitsWide (sym (told s x.product.ensures y.product2.ensures)) (small s)
+    let (s, x, y) : tie.Start × tie.After-product × tie.After-product-2 = search in
+    subst FitsWide (sym (told s x.product.ensures y.product-2.ensures)) (small s)
 
 returns : tie.Need-returns
 returns c =
-    let (s, x, y) : tie.Start × tie.After-product × tie.After-product2 = search in
-    c.difference.ensures ∙ told s x.product.ensures y.product2.ensures
+    let (s, x, y) : tie.Start × tie.After-product × tie.After-product-2 = search in
+    c.difference.ensures ∙ told s x.product.ensures y.product-2.ensures
 
-pub determinant-spec : {M : Type 1} → statement M
-determinant-spec =
+pub determinant_spec : {M : Type 1} → statement M
+determinant_spec =
     tie.close
     (tie.spec
     (search rules)  -- product-requires

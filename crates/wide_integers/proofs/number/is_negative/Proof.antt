@@ -7,5 +7,5 @@ use Rattle.wide_integers.proofs.number.is_negative.Tie as tie
 returns : tie.Need-returns
 returns c = let s : tie.Start = search in negative_told s.args.a (omega arith) (omega arith)
 
-pub is-negative-spec : {M : Type 1} → statement M
-is-negative-spec = tie.close (tie.spec returns)
+pub is_negative_spec : {M : Type 1} → statement M
+is_negative_spec = tie.close (tie.spec returns)

@@ -10,8 +10,8 @@ returns c =
     let (s, z) : tie.Start × tie.After-zero = search in
     c.below.ensures ∙ ap (λ (x : ℤ). lt_z x (value s.args.a)) z.zero.ensures
 
-pub is-positive-spec : {M : Type 1} → statement M
-is-positive-spec =
+pub is_positive_spec : {M : Type 1} → statement M
+is_positive_spec =
     tie.close
     (tie.spec
     (search rules)  -- zero-requires

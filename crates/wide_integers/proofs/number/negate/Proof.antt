@@ -12,15 +12,15 @@ from_zero z x e = ap (λ (y : ℤ). y -ℤ x) e ∙ +ℤ_idl (neg_ℤ x)
 difference-requires : tie.Need-difference-requires
 difference-requires c κs =
     let (s, z) : tie.Start × tie.After-zero = search in
-    subst FitsWide (sym (from_zero (value z.zero.result) (value s.args.a) z.zero.ensures)) s.pre
+    subst FitsWide (sym (from_zero (value z.zero.result) (value s.args.a) z.zero.ensures)) s.requires
 
 returns : tie.Need-returns
 returns c =
     let (s, z) : tie.Start × tie.After-zero = search in
     c.difference.ensures ∙ from_zero (value z.zero.result) (value s.args.a) z.zero.ensures
 
-pub negate-spec : {M : Type 1} → statement M
-negate-spec =
+pub negate_spec : {M : Type 1} → statement M
+negate_spec =
     tie.close
     (tie.spec
     (search rules)  -- zero-requires

@@ -7,18 +7,18 @@ use Rattle.wide_integers.proofs.number.total.Statement.{statement}
 use Rattle.wide_integers.proofs.number.total.Tie as tie
 
 sum-requires : tie.Need-sum-requires
-sum-requires c κs = let s : tie.Start = search in held (sum_size s.pre.0 s.pre.1.0) (lit< tt)
+sum-requires c κs = let s : tie.Start = search in held (sum_size s.requires.0 s.requires.1.0) (lit< tt)
 
 sum-requires-2 : tie.Need-sum-requires-2
 sum-requires-2 c κs =
     let s : tie.Start = search in
     subst (λ (x : ℤ). FitsWide (x +ℤ value s.args.c)) (sym c.sum.ensures)
-    (held (sum_size (sum_size s.pre.0 s.pre.1.0) s.pre.1.1) (lit< tt))
+    (held (sum_size (sum_size s.requires.0 s.requires.1.0) s.requires.1.1) (lit< tt))
 
 returns : tie.Need-returns
 returns c =
     let (s, a) : tie.Start × tie.After-sum = search in
-    c.sum2.ensures ∙ ap (λ (x : ℤ). x +ℤ value s.args.c) a.sum.ensures
+    c.sum-2.ensures ∙ ap (λ (x : ℤ). x +ℤ value s.args.c) a.sum.ensures
 
-pub total-spec : {M : Type 1} → statement M
-total-spec = tie.close (tie.spec sum-requires sum-requires-2 returns)
+pub total_spec : {M : Type 1} → statement M
+total_spec = tie.close (tie.spec sum-requires sum-requires-2 returns)

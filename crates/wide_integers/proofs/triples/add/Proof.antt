@@ -7,25 +7,25 @@ use Rattle.wide_integers.proofs.triples.add.Tie as tie
 
 returns : tie.Need-returns
 returns c =
-    let (s, l, m, h) : tie.Start × tie.After-add-carry × tie.After-add-carry2 × tie.After-add-carry3 = search in
+    let (s, l, m, h) : tie.Start × tie.After-add_carry-low × tie.After-add_carry-middle × tie.After-add_carry-high = search in
     let a = s.args.a in
     let b = s.args.b in
-    let p = l.add-carry.result in
-    let q = m.add-carry2.result in
-    let r = h.add-carry3.result in
+    let p = l.add_carry-low.result in
+    let q = m.add_carry-middle.result in
+    let r = h.add_carry-high.result in
     record {
       sum =
           add_words base a.high a.middle a.low b.high b.middle b.low r.word q.word p.word p.over q.over
-          r.over _ l.add-carry.ensures.sum m.add-carry2.ensures.sum h.add-carry3.ensures.sum;
-      words = record { high = h.add-carry3.ensures.word; middle = m.add-carry2.ensures.word; low = l.add-carry.ensures.word };
-      over = h.add-carry3.ensures.over;
+          r.over _ l.add_carry-low.ensures.sum m.add_carry-middle.ensures.sum h.add_carry-high.ensures.sum;
+      words = record { high = h.add_carry-high.ensures.word; middle = m.add_carry-middle.ensures.word; low = l.add_carry-low.ensures.word };
+      over = h.add_carry-high.ensures.over;
     }
 
 pub add_spec : {M : Type 1} → statement M
 add_spec =
     tie.close
     (tie.spec
-    (search rules)  -- add-carry-requires
-    (λ c κs. let l : tie.After-add-carry = search in l.add-carry.ensures.over)  -- add-carry-requires-2
-    (λ c κs. let m : tie.After-add-carry2 = search in m.add-carry2.ensures.over)  -- add-carry-requires-3
+    (search rules)  -- add_carry-low-requires
+    (λ c κs. let l : tie.After-add_carry-low = search in l.add_carry-low.ensures.over)  -- add_carry-middle-requires
+    (λ c κs. let m : tie.After-add_carry-middle = search in m.add_carry-middle.ensures.over)  -- add_carry-high-requires
     returns)

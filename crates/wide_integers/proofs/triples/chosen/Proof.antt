@@ -6,14 +6,14 @@ use Rattle.wide_integers.proofs.Rows.{chosen_words}
 use Rattle.wide_integers.proofs.triples.chosen.Statement.{statement}
 use Rattle.wide_integers.proofs.triples.chosen.Tie as tie
 
-mul-t3 : tie.Need-overflow-mul-t3
-mul-t3 c = let s : tie.Start = search in record { fits = flag_word s.pre (omega arith) }
+mul-t3 : tie.Need-overflow_mul-result
+mul-t3 c = let s : tie.Start = search in record { fits = flag_word s.requires (omega arith) }
 
-mul-t4 : tie.Need-overflow-mul-t4
-mul-t4 c = let s : tie.Start = search in record { fits = flag_word s.pre (omega arith) }
+mul-t4 : tie.Need-overflow_mul-result-2
+mul-t4 c = let s : tie.Start = search in record { fits = flag_word s.requires (omega arith) }
 
-mul-t5 : tie.Need-overflow-mul-t5
-mul-t5 c = let s : tie.Start = search in record { fits = flag_word s.pre (omega arith) }
+mul-t5 : tie.Need-overflow_mul-result-3
+mul-t5 c = let s : tie.Start = search in record { fits = flag_word s.requires (omega arith) }
 
 returns : tie.Need-returns
 returns c =
@@ -23,11 +23,15 @@ returns c =
       product = chosen_words base s.args.s a.high a.middle a.low;
       words =
           record {
-            high = flag_word s.pre (omega arith);
-            middle = flag_word s.pre (omega arith);
-            low = flag_word s.pre (omega arith);
+            high = flag_word s.requires (omega arith);
+            middle = flag_word s.requires (omega arith);
+            low = flag_word s.requires (omega arith);
           };
     }
 
-pub chosen-spec : {M : Type 1} → statement M
-chosen-spec = tie.close (tie.spec mul-t3 mul-t4 mul-t5 returns)
+pub chosen_spec : {M : Type 1} → statement M
+chosen_spec = tie.close (tie.spec
+    mul-t3
+    mul-t4
+    mul-t5
+    returns)

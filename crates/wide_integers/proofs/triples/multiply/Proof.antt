@@ -7,14 +7,14 @@ use Rattle.wide_integers.proofs.triples.multiply.Tie as tie
 
 returns : tie.Need-returns
 returns c =
-    let (s, f, g, h) : tie.Start × tie.After-row × tie.After-row2 × tie.After-row3 = search in
+    let (s, f, g, h) : tie.Start × tie.After-row-first × tie.After-row-second × tie.After-row-third = search in
     let b = s.args.b in
-    let p = f.row.result in
-    let q = g.row2.result in
-    let r = h.row3.result in
-    let x = f.row.ensures in
-    let y = g.row2.ensures in
-    let z = h.row3.ensures in
+    let p = f.row-first.result in
+    let q = g.row-second.result in
+    let r = h.row-third.result in
+    let x = f.row-first.ensures in
+    let y = g.row-second.ensures in
+    let z = h.row-third.ensures in
     record {
       product =
           multiply_words base (raised s.args.a) b.high b.middle b.low p.over p.words.high p.words.middle
@@ -24,11 +24,11 @@ returns c =
       low = record { high = z.words.low; middle = y.words.low; low = x.words.low };
     }
 
-pub multiply-spec : {M : Type 1} → statement M
-multiply-spec =
+pub multiply_spec : {M : Type 1} → statement M
+multiply_spec =
     tie.close
     (tie.spec
-    (search rules)  -- row-requires
-    (search rules)  -- row-requires-2
-    (search rules)  -- row-requires-3
+    (search rules)  -- row-first-requires
+    (search rules)  -- row-second-requires
+    (search rules)  -- row-third-requires
     returns)

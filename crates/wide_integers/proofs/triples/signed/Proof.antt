@@ -16,10 +16,10 @@ flag h = omega arith
 
 returns : tie.Need-returns
 returns c =
-    let (s, w) : tie.Start × tie.After-wrapping-add-u64 = search in
+    let (s, w) : tie.Start × tie.After-wrapping_add_u64 = search in
     let a = s.args.a in
-    let t = w.wrapping-add-u64.result in
-    let e = w.wrapping-add-u64.ensures in
+    let t = w.wrapping_add_u64.result in
+    let e = w.wrapping_add_u64.ensures in
     record {
       same =
           signed_words base half a.high a.middle a.low t (1 - a.high / half) (lowered t a.high (omega arith) e);
@@ -27,10 +27,10 @@ returns c =
       over = flag a.high;
     }
 
-pub signed-spec : {M : Type 1} → statement M
-signed-spec =
+pub signed_spec : {M : Type 1} → statement M
+signed_spec =
     tie.close
     (tie.spec
-    (search rules)  -- wrapping-add-u64-requires
-    (search rules)
+    (search rules)  -- wrapping_add_u64-requires
+    (search rules)  -- overflow_sub-result
     returns)

@@ -7,26 +7,26 @@ use Rattle.wide_integers.proofs.triples.subtract.Tie as tie
 
 returns : tie.Need-returns
 returns c =
-    let (s, l, m, h) : tie.Start × tie.After-subtract × tie.After-subtract2 × tie.After-subtract3 = search in
+    let (s, l, m, h) : tie.Start × tie.After-subtract-low × tie.After-subtract-middle × tie.After-subtract-high = search in
     let a = s.args.a in
     let b = s.args.b in
-    let p = l.subtract.result in
-    let q = m.subtract2.result in
-    let r = h.subtract3.result in
+    let p = l.subtract-low.result in
+    let q = m.subtract-middle.result in
+    let r = h.subtract-high.result in
     record {
       rest =
           subtract_words base a.high a.middle a.low b.high b.middle b.low
           r.word q.word p.word p.over q.over
-          r.over _ l.subtract.ensures.rest m.subtract2.ensures.rest h.subtract3.ensures.rest;
-      words = record { high = h.subtract3.ensures.word; middle = m.subtract2.ensures.word; low = l.subtract.ensures.word };
-      over = h.subtract3.ensures.over;
+          r.over _ l.subtract-low.ensures.rest m.subtract-middle.ensures.rest h.subtract-high.ensures.rest;
+      words = record { high = h.subtract-high.ensures.word; middle = m.subtract-middle.ensures.word; low = l.subtract-low.ensures.word };
+      over = h.subtract-high.ensures.over;
     }
 
-pub subtract-spec : {M : Type 1} → statement M
-subtract-spec =
+pub subtract_spec : {M : Type 1} → statement M
+subtract_spec =
     tie.close
     (tie.spec
-    (search rules)  -- subtract-requires
-    (λ c κs. let l : tie.After-subtract = search in l.subtract.ensures.over)  -- subtract-requires-2
-    (λ c κs. let m : tie.After-subtract2 = search in m.subtract2.ensures.over)  -- subtract-requires-3
+    (search rules)  -- subtract-low-requires
+    (λ c κs. let l : tie.After-subtract-low = search in l.subtract-low.ensures.over)  -- subtract-middle-requires
+    (λ c κs. let m : tie.After-subtract-middle = search in m.subtract-middle.ensures.over)  -- subtract-high-requires
     returns)

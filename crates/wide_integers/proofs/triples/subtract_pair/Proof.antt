@@ -7,22 +7,22 @@ use Rattle.wide_integers.proofs.triples.subtract_pair.Tie as tie
 
 returns : tie.Need-returns
 returns c =
-    let (s, l, h) : tie.Start × tie.After-subtract × tie.After-subtract2 = search in
+    let (s, l, h) : tie.Start × tie.After-subtract-low × tie.After-subtract-high = search in
     let v = s.args in
-    let x = l.subtract.result in
-    let y = h.subtract2.result in
+    let x = l.subtract-low.result in
+    let y = h.subtract-high.result in
     record {
       rest =
-          pair_words base v.h1 v.h0 v.x1 v.x0 y.word x.word x.over y.over l.subtract.ensures.rest
-          h.subtract2.ensures.rest;
-      high = h.subtract2.ensures.word;
-      low = l.subtract.ensures.word;
+          pair_words base v.h1 v.h0 v.x1 v.x0 y.word x.word x.over y.over l.subtract-low.ensures.rest
+          h.subtract-high.ensures.rest;
+      high = h.subtract-high.ensures.word;
+      low = l.subtract-low.ensures.word;
     }
 
-pub subtract-pair-spec : {M : Type 1} → statement M
-subtract-pair-spec =
+pub subtract_pair_spec : {M : Type 1} → statement M
+subtract_pair_spec =
     tie.close
     (tie.spec
-    (λ c κs. search rules)  -- subtract-requires
-    (λ c κs. search rules)  -- subtract-requires-2
+    (λ c κs. search rules)  -- subtract-low-requires
+    (λ c κs. search rules)  -- subtract-high-requires
     returns)

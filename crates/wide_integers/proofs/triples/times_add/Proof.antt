@@ -18,40 +18,40 @@ low-high s = halves (omega arith) (omega arith)
 high-high : (s : tie.Start) → s.args.a / 4294967296 * (s.args.b / 4294967296) ≤ 18446744065119617025
 high-high s = halves (omega arith) (omega arith)
 
-mul-first : tie.Need-overflow-mul-first
+mul-first : tie.Need-overflow_mul-first
 mul-first c = omega (arith, low-low c)
 
-add-first : tie.Need-overflow-add-first
+add-first : tie.Need-overflow_add-first
 add-first c = omega (arith, low-low c)
 
-add-first-2 : tie.Need-overflow-add-first-2
+add-first-2 : tie.Need-overflow_add-first-2
 add-first-2 c = omega (arith, low-low c)
 
-mul-second : tie.Need-overflow-mul-second
+mul-second : tie.Need-overflow_mul-second
 mul-second c = omega (arith, high-low c)
 
-add-second : tie.Need-overflow-add-second
+add-second : tie.Need-overflow_add-second
 add-second c = omega (arith, low-low c, high-low c)
 
-add-second-2 : tie.Need-overflow-add-second-2
+add-second-2 : tie.Need-overflow_add-second-2
 add-second-2 c = omega (arith, low-low c, high-low c)
 
-mul-third : tie.Need-overflow-mul-third
+mul-third : tie.Need-overflow_mul-third
 mul-third c = omega (arith, low-high c)
 
-add-third : tie.Need-overflow-add-third
+add-third : tie.Need-overflow_add-third
 add-third c = omega (arith, low-high c)
 
-add-third-2 : tie.Need-overflow-add-third-2
+add-third-2 : tie.Need-overflow_add-third-2
 add-third-2 c = omega (arith, low-high c)
 
-mul-t12 : tie.Need-overflow-mul-t12
+mul-t12 : tie.Need-overflow_mul-result
 mul-t12 c = omega (arith, high-high c)
 
-add-t14 : tie.Need-overflow-add-t14
+add-t14 : tie.Need-overflow_add-result
 add-t14 c = omega (arith, low-low c, high-low c, high-high c)
 
-add-t16 : tie.Need-overflow-add-t16
+add-t16 : tie.Need-overflow_add-result-2
 add-t16 c = omega (arith, low-low c, high-low c, low-high c, high-high c)
 
 returns : tie.Need-returns
@@ -59,8 +59,8 @@ returns c =
     times_added c.args.a c.args.b c.args.c c.args.d _ _ _ refl refl refl
     (omega (arith, low-low c, high-low c, low-high c, high-high c))
 
-pub times-add-spec : {M : Type 1} → statement M
-times-add-spec =
+pub times_add_spec : {M : Type 1} → statement M
+times_add_spec =
     tie.close
     (tie.spec
     mul-first
@@ -75,6 +75,6 @@ times-add-spec =
     mul-t12
     add-t14
     add-t16
-    (search rules)  -- mul-t18
-    (search rules)  -- add-t20
+    (search rules)  -- overflow_mul-result-2
+    (search rules)  -- overflow_add-result-3
     returns)

@@ -4,24 +4,24 @@ use Rattle.wide_integers.proofs.WordLaws.{flags_fit, added}
 use Rattle.wide_integers.proofs.words.add_carry.Statement.{statement}
 use Rattle.wide_integers.proofs.words.add_carry.Tie as tie
 
-add-over : tie.Need-overflow-add-over
+add-over : tie.Need-overflow_add-over
 add-over c =
-    let (s, h) : tie.Start × tie.After-wrapping-add-u64 = search in
-    flags_fit (ltb h.wrapping-add-u64.result s.args.a) (ltb c.wrapping-add-u642.result h.wrapping-add-u64.result)
+    let (s, h) : tie.Start × tie.After-wrapping_add_u64-half = search in
+    flags_fit (ltb h.wrapping_add_u64-half.result s.args.a) (ltb c.wrapping_add_u64-word.result h.wrapping_add_u64-half.result)
 
 returns : tie.Need-returns
 returns c =
-    let (s, h) : tie.Start × tie.After-wrapping-add-u64 = search in
-    added s.args.a s.args.b s.args.carry h.wrapping-add-u64.result c.wrapping-add-u642.result s.fits.a.fits
-    s.fits.b.fits s.pre h.wrapping-add-u64.ensures c.wrapping-add-u642.ensures
+    let (s, h) : tie.Start × tie.After-wrapping_add_u64-half = search in
+    added s.args.a s.args.b s.args.carry h.wrapping_add_u64-half.result c.wrapping_add_u64-word.result s.ranges.a.fits
+    s.ranges.b.fits s.requires h.wrapping_add_u64-half.ensures c.wrapping_add_u64-word.ensures
 
-pub add-carry-spec : {M : Type 1} → statement M
-add-carry-spec =
+pub add_carry_spec : {M : Type 1} → statement M
+add_carry_spec =
     tie.close
     (tie.spec
-    (search rules)  -- wrapping-add-u64-requires
-    (search rules)  -- wrapping-add-u64-requires-2
-    (search rules)  -- cast-over
-    (search rules)  -- cast-over-2
+    (search rules)  -- wrapping_add_u64-half-requires
+    (search rules)  -- wrapping_add_u64-word-requires
+    (search rules)  -- overflow_cast-over
+    (search rules)  -- overflow_cast-over-2
     add-over
     returns)

@@ -14,26 +14,32 @@ plain s = to_z-of_z w64 s.args.x s.ranges.x
 plain_fits : (s : tie.Start) → SFits w64 (bits s.args.x)
 plain_fits s = subst (SFits w64) (sym (plain s)) s.ranges.x
 
-known : (t : tie.Then1) → Negative (bits t.before.args.x)
-known t = negative _ (plain_fits t.before) t.if1.true
+known : (t : tie.Then-x-lt0) → Negative (bits t.args.x)
+known t = negative _ (plain_fits t.before) t.if-x-lt0.true
 
-sub-t3 : tie.Need-overflow-sub-t3
+sub-t3 : tie.Need-overflow_sub-result
 sub-t3 c = other_fits _ (known c)
 
-cast-t4 : tie.Need-overflow-cast-t4
+cast-t4 : tie.Need-overflow_cast-result
 cast-t4 c = other_cast _ (known c)
 
-sub-t5 : tie.Need-overflow-sub-t5
+sub-t5 : tie.Need-overflow_sub-result-then-x-lt0
 sub-t5 c = omega (arith, other_size _ (known c), (known c).small)
 
-returns : tie.Need-returns
+returns : tie.Need-returns-then-x-lt0
 returns c = negative_split_sign _ (known c) _ (plain c.before)
 
-cast-t6 : tie.Need-overflow-cast-t6
-cast-t6 c = not_negative _ (plain_fits c.before) c.if1.false
+cast-t6 : tie.Need-overflow_cast-result-2
+cast-t6 c = not_negative _ (plain_fits c.before) c.if-x-lt0.false
 
-returns-2 : tie.Need-returns-2
-returns-2 c = positive_split_sign _ _ (plain_fits c.before) (plain c.before) c.if1.false
+returns-2 : tie.Need-returns
+returns-2 c = positive_split_sign _ _ (plain_fits c.before) (plain c.before) c.if-x-lt0.false
 
-pub split-sign-spec : {M : Type 1} → statement M
-split-sign-spec = tie.close (tie.spec sub-t3 cast-t4 sub-t5 returns cast-t6 returns-2)
+pub split_sign_spec : {M : Type 1} → statement M
+split_sign_spec = tie.close (tie.spec
+    sub-t3
+    cast-t4
+    sub-t5
+    returns
+    cast-t6
+    returns-2)

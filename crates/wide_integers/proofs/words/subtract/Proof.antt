@@ -4,25 +4,25 @@ use Rattle.wide_integers.proofs.WordLaws.{flags_fit, taken}
 use Rattle.wide_integers.proofs.words.subtract.Statement.{statement}
 use Rattle.wide_integers.proofs.words.subtract.Tie as tie
 
-add-over : tie.Need-overflow-add-over
+add-over : tie.Need-overflow_add-over
 add-over c =
-    let (s, h) : tie.Start × tie.After-wrapping-sub-u64 = search in
-    flags_fit (ltb s.args.a s.args.b) (ltb h.wrapping-sub-u64.result s.args.borrow)
+    let (s, h) : tie.Start × tie.After-wrapping_sub_u64-half = search in
+    flags_fit (ltb s.args.a s.args.b) (ltb h.wrapping_sub_u64-half.result s.args.borrow)
 
 returns : tie.Need-returns
 returns c =
-    let (s, h) : tie.Start × tie.After-wrapping-sub-u64 = search in
-    taken s.args.a s.args.b s.args.borrow h.wrapping-sub-u64.result c.wrapping-sub-u642.result s.fits.a.fits
-    s.fits.b.fits s.pre (omega arith) (omega arith) h.wrapping-sub-u64.ensures
-    c.wrapping-sub-u642.ensures
+    let (s, h) : tie.Start × tie.After-wrapping_sub_u64-half = search in
+    taken s.args.a s.args.b s.args.borrow h.wrapping_sub_u64-half.result c.wrapping_sub_u64-word.result s.ranges.a.fits
+    s.ranges.b.fits s.requires (omega arith) (omega arith) h.wrapping_sub_u64-half.ensures
+    c.wrapping_sub_u64-word.ensures
 
-pub subtract-spec : {M : Type 1} → statement M
-subtract-spec =
+pub subtract_spec : {M : Type 1} → statement M
+subtract_spec =
     tie.close
     (tie.spec
-    (search rules)  -- wrapping-sub-u64-requires
-    (search rules)  -- wrapping-sub-u64-requires-2
-    (search rules)  -- cast-over
-    (search rules)  -- cast-over-2
+    (search rules)  -- wrapping_sub_u64-half-requires
+    (search rules)  -- wrapping_sub_u64-word-requires
+    (search rules)  -- overflow_cast-over
+    (search rules)  -- overflow_cast-over-2
     add-over
     returns)

@@ -17,35 +17,35 @@ low-high s = halves (omega arith) (omega arith)
 high-high : (s : tie.Start) → s.args.a / 4294967296 * (s.args.b / 4294967296) ≤ 18446744065119617025
 high-high s = halves (omega arith) (omega arith)
 
-mul-first : tie.Need-overflow-mul-first
+mul-first : tie.Need-overflow_mul-first
 mul-first c = omega (arith, low-low c)
 
-mul-second : tie.Need-overflow-mul-second
+mul-second : tie.Need-overflow_mul-second
 mul-second c = omega (arith, high-low c)
 
-add-second : tie.Need-overflow-add-second
+add-second : tie.Need-overflow_add-second
 add-second c = omega (arith, low-low c, high-low c)
 
-mul-third : tie.Need-overflow-mul-third
+mul-third : tie.Need-overflow_mul-third
 mul-third c = omega (arith, low-high c)
 
-add-third : tie.Need-overflow-add-third
+add-third : tie.Need-overflow_add-third
 add-third c = omega (arith, low-high c)
 
-mul-t10 : tie.Need-overflow-mul-t10
+mul-t10 : tie.Need-overflow_mul-result
 mul-t10 c = omega (arith, high-high c)
 
-add-t12 : tie.Need-overflow-add-t12
+add-t12 : tie.Need-overflow_add-result
 add-t12 c = omega (arith, low-low c, high-low c, high-high c)
 
-add-t14 : tie.Need-overflow-add-t14
+add-t14 : tie.Need-overflow_add-result-2
 add-t14 c = omega (arith, low-low c, high-low c, low-high c, high-high c)
 
 returns : tie.Need-returns
 returns c = multiplied c.args.a c.args.b _ _ _ refl refl refl
 
-pub times-spec : {M : Type 1} → statement M
-times-spec =
+pub times_spec : {M : Type 1} → statement M
+times_spec =
     tie.close
     (tie.spec
     mul-first
@@ -56,6 +56,6 @@ times-spec =
     mul-t10
     add-t12
     add-t14
-    (search rules)  -- mul-t16
-    (search rules)  -- add-t18
+    (search rules)  -- overflow_mul-result-2
+    (search rules)  -- overflow_add-result-3
     returns)

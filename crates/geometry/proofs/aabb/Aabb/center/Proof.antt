@@ -9,7 +9,11 @@ returns : tie.Need-returns
 unfolding centre
 returns c =
     let at-scale : tie.After-scale = search in
-    simp (sym at-scale.scale.ensures, sym c.before.scale2.ensures, sym c.add.ensures)
+    simp (sym at-scale.scale.ensures, sym c.scale-2.ensures, sym c.add.ensures)
 
-pub center-spec : {M : Type 1} → statement M
-center-spec = tie.close (tie.spec (search rules) (search rules) (search rules) returns)
+pub center_spec : {M : Type 1} → statement M
+center_spec = tie.close (tie.spec
+    (search rules)  -- scale-requires
+    (search rules)  -- scale-requires-2
+    (search rules)  -- add-requires
+    returns)

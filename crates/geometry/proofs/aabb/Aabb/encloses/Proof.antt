@@ -6,43 +6,43 @@ use borrow.Author.Rules.{rules}
 use Rattle.geometry.proofs.aabb.Aabb.encloses.Statement.{statement}
 use Rattle.geometry.proofs.aabb.Aabb.encloses.Tie as tie
 
-returns : tie.Need-returns
+returns : tie.Need-returns-then-not-within_side
 unfolding encloses
-returns c = simp (sym c.before.within-side.ensures, not-true c.before.within-side.result c.if1.true)
+returns c = simp (sym c.within_side.ensures, c.if-not-within_side.true)
 
-returns-2 : tie.Need-returns-2
+returns-2 : tie.Need-returns-then-not-within_side-2
 unfolding encloses
 returns-2 c =
-    let (at-within-side, else1) : tie.After-within-side × tie.Else1 = search in
+    let (at-within-side, else1) : tie.After-within_side × tie.Else-not-within_side = search in
     simp (
-      sym at-within-side.within-side.ensures,
-      not-false at-within-side.within-side.result else1.if1.left,
+      sym at-within-side.within_side.ensures,
+      else1.if-not-within_side.false,
       sym
-          c.before.within-side2.ensures,
-      not-true c.before.within-side2.result c.if2.true,
+          c.within_side-2.ensures,
+      c.if-not-within_side-2.true,
     )
 
-returns-3 : tie.Need-returns-3
+returns-3 : tie.Need-returns
 unfolding encloses
 returns-3 c =
-    let (at-within-side, else1, at-within-side2) : tie.After-within-side × tie.Else1 × tie.After-within-side2 = search in
+    let (at-within-side, else1, at-within-side2) : tie.After-within_side × tie.Else-not-within_side × tie.After-within_side-2 = search in
     simp (
-      sym at-within-side.within-side.ensures,
-      not-false at-within-side.within-side.result else1.if1.left,
+      sym at-within-side.within_side.ensures,
+      else1.if-not-within_side.false,
       sym
-          at-within-side2.within-side2.ensures,
-      not-false at-within-side2.within-side2.result c.before.if2.false,
+          at-within-side2.within_side-2.ensures,
+      c.if-not-within_side-2.false,
       sym
-          c.within-side3.ensures,
+          c.within_side-3.ensures,
     )
 
-pub encloses-spec : {M : Type 1} → statement M
-encloses-spec =
+pub encloses_spec : {M : Type 1} → statement M
+encloses_spec =
     tie.close
     (tie.spec
-    (search rules)  -- within-side-requires
+    (search rules)  -- within_side-requires
     returns
-    (search rules)  -- within-side-requires-2
+    (search rules)  -- within_side-requires-2
     returns-2
-    (search rules)  -- within-side-requires-3
+    (search rules)  -- within_side-requires-3
     returns-3)

@@ -6,43 +6,43 @@ use borrow.Author.Rules.{rules}
 use Rattle.geometry.proofs.aabb.Aabb.is_valid.Statement.{statement}
 use Rattle.geometry.proofs.aabb.Aabb.is_valid.Tie as tie
 
-returns : tie.Need-returns
+returns : tie.Need-returns-then-not-valid_side
 unfolding valid_box
-returns c = simp (sym c.before.valid-side.ensures, not-true c.before.valid-side.result c.if1.true)
+returns c = simp (sym c.valid_side.ensures, c.if-not-valid_side.true)
 
-returns-2 : tie.Need-returns-2
+returns-2 : tie.Need-returns-then-not-valid_side-2
 unfolding valid_box
 returns-2 c =
-    let (at-valid-side, else1) : tie.After-valid-side × tie.Else1 = search in
+    let (at-valid-side, else1) : tie.After-valid_side × tie.Else-not-valid_side = search in
     simp (
-      sym at-valid-side.valid-side.ensures,
-      not-false at-valid-side.valid-side.result else1.if1.left,
+      sym at-valid-side.valid_side.ensures,
+      else1.if-not-valid_side.false,
       sym
-          c.before.valid-side2.ensures,
-      not-true c.before.valid-side2.result c.if2.true,
+          c.valid_side-2.ensures,
+      c.if-not-valid_side-2.true,
     )
 
-returns-3 : tie.Need-returns-3
+returns-3 : tie.Need-returns
 unfolding valid_box
 returns-3 c =
-    let (at-valid-side, else1, at-valid-side2) : tie.After-valid-side × tie.Else1 × tie.After-valid-side2 = search in
+    let (at-valid-side, else1, at-valid-side2) : tie.After-valid_side × tie.Else-not-valid_side × tie.After-valid_side-2 = search in
     simp (
-      sym at-valid-side.valid-side.ensures,
-      not-false at-valid-side.valid-side.result else1.if1.left,
+      sym at-valid-side.valid_side.ensures,
+      else1.if-not-valid_side.false,
       sym
-          at-valid-side2.valid-side2.ensures,
-      not-false at-valid-side2.valid-side2.result c.before.if2.false,
+          at-valid-side2.valid_side-2.ensures,
+      c.if-not-valid_side-2.false,
       sym
-          c.valid-side3.ensures,
+          c.valid_side-3.ensures,
     )
 
-pub is-valid-spec : {M : Type 1} → statement M
-is-valid-spec =
+pub is_valid_spec : {M : Type 1} → statement M
+is_valid_spec =
     tie.close
     (tie.spec
-    (search rules)  -- valid-side-requires
+    (search rules)  -- valid_side-requires
     returns
-    (search rules)  -- valid-side-requires-2
+    (search rules)  -- valid_side-requires-2
     returns-2
-    (search rules)  -- valid-side-requires-3
+    (search rules)  -- valid_side-requires-3
     returns-3)

@@ -6,43 +6,43 @@ use borrow.Author.Rules.{rules}
 use Rattle.geometry.proofs.aabb.Aabb.same.Statement.{statement}
 use Rattle.geometry.proofs.aabb.Aabb.same.Tie as tie
 
-returns : tie.Need-returns
+returns : tie.Need-returns-then-not-same_side
 unfolding same_box
-returns c = simp (sym c.before.same-side.ensures, not-true c.before.same-side.result c.if1.true)
+returns c = simp (sym c.same_side.ensures, c.if-not-same_side.true)
 
-returns-2 : tie.Need-returns-2
+returns-2 : tie.Need-returns-then-not-same_side-2
 unfolding same_box
 returns-2 c =
-    let (at-same-side, else1) : tie.After-same-side × tie.Else1 = search in
+    let (at-same-side, else1) : tie.After-same_side × tie.Else-not-same_side = search in
     simp (
-      sym at-same-side.same-side.ensures,
-      not-false at-same-side.same-side.result else1.if1.left,
+      sym at-same-side.same_side.ensures,
+      else1.if-not-same_side.false,
       sym
-          c.before.same-side2.ensures,
-      not-true c.before.same-side2.result c.if2.true,
+          c.same_side-2.ensures,
+      c.if-not-same_side-2.true,
     )
 
-returns-3 : tie.Need-returns-3
+returns-3 : tie.Need-returns
 unfolding same_box
 returns-3 c =
-    let (at-same-side, else1, at-same-side2) : tie.After-same-side × tie.Else1 × tie.After-same-side2 = search in
+    let (at-same-side, else1, at-same-side2) : tie.After-same_side × tie.Else-not-same_side × tie.After-same_side-2 = search in
     simp (
-      sym at-same-side.same-side.ensures,
-      not-false at-same-side.same-side.result else1.if1.left,
+      sym at-same-side.same_side.ensures,
+      else1.if-not-same_side.false,
       sym
-          at-same-side2.same-side2.ensures,
-      not-false at-same-side2.same-side2.result c.before.if2.false,
+          at-same-side2.same_side-2.ensures,
+      c.if-not-same_side-2.false,
       sym
-          c.same-side3.ensures,
+          c.same_side-3.ensures,
     )
 
 pub same_spec : {M : Type 1} → statement M
 same_spec =
     tie.close
     (tie.spec
-    (search rules)  -- same-side-requires
+    (search rules)  -- same_side-requires
     returns
-    (search rules)  -- same-side-requires-2
+    (search rules)  -- same_side-requires-2
     returns-2
-    (search rules)  -- same-side-requires-3
+    (search rules)  -- same_side-requires-3
     returns-3)

@@ -6,43 +6,43 @@ use borrow.Author.Rules.{rules}
 use Rattle.geometry.proofs.aabb.Aabb.touches.Statement.{statement}
 use Rattle.geometry.proofs.aabb.Aabb.touches.Tie as tie
 
-returns : tie.Need-returns
+returns : tie.Need-returns-then-not-touch_side
 unfolding touches
-returns c = simp (sym c.before.touch-side.ensures, not-true c.before.touch-side.result c.if1.true)
+returns c = simp (sym c.touch_side.ensures, c.if-not-touch_side.true)
 
-returns-2 : tie.Need-returns-2
+returns-2 : tie.Need-returns-then-not-touch_side-2
 unfolding touches
 returns-2 c =
-    let (at-touch-side, else1) : tie.After-touch-side × tie.Else1 = search in
+    let (at-touch-side, else1) : tie.After-touch_side × tie.Else-not-touch_side = search in
     simp (
-      sym at-touch-side.touch-side.ensures,
-      not-false at-touch-side.touch-side.result else1.if1.left,
+      sym at-touch-side.touch_side.ensures,
+      else1.if-not-touch_side.false,
       sym
-          c.before.touch-side2.ensures,
-      not-true c.before.touch-side2.result c.if2.true,
+          c.touch_side-2.ensures,
+      c.if-not-touch_side-2.true,
     )
 
-returns-3 : tie.Need-returns-3
+returns-3 : tie.Need-returns
 unfolding touches
 returns-3 c =
-    let (at-touch-side, else1, at-touch-side2) : tie.After-touch-side × tie.Else1 × tie.After-touch-side2 = search in
+    let (at-touch-side, else1, at-touch-side2) : tie.After-touch_side × tie.Else-not-touch_side × tie.After-touch_side-2 = search in
     simp (
-      sym at-touch-side.touch-side.ensures,
-      not-false at-touch-side.touch-side.result else1.if1.left,
+      sym at-touch-side.touch_side.ensures,
+      else1.if-not-touch_side.false,
       sym
-          at-touch-side2.touch-side2.ensures,
-      not-false at-touch-side2.touch-side2.result c.before.if2.false,
+          at-touch-side2.touch_side-2.ensures,
+      c.if-not-touch_side-2.false,
       sym
-          c.touch-side3.ensures,
+          c.touch_side-3.ensures,
     )
 
-pub touches-spec : {M : Type 1} → statement M
-touches-spec =
+pub touches_spec : {M : Type 1} → statement M
+touches_spec =
     tie.close
     (tie.spec
-    (search rules)  -- touch-side-requires
+    (search rules)  -- touch_side-requires
     returns
-    (search rules)  -- touch-side-requires-2
+    (search rules)  -- touch_side-requires-2
     returns-2
-    (search rules)  -- touch-side-requires-3
+    (search rules)  -- touch_side-requires-3
     returns-3)

@@ -7,7 +7,10 @@ use Rattle.geometry.proofs.aabb.Aabb.union.Tie as tie
 
 returns : tie.Need-returns
 unfolding union_of
-returns c = simp (sym c.before.min.ensures, sym c.max.ensures)
+returns c = simp (sym c.min.ensures, sym c.max.ensures)
 
-pub union-spec : {M : Type 1} → statement M
-union-spec = tie.close (tie.spec (search rules) (search rules) returns)
+pub union_spec : {M : Type 1} → statement M
+union_spec = tie.close (tie.spec
+    (search rules)  -- min-requires
+    (search rules)  -- max-requires
+    returns)

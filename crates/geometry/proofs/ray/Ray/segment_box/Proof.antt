@@ -9,13 +9,13 @@ least-requires : tie.Need-least-requires
 least-requires c κs = finite_numbers _ c.requires.0
 
 greatest-requires : tie.Need-greatest-requires
-greatest-requires c κs = finite_numbers _ c.before.requires.0
+greatest-requires c κs = finite_numbers _ c.requires.0
 
 returns : tie.Need-returns
 unfolding segment_box
 returns c =
     let start : tie.Start = search in
-    simp (sym start.pre.1, sym c.before.least.ensures.0, sym c.greatest.ensures.0)
+    simp (sym start.requires.1, sym c.least.ensures.0, sym c.greatest.ensures.0)
 
-pub segment-box-spec : {M : Type 1} → statement M
-segment-box-spec = tie.close (tie.spec least-requires greatest-requires returns)
+pub segment_box_spec : {M : Type 1} → statement M
+segment_box_spec = tie.close (tie.spec least-requires greatest-requires returns)

@@ -7,7 +7,10 @@ use Rattle.geometry.proofs.ray.Ray.segment_end.Tie as tie
 
 returns : tie.Need-returns
 unfolding segment_end
-returns c = simp (sym c.before.scale.ensures, sym c.add.ensures)
+returns c = simp (sym c.scale.ensures, sym c.add.ensures)
 
-pub segment-end-spec : {M : Type 1} → statement M
-segment-end-spec = tie.close (tie.spec (search rules) (search rules) returns)
+pub segment_end_spec : {M : Type 1} → statement M
+segment_end_spec = tie.close (tie.spec
+    (search rules)  -- scale-requires
+    (search rules)  -- add-requires
+    returns)

@@ -7,43 +7,43 @@ use Rattle.geometry.proofs.ray.Ray.validate.Statement.{statement}
 use Rattle.geometry.proofs.ray.Ray.validate.Tie as tie
 
 -- an origin that is not finite
-returns : tie.Need-returns
+returns : tie.Need-returns-then-not-all_finite
 returns c =
-    let (s, f) : tie.Start × tie.After-all-finite = search in
-    simp (admitted_is s.args.self, sym f.all-finite.ensures, not-true f.all-finite.result c.if1.true)
+    let (s, f) : tie.Start × tie.After-all_finite = search in
+    simp (admitted_is s.args.self, sym f.all_finite.ensures, c.if-not-all_finite.true)
 
 -- a direction that is not close to length 1
-returns-2 : tie.Need-returns-2
+returns-2 : tie.Need-returns-then-not-close_to_unit_length
 returns-2 c =
-    let (s, f, one) : tie.Start × tie.After-all-finite × tie.Else1 = search in
+    let (s, f, one) : tie.Start × tie.After-all_finite × tie.Else-not-all_finite = search in
     simp (
       admitted_is s.args.self,
-      sym f.all-finite.ensures,
-      not-false f.all-finite.result one.if1.left,
-      sym c.before.close-to-unit-length.ensures,
-      not-true c.before.close-to-unit-length.result c.if2.true,
+      sym f.all_finite.ensures,
+      one.if-not-all_finite.false,
+      sym c.close_to_unit_length.ensures,
+      c.if-not-close_to_unit_length.true,
     )
 
 -- and else the range decides
-returns-3 : tie.Need-returns-3
+returns-3 : tie.Need-returns
 returns-3 c =
-    let (s, f, one, l, two) : tie.Start × tie.After-all-finite × tie.Else1 × tie.After-close-to-unit-length × tie.Else2 = search in
+    let (s, f, one, l, two) : tie.Start × tie.After-all_finite × tie.Else-not-all_finite × tie.After-close_to_unit_length × tie.Else-not-close_to_unit_length = search in
     simp (
       admitted_is s.args.self,
-      sym f.all-finite.ensures,
-      not-false f.all-finite.result one.if1.left,
-      sym l.close-to-unit-length.ensures,
-      not-false l.close-to-unit-length.result two.if2.left,
-      c.range-admitted.ensures,
+      sym f.all_finite.ensures,
+      one.if-not-all_finite.false,
+      sym l.close_to_unit_length.ensures,
+      two.if-not-close_to_unit_length.false,
+      c.range_admitted.ensures,
     )
 
-pub validate-spec : {M : Type 1} → statement M
-validate-spec =
+pub validate_spec : {M : Type 1} → statement M
+validate_spec =
     tie.close
     (tie.spec
-    (search rules)  -- all-finite-requires
+    (search rules)  -- all_finite-requires
     returns
-    (search rules)  -- close-to-unit-length-requires
+    (search rules)  -- close_to_unit_length-requires
     returns-2
-    (search rules)  -- range-admitted-requires
+    (search rules)  -- range_admitted-requires
     returns-3)

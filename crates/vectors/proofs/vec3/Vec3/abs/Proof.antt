@@ -8,5 +8,9 @@ returns : tie.Need-returns
 unfolding abs_of
 returns c = cc
 
-pub abs-spec : {M : Type 1} → statement M
-abs-spec = tie.close (tie.spec (search rules) (search rules) (search rules) returns)
+pub abs_spec : {M : Type 1} → statement M
+abs_spec = tie.close (tie.spec
+    (search rules)  -- abs-requires
+    (search rules)  -- abs-requires-2
+    (search rules)  -- abs-requires-3
+    returns)

@@ -5,18 +5,19 @@ use Rattle.vectors.proofs.vec3.Vec3.has_direction.Statement.{statement}
 use Rattle.vectors.proofs.vec3.Vec3.has_direction.Tie as tie
 
 -- the dot tells
-returns : tie.Need-returns
+returns : tie.Need-returns-then-tells_length
 returns c =
-    let (s, d, t) : tie.Start × tie.After-dot × tie.After-tells-length = search in
-    let told = between_tells _ _ t.tells-length.ensures c.if1.true in
+    let (s, d, t) : tie.Start × tie.After-dot × tie.After-tells_length = search in
+    let told = between_tells _ _ t.tells_length.ensures c.if-tells_length.true in
     told_direction s.args.self d.dot.result d.dot.ensures told.0 told.1
 
-pub has-direction-spec : {M : Type 1} → statement M
-has-direction-spec =
+pub has_direction_spec : {M : Type 1} → statement M
+has_direction_spec =
     tie.close
     (tie.spec
     (search rules)  -- dot-requires
-    (search rules)  -- tells-length-requires
+    (search rules)  -- tells_length-requires
     returns
-    (search rules)  -- is-normalizable-requires
-    (λ c. search rules))
+    (search rules)  -- is_normalizable-requires
+    (λ c. search rules)  -- returns
+    )

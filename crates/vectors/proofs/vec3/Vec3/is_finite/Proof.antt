@@ -6,37 +6,35 @@ use borrow.Author.Rules.{rules}
 use Rattle.vectors.proofs.vec3.Vec3.is_finite.Statement.{statement}
 use Rattle.vectors.proofs.vec3.Vec3.is_finite.Tie as tie
 
-returns : tie.Need-returns
+returns : tie.Need-returns-then-not-is_finite
 unfolding finite_vec
-returns c = simp (sym c.before.is_finite.ensures ∙ not-true _ c.if1.true)
+returns c = simp (sym c.is_finite.ensures ∙ c.if-not-is_finite.true)
 
-returns-2 : tie.Need-returns-2
+returns-2 : tie.Need-returns-then-not-is_finite-2
 unfolding finite_vec
 returns-2 c =
-    let (at-is-finite, else1) : tie.After-is-finite × tie.Else1 = search in
+    let (at-is-finite, else1) : tie.After-is_finite × tie.Else-not-is_finite = search in
     simp (
-      sym at-is-finite.is_finite.ensures ∙ not-false _ else1.if1.left,
-      sym c.before.is-finite2.ensures ∙ not-true _
-          c.if2.true,
+      sym at-is-finite.is_finite.ensures ∙ else1.if-not-is_finite.false,
+      sym c.is_finite-2.ensures ∙ c.if-not-is_finite-2.true,
     )
 
-returns-3 : tie.Need-returns-3
+returns-3 : tie.Need-returns
 unfolding finite_vec
 returns-3 c =
-    let (at-is-finite, else1, at-is-finite2) : tie.After-is-finite × tie.Else1 × tie.After-is-finite2 = search in
+    let (at-is-finite, else1, at-is-finite2) : tie.After-is_finite × tie.Else-not-is_finite × tie.After-is_finite-2 = search in
     simp (
-      sym at-is-finite.is_finite.ensures ∙ not-false _ else1.if1.left,
-      sym at-is-finite2.is-finite2.ensures ∙ not-false _
-          c.before.if2.false,
-    ) c.is-finite3.ensures
+      sym at-is-finite.is_finite.ensures ∙ else1.if-not-is_finite.false,
+      sym at-is-finite2.is_finite-2.ensures ∙ c.if-not-is_finite-2.false,
+    ) c.is_finite-3.ensures
 
-pub is-finite-spec : {M : Type 1} → statement M
-is-finite-spec =
+pub is_finite_spec : {M : Type 1} → statement M
+is_finite_spec =
     tie.close
     (tie.spec
-    (search rules)  -- is-finite-requires
+    (search rules)  -- is_finite-requires
     returns
-    (search rules)  -- is-finite-requires-2
+    (search rules)  -- is_finite-requires-2
     returns-2
-    (search rules)  -- is-finite-requires-3
+    (search rules)  -- is_finite-requires-3
     returns-3)

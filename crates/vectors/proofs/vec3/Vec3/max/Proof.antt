@@ -8,5 +8,9 @@ returns : tie.Need-returns
 unfolding max_of
 returns c = cc
 
-pub max-spec : {M : Type 1} → statement M
-max-spec = tie.close (tie.spec (search rules) (search rules) (search rules) returns)
+pub max_spec : {M : Type 1} → statement M
+max_spec = tie.close (tie.spec
+    (search rules)  -- maximum-requires
+    (search rules)  -- maximum-requires-2
+    (search rules)  -- maximum-requires-3
+    returns)

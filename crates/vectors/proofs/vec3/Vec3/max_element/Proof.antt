@@ -8,5 +8,8 @@ returns : tie.Need-returns
 unfolding max_element
 returns c = cc
 
-pub max-element-spec : {M : Type 1} → statement M
-max-element-spec = tie.close (tie.spec (search rules) (search rules) returns)
+pub max_element_spec : {M : Type 1} → statement M
+max_element_spec = tie.close (tie.spec
+    (search rules)  -- maximum-requires
+    (search rules)  -- maximum-requires-2
+    returns)

@@ -8,5 +8,9 @@ returns : tie.Need-returns
 unfolding min_of
 returns c = cc
 
-pub min-spec : {M : Type 1} → statement M
-min-spec = tie.close (tie.spec (search rules) (search rules) (search rules) returns)
+pub min_spec : {M : Type 1} → statement M
+min_spec = tie.close (tie.spec
+    (search rules)  -- minimum-requires
+    (search rules)  -- minimum-requires-2
+    (search rules)  -- minimum-requires-3
+    returns)

@@ -4,26 +4,27 @@ use Rattle.vectors.proofs.NormalLaws.{told_unit, between_tells}
 use Rattle.vectors.proofs.vec3.Vec3.normalize.Statement.{statement}
 use Rattle.vectors.proofs.vec3.Vec3.normalize.Tie as tie
 
-over-length-requires : tie.Need-over-length-requires
+over-length-requires : tie.Need-over_length-requires
 over-length-requires c κs =
-    let d : tie.After-dot = search in
-    d.dot.ensures
+    let d : tie.After-dot-square = search in
+    d.dot-square.ensures
 
 -- the dot tells
-returns : tie.Need-returns
+returns : tie.Need-returns-then-tells_length
 returns c =
-    let (s, d, t) : tie.Start × tie.After-dot × tie.After-tells-length = search in
-    let (e, u) : tie.Then1 × tie.After-over-length = search in
-    let told = between_tells _ _ t.tells-length.ensures e.if1.taken in
-    told_unit s.args.self d.dot.result u.over-length.result d.dot.ensures told.0 told.1 u.over-length.ensures
+    let (s, d, t) : tie.Start × tie.After-dot-square × tie.After-tells_length = search in
+    let (e, u) : tie.Then-tells_length × tie.After-over_length = search in
+    let told = between_tells _ _ t.tells_length.ensures e.if-tells_length.true in
+    told_unit s.args.self d.dot-square.result u.over_length.result d.dot-square.ensures told.0 told.1 u.over_length.ensures
 
-pub normalize-spec : {M : Type 1} → statement M
-normalize-spec =
+pub normalize_spec : {M : Type 1} → statement M
+normalize_spec =
     tie.close
     (tie.spec
-    (search rules)  -- dot-requires
-    (search rules)  -- tells-length-requires
+    (search rules)  -- dot-square-requires
+    (search rules)  -- tells_length-requires
     over-length-requires
     returns
-    (search rules)  -- try-normalize-requires
-    (λ c. search rules))
+    (search rules)  -- try_normalize-requires
+    (λ c. search rules)  -- returns
+    )

@@ -6,12 +6,12 @@ use Rattle.vectors.proofs.vec3.Vec3.over_length.Tie as tie
 
 returns : tie.Need-returns
 returns c =
-    let (s, r) : tie.Start × tie.After-root = search in
-    over_told s.args.self s.args.square r.root.result s.pre r.root.ensures
+    let (s, r) : tie.Start × tie.After-root-length = search in
+    over_told s.args.self s.args.square r.root-length.result s.requires r.root-length.ensures
 
-pub over-length-spec : {M : Type 1} → statement M
-over-length-spec =
+pub over_length_spec : {M : Type 1} → statement M
+over_length_spec =
     tie.close
     (tie.spec
-    (search rules)  -- root-requires
+    (search rules)  -- root-length-requires
     returns)

@@ -8,5 +8,5 @@ returns : tie.Need-returns
 unfolding scale_of
 returns c = refl
 
-pub scale-spec : {M : Type 1} → statement M
-scale-spec = tie.close (tie.spec returns)
+pub scale_spec : {M : Type 1} → statement M
+scale_spec = tie.close (tie.spec returns)
