@@ -22,7 +22,7 @@ OPENING = """// The symbols for C, C++, Rust and Python. Each calls the function
 
 """
 CALL = re.compile(
-    r"((?:^//[^\n]*\n)*)^pub fn (probe_\w+)\(([^)]*)\)([^{\n]*)\n(    (?:requires|ensures)[^\n]*\n(?:(?!\{\n)[^\n]*\n)*)\{\n", re.M
+    r"((?:^//[^\n]*\n)*)(?:^#\[[^\n]*\n)*^pub fn (probe_\w+)\(([^)]*)\)([^{\n]*)\n(    (?:requires|ensures)[^\n]*\n(?:(?!\{\n)[^\n]*\n)*)\{\n", re.M
 )
 GHOST = re.compile(r"^ghost use (\S+)\.\{([^}]*)\};\n", re.M)
 USE = re.compile(r"^use ([\w:]+)(?:::\{([^}]*)\})?;\n", re.M)
@@ -78,7 +78,7 @@ def module_of(text, module):
     uses, types = use_lines(text, "\n".join(it[3] for it in found), "\n".join(it[5] for it in found))
     parts = ["".join(ghosts)] + ["".join(uses)] * bool(uses)
     for it in found:
-        head = it[0].replace(f"pub fn {it[2]}(", f'#[unsafe(no_mangle)]\npub extern "C" fn {it[2]}(')
+        head = f'{it[1]}#[unsafe(no_mangle)]\npub extern "C" fn {it[2]}({it[3]}){it[4]}\n{it[5]}{{\n'
         parts.append(head + called(module, it[2], it[3]) + "}\n")
     return "\n".join(parts), below + types, len(found)
 
