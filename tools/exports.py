@@ -22,7 +22,9 @@ OPENING = """// The symbols for C, C++, Rust and Python. Each calls the function
 
 """
 CALL = re.compile(
-    r"((?:^//[^\n]*\n)*)(?:^#\[[^\n]*\n)*^pub fn (probe_\w+)\(([^)]*)\)([^{\n]*)\n(    (?:requires|ensures)[^\n]*\n(?:(?!\{\n)[^\n]*\n)*)\{\n", re.M
+    r"((?:^//[^\n]*\n)*)(?:^#\[[^\n]*\n)*^pub fn (probe_\w+)\(([^)]*)\)([^{\n]*)\n"
+    r"(    (?:requires|ensures)[^\n]*\n(?:(?!\{\n)[^\n]*\n)*)\{\n",
+    re.M,
 )
 GHOST = re.compile(r"^ghost use (\S+)\.\{([^}]*)\};\n", re.M)
 USE = re.compile(r"^use ([\w:]+)(?:::\{([^}]*)\})?;\n", re.M)
