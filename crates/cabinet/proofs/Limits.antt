@@ -79,7 +79,7 @@ module _ (r : Ray) (a : Areas) where
     -- what the limit makes of the whole
     pub record Limited (free bound : Progress) : Type 0 where
       pub suffices : free.spent ≤ limit → bound ≡ free
-      pub used_up_lem : limit < free.spent → answer_of bound ≡ refused_after limit_reached limit
+      pub used_up : limit < free.spent → answer_of bound ≡ refused_after limit_reached limit
       pub within : bound.spent ≤ limit
 
     module _ (s : Progress) (p : Part) (begun : is_refused s.found ≡ false) (l : s.spent ≤ limit) where

@@ -1,4 +1,2 @@
--- A slice that is lent again, and what the walks by hand over the parts share. Assumes nothing.
-pub mod Again
-pub mod PassTypes
-pub mod SliceCalls
+-- What a turn of a pass leaves to do. Assumes nothing.
+mod Turns

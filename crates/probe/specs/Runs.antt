@@ -1,6 +1,6 @@
 -- What `probe` does between its reads and its writes: the run, one step, and all steps. Definitions only. Assumes nothing.
 use Rattle.std.specs.Prelude.{ℕ, suc, ◌+◌, ◌-◌, ◌<◌, ◌≤◌, min, ◌≡◌, Bool, true, false, not, ◌&&◌, List, [], ◌++◌, ltb, eqb, ℤ, pos, negsuc, length, take, drop, IfSome}
-use Rattle.core.specs.declared.option.Option.{Option}
+use Rattle.std.specs.declared.option.Option.{Option}
 use Rattle.std.specs.Io.KnownBytes.{Consumes, Appends, IsAtEnd}
 use Rattle.records.specs.Output.{output_of}
 use Rattle.record_stream.specs.declared.answers.Progress.{Progress}

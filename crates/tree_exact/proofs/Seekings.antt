@@ -16,7 +16,8 @@ use Rattle.lists.proofs.CountLaws.{member_of_count, count_of_member, range_bound
 use Rattle.lists.proofs.WithinLaws.{Within, within_through, within_flat_map}
 use Rattle.casts.specs.Answer.{Answer}
 use Rattle.casts.proofs.AnswerLists.{HitsAreNumbers}
-use Rattle.nearest_hit.specs.Summary.{Summary, nothing, summary_from}
+use Rattle.casts.specs.Reach.{reach_of}
+use Rattle.nearest_hit.specs.Summary.{Summary, nothing, summary_from, note_of}
 use Rattle.tree.specs.Layout.{Tree, word_at, kind_at, first_at, second_at}
 use Rattle.tree.specs.Mesh.{Mesh}
 use Rattle.tree_check.specs.Check.{triangle_count, nodes, is_leaf, is_branch, children_of, places_of}
@@ -123,7 +124,7 @@ module _ (t : Tree) (n : ℕ) (answer : ℕ → Answer) (opens : ℕ → Summary
   places_noted stack s [] each = refl
   places_noted stack s (p ∷ places) each =
       simp (lt-ltb (word_at t.order p) n (each p (Memᴰ.head refl)))
-      (places_noted stack _ places (each_rest (λ (p : ℕ). word_at t.order p < n) p places each))
+      (places_noted stack (note_of s (word_at t.order p) (reach_of (answer (word_at t.order p)))) places (each_rest (λ (p : ℕ). word_at t.order p < n) p places each))
 
 no_words : (t : Tree) (x : ℕ) → count x (flat_map (placed_at t) []) ≡ 0
 unfolding flat_map

@@ -38,7 +38,7 @@ returns-3 : tie.Need-returns-then-not-s
 returns-3 c =
     let (e, f) : tie.Else-not-shape_admitted × tie.Else-not-walk_fits = search in (
       step_looks _ _ _ _ _ _ (test_passed e.shape_admitted.ensures e.if-not-shape_admitted.false)
-          (test_passed f.walk_fits.ensures f.if-not-walk_fits.false) c.if-not-s.true,
+          (test_passed f.walk_fits.ensures f.if-not-walk_fits.false) (not-true _ c.if-not-s.true),
       λ _. (refl, refl),
     )
 
@@ -68,7 +68,7 @@ unfolding places
 returns-4 c =
     let (x, l, m) : tie.Else-not-s × tie.After-left_of-left × tie.After-cast_moved-cost = search in
     let (s, e, f) = places x in
-    let casts : s.args.s.casting ≡ true = x.if-not-s.false in (
+    let casts : s.args.s.casting ≡ true = not-false _ x.if-not-s.false in (
       step_casts _ _ _ _ _ s.args.s (test_passed e.shape_admitted.ensures e.if-not-shape_admitted.false)
           (test_passed f.walk_fits.ensures f.if-not-walk_fits.false) casts _ _ l.left_of-left.ensures m.cast_moved-cost.result
           m.cast_moved-cost.ensures c.after_part-after.ensures,

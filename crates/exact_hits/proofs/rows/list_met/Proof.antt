@@ -32,7 +32,7 @@ counted g = search
 gathered : (g : tie.After-gather_met-gathered)
     → let a = (start g).args in
     HitsGathered (exact_answer a.ray a.pose.now a.triangles.now) (thirds (length a.triangles.now))
-    (take a.found a.list-1.now) (length a.list-1.now) a.indices-1.now a.numbers-1.now g.gather_met-gathered.result
+    (take a.found a.list.now) (length a.list.now) a.indices.now a.numbers.now g.gather_met-gathered.result
     (counted g).places_of-room.result (indices g) (numbers g)
 unfolding start counted
 gathered g =

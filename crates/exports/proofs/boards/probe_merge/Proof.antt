@@ -23,7 +23,7 @@ other s =
 abbrev old : tie.Start → Areas
 old s =
     let p = s.args in
-    areas_of p.vertices-1.now p.triangles-1.now p.node_boxes-1.now p.triangle_boxes-1.now p.node_words-1.now p.order-1.now
+    areas_of p.vertices.now p.triangles.now p.node_boxes.now p.triangle_boxes.now p.node_words.now p.order.now
 
 -- from each place to the one before it that the answers speak of
 start_of : tie.Else-not-shapes_fit → tie.Start

@@ -60,7 +60,7 @@ glue-words-requires c κs =
           (
             subst (λ (z : Bool). SmallNodes start.args.first_words.now (cond z 0 1) 0 start.args.nodes) (sym e) p.first_small,
             subst (λ (z : Bool). SmallNodes start.args.second_words.now (cond z 0 1 + start.args.nodes)
-                (length start.args.first-triangles.now / 3) start.args.others) (sym e) p.second_small,
+                (length start.args.first_triangles.now / 3) start.args.others) (sym e) p.second_small,
           ),
           p.order_small,
         ),
@@ -83,9 +83,9 @@ returns c =
     let at-one-empty = emptied at-glue-mesh in
     let start = start_of at-one-empty in
     let a = start.args in
-    let x = board_of a.first-vertices.now a.first-triangles.now a.nodes a.first_boxes.now a.first_around.now
+    let x = board_of a.first_vertices.now a.first_triangles.now a.nodes a.first_boxes.now a.first_around.now
     a.first_words.now a.first_order.now in
-    let y = board_of a.second-vertices.now a.second-triangles.now a.others a.second_boxes.now a.second_around.now
+    let y = board_of a.second_vertices.now a.second_triangles.now a.others a.second_boxes.now a.second_around.now
     a.second_words.now a.second_order.now in
     let old =
     areas_of a.vertices.now a.triangles.now a.node_boxes.now a.triangle_boxes.now a.node_words.now a.order.now in

@@ -1,5 +1,5 @@
 -- `mesh_exact::noted::looked_at` meets its contract. Assumes nothing.
-use mathlib.Core.Bool.{Bool, ◌||◌, false≢true}
+use mathlib.Core.Bool.{Bool, ◌||◌, not, false≢true}
 use mathlib.Core.Path.{sym, ap, ◌∙◌}
 use Rattle.geometry.specs.Box.{corners_box, touches}
 use Rattle.tree.specs.Mesh.{corners_of}
@@ -12,7 +12,7 @@ near s =
 
 -- not all vertices are in range
 returns : tie.Need-returns-then-not-within
-returns c = let s : tie.Start = search in sym (ap (λ (b : Bool). b || near s) c.if-not-within.true)
+returns c = let s : tie.Start = search in sym (ap (λ (b : Bool). b || near s) (ap not c.if-not-within.true))
 
 -- by the vertices' codes
 codes-touch-requires : tie.Need-codes_touch-requires
@@ -23,7 +23,7 @@ codes-touch-requires c κs =
 returns-2 : tie.Need-returns-then-coded
 returns-2 c =
     let (s, e) : tie.Start × tie.Else-not-within = search in
-    c.codes_touch.ensures ∙ sym (ap (λ (b : Bool). b || near s) e.if-not-within.false)
+    c.codes_touch.ensures ∙ sym (ap (λ (b : Bool). b || near s) (ap not e.if-not-within.false))
 
 -- by the corners
 triangle-touches-requires : tie.Need-triangle_touches-requires
@@ -32,7 +32,7 @@ triangle-touches-requires c κs = let s : tie.Start = search in (s.requires.0, �
 returns-3 : tie.Need-returns
 returns-3 c =
     let (s, e) : tie.Start × tie.Else-not-within = search in
-    c.triangle_touches.ensures ∙ sym (ap (λ (b : Bool). b || near s) e.if-not-within.false)
+    c.triangle_touches.ensures ∙ sym (ap (λ (b : Bool). b || near s) (ap not e.if-not-within.false))
 
 pub looked_at_spec : {M : Type 1} → statement M
 looked_at_spec =

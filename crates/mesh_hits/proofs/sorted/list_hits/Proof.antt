@@ -31,19 +31,19 @@ counted g = search
 gathered : (g : tie.After-gather_hits-gathered)
     → let a = (start g).args in
     HitsGathered (triangle_answer a.ray a.pose.now a.triangles.now) (thirds (length a.triangles.now))
-    (take a.found a.list-1.now) (length a.list-1.now) a.indices-1.now a.numbers-1.now g.gather_hits-gathered.result
+    (take a.found a.list.now) (length a.list.now) a.indices.now a.numbers.now g.gather_hits-gathered.result
     (counted g).places_of-room.result (indices g) (numbers g)
 unfolding start counted
 gathered g =
     let s = start g in
-    let kept = g.gather_hits-gathered.auto.1.1.1.1.1.1 in
+    let kept = g.gather_hits-gathered.auto in
     record {
       at_numbers = answers_are_numbers _ _ _;
       below = s.requires.1;
       lent = omega (arith, length-take-le s.args.found s.args.list.now s.requires.0, s.requires.0);
       places_are = (counted g).places_of-room.ensures;
-      long = kept.0;
-      numbers_long = kept.1.0;
+      long = kept.indices;
+      numbers_long = kept.numbers;
       noted = g.gather_hits-gathered.ensures.0;
       stored = g.gather_hits-gathered.ensures.1;
     }

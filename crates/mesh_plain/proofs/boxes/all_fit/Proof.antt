@@ -65,7 +65,7 @@ returns-2 c =
     let (s, l, t) : Start × Turn × Tested = search in
     let (k, e, b) : Looked × Inside × Boxed = search in
     let inside = test_passed k.corners_inside.ensures e.if-not-corners_inside.false in
-    let invalid = sym (ap valid_box b.triangle_box.ensures) ∙ test_failed c.is_valid.ensures c.if-not-is_valid.true in
+    let invalid = sym (ap valid_box b.triangle_box-around.ensures) ∙ test_failed c.is_valid.ensures c.if-not-is_valid.true in
     fitting_fails (own s) _ l.loop-i.invariant t.loop-i-test.true (box_tells (own s) l.loop-i.i inside false invalid)
 
 -- one that has a valid box
@@ -75,7 +75,7 @@ loop-again c =
     let (k, e, b) : Looked × Inside × Boxed = search in
     let (v, f) : tie.After-is_valid invariant-loop decreases-loop × tie.Else-not-is_valid invariant-loop decreases-loop = search in
     let inside = test_passed k.corners_inside.ensures e.if-not-corners_inside.false in
-    let valid = sym (ap valid_box b.triangle_box.ensures) ∙ test_passed v.is_valid.ensures f.if-not-is_valid.false in
+    let valid = sym (ap valid_box b.triangle_box-around.ensures) ∙ test_passed v.is_valid.ensures f.if-not-is_valid.false in
     fitting_goes (own s) _ l.loop-i.invariant t.loop-i-test.true (box_tells (own s) l.loop-i.i inside true valid)
 
 returns-3 : tie.Need-returns invariant-loop decreases-loop

@@ -40,7 +40,7 @@ Stepped = tie.After-step-s invariant-loop decreases-loop
 
 -- the output area as a step leaves it
 abbrev output : Stepped → List ℕ
-output t = t.step.last.1.1.1.1.1.1.1.1.1.1.0
+output t = t.step-s.new.output
 
 loop-holds : tie.Need-loop-work-init invariant-loop decreases-loop
 loop-holds c =
@@ -61,16 +61,16 @@ loop-less : tie.Need-loop-work-smaller invariant-loop decreases-loop
 loop-less c =
     let (s, l, g, t, r) : Start × Loop × Asked × Then × Stepped = search in
     let a = s.args in
-    going_less a.input.now a.ended a.number (length a.output.now) l.loop-work.output (output r) l.loop-work.s r.step.result
-    l.loop-work.invariant (sym g.goes_on.ensures ∙ t.loop-work-test.true) r.step.ensures
+    going_less a.input.now a.ended a.number (length a.output.now) l.loop-work.output (output r) l.loop-work.s r.step-s.result
+    l.loop-work.invariant (sym g.goes_on.ensures ∙ t.loop-work-test.true) r.step-s.ensures
 
 loop-again : tie.Need-loop-work-preserved invariant-loop decreases-loop
 loop-again c =
     let (s, l, g, t, r) : Start × Loop × Asked × Then × Stepped = search in
     let a = s.args in
-    going_next a.input.now a.ended a.number (length a.output.now) l.loop-work.output (output r) l.loop-work.s r.step.result
-    l.loop-work.invariant (sym g.goes_on.ensures ∙ t.loop-work-test.true) r.step.ensures
-    r.step.kept.1.1.1.1.1.1.1.1.1.1.0
+    going_next a.input.now a.ended a.number (length a.output.now) l.loop-work.output (output r) l.loop-work.s r.step-s.result
+    l.loop-work.invariant (sym g.goes_on.ensures ∙ t.loop-work-test.true) r.step-s.ensures
+    r.step-s.auto.output
 
 same_length : tie.Need-shape_of-output invariant-loop decreases-loop
 same_length c = let l : Loop = search in l.loop-work.invariant.kept

@@ -78,7 +78,7 @@ floats-read-at k = search
 
 counts-room : (k : tie.After-read_words-2) → (starts k).args.plan.counts ≤ length (counts (counts-read-at k).1)
 unfolding starts counts-read-at
-counts-room k = omega (arith, (sizes (starts k)).few, (counts-read-at k).1.read-words.kept.1.1.1.0)
+counts-room k = omega (arith, (sizes (starts k)).few, (counts-read-at k).1.read_words.auto.out)
 
 counts-are : (k : tie.After-read_words-2)
     → take (starts k).args.plan.counts (counts (counts-read-at k).1) ≡ (said (starts k)).counts
@@ -93,7 +93,7 @@ floats-room : (k : tie.After-read_words-2) → (starts k).args.plan.numbers ≤ 
 unfolding starts floats-read-at
 floats-room k =
     let s = starts k in
-    omega (arith, few-numbers s, s.requires.1.0.1.0, (floats-read-at k).2.read-floats.kept.1.1.1.1.0)
+    omega (arith, few-numbers s, s.requires.1.0.1.0, (floats-read-at k).2.read_floats.auto.out)
 
 floats-are : (k : tie.After-read_words-2)
     → take (starts k).args.plan.numbers (floats (floats-read-at k).2) ≡ (said (starts k)).numbers
@@ -107,7 +107,7 @@ floats-are k =
 
 words-room : (k : tie.After-read_words-2) → (starts k).args.plan.indices ≤ length (words k)
 unfolding starts
-words-room k = let s = starts k in omega (arith, few-indices s, s.requires.1.0.1.1, k.read_words-2.auto.1.1.1.0)
+words-room k = let s = starts k in omega (arith, few-indices s, s.requires.1.0.1.1, k.read_words-2.auto.out)
 
 words_are : (k : tie.After-read_words-2) → take (starts k).args.plan.indices (words k) ≡ (said (starts k)).indices
 unfolding starts floats-read-at

@@ -34,7 +34,7 @@ returns c =
           ∙ ap (λ (h : ChosenHit). pos (limit_of l (says_chosen_hit h) * gain l)) (sym n.in_default.is),
     )
 
-add-result-2 : tie.Need-overflow_add-result-2
+add-result-2 : tie.Need-overflow_add-result-then-not-within
 add-result-2 c = let s : tie.Start = search in past_fits (far-plain s) (gain-plain s) s.requires.far s.requires.gain
 
 -- a distance past the longest
