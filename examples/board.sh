@@ -2,7 +2,7 @@
 # From a drawing to a STEP file, and from there to a list of bores and pictures: examples/board.geo.
 # usage: examples/board.sh FOLDER   (needs gmsh to draw; writes board.step, board.bores, top.png and top.svg there)
 # PROBE_PART names the program; else it is the installed folder's, or the one on the path, or it is built, which needs the
-# library (`rt staticlib exports`). It reads STEP with probe-step, which is beside it or on the path.
+# library (`tools/build library`). It reads STEP with probe-step, which is beside it or on the path.
 set -euo pipefail
 here=$(cd "$(dirname "$0")" && pwd)
 folder=${1:?usage: examples/board.sh FOLDER}

@@ -1,7 +1,7 @@
 /* Ray casts at a plane, a triangle, a triangle mesh with its bounding box tree, a height grid and a distance grid.
  *
  * For C99 or later, and C++. probe_rays.hpp is a wrapper for C++17.
- * The library is libprobe_rays.a or libprobe_rays.so, for Linux on x86-64: `rt staticlib exports` proves it and writes
+ * The library is libprobe_rays.a or libprobe_rays.so, for Linux on x86-64: `tools/build library` proves it and writes
  * target/staticlib/libexports.a, and `tools/install` installs it under these names.
  * tests/declarations.sh compares this header with the proved source and with the Rust crate.
  *

@@ -12,7 +12,7 @@ export CARGO_TARGET_DIR=${CARGO_TARGET_DIR:-$PWD/target/bindings}
 
 if [ -z "${PROBE_RAYS_LIB:-}" ]; then
   export PROBE_RAYS_LIB=$PWD/target/staticlib
-  rt staticlib exports > "$log" 2>&1 || { tail -n 20 "$log" >&2; exit 1; }
+  tools/build library > "$log" 2>&1 || { tail -n 20 "$log" >&2; exit 1; }
 fi
 archive=$PROBE_RAYS_LIB/libexports.a
 

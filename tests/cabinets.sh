@@ -6,7 +6,7 @@ set -euo pipefail
 cd "$(dirname "$0")/.."
 cases=${1:-20000}
 seed=${2:-1}
-[ -n "${PROBE_RAYS_LIB:-}" ] || rt staticlib exports | tail -n 1
+[ -n "${PROBE_RAYS_LIB:-}" ] || tools/build library
 cd differential
 cargo run --offline --release --quiet --bin cabinets -- "$seed" "$cases"
 echo "cabinets: $((cases + 1)) tests passed"

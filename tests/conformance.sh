@@ -8,7 +8,7 @@ cd "$(dirname "$0")/.."
 work=$(mktemp -d)
 trap 'rm -rf "$work"' EXIT
 if [ -z "${PROBE_RAYS_LIB:-}" ]; then
-  rt staticlib exports | tail -n 1
+  tools/build library
   export PROBE_RAYS_LIB=$PWD/target/staticlib
 fi
 (cd differential && cargo run --offline --release --quiet --bin conformance) > "$work/file" 2> "$work/said" || { cat "$work/said" >&2; exit 1; }

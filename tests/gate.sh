@@ -1,6 +1,6 @@
 #!/usr/bin/env bash
-# The gate itself, tools/test, over a stand-in for rt and for the suites: its last line is rt's verdict exactly where every suite
-# passed and ran a test, and a fault before that is one failure.
+# The gate itself, tools/test, over a stand-in for rt and for the suites: its last line is rt's verdict exactly where rt counts every edit
+# as refused and every suite passed and ran a test, and a fault before that is one failure.
 set -euo pipefail
 cd "$(dirname "$0")/.."
 work=$(mktemp -d)
@@ -11,20 +11,25 @@ ran=0
 # fresh: a repository in which every suite passes, and an rt that proves all
 fresh() {
   rm -rf "$work/repository"
-  mkdir -p "$work"/repository/{tools,tests,bin,crates/one}
+  mkdir -p "$work"/repository/{tools,tests,bin,crates/one/must-fail,crates/two}
+  touch "$work"/repository/crates/one/must-fail/{a,b}.edit
   cp tools/test "$work/repository/tools/test"
-  for stub in refusals.py packages; do
+  for stub in refusals.py packages build; do
     printf '#!/bin/sh\n' > "$work/repository/tools/$stub"
     chmod +x "$work/repository/tools/$stub"
   done
-  echo "one:" > "$work/repository/crates.txt"
+  printf '# two crates\n\none: # the lower\ntwo staticlib: one\n' > "$work/repository/crates.txt"
   for suite in $suites; do
     echo "echo '$suite: 1 tests passed'" > "$work/repository/tests/$suite.sh"
   done
   cat > "$work/repository/bin/rt" << 'RT'
 #!/usr/bin/env bash
-case $1 in
-  ci) mkdir -p target/log; echo "7 passed, 0 failed" ;;
+case $* in
+  ci)
+    echo "rt: one proved"
+    echo "rt: ok; handles allowed: none; must-fail edits: 2 refused; every proof and must-fail edit was done in this run"
+    echo "7 passed, 0 failed"
+    ;;
 esac
 RT
   chmod +x "$work/repository/bin/rt"
@@ -76,24 +81,58 @@ fresh
 touch "$work/repository/tests/another.sh"
 expect 1 "0 passed, 1 failed" "a suite is not listed"
 fresh
-mkdir "$work/repository/crates/two"
+mkdir "$work/repository/crates/three"
 expect 1 "0 passed, 1 failed" "a crate is not listed"
-fresh
-echo "exit 1" > "$work/repository/bin/rt"
-expect 1 "0 passed, 1 failed" "the layout is another"
 fresh
 echo "exit 1" >> "$work/repository/tools/refusals.py"
 expect 1 "0 passed, 1 failed" "an edit does not fit"
+# altered OLD NEW: rt says something else
+altered() {
+  fresh
+  sed -i "s/$1/$2/" "$work/repository/bin/rt"
+  ! (cd "$work/repository" && bin/rt ci | cmp -s - <(fresh_rt)) || { echo "error: '$1' does not stand in what rt says" >&2; exit 1; }
+}
 fresh
-sed -i 's/echo "7 passed, 0 failed"/echo "6 passed, 1 failed"; exit 1/' "$work/repository/bin/rt"
+fresh_said=$("$work/repository/bin/rt" ci)
+fresh_rt() { printf '%s\n' "$fresh_said"; }
+altered '"7 passed, 0 failed"' '"6 passed, 1 failed"; exit 1'
 expect 1 "6 passed, 1 failed" "rt refuses"
-fresh
-sed -i 's/echo "7 passed, 0 failed"/echo "7 passed, 0 failed"; exit 2/' "$work/repository/bin/rt"
+altered '"7 passed, 0 failed"' '"6 passed, 1 failed (a word)"; exit 1'
+expect 1 "6 passed, 1 failed" "rt refuses, and says more behind it"
+altered '"7 passed, 0 failed"' '"6 passed, 1 failed"'
+expect 1 "6 passed, 1 failed" "rt refuses with status 0"
+altered 'passed, 0 failed"' 'passed, 0 failed (a word)"'
+expect 0 "7 passed, 0 failed" "rt passes, and says more behind it"
+altered 'passed, 0 failed"' 'passed, 0 failed (one and the crates below alone: not the gate)"'
+expect 1 "0 passed, 1 failed" "rt passes some crates alone"
+altered '"7 passed, 0 failed"' '"0 passed, 0 failed"'
+expect 1 "0 passed, 1 failed" "rt proves nothing"
+altered '"rt: ok; ' '"rt: done; '
+expect 1 "0 passed, 1 failed" "rt has no line 'rt: ok'"
+altered '"rt: one proved"' '"rt: ok; must-fail edits: 2 refused"'
+expect 1 "0 passed, 1 failed" "rt has two lines 'rt: ok'"
+altered '2 refused' '1 refused, 1 bad'
+expect 1 "0 passed, 1 failed" "an edit is bad"
+altered '2 refused' '2 refused, 1 bad'
+expect 1 "0 passed, 1 failed" "an edit is bad that is not counted"
+altered '2 refused' '2 refused, 1 of them only by a limit, 12 bad'
+expect 1 "0 passed, 1 failed" "twelve edits are bad"
+altered '2 refused' '2 refused, 0 bad'
+expect 0 "7 passed, 0 failed" "no edit is bad"
+altered '2 refused' '1 refused'
+expect 1 "0 passed, 1 failed" "an edit is not counted"
+altered ' must-fail edits: 2 refused;' ''
+expect 1 "0 passed, 1 failed" "no edit is counted"
+altered '"7 passed, 0 failed"' '"7 passed, 0 failed"; exit 2'
 expect 1 "0 passed, 1 failed" "rt breaks"
-fresh
-sed -i 's/echo "7 passed, 0 failed"/:/' "$work/repository/bin/rt"
+altered 'echo "7 passed, 0 failed"' ':'
 expect 1 "0 passed, 1 failed" "rt gives no verdict"
-fresh
-sed -i 's/^esac/  staticlib) exit 1 ;;\nesac/' "$work/repository/bin/rt"
-expect 1 "0 passed, 1 failed" "the library is not written"
+# by its names alone `rt ci` is no gate
+altered '  ci)' '  "ci one two")'
+expect 1 "0 passed, 1 failed" "rt is asked for all crates"
+for made in program library; do
+  fresh
+  echo "[ \$2 != $made ]" >> "$work/repository/tools/build"
+  expect 1 "0 passed, 1 failed" "the $made is not built"
+done
 echo "gate: $ran tests passed"

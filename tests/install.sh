@@ -42,11 +42,11 @@ refused() {
 }
 
 if [ -z "${PROBE_RAYS_LIB:-}" ]; then
-  quiet rt staticlib exports
+  quiet tools/build library
   export PROBE_RAYS_LIB=$PWD/target/staticlib
 fi
 if [ -z "${PROBE:-}" ]; then
-  quiet rt check probe
+  quiet tools/build program
   export PROBE=$PWD/target/bin/probe
 fi
 quiet tools/install "$work/first"
@@ -235,7 +235,7 @@ fn main() {
 RUST
 said=$(cd "$work/user" && env -u PROBE_RAYS_LIB CARGO_TARGET_DIR="$work/cargo" cargo run --offline --quiet)
 same "a Rust program against the folder" "$said" 2
-refused 101 'help: run `rt staticlib exports` in the repository, or set PROBE_RAYS_LIB to the folder of libprobe_rays.a' \
+refused 101 'help: run `tools/build library` in the repository, or set PROBE_RAYS_LIB to the folder of libprobe_rays.a' \
   env PROBE_RAYS_LIB="$work/nowhere" CARGO_TARGET_DIR="$work/cargo" cargo build --offline --manifest-path "$work/user/Cargo.toml"
 echo "Rust: a crate against the folder"
 

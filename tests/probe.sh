@@ -8,7 +8,7 @@ set -euo pipefail
 cd "$(dirname "$0")/.."
 records=${1:-100000}
 seed=${2:-1}
-[ -n "${PROBE:-}" ] || rt check probe | tail -n 1
+[ -n "${PROBE:-}" ] || tools/build program
 probe=${PROBE:-$PWD/target/bin/probe}
 ( cd oracle && cargo build --offline --release --quiet )
 oracle=$PWD/oracle/target/release

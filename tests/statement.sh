@@ -9,7 +9,7 @@ tools/statement --check
 work=$(mktemp)
 trap 'rm -f "$work"' EXIT
 calls=0
-for call in $(grep -ohE '^pub extern "C" fn \w+' crates/exports/src/*.rt | awk '{ print $5 }'); do
+for call in $(grep -ohE '^pub extern "C" fn \w+' crates/exports_c/src/*.rt | awk '{ print $5 }'); do
   tools/statement "$call" > "$work"
   # the last line has the counts that the table has
   count=$(tail -n 1 "$work" | sed -nE 's/^([0-9]+) definitions, ([0-9]+) lines$/| \1 | \2 |/p')

@@ -8,8 +8,10 @@ probe=${PROBE:-target/bin/probe}
 work=$(mktemp -d)
 trap 'rm -rf "$work"' EXIT
 
-# what the compiler made of our functions; `_start` and the like have no name with `::` or are not ours
-objdump -d --no-show-raw-insn "$probe" > "$work/code"
+# what the compiler made of our functions, of what it compiled into them, and of the library's functions for types and closures that they
+# are given (`::<#..>`); what the library has by itself reads no float of ours
+objdump -d --no-show-raw-insn "$probe" | awk '/^[0-9a-f]+ <.*>:$/ { own = !/ <(core|std|std_[a-z]+)::/ || /::<#/ } own' > "$work/code"
+grep -q '<probe::' "$work/code" || { echo "error: no function of probe is named in $probe" >&2; exit 1; }
 swaps=$(grep -cE 'bswap +%r([a-ds][xip]|1?[0-9])$|movbe .*%r([a-ds][xip]|1?[0-9])([,)]|$)' "$work/code" || true)
 [ "$swaps" -ge 1 ] || { echo "error: no 64-bit byte swap in $probe" >&2; exit 1; }
 # a byte's place in the upper half of a word: only a float put together byte by byte shifts so

@@ -9,7 +9,8 @@ refusals with their numbers; the version; the lengths of the areas; the limits; 
 pointer its size, and its fields' names, types and offsets. The proved source decides. A refusal's words, as C++, Rust and
 Python tell it, are the same in all three, and begin with its name in the header's table:
 
-  crates/exports/src/*.rt       the calls, the version, and the codes
+  crates/exports_c/src/*.rt     the calls
+  crates/exports/src/*.rt       the version, and codes; crates/results/src/lib.rt has the other codes
   crates/casts/src/answer.rt    the refusals
   crates/cabinet/src/part.rt    the structs; crates/vectors/src/vec3.rt has the vector in them
   crates/tree/src/lib.rt        the table of areas
@@ -24,7 +25,8 @@ import shutil
 import sys
 import tempfile
 
-RATTLE = "crates/exports/src"
+RATTLE = "crates/exports_c/src"
+EXPORTS = "crates/exports/src"
 CODES = "crates/results/src/lib.rt"
 REFUSALS = "crates/casts/src/answer.rt"
 STRUCTS = ["crates/cabinet/src/part.rt", "crates/vectors/src/vec3.rt"]
@@ -126,9 +128,9 @@ def calls(text, pattern, reader, returns, place):
 
 def rattle_calls(text):
     pattern = r'pub extern "C" fn (?P<name>\w+)\((?P<parameters>[^)]*)\)\s*->\s*(?P<returns>\w+)'
-    found = calls(text, r"#\[no_mangle\]\s*" + pattern, from_rattle, NUMBERS, RATTLE)
+    found = calls(text, r"#\[unsafe\(no_mangle\)\]\s*" + pattern, from_rattle, NUMBERS, RATTLE)
     if len(found) != len(re.findall(r'extern "C"', text)):
-        raise Unreadable(f"{RATTLE}: a call without #[no_mangle], or in a form that is not read here")
+        raise Unreadable(f"{RATTLE}: a call without #[unsafe(no_mangle)], or in a form that is not read here")
     return found
 
 
@@ -182,9 +184,9 @@ def layouts(structs, place):
 
 def rust_structs(text):
     """Those with #[repr(C)], in Rattle and in Rust."""
-    pattern = r"#\[repr\(C\)\]\s*(?:#\[derive[^\]]*\]\s*)?pub struct (\w+) \{([^}]*)\}"
+    pattern = r"((?:#\[[^\]]*\]\s*)+)pub struct (\w+) \{([^}]*)\}"
     field = r"pub (\w+): (\w+)"
-    return {match[1]: re.findall(field, match[2]) for match in re.finditer(pattern, text)}
+    return {match[2]: re.findall(field, match[3]) for match in re.finditer(pattern, text) if "#[repr(C)]" in match[1]}
 
 
 C_STRUCT = r"typedef struct (\w+) \{([^}]*)\} (\w+);"
@@ -226,7 +228,8 @@ def read(folder):
         path: re.sub(r"/\*.*?\*/", "", (folder / path).read_text(), flags=re.S)
         for path in [REFUSALS, AREAS, HEADER, RUST, LENGTHS] + STRUCTS
     }
-    source = "\n".join(path.read_text() for path in [*sorted((folder / RATTLE).glob("*.rt")), folder / CODES])
+    declared = "\n".join(path.read_text() for path in sorted((folder / RATTLE).glob("*.rt")))
+    source = "\n".join(path.read_text() for path in [*sorted((folder / EXPORTS).glob("*.rt")), folder / CODES])
     plain = re.sub(r"//.*", "", source)
     rust = re.sub(r"//.*", "", text[RUST])
 
@@ -242,7 +245,7 @@ def read(folder):
 
     return {
         "source": {
-            "call": rattle_calls(plain),
+            "call": rattle_calls(re.sub(r"//.*", "", declared)),
             "code": {**codes, **{f"REFUSED_{name}": number for name, number in refusals.items()}},
             "version": {"probe_version": int(version[1]) if version else None},
             "length": table(text[AREAS]),
@@ -402,9 +405,10 @@ FAULTS = [
     (RATTLE + "/shapes.rt", "    rows: usize,\n    columns: usize,", "    columns: usize,\n    rows: usize,"),
     (RATTLE + "/shapes.rt", "heights: &[f64],", "heights: &mut [f64],"),
     (RATTLE + "/shapes.rt", "side_x: u32,", "side_x: usize,"),
-    (RATTLE + "/shapes.rt", "{\n    3\n}", "{\n    2\n}"),
+    (EXPORTS + "/shapes.rt", "{\n    3\n}", "{\n    2\n}"),
+    (EXPORTS + "/ranges.rt", "pub const CLEAR: u32 = 261;", "pub const CLEAR: u32 = 263;"),
     (RATTLE + "/meshes.rt", "fn probe_query(", "fn probe_list("),
-    (RATTLE + "/meshes.rt", "#[no_mangle]\n", ""),
+    (RATTLE + "/meshes.rt", "#[unsafe(no_mangle)]\n", ""),
     (CODES, "pub const NO: u32 = 259;", "pub const NO: u32 = 258;"),
     (REFUSALS, "pub const WRONG_POSE: u32 = 4;", "pub const WRONG_POSE: u32 = 9;"),
     (AREAS, "| 12n ", "| 10n "),
@@ -458,7 +462,7 @@ def self_test(folder, loud):
         with tempfile.TemporaryDirectory() as name:
             copy = pathlib.Path(name)
             limits = [path for path, _, _ in LIMITS.values()]
-            for path in [RATTLE, CODES, REFUSALS, AREAS, HEADER, RUST, LENGTHS, PYTHON, *WORDS, *limits, *RUST_LIMITS] + STRUCTS:
+            for path in [RATTLE, EXPORTS, CODES, REFUSALS, AREAS, HEADER, RUST, LENGTHS, PYTHON, *WORDS, *limits, *RUST_LIMITS] + STRUCTS:
                 (copy / path).parent.mkdir(parents=True, exist_ok=True)
                 if (folder / path).is_dir():
                     shutil.copytree(folder / path, copy / path, dirs_exist_ok=True)

@@ -25,7 +25,7 @@ def inner(path):
 
 def used(text):
     """The specs modules that a file names, each as crate and module."""
-    return set(re.findall(r"Rattle·(\w+?)(?:·specs\.specs|\.specs)\.(\w+)", text))
+    return set(re.findall(r"\bRattle\.(\w+)\.specs\.(\w+)", text))
 
 
 def long_lines(name, lines):
@@ -42,7 +42,7 @@ def faults_of(root):
         name = path.relative_to(root)
         lines = path.read_text(encoding="utf-8").splitlines()
         faults += long_lines(name, lines)
-        if re.search(r"\.before\s+\.before", "\n".join(lines)):
+        if re.search(r"\.before\s*\.before\b", "\n".join(lines)):
             faults.append(f"{name}: a chain of `.before`")
         if name.parts[2] == "specs" and inner(path):
             inners.add((name.parts[1], path.stem))
@@ -53,7 +53,7 @@ def faults_of(root):
                 faults.append(f"{name}: uses {crate}/specs/{module}, which is for proofs alone")
     for path in sorted(root.glob("crates/*/src/*.rt")):
         text = path.read_text(encoding="utf-8")
-        if 'extern "C" fn' in text:
+        if re.search(r'extern "C" fn|^pub fn probe_', text, re.M):
             for crate, module in sorted(used(text) & inners):
                 faults.append(f"{path.relative_to(root)}: a call for C whose file uses {crate}/specs/{module}, which is for proofs alone")
     if not files:
@@ -63,25 +63,30 @@ def faults_of(root):
 
 FAULTS = [
     ("a line of 141 characters", {"a/proofs/P.antt": "-- " + "x" * 138}),
-    ("a chain of two", {"a/proofs/P.antt": "f c = c .before .before .args"}),
-    ("a chain over a line's end", {"a/proofs/P.antt": "f c = c .before\n    .before .args"}),
+    ("a chain of two", {"a/proofs/P.antt": "f c = c.before.before.args"}),
+    ("a chain with spaces", {"a/proofs/P.antt": "f c = c .before .before .args"}),
+    ("a chain over a line's end", {"a/proofs/P.antt": "f c = c.before\n    .before.args"}),
     (
         "a definition over an inner one",
-        {"a/specs/I.antt": "-- Inner contracts only: a step.", "a/specs/D.antt": "-- D.\nuse Rattle·a·specs.specs.I.{step}"},
+        {"a/specs/I.antt": "-- Inner contracts only: a step.", "a/specs/D.antt": "-- D.\nuse Rattle.a.specs.I.{step}"},
     ),
     (
         "a call over an inner one",
-        {"a/specs/I.antt": "-- Inner contracts only.", "b/src/c.rt": 'ghost use Rattle·a.specs.I.{step};\npub extern "C" fn c() {}'},
+        {"a/specs/I.antt": "-- Inner contracts only.", "b/src/c.rt": 'ghost use Rattle.a.specs.I.{step};\npub extern "C" fn c() {}'},
+    ),
+    (
+        "a call's function over an inner one",
+        {"a/specs/I.antt": "-- Inner contracts only.", "b/src/c.rt": "ghost use Rattle.a.specs.I.{step};\npub fn probe_c() {}"},
     ),
     ("a line of code of 141 characters", {"a/src/b.rt": "// " + "x" * 138, "a/proofs/P.antt": "-- P."}),
     ("no file", {}),
 ]
 SOUND = {
     "a/specs/I.antt": "-- Inner contracts only: a step.",
-    "a/specs/J.antt": "-- Inner contracts only: steps.\nuse Rattle·a·specs.specs.I.{step}",
-    "a/specs/D.antt": "-- D.\nuse Rattle·a·specs.specs.E.{whole}",
-    "a/proofs/P.antt": "-- " + "x" * 137 + "\nf c = c .before .args",
-    "a/src/b.rt": "// The first.\nfn first(xs: &[u8]) -> u8\n    requires { ⌜ 1 ≤ length (now xs) ⌝ }\n{",
+    "a/specs/J.antt": "-- Inner contracts only: steps.\nuse Rattle.a.specs.I.{step}",
+    "a/specs/D.antt": "-- D.\nuse Rattle.a.specs.E.{whole}",
+    "a/proofs/P.antt": "-- " + "x" * 137 + "\nf c = c.before.args",
+    "a/src/b.rt": "// The first.\nghost use Rattle.a.specs.I.{step};\nfn first(xs: &[u8]) -> u8\n    requires { 1 ≤ length xs.now }\n{",
 }
 
 

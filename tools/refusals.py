@@ -3,11 +3,13 @@
 
 usage: tools/refusals.py [--self-test | --fit | CRATE..]   (CRATE..: just the edits of these crates)
 
-Reads the first error of target/must-fail/CRATE/EDIT/.log, which `rt ci` and `rt must-fail` leave, for every
-crates/CRATE/must-fail/EDIT.edit. A proof that names a call, a test or a need that the edited code does not have would be refused
-whatever the edit means, so such an edit shows nothing. --self-test: the rule tells the messages of SAMPLES apart.
+Reads what `rt ci` said of every crates/CRATE/must-fail/EDIT.edit, a line each, which tools/test keeps in target/log/ci.out; LOG names
+another file, such as one with what `rt must-fail` said. A line tells the first error that is not about a name which is gone, as far as 160
+characters. A proof that names a call, a test or a goal that the edited code does not have would be refused whatever the edit means, so such
+an edit shows nothing. rt says so of some; the rule here finds more. --self-test: the rule tells the lines of SAMPLES apart.
 --fit: reads no log; each old text of an edit stands once in its file, as rt asks, so that `rt ci` need not be run to find it gone.
 """
+import os
 import pathlib
 import re
 import sys
@@ -16,35 +18,44 @@ import sys
 MISFITS = [
     (r"has no field `", "the proof asks a place for what stands no longer there"),
     (r"is not in scope", "a name that is not in scope"),
-    (r"has no `[^`]*` that can be named from here", "a name that its module has no longer"),
-    (r"expected a type, but ", "a need that asks for more than before"),
-    (r"expected type `[\w.-]*\bNeed-[\w-]*`, but this has type `[\w.-]*\bNeed-", "the needs are others, or in another order"),
-    (r"no proof of `[\w.-]*\b(Start|After-[\w-]*|Then\d*|Else\d*|In-loop\w*|InvT-[\w-]*|MeasureT-[\w-]*)\b", "a place that the code has no longer"),
+    (r"has no `[^`]*`", "a name that its module has no longer"),
+    (r"was not admitted", "it rests on a proof that does not fit"),
+    (r"expected a type, but ", "a goal that asks for more than before"),
+    (
+        r"expected type `[\w.'-]*\b(Need-|Goals\.|goal\.)[\w'-]*`, but this has type `[\w.'-]*\b(Need-|Goals\.|goal\.)",
+        "the goals are others, or in another order",
+    ),
+    (r"no proof of `[\w.'-]*\b(Start|After-[\w-]*|Then\d*|Else\d*|In-loop[\w-]*|InvT-[\w-]*|MeasureT-[\w-]*)\b", "a place that the code has no longer"),
     (r"(too many|too few|missing) argument", "another number of arguments"),
-    (r"expected a function, but ", "more needs are answered than there are"),
-    (r"is still open|unexpected |expected an? (expression|declaration|pattern)", "the file cannot be read"),
+    (r"expected a function, but ", "more goals are answered than there are"),
+    (r"is still open|unexpected |expected an? (expression|declaration|pattern|path)", "the file cannot be read"),
 ]
 
 # Edits that are kept although the rule above reports them, each with the reason.
 KNOWN = {}
 
-
-def first_error(log):
-    """The first error with the lines that belong to it, or None."""
-    lines = log.splitlines()
-    for number, line in enumerate(lines):
-        if re.match(r"\S+: error: ", line):
-            rest = lines[number + 1 :]
-            end = next((k for k, more in enumerate(rest) if not more.startswith("  ")), len(rest))
-            return "\n".join([line, *rest[:end]])
-    return None
+# What rt says of an edit that it refuses: nothing more where a goal is open and no place is named, or the first error.
+REFUSED = re.compile(r"refused, as it must be(?: \((?P<only>only [^:]*?)[,:].*?\))?(?:: (?P<error>.+))?$")
 
 
-def misfit(error):
+def misfit(said):
     """What does not fit, or None where a fact fails."""
-    place, message = error.split(": error: ", 1)
-    head = message.splitlines()[0]
-    if "/proofs/" not in place and not place.startswith("proofs/"):
+    found = REFUSED.match(said)
+    if not found:
+        return "it is not refused, or not tried: " + said[:120]
+    if found["only"]:
+        return f"rt says: {found['only']}"
+    error = found["error"]
+    # an open goal of which rt names no place
+    if error is None:
+        return None
+    # a fact that is told at its place in the code
+    if error.startswith("note: "):
+        return None if re.match(r"note: (\./)?src/\S+:\d+:\d+: it is not proved that ", error) else "a note that tells no fact"
+    if ": error: " not in error:
+        return "no error that is known here"
+    place, head = error.split(": error: ", 1)
+    if not place.removeprefix("./").startswith("proofs/"):
         return "the error stands in no proof"
     # an error of a fact is told in a declaration's name, `returns-2`: ...
     if not re.match(r"`[^`]+`: ", head):
@@ -55,23 +66,43 @@ def misfit(error):
     return None
 
 
+FACT = "refused, as it must be: "
 SAMPLES = [
-    (None, "proofs/least/Proof.antt:10:13: error: `returns`: `simp`: no equation of the list has an instance in the goal `x`"),
-    (None, "proofs/least/Proof.antt:10:13: error: `returns`: give a proof of that as the last argument, `simp L t`\n  `simp` has no last argument"),
-    (None, "proofs/Steps.antt:131:18: error: `nearest-is`: as printed, the two types differ only where one has `6`"),
-    (None, "proofs/a/Proof.antt:46:5: error: `returns-5`: expected type `a.Reads.Post (Prim.tt {0})`\n  but this has type `b`"),
-    (None, "proofs/a/Proof.antt:7:24: error: `a-spec`: `search`: no proof of `tie.Need-returns` was found. Every way was tried"),
-    (None, "proofs/a/Proof.antt:48:5: error: `returns-5`: `rw`: no occurrence of the path's left endpoint in the goal"),
-    (None, "proofs/a/Proof.antt:9:5: error: `loop-again`: `omega`: no contradiction found"),
-    ("place", "proofs/a/Proof.antt:10:34: error: `returns`: record `mini.Lts.Start` has no field `first-less`"),
-    ("scope", "proofs/a/Proof.antt:16:42: error: `a-spec`: `needs` is not in scope"),
-    ("named", "proofs/a/Proof.antt:12:13: error: `returns-2`: `tie.Need-returns-2`: module `a.Tie` has no `Need-returns-2` that can be named from here"),
-    ("needs", "proofs/a/Proof.antt:16:34: error: `a-spec`: expected type `tie.Need-f-requires`, but this has type `tie.Need-returns`\n  computed"),
-    ("loop", "proofs/a/Proof.antt:8:11: error: `returns`: expected a type, but `tie.Need-returns` has type `tie.InvT-loop → Type 0`"),
-    ("gone", "proofs/a/Proof.antt:8:11: error: `returns`: `search`: no proof of `tie.Else3` was found. Every way was tried"),
-    ("module", "proofs/a/Proof.antt:4:36: error: module `a.specs.Least` has no `leastOf` that can be named from here"),
-    ("layout", "proofs/a/Proof.antt:12:1: error: this line starts at column 1, but the `(` opened at 10:18 is still open"),
-    ("contract", "src/least.rt:12:26: error: `ensures-1`: expected type `Res`, but this has type `Float → Float`"),
+    (None, FACT + "proofs/least/Proof.antt:10:13: error: `returns`: `simp`: no equation of the list has an instance in the goal `x`"),
+    (None, FACT + "./proofs/least/Answers.antt:10:13: error: `returns`: give a proof of that as the last argument, `simp L t`"),
+    (None, FACT + "./proofs/Steps.antt:131:18: error: `nearest-is`: as printed, the two types differ only where one has `6`"),
+    (None, FACT + "./proofs/a/Proof.antt:46:5: error: `returns-5`: expected type `a.Reads.Post (Prim.tt {0})`"),
+    (None, FACT + "./proofs/a/Proof.antt:7:24: error: `a_spec`: `search`: no proof of `goal.returns` was found. Every way was tried"),
+    (None, FACT + "./proofs/a/Proof.antt:48:5: error: `returns-5`: `rw`: no occurrence of the path's left endpoint in the goal"),
+    (None, FACT + "./proofs/a/Proof.antt:9:5: error: `loop-again`: `omega`: no contradiction found"),
+    (None, FACT + "note: src/lib.rt:27:9: it is not proved that what the function ensures holds when it returns (`returns-then-y-x-clause-one`); the f"),
+    (None, FACT + "note: src/lib.rt:37:15: it is not proved that the sum fits its type (at a range `..=n`, `n + 1`) (`overflow_add-sum`); the facts k"),
+    (None, "refused, as it must be"),
+    ("place", FACT + "./proofs/a/Proof.antt:10:34: error: `returns`: record `mini.Lts.Start` has no field `first-less`"),
+    ("scope", FACT + "./proofs/a/Proof.antt:16:42: error: `a_spec`: `rules` is not in scope"),
+    ("named", FACT + "./proofs/a/Proof.antt:12:13: error: `returns-2`: `goal.returns-2`: module `a.Goals` has no `returns-2` that can be named from here"),
+    ("rests", FACT + "./proofs/a/Proof.antt:20:1: error: `a_spec`: `returns` was not admitted"),
+    ("needs", FACT + "./proofs/a/Proof.antt:16:34: error: `a_spec`: expected type `tie.Need-f-requires`, but this has type `tie.Need-returns`"),
+    ("goals", FACT + "./proofs/a/Answers.antt:16:34: error: `returns`: expected type `Rattle.a.proofs.f.Goals.returns`, but this has type `Rattle.a.proofs.f.Goals.sum`"),
+    ("loop", FACT + "./proofs/a/Proof.antt:8:11: error: `returns`: expected a type, but `goal.returns` has type `tie.InvT-loop → Type 0`"),
+    ("gone", FACT + "./proofs/a/Proof.antt:8:11: error: `returns`: `search`: no proof of `tie.Else3` was found. Every way was tried"),
+    ("module", FACT + "./proofs/a/Proof.antt:4:36: error: module `a.specs.Least` has no `least_of` that can be named from here"),
+    ("layout", FACT + "./proofs/a/Proof.antt:12:1: error: this line starts at column 1, but the `(` opened at 10:18 is still open"),
+    ("contract", FACT + "src/least.rt:12:26: error: `ensures-1`: expected type `Res`, but this has type `Float → Float`"),
+    ("note", FACT + "note: proofs/a/Answers.antt:12:26: this line does nothing"),
+    (
+        "rt",
+        "refused, as it must be (only because a proof file names what the edit took away, so this says little of the contract: change a value and"
+        " keep the names): ./proofs/a/Proof.antt:16:42: error: `a_spec`: `first` is not in scope",
+    ),
+    (
+        "limit",
+        "refused, as it must be (only by a limit of the prover, which gave no verdict, so this says less of the contract: choose a change that it"
+        " refuses sooner): src/lib.rt:3:1: error: `returns`: antt ran out of the steps that the check of one declaration may take",
+    ),
+    ("bad", "BAD EDIT: it did not reach the prover; the first lines of what it said:"),
+    ("not tried", "NOT TRIED: its check was killed, most likely for memory, so nothing is known of it: run this again"),
+    ("proved", "NOT REFUSED: the crate is still proved with this edit (one that means the same as before cannot be refused: remove it)"),
 ]
 
 
@@ -106,6 +137,14 @@ def fit(home):
     sys.exit(1 if faults else 0)
 
 
+def told(log):
+    """What a log says of each edit, by its name CRATE/EDIT: a list of one where it says it once."""
+    found = {}
+    for crate, edit, said in re.findall(r"^rt: must-fail (\w+)/([\w.-]+)\.edit: (.*)$", log, re.M):
+        found.setdefault(f"{crate}/{edit}", []).append(said)
+    return found
+
+
 def main():
     if sys.argv[1:] == ["--self-test"]:
         return self_test()
@@ -116,21 +155,25 @@ def main():
     if not all((home / "crates" / crate).is_dir() for crate in crates):
         sys.exit(__doc__)
     edits = [edit for edit in sorted(home.glob("crates/*/must-fail/*.edit")) if not crates or edit.parent.parent.name in crates]
+    log = pathlib.Path(os.environ.get("LOG") or home / "target/log/ci.out")
+    if not log.is_file():
+        sys.exit(f"error: {log} is not there: tools/test writes it, or LOG names a file with what `rt ci` or `rt must-fail` said")
+    lines = told(log.read_text(encoding="utf-8", errors="replace"))
     faults = []
     for edit in edits:
         name = f"{edit.parent.parent.name}/{edit.stem}"
-        log = home / "target/must-fail" / name / ".log"
-        error = first_error(log.read_text()) if log.exists() else None
-        if error is None:
-            faults.append(f"{name}: target/must-fail/{name}/.log tells no error; `rt ci` or `rt must-fail` writes it")
+        said = lines.get(name, [])
+        if len(said) != 1:
+            faults.append(f"{name}: {log} has {len(said)} lines on it, not one")
             continue
-        found = misfit(error.replace(str(log.parent) + "/", ""))
+        found = misfit(said[0])
         if found and name not in KNOWN:
-            faults.append(f"{name}: refused because the proof does not fit the edited code ({found}):\n  {error.splitlines()[0][:300]}")
+            faults.append(f"{name}: no fact is shown to fail ({found}):\n  {said[0][:300]}")
         if not found and name in KNOWN:
             faults.append(f"{name}: a fact fails, so it need not be listed as known")
     names = {f"{edit.parent.parent.name}/{edit.stem}" for edit in edits}
     faults += [f"{name}: listed as known, and there is no such edit" for name in KNOWN if not crates and name not in names]
+    faults += [f"{name}: {log} speaks of it, and there is no such edit" for name in lines if not crates and name not in names]
     for fault in faults:
         print(fault, file=sys.stderr)
     if faults:

@@ -1,5 +1,5 @@
 #!/usr/bin/env python3
-"""Turns the repository's own definitions, lemmas and fields to snake case, after /opt/rattle/port/port.py ran.
+"""Turns the repository's own definitions, lemmas and fields to snake case, after `port/port.py` of the toolchain ran.
 
 usage: tools/respell.py [ROOT]
 

@@ -64,7 +64,7 @@ def paragraphs(lines):
 
 
 def declares(line, name):
-    return re.match(rf"\s*(unfoldable |abbrev )?(pub )?(data |record )?{re.escape(name)}(?![\w-])[^=]*(:|where)", line) is not None
+    return re.match(rf"\s*(unfoldable |abbrev |opaque )?(pub )?(data |record )?{re.escape(name)}(?![\w-])[^=]*(:|where)", line) is not None
 
 
 def definitions_of(specs, path, name):
@@ -124,12 +124,12 @@ def self_test(home):
         "a row taken out": (specs, scope.replace(row + "\n", "")),
         "a definition that is gone": (specs, scope.replace("geometry/Box.centre", "geometry/Box.middle")),
         "a file that is gone": (specs, scope.replace("geometry/Box.centre", "geometry/Boxes.centre")),
-        "a definition that quotes something else": (specs, scope.replace("`geometry/Box.centre`", "`geometry/Box.boxOf`")),
+        "a definition that quotes something else": (specs, scope.replace("`geometry/Box.centre`", "`geometry/Box.box_of`")),
         "another sentence": (specs, scope.replace("A box centre is min", "A box centre was min")),
         "a quotation taken out": ({**specs, box: [line.replace('"', "") for line in specs[box]]}, scope),
         "a call that is gone": (specs, scope.replace("| `center` |", "| `centre_of` |")),
         "a request without a table": (specs, scope.replace(row, row[:-2] + "M-999 |")),
-        "a row that waits though its request has landed": (specs, scope.replace("`record_text/Text.printedBits` | `printed_bits` | |", "waits | | |")),
+        "a row that waits though its request has landed": (specs, scope.replace("`record_text/Text.printed_bits` | `printed_bits` | |", "waits | | |")),
         "a row of three cells": (specs, scope.replace(row, "|".join(row.split("|")[:4]) + "|")),
     }
     before = set(compare(specs, functions, scope, landed)[0])

@@ -1,4 +1,4 @@
-//! Links the static library: the one that `rt staticlib exports` writes in the repository, or that of an installed folder.
+//! Links the static library: the one that `tools/build library` writes in the repository, or that of an installed folder.
 //! It is looked for in the folder that PROBE_RAYS_LIB names, else in the repository's target/staticlib, else in the folder
 //! of libraries that this crate was installed with.
 use std::env;
@@ -30,7 +30,7 @@ fn main() {
         for folder in &folders {
             eprintln!("  {}", folder.display());
         }
-        eprintln!("help: run `rt staticlib exports` in the repository, or set PROBE_RAYS_LIB to the folder of libprobe_rays.a");
+        eprintln!("help: run `tools/build library` in the repository, or set PROBE_RAYS_LIB to the folder of libprobe_rays.a");
         exit(1);
     };
     println!("cargo:rerun-if-changed={}", archive(folder, name).display());

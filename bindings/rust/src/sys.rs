@@ -1,7 +1,7 @@
 //! The library's calls as C sees them: a slice is a pointer and a length.
 //!
 //! include/probe_rays.h says what each call requires and returns. tests/declarations.sh compares these lines
-//! with that header and with the proved source, crates/exports.
+//! with that header and with the proved source, crates/exports_c.
 //! The safe functions of this crate wrap these calls and offer all that they offer.
 
 extern "C" {

@@ -28,8 +28,7 @@ fn put_merged(merged: Merged, nodes: &mut [usize]) -> u32
 // Glues two boards, each a mesh with its tree, into one and writes its node count. The marks are a work area: unchanged after refusals 2
 // and 3.
 // The third clause: where it is done, the tree check says yes to the result, and a cast on it is the two boards' casts glued.
-#[unsafe(no_mangle)]
-pub extern "C" fn probe_merge(
+pub fn probe_merge(
     first_vertices: &[f64],
     first_triangles: &[u32],
     first_nodes: usize,

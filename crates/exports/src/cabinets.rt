@@ -119,8 +119,7 @@ fn put_cabinet(
 // The cast at a cabinet of many parts under one limit of nodes. The list and the stack are work areas: unchanged until 1, 2 and 3 have let
 // the call pass, and then they may hold anything.
 // What `CabinetCall` says last is what is promised of the limit, and of the parts by the number and the slices.
-#[unsafe(no_mangle)]
-pub extern "C" fn probe_ray_cabinet(
+pub fn probe_ray_cabinet(
     origin_x: f64,
     origin_y: f64,
     origin_z: f64,

@@ -40,8 +40,7 @@ fn short_drill(ray: Ray, radius: f64, shape: bool) -> u32
 // and the lowest index of one, on a grid of 2^-15 mm.
 // Where the index slice is long enough, what is read back from the number and the slice is certain of the whole mesh on the grid, and says
 // of the part as drawn what `PartAsDrawn` says.
-#[unsafe(no_mangle)]
-pub extern "C" fn probe_drill_plain(
+pub fn probe_drill_plain(
     origin_x: f64,
     origin_y: f64,
     origin_z: f64,
@@ -90,8 +89,7 @@ pub extern "C" fn probe_drill_plain(
 // call pass, and then they may hold anything.
 // The third clause: a triangle that is named, through any tree, has a point in the drill; and with any tree that passes the check, areas
 // long enough and no NaN at a corner of the mesh, the call promises what the one without a tree promises.
-#[unsafe(no_mangle)]
-pub extern "C" fn probe_drill(
+pub fn probe_drill(
     origin_x: f64,
     origin_y: f64,
     origin_z: f64,
@@ -160,8 +158,7 @@ pub extern "C" fn probe_drill(
 // Refusals 2 and 3 are tested once; until they have let the call pass every area is unchanged, and then the list and the stack may hold
 // anything. A drill that is refused has its number as its code.
 // What is read at a drill's places is what the single call answers, and keeps its promises: `DrillManyCall` (specs/Drills.antt).
-#[unsafe(no_mangle)]
-pub extern "C" fn probe_drill_many(
+pub fn probe_drill_many(
     drills: &[f64],
     vertices: &[f64],
     triangles: &[u32],

@@ -34,8 +34,7 @@ fn short_exact(ray: Ray, shape: bool) -> u32
 
 // The exact cast at a mesh, without a tree and without a work area: the first point of the segment in a triangle, on a grid of 2^-15 mm.
 // Where the result slices are long enough, what is read back from the number and the slices is certain of the whole mesh.
-#[unsafe(no_mangle)]
-pub extern "C" fn probe_ray_mesh_exact_plain(
+pub fn probe_ray_mesh_exact_plain(
     origin_x: f64,
     origin_y: f64,
     origin_z: f64,
@@ -89,8 +88,7 @@ pub extern "C" fn probe_ray_mesh_exact_plain(
 // may hold anything.
 // The third clause: a hit, through any tree and at any vertices, is a true hit of its triangle there; and at the mesh's own vertices, with
 // any tree that passes the check and no NaN at a corner of the mesh, the call promises what the one without a tree promises.
-#[unsafe(no_mangle)]
-pub extern "C" fn probe_ray_mesh_exact(
+pub fn probe_ray_mesh_exact(
     origin_x: f64,
     origin_y: f64,
     origin_z: f64,
@@ -163,8 +161,7 @@ pub extern "C" fn probe_ray_mesh_exact(
 // The list and the stack are work areas: unchanged until the place of the count and refusals 1, 12 of the ray and 2 to 4 have let the call
 // pass, and then they may hold anything.
 // What `ExactListingCall` says last is what a user finds, where the place of the count is there.
-#[unsafe(no_mangle)]
-pub extern "C" fn probe_ray_mesh_exact_all(
+pub fn probe_ray_mesh_exact_all(
     origin_x: f64,
     origin_y: f64,
     origin_z: f64,
@@ -234,8 +231,7 @@ pub extern "C" fn probe_ray_mesh_exact_all(
 }
 
 // Whether every corner of every triangle is three numbers: 'yes' or 'no', as the tree check tells it. A mesh is asked once.
-#[unsafe(no_mangle)]
-pub extern "C" fn probe_mesh_has_numbers(vertices: &[f64], triangles: &[u32]) -> u32
+pub fn probe_mesh_has_numbers(vertices: &[f64], triangles: &[u32]) -> u32
     ensures { NumbersCall (mesh vertices.now triangles.now) result }
 {
     if numbers::has_numbers(vertices, triangles) {

@@ -13,8 +13,7 @@ use vectors::vec3::Vec3;
 // The list and the stack are work areas: unchanged until the place of the count and refusals 1 to 4 have let the call pass, and then they
 // may hold anything.
 // What `ListingCall` says last is what a user finds, where the place of the count is there.
-#[unsafe(no_mangle)]
-pub extern "C" fn probe_ray_mesh_all(
+pub fn probe_ray_mesh_all(
     origin_x: f64,
     origin_y: f64,
     origin_z: f64,

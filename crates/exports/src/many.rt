@@ -9,8 +9,7 @@ use many_casts::{at_exact, at_mesh};
 // Refusals 2 to 4 are tested once; until they have let the call pass every area is unchanged, and then the list and the stack may hold
 // anything. A ray that is refused has its number as its code.
 // What is read at a ray's places is what the single call tells, and demand 3 holds of it: `MeshManyCall` (specs/ManyRays.antt).
-#[unsafe(no_mangle)]
-pub extern "C" fn probe_ray_mesh_many(
+pub fn probe_ray_mesh_many(
     rays: &[f64],
     vertices: &[f64],
     triangles: &[u32],
@@ -53,8 +52,7 @@ pub extern "C" fn probe_ray_mesh_many(
 // The exact cast of many rays, in the same way, without a list.
 // At the mesh's own vertices, with any tree that passes the check and no NaN at a corner of the mesh, what is read at a ray's places keeps
 // what the call without a tree promises: `ExactManyCall` (specs/ManyRays.antt).
-#[unsafe(no_mangle)]
-pub extern "C" fn probe_ray_mesh_exact_many(
+pub fn probe_ray_mesh_exact_many(
     rays: &[f64],
     vertices: &[f64],
     triangles: &[u32],

@@ -85,8 +85,7 @@ fn answer_mesh(
 // The mesh cast. The list and the stack are work areas: unchanged until the result slices and refusals 1 to 4 have let the call pass, and
 // then they may hold anything.
 // Demand 3 holds of what is read back from the number and the slices: the third clause, `DemandRead` (specs/Reading.antt).
-#[unsafe(no_mangle)]
-pub extern "C" fn probe_ray_mesh(
+pub fn probe_ray_mesh(
     origin_x: f64,
     origin_y: f64,
     origin_z: f64,
@@ -139,8 +138,7 @@ pub extern "C" fn probe_ray_mesh(
 }
 
 // The same of a ray with a near distance.
-#[unsafe(no_mangle)]
-pub extern "C" fn probe_ray_mesh_near(
+pub fn probe_ray_mesh_near(
     origin_x: f64,
     origin_y: f64,
     origin_z: f64,
@@ -197,8 +195,7 @@ pub extern "C" fn probe_ray_mesh_near(
 // Builds a mesh's tree into the result areas and writes its node count. The work area is unchanged after refusals 2 and 3; past their
 // tests nothing is promised of it.
 // Where the number is `DONE`, the tree in the areas passes the check: the third clause, `BuiltRead` (specs/Reading.antt).
-#[unsafe(no_mangle)]
-pub extern "C" fn probe_build(
+pub fn probe_build(
     vertices: &[f64],
     triangles: &[u32],
     node_boxes: &mut [f64],
@@ -245,8 +242,7 @@ fn short_query(bounds: Aabb, triangles: usize, nodes: usize) -> u32
 // Lists the triangles of a tree whose boxes touch a box, ascending, and writes how many.
 // The stack is a work area: unchanged after refusals 1 to 3, and past their tests nothing is promised of it.
 // The third clause: for a mesh of so many triangles and a tree that passes the check, the list is each triangle whose box touches, once.
-#[unsafe(no_mangle)]
-pub extern "C" fn probe_query(
+pub fn probe_query(
     min_x: f64,
     min_y: f64,
     min_z: f64,
@@ -299,8 +295,7 @@ pub extern "C" fn probe_query(
 
 // Whether a tree, from whatever builder, fits the mesh. The marks are a work area, unchanged after a refusal.
 // Where the number is `YES`, the tree passes the check, as demand 3 asks it: the third clause.
-#[unsafe(no_mangle)]
-pub extern "C" fn probe_tree_check(
+pub fn probe_tree_check(
     vertices: &[f64],
     triangles: &[u32],
     nodes: usize,

@@ -59,8 +59,7 @@ pub fn answer_plane(
 }
 
 // The cast at a plane of a ray with a near distance.
-#[unsafe(no_mangle)]
-pub extern "C" fn probe_ray_plane_near(
+pub fn probe_ray_plane_near(
     origin_x: f64,
     origin_y: f64,
     origin_z: f64,
@@ -152,8 +151,7 @@ pub fn answer_triangle(
 }
 
 // The cast at a triangle of corners a, b and c of a ray with a near distance.
-#[unsafe(no_mangle)]
-pub extern "C" fn probe_ray_triangle_near(
+pub fn probe_ray_triangle_near(
     origin_x: f64,
     origin_y: f64,
     origin_z: f64,
@@ -240,8 +238,7 @@ pub fn answer_height_field(
 }
 
 // The cast at a height grid of a ray with a near distance.
-#[unsafe(no_mangle)]
-pub extern "C" fn probe_ray_height_field_near(
+pub fn probe_ray_height_field_near(
     origin_x: f64,
     origin_y: f64,
     origin_z: f64,
@@ -337,8 +334,7 @@ pub fn answer_level_set(
 }
 
 // The cast at a distance grid of a ray with a near distance.
-#[unsafe(no_mangle)]
-pub extern "C" fn probe_ray_level_set_near(
+pub fn probe_ray_level_set_near(
     origin_x: f64,
     origin_y: f64,
     origin_z: f64,

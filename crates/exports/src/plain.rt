@@ -9,8 +9,7 @@ use tree::mesh as triangle_mesh;
 
 // The mesh cast without a tree, and without a work area.
 // The second clause: what the mesh cast through any tree that passes the check would tell is the same.
-#[unsafe(no_mangle)]
-pub extern "C" fn probe_ray_mesh_plain(
+pub fn probe_ray_mesh_plain(
     origin_x: f64,
     origin_y: f64,
     origin_z: f64,

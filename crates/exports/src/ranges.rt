@@ -57,8 +57,7 @@ fn put_cell(answer: Clearance, cell: &mut [u32]) -> u32
 
 // The cast at a height grid with a low and a high for each node; both stand row after row.
 // The second clause: what the number and the cell say keeps the promise about every grid within the ranges.
-#[unsafe(no_mangle)]
-pub extern "C" fn probe_ray_height_ranges(
+pub fn probe_ray_height_ranges(
     origin_x: f64,
     origin_y: f64,
     origin_z: f64,

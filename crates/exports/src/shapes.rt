@@ -8,16 +8,14 @@ ghost use Rattle.results.specs.Results.{version, ray_of, plane_of, corners_of, f
 use crate::near;
 
 // The version of these calls: it changes when one of them does.
-#[unsafe(no_mangle)]
-pub extern "C" fn probe_version() -> u32
+pub fn probe_version() -> u32
     ensures { result ≡ version }
 {
     3
 }
 
 // The cast at a plane.
-#[unsafe(no_mangle)]
-pub extern "C" fn probe_ray_plane(
+pub fn probe_ray_plane(
     origin_x: f64,
     origin_y: f64,
     origin_z: f64,
@@ -54,8 +52,7 @@ pub extern "C" fn probe_ray_plane(
 
 // The cast at a triangle of corners a, b and c. On whole millimetres `exact-on-whole-numbers` (whole_numbers/proofs/WholeTriangles.antt)
 // says of `rayTriangle`, with which the contract is an equation, where it hits, where it does not, and at which distance.
-#[unsafe(no_mangle)]
-pub extern "C" fn probe_ray_triangle(
+pub fn probe_ray_triangle(
     origin_x: f64,
     origin_y: f64,
     origin_z: f64,
@@ -101,8 +98,7 @@ pub extern "C" fn probe_ray_triangle(
 }
 
 // The cast at a height grid; the heights stand row after row.
-#[unsafe(no_mangle)]
-pub extern "C" fn probe_ray_height_field(
+pub fn probe_ray_height_field(
     origin_x: f64,
     origin_y: f64,
     origin_z: f64,
@@ -140,8 +136,7 @@ pub extern "C" fn probe_ray_height_field(
 }
 
 // The cast at a distance grid; the values stand x fastest, then y.
-#[unsafe(no_mangle)]
-pub extern "C" fn probe_ray_level_set(
+pub fn probe_ray_level_set(
     origin_x: f64,
     origin_y: f64,
     origin_z: f64,

@@ -5,8 +5,7 @@ ghost use Rattle.slice_casts.specs.Slices.{plane_of_slices, triangle_of_slices};
 use slice_casts::{at_plane, at_triangle};
 
 // The cast at a plane of four numbers, of a ray of eight.
-#[unsafe(no_mangle)]
-pub extern "C" fn probe_ray_plane_slices(ray: &[f64], plane: &[f64], hit: &mut [f64]) -> u32
+pub fn probe_ray_plane_slices(ray: &[f64], plane: &[f64], hit: &mut [f64]) -> u32
     ensures { record { number = result; hit = hit.new }
         ≡ answered (plane_of_slices ray.now plane.now) hit.old }
 {
@@ -14,8 +13,7 @@ pub extern "C" fn probe_ray_plane_slices(ray: &[f64], plane: &[f64], hit: &mut [
 }
 
 // The cast at a triangle of nine numbers, of a ray of eight.
-#[unsafe(no_mangle)]
-pub extern "C" fn probe_ray_triangle_slices(ray: &[f64], triangle: &[f64], hit: &mut [f64]) -> u32
+pub fn probe_ray_triangle_slices(ray: &[f64], triangle: &[f64], hit: &mut [f64]) -> u32
     ensures { record { number = result; hit = hit.new }
         ≡ answered (triangle_of_slices ray.now triangle.now) hit.old }
 {
