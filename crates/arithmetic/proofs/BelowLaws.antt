@@ -1,5 +1,6 @@
 -- The float just below a finite number is below it, no float lies between, and it is an f64 where the number is. Assumes nothing.
-use Rattle.std.proofs.Common.{◌≡◌, ℕ, zero, suc, ◌+◌, ◌-◌, ◌*◌, ◌%◌, ◌^◌, ◌<◌, ◌≤◌, Bool, true, false, not, T, ltb, ◌⊎◌, ℤ, sym, refl, ap, ◌∙◌, subst, inl, inr, true≢false, eq-or-lt_of_le, zero-mul, arith, ltb-false, ltb-true, le-ltb, lt-ltb}
+use Rattle.std.proofs.Common.{◌≡◌, ℕ, zero, suc, ◌+◌, ◌-◌, ◌*◌, ◌%◌, ◌^◌, ◌<◌, ◌≤◌, Bool, true, false, not, T, ltb, ◌⊎◌, ℤ, sym, refl, ap}
+use Rattle.std.proofs.Common.{◌∙◌, subst, inl, inr, true≢false, eq-or-lt_of_le, zero-mul, arith, ltb-false, ltb-true, le-ltb, lt-ltb}
 use mathlib.Core.Bool.{false≢true}
 use lib.Ieee.{Float, nan, inf, fin, binary64, up, down, of_bits, to_bits, nan_bits, fits, is_nan, neg, lt, le}
 use lib.Ieee.Bits.{of_bits-to_bits, of_bits-fits, nan_bits_above}
@@ -52,7 +53,8 @@ lower_pattern x f h =
     let l = own_bits x f h in
     subst (λ (b : Bool). T (not b)) (sym (plain_pattern (to_bits binary64 x - 1) (omega arith))) tt
 
-pub higher_pattern : (x : Float) → T (fits binary64 x) → is_finite x ≡ true → T (not (nan_bits binary64 (to_bits binary64 (absolute x) + 1)))
+pub higher_pattern : (x : Float) → T (fits binary64 x) → is_finite x ≡ true
+    → T (not (nan_bits binary64 (to_bits binary64 (absolute x) + 1)))
 higher_pattern x f h =
     let l = pattern_finite x f h in
     subst (λ (b : Bool). T (not b)) (sym (plain_pattern (to_bits binary64 (absolute x) + 1) (omega arith))) tt
@@ -159,7 +161,8 @@ below_positive : (x : Float) → lt none x ≡ true → just_below x ≡ of_bits
 unfolding just_below
 below_positive x h = simp h
 
-below_others : (x : Float) → lt none x ≡ false → is_finite x ≡ true → just_below x ≡ neg (of_bits binary64 (to_bits binary64 (absolute x) + 1))
+below_others : (x : Float) → lt none x ≡ false → is_finite x ≡ true → just_below x
+    ≡ neg (of_bits binary64 (to_bits binary64 (absolute x) + 1))
 unfolding just_below
 below_others x h p = simp (h, p)
 

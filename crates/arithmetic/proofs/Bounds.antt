@@ -1,6 +1,9 @@
 -- Numbers of at most a power of two in size stay so under a sum, a product and a quotient, so that none of these overflows. Assumes
 -- nothing.
-use Rattle.std.proofs.Common.{◌≡◌, ℕ, zero, suc, ◌+◌, ◌-◌, ◌*◌, ◌^◌, ◌<◌, ◌≤◌, Bool, true, false, cond, ◌&&◌, T, eqb, ltb, ℤ, pos, sym, refl, ap, ◌∙◌, subst, true≢false, le_trans, le_of_eq, mul-le-mul_right, mul_assoc, mul_comm, mul-le-mul, add_comm, pos_of_ne-zero, mul-pos, one-mul, pow-suc, zero-mul, mul-one, mul_right_comm, le_of_mul-le-mul_right, arith, lit<, pow_mono, pow-add, ltb-false, le-ltb, ne_eqb}
+use Rattle.std.proofs.Common.{◌≡◌, ℕ, zero, suc, ◌+◌, ◌-◌, ◌*◌, ◌^◌, ◌<◌, ◌≤◌, Bool, true, false, cond, ◌&&◌, T, eqb, ltb, ℤ, pos, sym}
+use Rattle.std.proofs.Common.{refl, ap, ◌∙◌, subst, true≢false, le_trans, le_of_eq, mul-le-mul_right, mul_assoc, mul_comm, mul-le-mul}
+use Rattle.std.proofs.Common.{add_comm, pos_of_ne-zero, mul-pos, one-mul, pow-suc, zero-mul, mul-one, mul_right_comm}
+use Rattle.std.proofs.Common.{le_of_mul-le-mul_right, arith, lit<, pow_mono, pow-add, ltb-false, le-ltb, ne_eqb}
 use mathlib.Core.Bool.{beq}
 use native.Mathlib.Nat.{mul-mul-mul_comm}
 use lib.Pow.{pow-lt}

@@ -1,5 +1,7 @@
 -- A whole number from a float: by a fraction that the float equals, and where it saturates. Assumes nothing.
-use Rattle.std.proofs.Common.{◌≡◌, ℕ, ◌+◌, ◌-◌, ◌*◌, ◌/◌, ◌^◌, ◌<◌, ◌≤◌, min, Bool, true, false, cond, T, pos, sym, refl, ap, ◌∙◌, subst, true≢false, div-lt_iff_lt-mul, lt_of_mul-lt-mul_right, mul-lt-mul_of_pos_right, le-div_iff_mul-le, mul-one, mul_right_comm, mul-div_cancel, arith, lt→ltb, ltb-false}
+use Rattle.std.proofs.Common.{◌≡◌, ℕ, ◌+◌, ◌-◌, ◌*◌, ◌/◌, ◌^◌, ◌<◌, ◌≤◌, min, Bool, true, false, cond, T, pos, sym, refl, ap, ◌∙◌, subst}
+use Rattle.std.proofs.Common.{true≢false, div-lt_iff_lt-mul, lt_of_mul-lt-mul_right, mul-lt-mul_of_pos_right, le-div_iff_mul-le, mul-one}
+use Rattle.std.proofs.Common.{mul_right_comm, mul-div_cancel, arith, lt→ltb, ltb-false}
 use mathlib.Core.Bool.{false≢true}
 use native.Mathlib.Nat.{zero-div, zero-min}
 use lib.Ieee.{Float, nan, inf, fin, up, down, lt, to_unsigned}

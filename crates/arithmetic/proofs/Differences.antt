@@ -1,5 +1,6 @@
 -- The size of a difference of two floats above zero is their exact distance, rounded. Assumes nothing.
-use Rattle.std.proofs.Common.{◌≡◌, ℕ, ◌+◌, ◌-◌, ◌*◌, ◌<◌, ◌≤◌, Bool, true, false, cond, T, ltb, ℤ, refl, ap, ◌∙◌, arith, ltb-false, ltb-true}
+use Rattle.std.proofs.Common.{◌≡◌, ℕ, ◌+◌, ◌-◌, ◌*◌, ◌<◌, ◌≤◌, Bool, true, false, cond, T, ltb, ℤ, refl, ap, ◌∙◌, arith, ltb-false}
+use Rattle.std.proofs.Common.{ltb-true}
 use lib.Ieee.{Float, nan, inf, fin, Format, binary64, up, down, round, sum, sub}
 use lib.Ieee.Positive.{num, den, positive}
 use Rattle.arithmetic.specs.Basic.{absolute}

@@ -1,5 +1,6 @@
 -- How far a float above zero lies from 1, rounded: on either side of 1 this grows with the exact distance. Assumes nothing.
-use Rattle.std.proofs.Common.{◌≡◌, ℕ, ◌-◌, ◌*◌, ◌≤◌, true, false, T, pos, sym, ap, ◌∙◌, subst, mul-le-mul_right, mul_comm, one-mul, mul-one, arith}
+use Rattle.std.proofs.Common.{◌≡◌, ℕ, ◌-◌, ◌*◌, ◌≤◌, true, false, T, pos, sym, ap, ◌∙◌, subst, mul-le-mul_right, mul_comm, one-mul, mul-one}
+use Rattle.std.proofs.Common.{arith}
 use native.Mathlib.Nat.{mul-sub}
 use lib.Ieee.{Float, nan, inf, fin, binary64, up, down, round, sub, le}
 use lib.Ieee.Order.{round_mono}

@@ -1,6 +1,9 @@
 -- What rounding to a float leaves exact: whole numbers up to 2^53, numbers that fit times a power of two, and the size under either sign.
 -- Assumes nothing.
-use Rattle.std.proofs.Common.{◌≡◌, ℕ, zero, suc, ◌+◌, ◌-◌, ◌*◌, ◌%◌, ◌^◌, ◌<◌, ◌≤◌, Bool, true, false, cond, ◌&&◌, T, eqb, ltb, leb, ℤ, pos, negsuc, sym, refl, ap, ◌∙◌, subst, le_of_suc-le-suc, zero-lt-suc, mul_assoc, mul_comm, lt_of_mul-lt-mul_right, mul-lt-mul_of_pos_right, mul-pos, one-mul, lt_of_not-le, zero-mul, mul-one, sub-add_cancel, mul_right_comm, not-le_of_lt, mul_left_comm, le→leb, eqb→eq, ltb→lt, leb→le, pow_pos, pow-add}
+use Rattle.std.proofs.Common.{◌≡◌, ℕ, zero, suc, ◌+◌, ◌-◌, ◌*◌, ◌%◌, ◌^◌, ◌<◌, ◌≤◌, Bool, true, false, cond, ◌&&◌, T, eqb, ltb, leb, ℤ, pos}
+use Rattle.std.proofs.Common.{negsuc, sym, refl, ap, ◌∙◌, subst, le_of_suc-le-suc, zero-lt-suc, mul_assoc, mul_comm, lt_of_mul-lt-mul_right}
+use Rattle.std.proofs.Common.{mul-lt-mul_of_pos_right, mul-pos, one-mul, lt_of_not-le, zero-mul, mul-one, sub-add_cancel, mul_right_comm}
+use Rattle.std.proofs.Common.{not-le_of_lt, mul_left_comm, le→leb, eqb→eq, ltb→lt, leb→le, pow_pos, pow-add}
 use lib.Pow.{pow-lt}
 use lib.Ieee.{Float, inf, fin, Format, binary64, prec, emax, low, up, down, odd, units, round, neg, of_int, in_float, fits}
 use lib.Ieee.Fits.{and_l, and_r, down_pos, round_is}

@@ -127,7 +127,8 @@ le_total x y p q = go (lt y x) refl
 
 -- ---- three values
 -- "not above" is transitive among numbers
-not_lt_transitive : (x y z : Float) → is_nan x ≡ false → is_nan y ≡ false → is_nan z ≡ false → lt y x ≡ false → lt z y ≡ false → lt z x ≡ false
+not_lt_transitive : (x y z : Float) → is_nan x ≡ false → is_nan y ≡ false → is_nan z ≡ false → lt y x ≡ false → lt z y ≡ false → lt z x
+    ≡ false
 unfolding lt is_nan
 not_lt_transitive nan y z p q r h k = absurd (true≢false p)
 not_lt_transitive (inf true) y nan p q r h k = refl

@@ -1,5 +1,8 @@
 -- The bit patterns of floats that are not negative stand in the order of their values. Assumes nothing.
-use Rattle.std.proofs.Common.{◌≡◌, ℕ, zero, suc, ◌+◌, ◌-◌, ◌*◌, ◌/◌, ◌%◌, ◌^◌, ◌<◌, ◌≤◌, Bool, true, false, T, ltb, ◌⊎◌, sym, refl, ap, ◌∙◌, subst, inl, inr, true≢false, le_of_eq, le_of_lt, mul-le-mul_right, mul_assoc, mul_comm, lt_of_mul-lt-mul_right, eq-or-lt_of_le, mul-lt-mul_of_pos_right, pow-suc, mul_right_comm, not-le_of_lt, arith, lit<, pow_pos, ltb-false, ltb-true, lt-ltb}
+use Rattle.std.proofs.Common.{◌≡◌, ℕ, zero, suc, ◌+◌, ◌-◌, ◌*◌, ◌/◌, ◌%◌, ◌^◌, ◌<◌, ◌≤◌, Bool, true, false, T, ltb, ◌⊎◌, sym, refl, ap, ◌∙◌}
+use Rattle.std.proofs.Common.{subst, inl, inr, true≢false, le_of_eq, le_of_lt, mul-le-mul_right, mul_assoc, mul_comm}
+use Rattle.std.proofs.Common.{lt_of_mul-lt-mul_right, eq-or-lt_of_le, mul-lt-mul_of_pos_right, pow-suc, mul_right_comm, not-le_of_lt, arith}
+use Rattle.std.proofs.Common.{lit<, pow_pos, ltb-false, ltb-true, lt-ltb}
 use mathlib.Core.Bool.{false≢true}
 use lib.Ieee.{Float, nan, inf, fin, binary64, up, down, of_bits, to_bits, nan_bits, fits, is_nan, lt, le}
 use lib.Ieee.Bits.{of_bits-to_bits, nan_bits_above, is_false}
@@ -129,12 +132,14 @@ patterns_le a b h l =
 pub patterns_lt : (a b : ℕ) → a < b → b < endless → lt (of_bits binary64 a) (of_bits binary64 b) ≡ true
 patterns_lt a b h l =
     let k : a < endless = omega arith in
-    lt_of_units (of_bits binary64 a) (of_bits binary64 b) (in_units a) (in_units b) (pattern_value a k) (pattern_value b l) (units_rise a b h)
+    lt_of_units (of_bits binary64 a) (of_bits binary64 b) (in_units a) (in_units b) (pattern_value a k) (pattern_value b l)
+    (units_rise a b h)
 
 pub patterns_back : (a b : ℕ) → a < endless → b < endless → lt (of_bits binary64 a) (of_bits binary64 b) ≡ true → a < b
 patterns_back a b k l h =
     units_back a b
-    (lt_units (of_bits binary64 a) (of_bits binary64 b) (in_units a) (in_units b) (pattern_value a k) (pattern_value b l) (subst T (sym h) tt))
+    (lt_units (of_bits binary64 a) (of_bits binary64 b) (in_units a) (in_units b) (pattern_value a k) (pattern_value b l)
+    (subst T (sym h) tt))
 
 -- ---- which pattern a number has
 pub endless_is : of_bits binary64 endless ≡ inf false

@@ -1,5 +1,8 @@
 -- A quotient by a positive number keeps the order, and a product by a small whole number can be divided again. Assumes nothing.
-use Rattle.std.proofs.Common.{◌≡◌, ℕ, zero, suc, ◌+◌, ◌*◌, ◌^◌, ◌<◌, ◌≤◌, Bool, true, false, cond, T, eqb, ltb, ℤ, pos, sym, refl, ap, ◌∙◌, subst, true≢false, le_trans, le_of_eq, lt_of_lt_of_le, mul-le-mul_right, mul_assoc, mul_comm, mul-le-mul_left, mul-lt-mul_of_pos_right, mul-pos, mul-one, le_of_mul-le-mul_right, mul_left_comm, arith, lit<, lit≤, ltb-false, ltb-true, ne_eqb}
+use Rattle.std.proofs.Common.{◌≡◌, ℕ, zero, suc, ◌+◌, ◌*◌, ◌^◌, ◌<◌, ◌≤◌, Bool, true, false, cond, T, eqb, ltb, ℤ, pos, sym, refl, ap, ◌∙◌}
+use Rattle.std.proofs.Common.{subst, true≢false, le_trans, le_of_eq, lt_of_lt_of_le, mul-le-mul_right, mul_assoc, mul_comm, mul-le-mul_left}
+use Rattle.std.proofs.Common.{mul-lt-mul_of_pos_right, mul-pos, mul-one, le_of_mul-le-mul_right, mul_left_comm, arith, lit<, lit≤}
+use Rattle.std.proofs.Common.{ltb-false, ltb-true, ne_eqb}
 use mathlib.Core.Bool.{false≢true}
 use lib.Ieee.{Float, nan, inf, fin, binary64, up, down, fits, round, mul, div, unlike, lt, le}
 use lib.Ieee.Exact.{HasValue}

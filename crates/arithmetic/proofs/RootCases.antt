@@ -1,5 +1,7 @@
 -- The cases that `root` tells apart by its tests: above zero, by the bit pattern; a zero; and the rest, whose root is NaN. Assumes nothing.
-use Rattle.std.proofs.Common.{◌≡◌, ℕ, zero, suc, ◌+◌, ◌*◌, ◌/◌, ◌%◌, ◌^◌, ◌<◌, ◌≤◌, Bool, true, false, cond, not, ◌&&◌, ◌||◌, T, eqb, leb, ℤ, pos, sym, refl, ap, ◌∙◌, subst, inl, inr, lt_irrefl, zero-lt-suc, eq-zero-or-pos, mul-pos, zero-mul, arith, lt-ltb, eqb-true, leb-false}
+use Rattle.std.proofs.Common.{◌≡◌, ℕ, zero, suc, ◌+◌, ◌*◌, ◌/◌, ◌%◌, ◌^◌, ◌<◌, ◌≤◌, Bool, true, false, cond, not, ◌&&◌, ◌||◌, T, eqb, leb}
+use Rattle.std.proofs.Common.{ℤ, pos, sym, refl, ap, ◌∙◌, subst, inl, inr, lt_irrefl, zero-lt-suc, eq-zero-or-pos, mul-pos, zero-mul, arith}
+use Rattle.std.proofs.Common.{lt-ltb, eqb-true, leb-false}
 use mathlib.Core.Bool.{beq, false≢true}
 use lib.Ieee.{Float, nan, inf, fin, binary64, up, down, odd, of_fields, of_bits, to_bits, fits, is_nan, lt, eq, div}
 use lib.Ieee.Fits.{up_pos}
@@ -92,7 +94,8 @@ pub infinite_root : inf false ≡ root_of (inf false)
 unfolding root_of
 infinite_root = refl
 
-pub highest_is_root : (x : Float) → T (fits binary64 x) → lt (of_bits binary64 0) x ≡ true → 2047 * 2 ^ 52 ≤ to_bits binary64 x → x ≡ root_of x
+pub highest_is_root : (x : Float) → T (fits binary64 x) → lt (of_bits binary64 0) x ≡ true → 2047 * 2 ^ 52 ≤ to_bits binary64 x → x
+    ≡ root_of x
 highest_is_root x f h l =
     let v : x ≡ inf false = highest_infinite x f h l in
     v ∙ infinite_root ∙ ap root_of (sym v)
@@ -145,7 +148,8 @@ pub zero_over_zero : div binary64 (of_bits binary64 0) (of_bits binary64 0) ≡ 
 unfolding div of_bits
 zero_over_zero = refl
 
-pub quotient_is_root : (x : Float) → lt (of_bits binary64 0) x ≡ false → eq x (of_bits binary64 0) ≡ false → div binary64 (of_bits binary64 0)
+pub quotient_is_root : (x : Float) → lt (of_bits binary64 0) x ≡ false → eq x (of_bits binary64 0) ≡ false
+    → div binary64 (of_bits binary64 0)
     (of_bits binary64 0) ≡ root_of x
 quotient_is_root x h k = zero_over_zero ∙ no_root x (subst (λ (z : Float). lt z x ≡ false) zero_pattern h)
     (subst (λ (z : Float). eq x z ≡ false) zero_pattern k)

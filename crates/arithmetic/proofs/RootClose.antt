@@ -2,7 +2,9 @@
 -- square differ by
 -- less than 2 ^ -42. Rounding keeps the order, and there is a float on a coarse grid between x and an exact square that is farther off.
 -- Assumes nothing.
-use Rattle.std.proofs.Common.{◌≡◌, ℕ, ◌+◌, ◌-◌, ◌*◌, ◌/◌, ◌^◌, ◌<◌, ◌≤◌, Bool, true, false, not, T, sym, refl, ap, ◌∙◌, subst, true≢false, lt_trans, lt_of_lt_of_le, mul-le-mul_right, mul_assoc, mul_comm, add-mul, mul-le-mul, mul-lt-mul_of_pos_right, mul-pos, lt_of_not-le, mul_right_comm, arith, lit≤, pow_pos}
+use Rattle.std.proofs.Common.{◌≡◌, ℕ, ◌+◌, ◌-◌, ◌*◌, ◌/◌, ◌^◌, ◌<◌, ◌≤◌, Bool, true, false, not, T, sym, refl, ap, ◌∙◌, subst, true≢false}
+use Rattle.std.proofs.Common.{lt_trans, lt_of_lt_of_le, mul-le-mul_right, mul_assoc, mul_comm, add-mul, mul-le-mul, mul-lt-mul_of_pos_right}
+use Rattle.std.proofs.Common.{mul-pos, lt_of_not-le, mul_right_comm, arith, lit≤, pow_pos}
 use lib.Ieee.{Float, nan, inf, fin, binary64, of_bits, to_bits, fits, round, sub, mul, lt, le, is_nan}
 use lib.Ieee.Exact.{HasValue, round_exact}
 use lib.Ieee.Order.{round_mono}
@@ -64,7 +66,8 @@ square_grows z h = go z h (above_of_le gap z gap_positive h)
 far_square : (d : Float) → T (le gap (absolute d)) → lt (mul binary64 d d) gap_squared ≡ false
 far_square d h =
     not_lt_of_le gap_squared (mul binary64 d d)
-    (is_true (le gap_squared (mul binary64 d d)) (subst (λ (z : Float). T (le gap_squared z)) (sym (square_of_size d)) (square_grows (absolute
+    (is_true (le gap_squared (mul binary64 d d)) (subst (λ (z : Float). T (le gap_squared z)) (sym (square_of_size d))
+    (square_grows (absolute
     d) h)))
 
 -- ---- the exact distance of x = m * 2 ^ -52 and y, if y lies beyond a w * 2 ^ -52 that is 2 ^ 9 or more from m

@@ -1,6 +1,7 @@
 -- Every float above zero has a value of the form m * 2 ^ 52 * 4 ^ k in units of 2 ^ -2148, and its root is r * 2 ^ k units of 2 ^ -1074,
 -- for the whole number r nearest to the root of m * 2 ^ 52. Assumes nothing.
-use Rattle.std.proofs.Common.{◌≡◌, ℕ, zero, suc, ◌+◌, ◌-◌, ◌*◌, ◌/◌, ◌%◌, ◌^◌, ◌<◌, ◌≤◌, Bool, true, false, T, ltb, sym, refl, ap, ◌∙◌, subst, lt_of_lt_of_le, lt_irrefl, zero-lt-suc, arith, lit≤, ltb→lt, ltb-false, ltb-true}
+use Rattle.std.proofs.Common.{◌≡◌, ℕ, zero, suc, ◌+◌, ◌-◌, ◌*◌, ◌/◌, ◌%◌, ◌^◌, ◌<◌, ◌≤◌, Bool, true, false, T, ltb, sym, refl, ap, ◌∙◌}
+use Rattle.std.proofs.Common.{subst, lt_of_lt_of_le, lt_irrefl, zero-lt-suc, arith, lit≤, ltb→lt, ltb-false, ltb-true}
 use lib.Ieee.{Float, nan, inf, fin, binary64, odd, fits, of_bits, to_bits, lt}
 use lib.Ieee.Fits.{odd-fits}
 use lib.Ieee.Exact.{HasValue, odd_sign}
@@ -95,7 +96,8 @@ positive_form x p f =
     (pattern_form b (above_pattern x f (above x p))
     (below (ltb b (2047 * 2 ^ 52)) (ltb-true b (2047 * 2 ^ 52)) (ltb-false b (2047 * 2 ^ 52))))
   where
-    below : (c : Bool) → (c ≡ true → to_bits binary64 x < 2047 * 2 ^ 52) → (c ≡ false → 2047 * 2 ^ 52 ≤ to_bits binary64 x) → to_bits binary64
+    below : (c : Bool) → (c ≡ true → to_bits binary64 x < 2047 * 2 ^ 52) → (c ≡ false → 2047 * 2 ^ 52 ≤ to_bits binary64 x)
+        → to_bits binary64
         x < 2047 * 2 ^ 52
     below true l g = l refl
     below false l g = absurd (subst (λ (v : Float). T (finite v)) (highest_infinite x f (above x p) (g refl)) (positive-finite x p))

@@ -1,5 +1,7 @@
 -- A square by the halves of its root, of 27 digits each, and how it compares with a multiple of a power of two. Assumes nothing.
-use Rattle.std.proofs.Common.{◌≡◌, ℕ, suc, ◌+◌, ◌-◌, ◌*◌, ◌/◌, ◌%◌, ◌^◌, ◌<◌, ◌≤◌, Bool, true, false, leb, refl, ap, ◌∙◌, subst, inl, inr, le_of_suc-le-suc, mul_comm, add-mul, eq-zero-or-pos, mul-le-mul, lt_of_not-le, mul-add, mul_right_comm, arith, leb-false, leb-true}
+use Rattle.std.proofs.Common.{◌≡◌, ℕ, suc, ◌+◌, ◌-◌, ◌*◌, ◌/◌, ◌%◌, ◌^◌, ◌<◌, ◌≤◌, Bool, true, false, leb, refl, ap, ◌∙◌, subst, inl, inr}
+use Rattle.std.proofs.Common.{le_of_suc-le-suc, mul_comm, add-mul, eq-zero-or-pos, mul-le-mul, lt_of_not-le, mul-add, mul_right_comm, arith}
+use Rattle.std.proofs.Common.{leb-false, leb-true}
 use native.Mathlib.Nat.{mul-mul-mul_comm}
 use Rattle.arithmetic.specs.Root.{NearestRoot, CloseRoot}
 

@@ -1,6 +1,9 @@
 -- What else a caller may want of `rootOf`: it fits its format, is above zero where its argument is, and grows with its argument. Assumes
 -- nothing.
-use Rattle.std.proofs.Common.{◌≡◌, ℕ, zero, suc, ◌+◌, ◌*◌, ◌^◌, ◌<◌, ◌≤◌, Bool, true, false, ◌&&◌, ◌||◌, T, eqb, ltb, leb, ℤ, sym, refl, ap, ◌∙◌, subst, lt_of_lt_of_le, lt_irrefl, mul-le-mul_right, zero-lt-suc, mul_assoc, mul_comm, add_comm, mul-lt-mul_of_pos_right, mul-pos, zero-mul, mul_right_comm, le-add_left, arith, eqb→eq, ltb→lt, lt→ltb, pow_pos, leb-false, leb-true}
+use Rattle.std.proofs.Common.{◌≡◌, ℕ, zero, suc, ◌+◌, ◌*◌, ◌^◌, ◌<◌, ◌≤◌, Bool, true, false, ◌&&◌, ◌||◌, T, eqb, ltb, leb, ℤ, sym, refl, ap}
+use Rattle.std.proofs.Common.{◌∙◌, subst, lt_of_lt_of_le, lt_irrefl, mul-le-mul_right, zero-lt-suc, mul_assoc, mul_comm, add_comm}
+use Rattle.std.proofs.Common.{mul-lt-mul_of_pos_right, mul-pos, zero-mul, mul_right_comm, le-add_left, arith, eqb→eq, ltb→lt, lt→ltb}
+use Rattle.std.proofs.Common.{pow_pos, leb-false, leb-true}
 use lib.Ieee.{Float, nan, inf, fin, binary64, up, down, fits, lt, le}
 use lib.Ieee.Fits.{nan-fits, inf-fits, up_pos, down_pos, and_l}
 use lib.Ieee.Positive.{num, den, den_pos, positive, positive_of_value, le→cross, cross→le, above, above_of_le}

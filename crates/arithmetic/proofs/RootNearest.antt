@@ -1,7 +1,11 @@
 -- `rootOf x` is the float nearest to the exact root of x: of the floats that are not negative, each other one lies farther from it.
 -- A float y is farther from the root of x than r is if the root lies on r's side of the middle of r and y, as 4 * x and (r + y)² say, in
 -- exact fractions. Assumes nothing.
-use Rattle.std.proofs.Common.{◌≡◌, ℕ, zero, suc, ◌+◌, ◌*◌, ◌^◌, ◌<◌, ◌≤◌, false, T, sym, refl, ap, ◌∙◌, subst, inl, inr, zero-le, le_trans, le_of_eq, lt_of_lt_of_le, le_of_suc-le-suc, lt_of_le_of_lt, le_of_lt, add-le-add, mul-le-mul_right, zero-lt-suc, mul_assoc, suc-mul, mul_comm, add-mul, mul-le-mul, add_comm, lt_of_mul-lt-mul_right, eq-or-lt_of_le, mul-le-mul_left, mul-lt-mul_of_pos_right, mul-pos, mul-suc, mul_right_comm, not-le_of_lt, arith, pow_pos}
+use Rattle.std.proofs.Common.{◌≡◌, ℕ, zero, suc, ◌+◌, ◌*◌, ◌^◌, ◌<◌, ◌≤◌, false, T, sym, refl, ap, ◌∙◌, subst, inl, inr, zero-le, le_trans}
+use Rattle.std.proofs.Common.{le_of_eq, lt_of_lt_of_le, le_of_suc-le-suc, lt_of_le_of_lt, le_of_lt, add-le-add, mul-le-mul_right}
+use Rattle.std.proofs.Common.{zero-lt-suc, mul_assoc, suc-mul, mul_comm, add-mul, mul-le-mul, add_comm, lt_of_mul-lt-mul_right}
+use Rattle.std.proofs.Common.{eq-or-lt_of_le, mul-le-mul_left, mul-lt-mul_of_pos_right, mul-pos, mul-suc, mul_right_comm, not-le_of_lt}
+use Rattle.std.proofs.Common.{arith, pow_pos}
 use native.Mathlib.Nat.{mul-mul-mul_comm}
 use lib.Ieee.{Float, binary64, fits, lt}
 use lib.Ieee.Exact.{HasValue}
@@ -123,7 +127,8 @@ module _ (x y : Float) (n k r m c : ℕ) (F : RootForm x n k r) (N : m < 2 ^ 53)
       argument_cross result_cross other_cross (den_pos x) (den_pos (root_of x)) (den_pos y)
       (in_units_lem r F.digits F.nearest (lt_units y (root_of x) (m * 2 ^ c) (r * 2 ^ k) w F.result h))
     where
-      in_units_lem : (s : ℕ) → 2 ^ 52 ≤ s → NearestRoot n s → m * 2 ^ c < s * 2 ^ k → (s * 2 ^ k + m * 2 ^ c) * (s * 2 ^ k + m * 2 ^ c) < 4 *
+      in_units_lem : (s : ℕ) → 2 ^ 52 ≤ s → NearestRoot n s → m * 2 ^ c < s * 2 ^ k → (s * 2 ^ k + m * 2 ^ c) * (s * 2 ^ k + m * 2 ^ c) < 4
+          *
           (n * (2 ^ k * 2 ^ k))
       in_units_lem zero d p l = absurd (not-le_of_lt (pow_pos 52) d)
       in_units_lem (suc s) d p l = elim (eq-or-lt_of_le d) [

@@ -1,5 +1,8 @@
 -- What the bit pattern of a float above zero says of its value: a subnormal number, a normal number, or the infinity. Assumes nothing.
-use Rattle.std.proofs.Common.{◌≡◌, ℕ, zero, suc, ◌+◌, ◌-◌, ◌*◌, ◌/◌, ◌%◌, ◌^◌, ◌<◌, ◌≤◌, Bool, false, cond, eqb, leb, sym, refl, ap, ◌∙◌, subst, inl, inr, le_trans, le_of_eq, lt_of_lt_of_le, le_of_suc-le-suc, not-suc-le-zero, lt_irrefl, mul-le-mul_right, mod-eq_of_lt, zero-lt-suc, mul_assoc, mul_comm, add_comm, eq-or-lt_of_le, mul-le-mul_left, mul-one, mul_right_comm, not-le_of_lt, arith, lit≤, pow_pos, pow-add, ne_eqb}
+use Rattle.std.proofs.Common.{◌≡◌, ℕ, zero, suc, ◌+◌, ◌-◌, ◌*◌, ◌/◌, ◌%◌, ◌^◌, ◌<◌, ◌≤◌, Bool, false, cond, eqb, leb, sym, refl, ap, ◌∙◌}
+use Rattle.std.proofs.Common.{subst, inl, inr, le_trans, le_of_eq, lt_of_lt_of_le, le_of_suc-le-suc, not-suc-le-zero, lt_irrefl}
+use Rattle.std.proofs.Common.{mul-le-mul_right, mod-eq_of_lt, zero-lt-suc, mul_assoc, mul_comm, add_comm, eq-or-lt_of_le, mul-le-mul_left}
+use Rattle.std.proofs.Common.{mul-one, mul_right_comm, not-le_of_lt, arith, lit≤, pow_pos, pow-add, ne_eqb}
 use native.Mathlib.Nat.{eq_of_mul-eq-mul_right}
 use native.Mathlib.Nat.{mul-mul-mul_comm}
 use native.Mathlib.Nat.{pow-succ'}
@@ -85,7 +88,8 @@ normal_at b x t p k f g h l e =
 
 -- the same by the numbers that `normal_root` finds: r is the pattern with 1021 added to the exponent's field
 pub normal_scaled : (b r : ℕ) → 2 ^ 52 ≤ b → b < 2047 * 2 ^ 52 → r ≡ b + 1021 * 2 ^ 52
-    → HasValue (of_bits binary64 b) false ((r % 2 ^ 53 % 2 ^ 52 + 2 ^ 52) * (1 + r % 2 ^ 53 / 2 ^ 52) * 2 ^ 52 * (2 ^ (r / 2 ^ 53) * 2 ^ (r /
+    → HasValue (of_bits binary64 b) false ((r % 2 ^ 53 % 2 ^ 52 + 2 ^ 52) * (1 + r % 2 ^ 53 / 2 ^ 52) * 2 ^ 52
+    * (2 ^ (r / 2 ^ 53) * 2 ^ (r /
     2 ^ 53))) (2 ^ 2148)
 normal_scaled b r lo hi e =
     normal_at b (b / 2 ^ 52 - 1) (r % 2 ^ 53 % 2 ^ 52) (r % 2 ^ 53 / 2 ^ 52) (r / 2 ^ 53) (omega arith) (omega arith) (omega arith)

@@ -1,6 +1,7 @@
 -- A guess with the digits of the root of a float from 1 to 4, times the power of two that is left out there, is the root: a product with a
 -- power of two is exact. Assumes nothing.
-use Rattle.std.proofs.Common.{◌≡◌, ℕ, ◌+◌, ◌-◌, ◌*◌, ◌%◌, ◌^◌, ◌<◌, ◌≤◌, false, T, sym, refl, ap, ◌∙◌, subst, lt_of_lt_of_le, mul_assoc, mul_comm, mul-pos, arith, lit≤, pow_pos}
+use Rattle.std.proofs.Common.{◌≡◌, ℕ, ◌+◌, ◌-◌, ◌*◌, ◌%◌, ◌^◌, ◌<◌, ◌≤◌, false, T, sym, refl, ap, ◌∙◌, subst, lt_of_lt_of_le, mul_assoc}
+use Rattle.std.proofs.Common.{mul_comm, mul-pos, arith, lit≤, pow_pos}
 use lib.Ieee.{Float, binary64, odd, units, round, mul, fits, of_bits}
 use lib.Ieee.Fits.{odd-fits, round-fits}
 use lib.Ieee.Exact.{HasValue, odd_sign, round_exact}

@@ -1,7 +1,10 @@
 -- The root of a float whose value is N * 4 ^ k in units of 2 ^ -2148, N having 105 or 106 digits: by the whole number r nearest to N's
 -- root, `rootOf` is r * 2 ^ k
 -- units of 2 ^ -1074, whose bit pattern is k * 2 ^ 52 + r. Assumes nothing.
-use Rattle.std.proofs.Common.{◌≡◌, ℕ, zero, suc, ◌+◌, ◌-◌, ◌*◌, ◌/◌, ◌%◌, ◌^◌, ◌<◌, ◌≤◌, Bool, true, false, cond, not, T, ℤ, sym, refl, ap, ◌∙◌, subst, true≢false, le_trans, le_of_eq, lt_of_lt_of_le, le_of_lt, lt_irrefl, mul-le-mul_right, mul_assoc, suc-mul, mul_comm, mul-le-mul, mul-le-mul_left, mul-lt-mul_of_pos_right, mul-pos, lt_of_not-le, zero-add, zero-mul, not-le_of_lt, mul-div_cancel, arith, lit≤, pow_pos, pow_mono, pow-add, shl_lt, le-ltb, lt-ltb}
+use Rattle.std.proofs.Common.{◌≡◌, ℕ, zero, suc, ◌+◌, ◌-◌, ◌*◌, ◌/◌, ◌%◌, ◌^◌, ◌<◌, ◌≤◌, Bool, true, false, cond, not, T, ℤ, sym, refl, ap}
+use Rattle.std.proofs.Common.{◌∙◌, subst, true≢false, le_trans, le_of_eq, lt_of_lt_of_le, le_of_lt, lt_irrefl, mul-le-mul_right, mul_assoc}
+use Rattle.std.proofs.Common.{suc-mul, mul_comm, mul-le-mul, mul-le-mul_left, mul-lt-mul_of_pos_right, mul-pos, lt_of_not-le, zero-add}
+use Rattle.std.proofs.Common.{zero-mul, not-le_of_lt, mul-div_cancel, arith, lit≤, pow_pos, pow_mono, pow-add, shl_lt, le-ltb, lt-ltb}
 use Prim.Native.Nat.{compare}
 use native.Mathlib.Nat.{mod-le}
 use lib.Ieee.{Float, nan, inf, fin, binary64, up, down, size, nearest, odd, units, fits, of_bits, nan_bits, to_bits}
@@ -34,7 +37,8 @@ dropped n k lo hi =
 abbrev core : ℕ → ℕ → ℕ → Float
 core n den k =
     let u = den * (2 ^ k * 2 ^ k) in
-    units binary64 false (nearest (whole_root (n / u)) (compare (n * 4) ((2 * whole_root (n / u) + 1) * (2 * whole_root (n / u) + 1) * u))) k
+    units binary64 false (nearest (whole_root (n / u)) (compare (n * 4) ((2 * whole_root (n / u) + 1) * (2 * whole_root (n / u) + 1) * u)))
+    k
 
 root_round_is : (num den : ℕ) → root_round binary64 num den ≡ core (num * 2 ^ 2148) den ((size (num * 2 ^ 2148 / den) + 1) / 2 - 53)
 unfolding root_round
@@ -44,7 +48,8 @@ core_is : (n den k r : ℕ) → 0 < n → 0 < den → NearestRoot n r → core (
 core_is n den k r N D p =
     let u = den * (2 ^ k * 2 ^ k) in
     let U : 0 < u = mul-pos D (mul-pos (pow_pos k) (pow_pos k)) in
-    ap (λ (z : ℕ). units binary64 false (nearest (whole_root z) (compare (n * u * 4) ((2 * whole_root z + 1) * (2 * whole_root z + 1) * u))) k)
+    ap (λ (z : ℕ). units binary64 false (nearest (whole_root z) (compare (n * u * 4) ((2 * whole_root z + 1) * (2 * whole_root z + 1) * u)))
+    k)
     (mul-div_cancel n U)
     ∙ ap (λ (z : ℕ). units binary64 false z k) (nearest_kept n u r N U p)
 
@@ -99,7 +104,8 @@ size_shifted r k lo hi =
     (size_above (r * 2 ^ k) (52 + k) (le_trans (le_of_eq (pow-add 2 52 k)) (mul-le-mul_right (2 ^ k) lo)))
     (size-le (r * 2 ^ k) (53 + k) (shl_lt 53 k hi))
 
-to_bits_value : (x : Float) (a : ℕ) → HasValue x false a (2 ^ 1074) → to_bits binary64 x ≡ 0 + (size a - 53) * 2 ^ 52 + a / 2 ^ (size a - 53)
+to_bits_value : (x : Float) (a : ℕ) → HasValue x false a (2 ^ 1074) → to_bits binary64 x ≡ 0 + (size a - 53) * 2 ^ 52
+    + a / 2 ^ (size a - 53)
 unfolding to_bits
 to_bits_value nan a v = absurd v
 to_bits_value (inf s) a v = absurd v

@@ -1,6 +1,9 @@
 -- `wholeRoot` is the largest number whose square is at most n, and what `rootRound` keeps of it is the whole number nearest to the root.
 -- Assumes nothing.
-use Rattle.std.proofs.Common.{◌≡◌, ℕ, zero, suc, ◌+◌, ◌*◌, ◌^◌, ◌<◌, ◌≤◌, Bool, true, false, cond, not, T, leb, sym, refl, ap, ◌∙◌, subst, zero-le, le_of_suc-le-suc, add_assoc, mul-le-mul_right, zero-lt-suc, suc-mul, add-mul, le_antisymm, mul-le-mul_left, mul-lt-mul_of_pos_right, one-mul, lt_of_not-le, zero-add, mul-suc, mul-add, mul_right_comm, add-one, arith, eqb→eq, leb→le, pow_pos, leb-false, leb-true}
+use Rattle.std.proofs.Common.{◌≡◌, ℕ, zero, suc, ◌+◌, ◌*◌, ◌^◌, ◌<◌, ◌≤◌, Bool, true, false, cond, not, T, leb, sym, refl, ap, ◌∙◌, subst}
+use Rattle.std.proofs.Common.{zero-le, le_of_suc-le-suc, add_assoc, mul-le-mul_right, zero-lt-suc, suc-mul, add-mul, le_antisymm}
+use Rattle.std.proofs.Common.{mul-le-mul_left, mul-lt-mul_of_pos_right, one-mul, lt_of_not-le, zero-add, mul-suc, mul-add, mul_right_comm}
+use Rattle.std.proofs.Common.{add-one, arith, eqb→eq, leb→le, pow_pos, leb-false, leb-true}
 use Prim.Native.Nat.{compare, Ordering}
 use native.Mathlib.Nat.{two-pow-succ}
 use native.Mathlib.Nat.{mul-mul-mul_comm}
@@ -117,7 +120,8 @@ upper_nearest n w h k =
     let s : suc w * suc w ≡ w * w + w + suc w = suc-mul w (suc w) ∙ ap (λ (z : ℕ). z + suc w) (mul-suc w w) in
     record { above = omega arith; below = omega (arith, h.upper) }
 
-pub nearest_kept : (n u r : ℕ) → 0 < n → 0 < u → NearestRoot n r → nearest (whole_root n) (compare (n * u * 4) (middle (whole_root n) * u)) ≡
+pub nearest_kept : (n u r : ℕ) → 0 < n → 0 < u → NearestRoot n r → nearest (whole_root n) (compare (n * u * 4) (middle (whole_root n) * u))
+    ≡
     r
 nearest_kept n u r N U p = at (whole_root n) (whole_root_whole n)
   where

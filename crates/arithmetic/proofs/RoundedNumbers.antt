@@ -35,7 +35,8 @@ square_number f nan h = absurd (false≢true h)
 square_number f (inf s) h = absurd (false≢true h)
 square_number f (fin s m e) h = round_number f _ _ _
 
-pub positive_sum_number : (f : Format) (x y : Float) → negative x ≡ false → negative y ≡ false → is_nan x ≡ false → is_nan y ≡ false → is_nan
+pub positive_sum_number : (f : Format) (x y : Float) → negative x ≡ false → negative y ≡ false → is_nan x ≡ false → is_nan y ≡ false
+    → is_nan
     (add f x y) ≡ false
 unfolding add negative is_nan
 positive_sum_number f nan y p q h k = absurd (true≢false h)

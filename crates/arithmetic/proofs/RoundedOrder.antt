@@ -1,5 +1,6 @@
 -- Rounding keeps the order of fractions with a sign. Assumes nothing.
-use Rattle.std.proofs.Common.{◌≡◌, ℕ, zero, suc, ◌+◌, ◌*◌, ◌<◌, ◌≤◌, Bool, true, false, pos, refl, ◌∙◌, subst, true≢false, mul-pos, arith, lit<}
+use Rattle.std.proofs.Common.{◌≡◌, ℕ, zero, suc, ◌+◌, ◌*◌, ◌<◌, ◌≤◌, Bool, true, false, pos, refl, ◌∙◌, subst, true≢false, mul-pos, arith}
+use Rattle.std.proofs.Common.{lit<}
 use lib.Ieee.{Float, nan, inf, fin, binary64, is_nan, neg, round, lt, le}
 use lib.Ieee.Bits.{is_true}
 use lib.Ieee.Order.{round_mono}

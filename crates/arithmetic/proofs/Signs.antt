@@ -1,5 +1,6 @@
 -- What a comparison with zero says of the sign. Assumes nothing.
-use Rattle.std.proofs.Common.{◌≡◌, ℕ, zero, suc, ◌+◌, ◌*◌, ◌^◌, ◌<◌, ◌≤◌, Bool, true, false, ◌&&◌, ◌||◌, T, eqb, ltb, ℤ, pos, negsuc, sym, refl, zero-lt-suc, mul-pos, arith, eqb→eq, pow_pos, ltb-false, ltb-true, eq-eqb, eqb-true}
+use Rattle.std.proofs.Common.{◌≡◌, ℕ, zero, suc, ◌+◌, ◌*◌, ◌^◌, ◌<◌, ◌≤◌, Bool, true, false, ◌&&◌, ◌||◌, T, eqb, ltb, ℤ, pos, negsuc, sym}
+use Rattle.std.proofs.Common.{refl, zero-lt-suc, mul-pos, arith, eqb→eq, pow_pos, ltb-false, ltb-true, eq-eqb, eqb-true}
 use mathlib.Core.Bool.{beq, false≢true}
 use native.Mathlib.Nat.{pow-succ'}
 use lib.Ieee.{Float, nan, inf, fin, binary64, up, down, lt, eq, div, fits}

@@ -1,5 +1,7 @@
 -- The steps that cut, raise and round a number between 0 and 2^52, where every cast is exact. Assumes nothing.
-use Rattle.std.proofs.Common.{◌≡◌, ℕ, ◌+◌, ◌-◌, ◌*◌, ◌/◌, ◌%◌, ◌^◌, ◌<◌, ◌≤◌, true, false, T, ltb, ℤ, pos, sym, refl, ap, ◌∙◌, subst, true≢false, lt_of_lt_of_le, mul-le-mul_right, mod-lt, mul_comm, div-lt_iff_lt-mul, add-mul, one-mul, div-add-mod', mul-one, mul_right_comm, div-mul-le_self, arith, lit≤, ltb-false, ltb-true}
+use Rattle.std.proofs.Common.{◌≡◌, ℕ, ◌+◌, ◌-◌, ◌*◌, ◌/◌, ◌%◌, ◌^◌, ◌<◌, ◌≤◌, true, false, T, ltb, ℤ, pos, sym, refl, ap, ◌∙◌, subst}
+use Rattle.std.proofs.Common.{true≢false, lt_of_lt_of_le, mul-le-mul_right, mod-lt, mul_comm, div-lt_iff_lt-mul, add-mul, one-mul}
+use Rattle.std.proofs.Common.{div-add-mod', mul-one, mul_right_comm, div-mul-le_self, arith, lit≤, ltb-false, ltb-true}
 use mathlib.Core.Bool.{false≢true}
 use native.Mathlib.Nat.{div-div-eq-div-mul, add-div_right}
 use lib.Arith.{digits_div}

@@ -1,5 +1,7 @@
 -- A sum is the exact sum, rounded: it is at most, or at least, a float where the exact sum is, and it keeps the order. Assumes nothing.
-use Rattle.std.proofs.Common.{◌≡◌, ℕ, ◌+◌, ◌-◌, ◌*◌, ◌<◌, ◌≤◌, Bool, true, false, cond, T, ltb, leb, ℤ, pos, sym, refl, ap, ◌∙◌, subst, true≢false, le_of_lt, mul-le-mul_right, mul_comm, mul-pos, zero-mul, arith, ltb-false, ltb-true, leb-false, leb-true}
+use Rattle.std.proofs.Common.{◌≡◌, ℕ, ◌+◌, ◌-◌, ◌*◌, ◌<◌, ◌≤◌, Bool, true, false, cond, T, ltb, leb, ℤ, pos, sym, refl, ap, ◌∙◌, subst}
+use Rattle.std.proofs.Common.{true≢false, le_of_lt, mul-le-mul_right, mul_comm, mul-pos, zero-mul, arith, ltb-false, ltb-true, leb-false}
+use Rattle.std.proofs.Common.{leb-true}
 use mathlib.Core.Bool.{false≢true}
 use lib.Ieee.{Float, nan, inf, fin, binary64, up, down, fits, neg, round, sum, add, sub, lt, le}
 use lib.Ieee.Fits.{down_pos}
@@ -32,7 +34,8 @@ turned_rounded a b c = go (ltb a b) (ltb b a) (ltb-true a b) (ltb-false a b) (lt
         → Rounded (cond k (round binary64 false (b - a) c) (round binary64 j (a - b) c)) true a false b c
     go true j p q r s = let l = p refl in record { sign = false; size_of_lem = b - a; is = refl; exact = omega arith }
     go false true p q r s = let l = r refl in record { sign = true; size_of_lem = a - b; is = refl; exact = omega arith }
-    go false false p q r s = let l = q refl in let k = s refl in record { sign = false; size_of_lem = a - b; is = refl; exact = omega arith }
+    go false false p q r s = let l = q refl in let k = s refl in
+        record { sign = false; size_of_lem = a - b; is = refl; exact = omega arith }
 
 sum_rounded : (s : Bool) (a : ℕ) (t : Bool) (b c : ℕ) → Rounded (sum binary64 s a t b c) s a t b c
 unfolding sum

@@ -1,6 +1,7 @@
 -- `totalOrder` is total and transitive, and antisymmetric among the values that an f64 holds. And where two numbers are equal it
 -- goes by their bit patterns. Assumes nothing.
-use Rattle.std.proofs.Common.{◌≡◌, ℕ, ◌+◌, ◌-◌, ◌*◌, ◌/◌, ◌^◌, ◌<◌, Bool, true, false, cond, not, ◌||◌, T, leb, ◌⊎◌, ℤ, pos, sym, refl, ap, ◌∙◌, subst, inl, inr, true≢false, zero-mul, mul-one, mul_right_comm, arith, ltb-false, le-leb, leb-true}
+use Rattle.std.proofs.Common.{◌≡◌, ℕ, ◌+◌, ◌-◌, ◌*◌, ◌/◌, ◌^◌, ◌<◌, Bool, true, false, cond, not, ◌||◌, T, leb, ◌⊎◌, ℤ, pos, sym, refl, ap}
+use Rattle.std.proofs.Common.{◌∙◌, subst, inl, inr, true≢false, zero-mul, mul-one, mul_right_comm, arith, ltb-false, le-leb, leb-true}
 use mathlib.Core.Bool.{false≢true, or-true}
 use native.Mathlib.Nat.{eq_of_mul-eq-mul_right}
 use lib.Ieee.{Float, nan, inf, fin, Format, binary64, prec, low, hid, top, up, down, size, lt, le, is_nan, fits, to_bits, of_bits}
@@ -146,7 +147,8 @@ one_sign false q = inr (or-true q)
 pub total_order_total : (x y : Float) → (total_order x y ≡ true) ⊎ (total_order y x ≡ true)
 total_order_total x y = go (is_nan x) (is_nan y) refl refl
   where
-    apart : is_nan x ≡ false → is_nan y ≡ false → (a b : Bool) → lt x y ≡ a → lt y x ≡ b → (total_order x y ≡ true) ⊎ (total_order y x ≡ true)
+    apart : is_nan x ≡ false → is_nan y ≡ false → (a b : Bool) → lt x y ≡ a → lt y x ≡ b → (total_order x y ≡ true)
+        ⊎ (total_order y x ≡ true)
     apart p q true b h k = inl (lesser_before x y h)
     apart p q false true h k = inr (lesser_before y x k)
     apart p q false false h k =
@@ -186,7 +188,8 @@ total_order_transitive x y z h k = go (is_nan z) refl
     go false r = numbers r (le_left_number y z (le_of_before y z r k))
 
 -- two numbers that an f64 holds, each at or before the other: one bit pattern
-same_number : (x y : Float) → T (fits binary64 x) → T (fits binary64 y) → is_nan y ≡ false → total_order x y ≡ true → total_order y x ≡ true →
+same_number : (x y : Float) → T (fits binary64 x) → T (fits binary64 y) → is_nan y ≡ false → total_order x y ≡ true → total_order y x ≡ true
+    →
     x ≡ y
 same_number x y f g q h k =
     let a : le x y ≡ true = le_of_before x y q h in
@@ -202,7 +205,8 @@ same_number x y f g q h k =
     signs : (x y : Float) → is_nan y ≡ false → total_order x y ≡ true → lt x y ≡ false → (negative x || not (negative y)) ≡ true
     signs x y q h e = elim (before_number_is x y q h) [ inl a ↦ absurd (true≢false (sym a ∙ e)) | inr w ↦ w.1 ]
 
-pub total_order_antisymmetric : (x y : Float) → T (fits binary64 x) → T (fits binary64 y) → total_order x y ≡ true → total_order y x ≡ true → x
+pub total_order_antisymmetric : (x y : Float) → T (fits binary64 x) → T (fits binary64 y) → total_order x y ≡ true → total_order y x ≡ true
+    → x
     ≡ y
 total_order_antisymmetric x y f g h k = go (is_nan y) refl
   where

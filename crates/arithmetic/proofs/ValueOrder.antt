@@ -1,5 +1,7 @@
 -- Floats by the fractions that they equal: other fractions of the same size, comparisons, and products. Assumes nothing.
-use Rattle.std.proofs.Common.{◌≡◌, ℕ, ◌+◌, ◌*◌, ◌<◌, Bool, true, false, not, ltb, sym, refl, ap, ◌∙◌, mul-le-mul_right, mul_assoc, mul_comm, add-mul, mul-lt-mul_of_pos_right, mul-pos, zero-mul, mul_right_comm, mul_left_comm, ltb-false, ltb-true, le-ltb, lt-ltb}
+use Rattle.std.proofs.Common.{◌≡◌, ℕ, ◌+◌, ◌*◌, ◌<◌, Bool, true, false, not, ltb, sym, refl, ap, ◌∙◌, mul-le-mul_right, mul_assoc, mul_comm}
+use Rattle.std.proofs.Common.{add-mul, mul-lt-mul_of_pos_right, mul-pos, zero-mul, mul_right_comm, mul_left_comm, ltb-false, ltb-true}
+use Rattle.std.proofs.Common.{le-ltb, lt-ltb}
 use native.Mathlib.Nat.{mul-mul-mul_comm, eq_of_mul-eq-mul_right}
 use lib.Ieee.{Float, nan, inf, fin, binary64, up, down, below, round, mul, lt, le, is_nan, unlike}
 use lib.Ieee.Fits.{down_pos}

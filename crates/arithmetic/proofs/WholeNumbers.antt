@@ -1,6 +1,8 @@
 -- Rounding to a whole number by a rule that leaves whole numbers alone: what the tests of the code tell of it, that the result is
 -- exact, that a cast of the floor is the cast of the number, and that a rounded number above zero is cast to one or more. Assumes nothing.
-use Rattle.std.proofs.Common.{◌≡◌, ℕ, zero, suc, ◌+◌, ◌-◌, ◌*◌, ◌/◌, ◌^◌, ◌<◌, ◌≤◌, Bool, true, false, T, ltb, ℤ, pos, negsuc, sym, refl, ap, ◌∙◌, subst, zero-le, le_trans, le_of_eq, mul-le-mul_right, zero-lt-suc, div-lt_iff_lt-mul, pow-suc, zero-mul, mul-one, mul-div_cancel, mul_left_comm, arith, pow_pos, ltb-false, ltb-true}
+use Rattle.std.proofs.Common.{◌≡◌, ℕ, zero, suc, ◌+◌, ◌-◌, ◌*◌, ◌/◌, ◌^◌, ◌<◌, ◌≤◌, Bool, true, false, T, ltb, ℤ, pos, negsuc, sym, refl}
+use Rattle.std.proofs.Common.{ap, ◌∙◌, subst, zero-le, le_trans, le_of_eq, mul-le-mul_right, zero-lt-suc, div-lt_iff_lt-mul, pow-suc}
+use Rattle.std.proofs.Common.{zero-mul, mul-one, mul-div_cancel, mul_left_comm, arith, pow_pos, ltb-false, ltb-true}
 use mathlib.Core.Bool.{false≢true}
 use native.Mathlib.Nat.{add-div_right, mul-div-mul_left}
 use lib.Arith.{digits_div}
@@ -113,7 +115,8 @@ module _ (rule : Bool → ℕ → ℕ → ℕ) where
   whole_below_zero (inf true) h k = absurd (false≢true k)
   whole_below_zero (inf false) h k = absurd (false≢true h)
   whole_below_zero (fin false m e) h k = absurd (false≢true h)
-  whole_below_zero (fin true m e) h k = let w = rule true (m * up e) (down e) in sym (ap neg (of_int_is binary64 w) ∙ neg_round binary64 w 1)
+  whole_below_zero (fin true m e) h k = let w = rule true (m * up e) (down e) in sym
+      (ap neg (of_int_is binary64 w) ∙ neg_round binary64 w 1)
 
 module _ (rule : Bool → ℕ → ℕ → ℕ) (exact : Exact rule) where
   pub kept_above_zero : (x : Float) → T (fits binary64 x) → lt none x ≡ true → lt x large ≡ false → whole_by rule x ≡ x
@@ -155,7 +158,8 @@ cast_of_floor nan f = unfold floor_of whole_by in refl
 cast_of_floor (inf s) f = unfold floor_of whole_by in refl
 cast_of_floor (fin false m e) f = cast_of_value (floor_of (fin false m e)) false (m * up e / down e) (floor_of_value false m e f) ∙ unfold
     to_unsigned in refl
-cast_of_floor (fin true m e) f = cast_of_value (floor_of (fin true m e)) true ((m * up e + (down e - 1)) / down e) (floor_of_value true m e f)
+cast_of_floor (fin true m e) f = cast_of_value (floor_of (fin true m e)) true ((m * up e + (down e - 1)) / down e)
+    (floor_of_value true m e f)
     ∙ unfold to_unsigned in refl
 
 positive_cast : (y : Float) (s : Bool) (n : ℕ) → HasValue y s n 1 → lt none y ≡ true → 0 < whole_of y

@@ -1,5 +1,7 @@
 -- Floats that are whole numbers, by value, so that -0 counts as 0: their sums and products are exact up to 2^53. Assumes nothing.
-use Rattle.std.proofs.Common.{◌≡◌, ℕ, ◌+◌, ◌-◌, ◌*◌, ◌^◌, ◌<◌, ◌≤◌, Bool, true, false, cond, eqb, ltb, pos, sym, refl, ap, ◌∙◌, subst, true≢false, zero-lt-suc, add-mul, mul-pos, zero-mul, mul-one, le_of_mul-le-mul_right, arith, ltb-false, ltb-true, eqb-true}
+use Rattle.std.proofs.Common.{◌≡◌, ℕ, ◌+◌, ◌-◌, ◌*◌, ◌^◌, ◌<◌, ◌≤◌, Bool, true, false, cond, eqb, ltb, pos, sym, refl, ap, ◌∙◌, subst}
+use Rattle.std.proofs.Common.{true≢false, zero-lt-suc, add-mul, mul-pos, zero-mul, mul-one, le_of_mul-le-mul_right, arith, ltb-false}
+use Rattle.std.proofs.Common.{ltb-true, eqb-true}
 use mathlib.Core.Bool.{false≢true}
 use lib.Ieee.{Float, nan, inf, fin, binary64, up, down, round, sum, add, sub, mul, neg, eq, of_bits, unlike}
 use lib.Ieee.Fits.{down_pos}

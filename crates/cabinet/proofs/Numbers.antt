@@ -17,7 +17,8 @@ use Rattle.vectors.specs.declared.vec3.Checked.TheVariants.{Value, Overflow}
 use Rattle.vectors.specs.declared.vec3.Normalized.{Normalized}
 use Rattle.vectors.specs.declared.vec3.Normalized.TheVariants.{Unit as UnitOf, Degenerate}
 use Rattle.geometry.specs.declared.ray.Ray.{Ray}
-use Rattle.casts.specs.Answer.{Answer, hit, none, refused, with_value, with_normal, no_room, no_normal, out_of_bounds, overflow, limit_reached}
+use Rattle.casts.specs.Answer.{Answer, hit, none, refused, with_value, with_normal, no_room, no_normal, out_of_bounds, overflow}
+use Rattle.casts.specs.Answer.{limit_reached}
 use Rattle.casts.specs.Surface.{off_segment, facing}
 use Rattle.triangle_cast.specs.Triangle.{flat, triangle_normal, triangle_above, triangle_at, triangle_of}
 use Rattle.nearest_hit.specs.Nearest.{Indexed, hit_at, no_hit, stopped, next_of, fold_from}

@@ -108,7 +108,8 @@ module _ (r : Ray) (a : Areas) (list stack : ℕ) (parts : List Part) (p : Passe
   apart_past : (limit : ℕ) → returned_apart (answer_of (cast_parts r a limit beginning parts)) ≡ true
   apart_past limit = go (leb (needed r a list stack parts) limit) refl
     where
-      go : (b : Bool) → leb (needed r a list stack parts) limit ≡ b → returned_apart (answer_of (cast_parts r a limit beginning parts)) ≡ true
+      go : (b : Bool) → leb (needed r a list stack parts) limit ≡ b → returned_apart (answer_of (cast_parts r a limit beginning parts))
+          ≡ true
       go true e =
           ap (λ (s : Progress). returned_apart (answer_of s)) ((bound limit).suffices (leb-true (needed r a list stack parts) limit e))
           ∙ found_apart (own_parts r a beginning parts).found (needed r a list stack parts) (parts_plain r a beginning parts refl)

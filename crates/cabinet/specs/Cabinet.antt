@@ -90,7 +90,8 @@ cast_cabinet r a list stack limit parts =
 
 -- refusals 1, 2 and 3 let the call pass, the result slices' 3 among them: before that nothing is written, the work areas included
 unfoldable pub tests_pass : Ray → Areas → ℕ → ℕ → Bool → List Part → Bool
-tests_pass r a list stack fits parts = ray_admitted r && (all_parts (shape_fits a) parts && (fits && all_parts (room_fits a list stack) parts))
+tests_pass r a list stack fits parts = ray_admitted r && (all_parts (shape_fits a) parts
+    && (fits && all_parts (room_fits a list stack) parts))
 
 -- the same number without a count
 abbrev pub plainly : Answer → Answer

@@ -93,7 +93,8 @@ module _ (r : Ray) where
   pub ray_plane_hit_measured : (plane : Plane) → OfHit (Measured r) (ray_plane plane r)
   unfolding ray_plane
   ray_plane_hit_measured plane =
-      of_cond (Measured r) (ray_admitted r) (cond (plane_admitted plane) (plane_cast plane r) (refused bad_shape)) (refused invalid_input) (λ _.
+      of_cond (Measured r) (ray_admitted r) (cond (plane_admitted plane) (plane_cast plane r) (refused bad_shape)) (refused invalid_input)
+      (λ _.
       of_cond (Measured r) (plane_admitted plane) (plane_cast plane r) (refused bad_shape) (λ _. plane_cast_measured plane)
       (λ _. of_refused (Measured r) bad_shape))
       (λ _. of_refused (Measured r) invalid_input)

@@ -37,7 +37,8 @@ numbers_decide p q l plan place r s e h f = rw h (f ∙ (rw (e, s.counts_are, s.
 
 -- ---- lengths
 
-pub size_is : (p q : Form) (l : List ℕ) (plan : Plan) → rays_of p ≡ rays_of q → Sizes p l plan → 4 + size_for q plan ≡ length (rewritten p q l)
+pub size_is : (p q : Form) (l : List ℕ) (plan : Plan) → rays_of p ≡ rays_of q → Sizes p l plan → 4 + size_for q plan
+    ≡ length (rewritten p q l)
 unfolding size_for body_length
 size_is p q l plan r s = rw (s.counts_are, s.numbers_are, s.indices_are) (sym (rewritten_length p q l r))
 

@@ -20,7 +20,8 @@ pub without_nan_lem : (form : Form) (s : Said) → T (said_representable form s)
 without_nan_lem form s h = said_both (representable form) (representable form) is_number (λ x k _. number_representable form x k) s h h
 
 pub representable_fits : (form : Form) (s : Said) → T (said_representable form s) → T (said_fits form s)
-representable_fits form s h = said_both (representable form) (representable form) (fits_in form) (λ x k _. fits_representable form x k) s h h
+representable_fits form s h = said_both (representable form) (representable form) (fits_in form) (λ x k _. fits_representable form x k) s h
+    h
 
 pub representable_fits_said : (form : Form) (s : Said) → said_representable form s ≡ true → said_fits form s ≡ true
 representable_fits_said form s h = is_true (said_fits form s) (representable_fits form s (subst T (sym h) tt))

@@ -85,7 +85,8 @@ module _
     back_is = ap (record_bytes p) same_said ∙ same_bytes p l b (formed p l w) (without_nan_lem q (said_of p l) h)
 
 -- "coming back gives the same bytes where going to 3 succeeds" (p is Long, q Short), and the other way round
-pub comes_back : (p q : Form) (l area again : List ℕ) (n : ℕ) → rays_of p ≡ rays_of q → IsBytes l → (converted p q l area).answer ≡ written n
+pub comes_back : (p q : Form) (l area again : List ℕ) (n : ℕ) → rays_of p ≡ rays_of q → IsBytes l → (converted p q l area).answer
+    ≡ written n
     → length l ≤ length again
     → converted q p (take n (converted p q l area).area) again ≡ success l again
 comes_back p q l area again n same b e r =

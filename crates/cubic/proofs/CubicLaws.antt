@@ -118,13 +118,15 @@ points_two : (u v : Float) → between_ends u ≡ true → between_ends v ≡ tr
 unfolding points sorted insert
 points_two u v h k e = simp (e, one_not_before u h, one_not_before v k, zero_before u h)
 
-points_two_turned : (u v : Float) → between_ends u ≡ true → between_ends v ≡ true → total_order u v ≡ false → points (u ∷ v ∷ []) ≡ zeroᶠ ∷ v ∷
+points_two_turned : (u v : Float) → between_ends u ≡ true → between_ends v ≡ true → total_order u v ≡ false → points (u ∷ v ∷ []) ≡ zeroᶠ
+    ∷ v ∷
     u ∷ oneᶠ ∷ []
 unfolding points sorted insert
 points_two_turned u v h k e = simp (e, one_not_before u h, one_not_before v k, zero_before v k)
 
 -- ---- the same for what the code holds
-pub search_none : (p : Cubic) (tolerance : Float) (t : Turns) → t ≡ NoPoint → search_on None p tolerance zeroᶠ oneᶠ ≡ search_list p tolerance
+pub search_none : (p : Cubic) (tolerance : Float) (t : Turns) → t ≡ NoPoint → search_on None p tolerance zeroᶠ oneᶠ
+    ≡ search_list p tolerance
     (points (listed t))
 unfolding search_list search_from
 search_none p tolerance t e = sym (ap (λ (k : Turns). search_list p tolerance (points (listed k))) e ∙ ap (search_list p tolerance)
@@ -138,7 +140,8 @@ search_one p tolerance t u start e b f =
     ap (λ (r : Root). search_on r p tolerance u oneᶠ) f
     ∙ sym (ap (λ (k : Turns). search_list p tolerance (points (listed k))) e ∙ ap (search_list p tolerance) (points_one u h))
 
-pub search_ordered : (p : Cubic) (tolerance : Float) (t : Turns) (u v : Float) → t ≡ Two u v → AllBetween (listed t) → total_order u v ≡ true
+pub search_ordered : (p : Cubic) (tolerance : Float) (t : Turns) (u v : Float) → t ≡ Two u v → AllBetween (listed t) → total_order u v
+    ≡ true
     → search_list p tolerance (zeroᶠ ∷ u ∷ v ∷ oneᶠ ∷ []) ≡ search_list p tolerance (points (listed t))
 search_ordered p tolerance t u v e b o =
     let all = subst (λ (k : Turns). AllBetween (listed k)) e b in
@@ -146,7 +149,8 @@ search_ordered p tolerance t u v e b o =
     let k = head_between v [] (tail_between u (v ∷ []) all) in
     sym (ap (λ (k : Turns). search_list p tolerance (points (listed k))) e ∙ ap (search_list p tolerance) (points_two u v h k o))
 
-pub search_turned : (p : Cubic) (tolerance : Float) (t : Turns) (u v : Float) → t ≡ Two u v → AllBetween (listed t) → total_order u v ≡ false
+pub search_turned : (p : Cubic) (tolerance : Float) (t : Turns) (u v : Float) → t ≡ Two u v → AllBetween (listed t) → total_order u v
+    ≡ false
     → search_list p tolerance (zeroᶠ ∷ v ∷ u ∷ oneᶠ ∷ []) ≡ search_list p tolerance (points (listed t))
 search_turned p tolerance t u v e b o =
     let all = subst (λ (k : Turns). AllBetween (listed k)) e b in

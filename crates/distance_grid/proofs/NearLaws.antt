@@ -75,7 +75,8 @@ cut_is (fin false m e) y z g l v w p q =
     cast_is (fin false m e) (m * up e) (down e) (down_pos e) (refl, refl) (lt_of_lt_of_le high (mul-le-mul_right (down e) small))
     ∙ quotient_is (m * up e) (down e) g (down_pos e) low high
 
-pub near_is_cell : (x : Float) (g : ℕ) → g < 256 → T (fits binary64 x) → le (whole g) x ≡ true → lt x (whole (g + 1)) ≡ true → floor_cell x ≡
+pub near_is_cell : (x : Float) (g : ℕ) → g < 256 → T (fits binary64 x) → le (whole g) x ≡ true → lt x (whole (g + 1)) ≡ true → floor_cell x
+    ≡
     g
 unfolding floor_cell
 near_is_cell x g l f p q =

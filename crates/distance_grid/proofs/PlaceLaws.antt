@@ -18,7 +18,8 @@ use Rattle.vectors.specs.Vector.{finite_vec}
 use Rattle.lists.proofs.JoinedTests.{and_first, and_second}
 use Rattle.vectors.specs.declared.vec3.Vec3.{Vec3}
 use Rattle.distance_grid.specs.Grid.{whole, last_node, SideStands, SidesStand}
-use Rattle.distance_grid.specs.Places.{top_of, clamped_to, clamped, stays, in_box, clamped_point, up_to, floor_cell, guess_holds, cell_below}
+use Rattle.distance_grid.specs.Places.{top_of, clamped_to, clamped, stays, in_box, clamped_point, up_to, floor_cell, guess_holds}
+use Rattle.distance_grid.specs.Places.{cell_below}
 use Rattle.distance_grid.specs.Places.{place_of, place_at, locate_axis, with_place, locate_inside, locate}
 use Rattle.distance_grid.specs.Places.{is_fraction, Fractions}
 use Rattle.distance_grid.specs.declared.grid.Sides.{Sides}
@@ -112,7 +113,8 @@ same_place : (raw : Float) (near side : ℕ) → is_finite raw ≡ true → raw 
 unfolding place_at place_of cell_below
 same_place raw near side finite clamps cell =
     ap (λ (k : ℕ). PlaceAt k (clamp_to (raw -ᶠ whole k) zeroᶠ oneᶠ)) cell
-    ∙ ap (λ (x : Float). PlaceAt (up_to (side - 2) (floor_cell x)) (clamp_to (x -ᶠ whole (up_to (side - 2) (floor_cell x))) zeroᶠ oneᶠ)) clamps
+    ∙ ap (λ (x : Float). PlaceAt (up_to (side - 2) (floor_cell x)) (clamp_to (x -ᶠ whole (up_to (side - 2) (floor_cell x))) zeroᶠ oneᶠ))
+    clamps
     ∙ sym (ap (λ (b : Bool). cond b (place_of (clamp_to raw zeroᶠ (whole (side - 1))) side) NoPlace) finite)
 
 pub guessed_place : (raw : Float) (near side : ℕ) → T (fits binary64 raw) → guess_holds raw near side ≡ true
@@ -178,7 +180,8 @@ chosen_settled true p q = p
 chosen_settled false p q = q
 
 all_found : (s : Sides) {a b c : Place} → Found s.x a → Found s.y b → Found s.z c
-    → Settled s (with_place a (λ (x : ℕ) (tx : Float). with_place b (λ (y : ℕ) (ty : Float). with_place c (λ (z : ℕ) (tz : Float). At x tx y ty
+    → Settled s (with_place a (λ (x : ℕ) (tx : Float). with_place b
+    (λ (y : ℕ) (ty : Float). with_place c (λ (z : ℕ) (tz : Float). At x tx y ty
     z tz))))
 all_found s (found p t) (found q u) (found r v) = settled (p, (q, r)) record { on_x = t; on_y = u; on_z = v }
 all_found s (found p t) (found q u) not_found = not_settled

@@ -178,13 +178,15 @@ slope_got low high spacing s t v w b p q =
     (lerp_got {k = 1001} (lit≤ tt) (quotient_got w.w01 v.w01 b) (quotient_got w.w11 v.w11 b) p)
     q
 
-gathered_value : (v : Float) {k : ℕ} {on_x on_y on_z : Checked} → Got k on_x → Got k on_y → Got k on_z → value_of (gathered (Value v) on_x on_y on_z)
+gathered_value : (v : Float) {k : ℕ} {on_x on_y on_z : Checked} → Got k on_x → Got k on_y → Got k on_z
+    → value_of (gathered (Value v) on_x on_y on_z)
     ≡ ValuedAt v
 unfolding gathered finite_vec
 gathered_value v (got p) (got q) (got r) = simp (within_finite p, within_finite q, within_finite r)
 
 -- after the tests the value is all that a sample gives of itself
-pub tested_value : (low high : Face) (spacing at : Vec3) → Fractions at → small_face low ≡ true → small_face high ≡ true → fair_spacing spacing
+pub tested_value : (low high : Face) (spacing at : Vec3) → Fractions at → small_face low ≡ true → small_face high ≡ true
+    → fair_spacing spacing
     ≡ true
     → value_of (sample_faces low high spacing at) ≡ ValuedAt (cell_value low high at)
 unfolding sample_faces fair_spacing

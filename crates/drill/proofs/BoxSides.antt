@@ -77,7 +77,8 @@ module _ (A B C O e q h : ℤ) (ρ near far i j k : ℕ) (some : 0 < i + j + k) 
             (nonneg_as (sym (Identities.floor_up S w P (S *ℤ O +ℤ pos s *ℤ e)))
             (minus_of_le (S *ℤ w) (S *ℤ O +ℤ pos s *ℤ e +ℤ S *ℤ P) m)))
 
-    down_from_lem : (s : ℕ) → Nonneg (S *ℤ X -ℤ D *ℤ (pos s *ℤ e -ℤ S *ℤ P)) → OneOf (λ (w : ℤ). le_z (floor_at O e s) (w +ℤ P) ≡ true) A B C
+    down_from_lem : (s : ℕ) → Nonneg (S *ℤ X -ℤ D *ℤ (pos s *ℤ e -ℤ S *ℤ P))
+        → OneOf (λ (w : ℤ). le_z (floor_at O e s) (w +ℤ P) ≡ true) A B C
     down_from_lem s g =
         each (lift A) (lift B) (lift C)
         (part_above i j k (S *ℤ A) (S *ℤ B) (S *ℤ C) (end s -ℤ S *ℤ P) some
@@ -172,7 +173,8 @@ module _ (O e : ℤ) (near far : ℕ) (sizes : EndsSized O e near far) (ρ : ℕ
       (nearest_to units b) (nearest_to units c)
       → OneOf (λ (w : ℤ). le_z (lesser (floor_at O e near) (floor_at O e far) -ℤ pos (ρ + 1) +ℤ pos 1) w ≡ true) (nearest_to units a)
       (nearest_to units b) (nearest_to units c)
-      → touch_side (minimum_of (minimum_of a b) c) (maximum_of (maximum_of a b) c) (low_side ρ O e near far) (high_side ρ O e near far) ≡ true
+      → touch_side (minimum_of (minimum_of a b) c) (maximum_of (maximum_of a b) c) (low_side ρ O e near far) (high_side ρ O e near far)
+      ≡ true
   unfolding touch_side low_side high_side
   side_touches_lem a b c fa fb fc g l =
       let na = finite_number a fa in

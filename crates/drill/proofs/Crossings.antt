@@ -71,7 +71,8 @@ module _ (R : ℤ) (a b c : FromAxis) (f g e : ℤ) where
 
   pub crossing_point : crossing_in R a.moment b.moment f g ≡ true → Crossing-point R a b c f g e
   unfolding crossing_in
-  crossing_point h = crosses (and_first (apart f g) (le_z least most) h) (minus_of_le least most (and_second (apart f g) (le_z least most) h))
+  crossing_point h = crosses (and_first (apart f g) (le_z least most) h)
+      (minus_of_le least most (and_second (apart f g) (le_z least most) h))
 
 -- ---- in the drill
 module _ (R : ℤ) (a b c : FromAxis) (L : ℤ) (nL : Nonneg L) where

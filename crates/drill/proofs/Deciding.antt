@@ -112,12 +112,14 @@ module _ (l : Line) (ρ : ℕ) (p q r : Point) where
   module _ (pd : Positive D) (ends : l.near ≤ l.far) where
     foot_one : (o s : Point) (t : FromAxis)
         → In R (from_axis l o) (from_axis l s) t (side_foot (from_axis l o) (from_axis l s))
-        → (corner_in R (from_axis l o) ≡ true) ⊎ ((corner_in R (from_axis l s) ≡ true) ⊎ (foot_in ρ d (from_axis l o) (from_axis l s) ≡ true))
+        → (corner_in R (from_axis l o) ≡ true) ⊎ ((corner_in R (from_axis l s) ≡ true)
+        ⊎ (foot_in ρ d (from_axis l o) (from_axis l s) ≡ true))
     foot_one o s t k = foot_decides ρ l o s t pd k
 
     -- a side's tests
     side_one : (o s : Point) (t : FromAxis) → Side-found R (from_axis l o) (from_axis l s) t
-        → (corner_in R (from_axis l o) ≡ true) ⊎ ((corner_in R (from_axis l s) ≡ true) ⊎ (side_in ρ d R (from_axis l o) (from_axis l s) ≡ true))
+        → (corner_in R (from_axis l o) ≡ true) ⊎ ((corner_in R (from_axis l s) ≡ true)
+        ⊎ (side_in ρ d R (from_axis l o) (from_axis l s) ≡ true))
     side_one o s t found =
         pick (crossing_in R (from_axis l o).moment (from_axis l s).moment (from_axis l o).low (from_axis l s).low)
         (crossing_in R (from_axis l o).moment (from_axis l s).moment (from_axis l o).high (from_axis l s).high) refl refl found
@@ -215,7 +217,8 @@ module _ (l : Line) (ρ : ℕ) (p q r : Point) where
     turn : (x y z : FromAxis) → Some x y z → Some y z x
     turn x y z (w, k) = (record { i = w.j; j = w.k; k = w.i }, turned R x y z w k)
 
-    side_some : (o s t : Point) → side_in ρ d R (from_axis l o) (from_axis l s) ≡ true → Some (from_axis l o) (from_axis l s) (from_axis l t)
+    side_some : (o s t : Point) → side_in ρ d R (from_axis l o) (from_axis l s) ≡ true
+        → Some (from_axis l o) (from_axis l s) (from_axis l t)
     side_some o s t k =
         let x = from_axis l o in
         let y = from_axis l s in

@@ -173,7 +173,8 @@ side_size p1 p2 p3 q1 q2 q3 r1 r2 r3 =
 pub side_room : (R p1 p2 p3 q1 q2 q3 r1 r2 r3 : ℤ) → R *ℤ ((q1 *ℤ (q1 -ℤ p1) +ℤ q2 *ℤ (q2 -ℤ p2) +ℤ q3 *ℤ (q3 -ℤ p3) +ℤ neg_ℤ
     (p1 *ℤ (q1 -ℤ p1) +ℤ p2 *ℤ (q2 -ℤ p2) +ℤ p3 *ℤ (q3 -ℤ p3)) +ℤ pos 0) *ℤ
     (q1 *ℤ (q1 -ℤ p1) +ℤ q2 *ℤ (q2 -ℤ p2) +ℤ q3 *ℤ (q3 -ℤ p3) +ℤ neg_ℤ (p1 *ℤ (q1 -ℤ p1) +ℤ p2 *ℤ (q2 -ℤ p2) +ℤ p3 *ℤ (q3 -ℤ p3)) +ℤ pos 0))
-    -ℤ (((q1 *ℤ (q1 -ℤ p1) +ℤ q2 *ℤ (q2 -ℤ p2) +ℤ q3 *ℤ (q3 -ℤ p3)) *ℤ p1 +ℤ neg_ℤ (p1 *ℤ (q1 -ℤ p1) +ℤ p2 *ℤ (q2 -ℤ p2) +ℤ p3 *ℤ (q3 -ℤ p3))
+    -ℤ (((q1 *ℤ (q1 -ℤ p1) +ℤ q2 *ℤ (q2 -ℤ p2) +ℤ q3 *ℤ (q3 -ℤ p3)) *ℤ p1 +ℤ neg_ℤ
+    (p1 *ℤ (q1 -ℤ p1) +ℤ p2 *ℤ (q2 -ℤ p2) +ℤ p3 *ℤ (q3 -ℤ p3))
     *ℤ q1 +ℤ pos 0 *ℤ r1) *ℤ ((q1 *ℤ (q1 -ℤ p1) +ℤ q2 *ℤ (q2 -ℤ p2) +ℤ q3 *ℤ (q3 -ℤ p3)) *ℤ p1 +ℤ neg_ℤ
     (p1 *ℤ (q1 -ℤ p1) +ℤ p2 *ℤ (q2 -ℤ p2) +ℤ p3 *ℤ (q3 -ℤ p3)) *ℤ q1 +ℤ pos 0 *ℤ r1) +ℤ
     ((q1 *ℤ (q1 -ℤ p1) +ℤ q2 *ℤ (q2 -ℤ p2) +ℤ q3 *ℤ (q3 -ℤ p3)) *ℤ p2 +ℤ neg_ℤ (p1 *ℤ (q1 -ℤ p1) +ℤ p2 *ℤ (q2 -ℤ p2) +ℤ p3 *ℤ (q3 -ℤ p3))
@@ -260,7 +261,8 @@ corner_sum p q r = alike (p ∷ q ∷ r ∷ []) (num (pos 1) ⊗ var 0 ⊕ num (
 
 pub crossing_down : (R f g p1 p2 p3 q1 q2 q3 r1 r2 r3 : ℤ) → R *ℤ ((g +ℤ neg_ℤ f +ℤ pos 0) *ℤ (g +ℤ neg_ℤ f +ℤ pos 0)) -ℤ
     ((g *ℤ p1 +ℤ neg_ℤ f *ℤ q1 +ℤ pos 0 *ℤ r1) *ℤ (g *ℤ p1 +ℤ neg_ℤ f *ℤ q1 +ℤ pos 0 *ℤ r1) +ℤ (g *ℤ p2 +ℤ neg_ℤ f *ℤ q2 +ℤ pos 0 *ℤ r2) *ℤ
-    (g *ℤ p2 +ℤ neg_ℤ f *ℤ q2 +ℤ pos 0 *ℤ r2) +ℤ (g *ℤ p3 +ℤ neg_ℤ f *ℤ q3 +ℤ pos 0 *ℤ r3) *ℤ (g *ℤ p3 +ℤ neg_ℤ f *ℤ q3 +ℤ pos 0 *ℤ r3)) ≡ R *ℤ
+    (g *ℤ p2 +ℤ neg_ℤ f *ℤ q2 +ℤ pos 0 *ℤ r2) +ℤ (g *ℤ p3 +ℤ neg_ℤ f *ℤ q3 +ℤ pos 0 *ℤ r3) *ℤ (g *ℤ p3 +ℤ neg_ℤ f *ℤ q3 +ℤ pos 0 *ℤ r3))
+    ≡ R *ℤ
     ((f -ℤ g) *ℤ (f -ℤ g)) -ℤ ((f *ℤ q1 -ℤ g *ℤ p1) *ℤ (f *ℤ q1 -ℤ g *ℤ p1) +ℤ (f *ℤ q2 -ℤ g *ℤ p2) *ℤ (f *ℤ q2 -ℤ g *ℤ p2) +ℤ
     (f *ℤ q3 -ℤ g *ℤ p3) *ℤ (f *ℤ q3 -ℤ g *ℤ p3))
 crossing_down R f g p1 p2 p3 q1 q2 q3 r1 r2 r3 =
@@ -275,7 +277,8 @@ crossing_down R f g p1 p2 p3 q1 q2 q3 r1 r2 r3 =
 
 pub crossing_up : (R f g p1 p2 p3 q1 q2 q3 r1 r2 r3 : ℤ) → R *ℤ ((neg_ℤ g +ℤ f +ℤ pos 0) *ℤ (neg_ℤ g +ℤ f +ℤ pos 0)) -ℤ
     ((neg_ℤ g *ℤ p1 +ℤ f *ℤ q1 +ℤ pos 0 *ℤ r1) *ℤ (neg_ℤ g *ℤ p1 +ℤ f *ℤ q1 +ℤ pos 0 *ℤ r1) +ℤ (neg_ℤ g *ℤ p2 +ℤ f *ℤ q2 +ℤ pos 0 *ℤ r2) *ℤ
-    (neg_ℤ g *ℤ p2 +ℤ f *ℤ q2 +ℤ pos 0 *ℤ r2) +ℤ (neg_ℤ g *ℤ p3 +ℤ f *ℤ q3 +ℤ pos 0 *ℤ r3) *ℤ (neg_ℤ g *ℤ p3 +ℤ f *ℤ q3 +ℤ pos 0 *ℤ r3)) ≡ R *ℤ
+    (neg_ℤ g *ℤ p2 +ℤ f *ℤ q2 +ℤ pos 0 *ℤ r2) +ℤ (neg_ℤ g *ℤ p3 +ℤ f *ℤ q3 +ℤ pos 0 *ℤ r3) *ℤ (neg_ℤ g *ℤ p3 +ℤ f *ℤ q3 +ℤ pos 0 *ℤ r3))
+    ≡ R *ℤ
     ((f -ℤ g) *ℤ (f -ℤ g)) -ℤ ((f *ℤ q1 -ℤ g *ℤ p1) *ℤ (f *ℤ q1 -ℤ g *ℤ p1) +ℤ (f *ℤ q2 -ℤ g *ℤ p2) *ℤ (f *ℤ q2 -ℤ g *ℤ p2) +ℤ
     (f *ℤ q3 -ℤ g *ℤ p3) *ℤ (f *ℤ q3 -ℤ g *ℤ p3))
 crossing_up R f g p1 p2 p3 q1 q2 q3 r1 r2 r3 =
@@ -605,7 +608,8 @@ split_near s1 s2 s3 h1 h2 h3 v1 v2 v3 S N =
     ⊖ var 10 ⊗ ((var 1 ⊖ var 2) ⊗ var 6 ⊕ (var 2 ⊖ var 0) ⊗ var 7 ⊕ (var 0 ⊖ var 1) ⊗ var 8)) refl
 
 pub split_far : (s1 s2 s3 h1 h2 h3 v1 v2 v3 S N : ℤ) → (s2 *ℤ (S *ℤ neg_ℤ h3 -ℤ N) -ℤ s3 *ℤ (S *ℤ neg_ℤ h2 -ℤ N)) *ℤ v1 +ℤ
-    (s3 *ℤ (S *ℤ neg_ℤ h1 -ℤ N) -ℤ s1 *ℤ (S *ℤ neg_ℤ h3 -ℤ N)) *ℤ v2 +ℤ (s1 *ℤ (S *ℤ neg_ℤ h2 -ℤ N) -ℤ s2 *ℤ (S *ℤ neg_ℤ h1 -ℤ N)) *ℤ v3 ≡ neg_ℤ
+    (s3 *ℤ (S *ℤ neg_ℤ h1 -ℤ N) -ℤ s1 *ℤ (S *ℤ neg_ℤ h3 -ℤ N)) *ℤ v2 +ℤ (s1 *ℤ (S *ℤ neg_ℤ h2 -ℤ N) -ℤ s2 *ℤ (S *ℤ neg_ℤ h1 -ℤ N)) *ℤ v3
+    ≡ neg_ℤ
     (S *ℤ ((s2 *ℤ h3 -ℤ s3 *ℤ h2) *ℤ v1 +ℤ (s3 *ℤ h1 -ℤ s1 *ℤ h3) *ℤ v2 +ℤ (s1 *ℤ h2 -ℤ s2 *ℤ h1) *ℤ v3)) -ℤ N *ℤ
     ((s2 -ℤ s3) *ℤ v1 +ℤ (s3 -ℤ s1) *ℤ v2 +ℤ (s1 -ℤ s2) *ℤ v3)
 split_far s1 s2 s3 h1 h2 h3 v1 v2 v3 S N =
@@ -745,7 +749,8 @@ gather_near S nu D T W dx gx nx =
     alike (S ∷ nu ∷ D ∷ T ∷ W ∷ dx ∷ gx ∷ nx ∷ []) (var 0 ⊗ ((var 5 ⊗ num (pos 0) ⊖ var 6 ⊗ var 2) ⊗ var 3) ⊖ var 1 ⊗ var 2 ⊗ opp
     (var 6 ⊗ var 4 ⊖ num (pos 0) ⊗ var 7)) (opp (var 2 ⊗ (var 0 ⊗ var 3 ⊖ var 1 ⊗ var 4)) ⊗ var 6) refl
 
-pub gather_far : (S nu D T W dx gx nx : ℤ) → neg_ℤ (S *ℤ ((dx *ℤ pos 0 -ℤ gx *ℤ D) *ℤ T)) -ℤ neg_ℤ (nu *ℤ D) *ℤ neg_ℤ (gx *ℤ W -ℤ pos 0 *ℤ nx)
+pub gather_far : (S nu D T W dx gx nx : ℤ) → neg_ℤ (S *ℤ ((dx *ℤ pos 0 -ℤ gx *ℤ D) *ℤ T)) -ℤ neg_ℤ (nu *ℤ D) *ℤ neg_ℤ
+    (gx *ℤ W -ℤ pos 0 *ℤ nx)
     ≡ neg_ℤ (D *ℤ (nu *ℤ W -ℤ S *ℤ T)) *ℤ gx
 gather_far S nu D T W dx gx nx =
     alike (S ∷ nu ∷ D ∷ T ∷ W ∷ dx ∷ gx ∷ nx ∷ []) (opp (var 0 ⊗ ((var 5 ⊗ num (pos 0) ⊖ var 6 ⊗ var 2) ⊗ var 3)) ⊖ opp (var 1 ⊗ var 2)
@@ -955,7 +960,8 @@ rise_up S rho q D s e x h =
     alike (S ∷ rho ∷ q ∷ D ∷ s ∷ e ∷ x ∷ h ∷ []) (var 2 ⊗ (var 3 ⊗ (var 4 ⊗ var 5 ⊕ var 0 ⊗ var 1) ⊖ var 0 ⊗ var 6))
     (var 0 ⊗ (var 1 ⊗ var 2 ⊗ var 3 ⊖ (var 2 ⊗ var 6 ⊖ var 7 ⊗ var 5)) ⊕ var 5 ⊗ (var 4 ⊗ var 2 ⊗ var 3 ⊖ var 0 ⊗ var 7)) refl
 
-pub fall_up : (S rho q D s e x h : ℤ) → q *ℤ (D *ℤ (s *ℤ e +ℤ S *ℤ rho) -ℤ S *ℤ x) ≡ S *ℤ (rho *ℤ q *ℤ D -ℤ (q *ℤ x -ℤ h *ℤ e)) +ℤ neg_ℤ e *ℤ
+pub fall_up : (S rho q D s e x h : ℤ) → q *ℤ (D *ℤ (s *ℤ e +ℤ S *ℤ rho) -ℤ S *ℤ x)
+    ≡ S *ℤ (rho *ℤ q *ℤ D -ℤ (q *ℤ x -ℤ h *ℤ e)) +ℤ neg_ℤ e *ℤ
     (S *ℤ h -ℤ s *ℤ q *ℤ D)
 fall_up S rho q D s e x h =
     alike (S ∷ rho ∷ q ∷ D ∷ s ∷ e ∷ x ∷ h ∷ []) (var 2 ⊗ (var 3 ⊗ (var 4 ⊗ var 5 ⊕ var 0 ⊗ var 1) ⊖ var 0 ⊗ var 6))

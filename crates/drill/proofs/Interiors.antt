@@ -97,7 +97,8 @@ module _ (S N fa fb fc ta tb tc : ℤ) (ea : fa ≡ S *ℤ neg_ℤ ta -ℤ N) (e
 
 module _ (R : ℤ) (a b c : FromAxis) (n : Weights) (F : Facts a b c n) (nR : Nonneg R) where
   -- ---- stopped at a cap
-  near_decides : Before a b c n → (z y : Weights) → In R a b c z → low_of a b c z ≡ pos 0 → Negative (low_of a b c y) → Plane-found R a b c n
+  near_decides : Before a b c n → (z y : Weights) → In R a b c z → low_of a b c z ≡ pos 0 → Negative (low_of a b c y)
+      → Plane-found R a b c n
   near_decides why z y h e q =
       elim (level_decides R a b c z (level_up a b c) h (Identities.level_total a.height b.height c.height)
       (own_flat F.S F.N a.low b.low c.low a.height b.height c.height F.low_a F.low_b F.low_c)

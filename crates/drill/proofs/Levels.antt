@@ -51,7 +51,8 @@ module _ (R : ℤ) (a b c : FromAxis) (x δ : Weights) (h : In R a b c x) (flat 
   high_is : high_of a b c y ≡ A *ℤ high_of a b c x
   high_is =
       along_sum A (neg_ℤ (way a b c x δ)) x δ a.high b.high c.high
-      ∙ ap (λ (t : ℤ). A *ℤ high_of a b c x +ℤ neg_ℤ (way a b c x δ) *ℤ t) high0 ∙ plus_zero_lem (A *ℤ high_of a b c x) (neg_ℤ (way a b c x δ))
+      ∙ ap (λ (t : ℤ). A *ℤ high_of a b c x +ℤ neg_ℤ (way a b c x δ) *ℤ t) high0
+      ∙ plus_zero_lem (A *ℤ high_of a b c x) (neg_ℤ (way a b c x δ))
 
   nn : Nonneg A
   nn = length_nonneg R a b c x δ h flat

@@ -56,7 +56,8 @@ module _ (l : Line) (ρ : ℕ) (a b c : FromAxis) where
   unfolding outline_of
   outline_3 h₁ h₂ e = or_miss h₁ (or_miss h₂ (or_hit (ab || (bc || ca)) e))
 
-  module _ (h₁ : corner_in (limit_of l ρ) a ≡ false) (h₂ : corner_in (limit_of l ρ) b ≡ false) (h₃ : corner_in (limit_of l ρ) c ≡ false) where
+  module _ (h₁ : corner_in (limit_of l ρ) a ≡ false) (h₂ : corner_in (limit_of l ρ) b ≡ false)
+      (h₃ : corner_in (limit_of l ρ) c ≡ false) where
     pub outline_4 : side_in ρ l.direction (limit_of l ρ) a b ≡ true → true ≡ outline_of l ρ a b c
     unfolding outline_of
     outline_4 e = or_miss h₁ (or_miss h₂ (or_miss h₃ (or_hit (bc || ca) e)))

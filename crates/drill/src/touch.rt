@@ -167,7 +167,8 @@ fn crossed_forward(drill: Drill, a: Corner, b: Corner, c: Corner, p: Pierce) -> 
     requires { (DrillSized drill × (CornerSized a × (CornerSized b × CornerSized c))) × PierceSized p }
     ensures { (l : Line) (ρ : ℕ) → Drills drill l ρ → value p.low ≡ low_of l (from_axis_of a) (from_axis_of b) (from_axis_of c)
         → value p.high ≡ high_of l (from_axis_of a) (from_axis_of b) (from_axis_of c)
-        → result ≡ nearest_in (near_of l ρ (from_axis_of a) (from_axis_of b) (from_axis_of c)) (far_of l ρ (from_axis_of a) (from_axis_of b) (from_axis_of c))
+        → result ≡ nearest_in (near_of l ρ (from_axis_of a) (from_axis_of b) (from_axis_of c))
+        (far_of l ρ (from_axis_of a) (from_axis_of b) (from_axis_of c))
         (value p.i) (value p.j) (value p.k) (value p.low) (value p.high) }
 {
     if number::is_negative(p.low) {
@@ -184,7 +185,8 @@ fn crossed_backward(drill: Drill, a: Corner, b: Corner, c: Corner, p: Pierce) ->
     requires { (DrillSized drill × (CornerSized a × (CornerSized b × CornerSized c))) × PierceSized p }
     ensures { (l : Line) (ρ : ℕ) → Drills drill l ρ → value p.low ≡ low_of l (from_axis_of a) (from_axis_of b) (from_axis_of c)
         → value p.high ≡ high_of l (from_axis_of a) (from_axis_of b) (from_axis_of c)
-        → result ≡ nearest_in (near_of l ρ (from_axis_of a) (from_axis_of b) (from_axis_of c)) (far_of l ρ (from_axis_of a) (from_axis_of b) (from_axis_of c))
+        → result ≡ nearest_in (near_of l ρ (from_axis_of a) (from_axis_of b) (from_axis_of c))
+        (far_of l ρ (from_axis_of a) (from_axis_of b) (from_axis_of c))
         (neg_ℤ (value p.i)) (neg_ℤ (value p.j)) (neg_ℤ (value p.k)) (neg_ℤ (value p.low)) (neg_ℤ (value p.high)) }
 {
     if number::is_positive(p.low) {

@@ -100,7 +100,8 @@ put_at : (L F t : ℤ) (W : ℕ) → 0 < W → Put L F (record { t = t; w = pos 
 unfolding entering
 put_at L (pos n) t W p =
     subst (λ (b : Bool). Put L (pos n) (record { t = t; w = pos W }) W
-    (cond b (cond (lt_z (determinant L (pos n) t (pos W)) (pos 0)) (record { t = neg_ℤ L; w = neg_ℤ (pos n) }) (record { t = t; w = pos W }))
+    (cond b (cond (lt_z (determinant L (pos n) t (pos W)) (pos 0)) (record { t = neg_ℤ L; w = neg_ℤ (pos n) })
+    (record { t = t; w = pos W }))
     (record { t = t; w = pos W })))
     (sym (le-ltb n 0 (omega arith)))
     (kept_put L (pos n) (record { t = t; w = pos W }) W p refl (λ h. absurd (omega (arith, ltb-true n 0 h))))

@@ -205,7 +205,9 @@ between : (x y B : ℕ) → x ≤ B → y ≤ B → Sized B (pos x -ℤ pos y)
 between x y B h g =
     let p = sub_parts (pos x) (pos y) in
     let n = size_is (pos x -ℤ pos y) in
-    record { size = apart (nat_abs (pos x -ℤ pos y)) (pp (pos x -ℤ pos y)) (np (pos x -ℤ pos y)) x y B n (one_sided (pos x -ℤ pos y)) p h g }
+    record {
+      size = apart (nat_abs (pos x -ℤ pos y)) (pp (pos x -ℤ pos y)) (np (pos x -ℤ pos y)) x y B n (one_sided (pos x -ℤ pos y)) p h g;
+    }
   where
     one_sided : (z : ℤ) → (pp z ≡ 0) ⊎ (np z ≡ 0)
     one_sided (pos n) = inr refl

@@ -31,7 +31,8 @@ pub record On (near far : ℤ) (a b c : Projected) (D : ℕ) (t : ℤ) : Type 0 
 -- the corners do not lie on one line: seen from some side they turn
 abbrev pub HasArea : Projected → Projected → Projected → Type 0
 HasArea a b c =
-    seen_determinant b c +ℤ seen_determinant c a +ℤ seen_determinant a b ≡ pos 0 → area (across_point a) (across_point b) (across_point c) ≡ pos 0
+    seen_determinant b c +ℤ seen_determinant c a +ℤ seen_determinant a b ≡ pos 0 → area (across_point a) (across_point b) (across_point c)
+    ≡ pos 0
     → area (up_point a) (up_point b) (up_point c) ≡ pos 0 → ⊥
 
 -- f is the depth of such a point, and no such point lies less deep

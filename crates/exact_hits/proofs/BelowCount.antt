@@ -14,7 +14,8 @@ use Rattle.lists.proofs.SortLaws.{count_sorted}
 use Rattle.geometry.specs.Box.{touches}
 use Rattle.geometry.specs.declared.aabb.Aabb.{Aabb}
 use Rattle.tree.specs.Layout.{Tree, word_at, box_at, kind_at, first_at, second_at}
-use Rattle.tree_walk.specs.Walk.{Walking, walking, broken, times, take_place, take_places, at_leaf, child_fits, at_branch, at_node, take_node}
+use Rattle.tree_walk.specs.Walk.{Walking, walking, broken, times, take_place, take_places, at_leaf, child_fits, at_branch, at_node}
+use Rattle.tree_walk.specs.Walk.{take_node}
 use Rattle.tree_walk.specs.Walk.{start, ended}
 use Rattle.exact_hits.specs.LineWalk.{take_opened, opened_walk}
 

@@ -89,5 +89,6 @@ module _ (answer : ℕ → Answer) (p : ℕ → Bool) where
   pub listing_kept : (area : HitArea) (l : List ℕ) → Each Leaves l → listing_of answer area (keep p l) ≡ listing_of answer area l
   unfolding listing_of
   listing_kept area l each =
-      ap (λ (z : Indexed). after_refusals z area (fitted answer area (in_order answer (hits_of answer (keep p l))))) (kept_fold no_hit l each)
+      ap (λ (z : Indexed). after_refusals z area (fitted answer area (in_order answer (hits_of answer (keep p l)))))
+      (kept_fold no_hit l each)
       ∙ ap (λ (z : List ℕ). after_refusals (nearest_of answer l) area (fitted answer area (in_order answer z))) (kept_hits l each)

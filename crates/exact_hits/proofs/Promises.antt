@@ -280,7 +280,8 @@ module _ (r : Ray) (m : Mesh) (t : Tree) (list stack : ℕ) (area : HitArea) whe
         → (ray_mesh_exact_all r m m.vertices t list stack area).answer ≡ count_of k
     own_count k s h = ap (λ (vs : List Float). (ray_mesh_exact_all r m vs t list stack area).answer) (sym s.own) ∙ h
 
-    own_cast_lem : (z : Indexed) → Sound m pose t list stack → ray_mesh_exact r m pose t stack ≡ z → ray_mesh_exact r m m.vertices t stack ≡ z
+    own_cast_lem : (z : Indexed) → Sound m pose t list stack → ray_mesh_exact r m pose t stack ≡ z → ray_mesh_exact r m m.vertices t stack
+        ≡ z
     own_cast_lem z s h = ap (λ (vs : List Float). ray_mesh_exact r m vs t stack) (sym s.own) ∙ h
 
     pub promised : KeepsPromises r m pose t list stack (places_in area) outcome

@@ -1,5 +1,6 @@
 -- A triangle in a plane at right angles to an axis has that plane's distance, where the line crosses it. Assumes nothing.
-use Rattle.std.proofs.Common.{◌≡◌, ℕ, zero, suc, ◌+◌, ◌<◌, ℤ, pos, negsuc, ◌+ℤ◌, ◌-ℤ◌, ◌*ℤ◌, neg_ℤ, nat_abs, sym, refl, ap, ◌∙◌, subst, inl, inr, zero-lt-suc, arith, lit≤}
+use Rattle.std.proofs.Common.{◌≡◌, ℕ, zero, suc, ◌+◌, ◌<◌, ℤ, pos, negsuc, ◌+ℤ◌, ◌-ℤ◌, ◌*ℤ◌, neg_ℤ, nat_abs, sym, refl, ap, ◌∙◌, subst, inl}
+use Rattle.std.proofs.Common.{inr, zero-lt-suc, arith, lit≤}
 use lib.Ieee.{Float}
 use Rattle.wide_integers.specs.Sizes.{Sized}
 use Rattle.wide_integers.proofs.Reading.{bits, plain, widen, sized_bits}

@@ -1,5 +1,6 @@
 -- One triangle's answer is certain. Assumes nothing.
-use Rattle.std.proofs.Common.{◌≡◌, ℕ, zero, suc, ◌+◌, ◌*◌, ◌<◌, Bool, true, false, cond, List, ℤ, pos, negsuc, ◌*ℤ◌, nat_abs, sym, refl, ap, ◌∙◌, subst, zero-lt-suc, arith}
+use Rattle.std.proofs.Common.{◌≡◌, ℕ, zero, suc, ◌+◌, ◌*◌, ◌<◌, Bool, true, false, cond, List, ℤ, pos, negsuc, ◌*ℤ◌, nat_abs, sym, refl, ap}
+use Rattle.std.proofs.Common.{◌∙◌, subst, zero-lt-suc, arith}
 use lib.Signed.{le_z}
 use lib.Ieee.{Float, binary64, round}
 use Rattle.vectors.specs.declared.vec3.Vec3.{Vec3}

@@ -1,5 +1,6 @@
 -- The nearest whole number, of two the even one, moves with a number that is moved by an even one, up or down. Assumes nothing.
-use Rattle.std.proofs.Common.{◌≡◌, ℕ, zero, suc, ◌+◌, ◌*◌, ◌/◌, ◌%◌, ◌<◌, ◌≤◌, Bool, true, false, ltb, sym, refl, ap, ◌∙◌, mod-lt, lt_of_mul-lt-mul_right, div-add-mod', arith, ltb-false, ltb-true}
+use Rattle.std.proofs.Common.{◌≡◌, ℕ, zero, suc, ◌+◌, ◌*◌, ◌/◌, ◌%◌, ◌<◌, ◌≤◌, Bool, true, false, ltb, sym, refl, ap, ◌∙◌, mod-lt}
+use Rattle.std.proofs.Common.{lt_of_mul-lt-mul_right, div-add-mod', arith, ltb-false, ltb-true}
 use Prim.Native.Nat.{compare, Ordering}
 use lib.Ieee.{nearest}
 use lib.Ieee.Nearest.{closest}

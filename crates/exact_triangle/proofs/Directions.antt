@@ -1,6 +1,7 @@
 -- A ray that is admitted is read on the grid unless its origin or an end is out of range: its direction has length 1, so that no component
 -- is above 2. Assumes nothing.
-use Rattle.std.proofs.Common.{◌≡◌, ℕ, ◌+◌, ◌*◌, ◌<◌, ◌≤◌, Bool, true, false, not, ◌&&◌, ltb, ℤ, pos, sym, refl, ap, ◌∙◌, subst, true≢false, mul-le-mul_right, mul-pos, arith, lit<, ltb-false, ltb-true, le-ltb}
+use Rattle.std.proofs.Common.{◌≡◌, ℕ, ◌+◌, ◌*◌, ◌<◌, ◌≤◌, Bool, true, false, not, ◌&&◌, ltb, ℤ, pos, sym, refl, ap, ◌∙◌, subst, true≢false}
+use Rattle.std.proofs.Common.{mul-le-mul_right, mul-pos, arith, lit<, ltb-false, ltb-true, le-ltb}
 use mathlib.Core.Bool.{false≢true}
 use borrow.Author.Tests.{not-true, not-false}
 use lib.Ieee.{Float, nan, inf, fin, binary64, up, down, round, units, odd, size, climb, span, sum, add, mul, of_bits, of_fields, le, lt, eq}

@@ -1,6 +1,7 @@
 -- Rounding keeps the order: where the float of a depth differs from that of an end, the depth lies on the same side of the end. Assumes
 -- nothing.
-use Rattle.std.proofs.Common.{◌≡◌, ℕ, ◌*◌, ◌<◌, ◌≤◌, Bool, true, false, pos, sym, refl, ◌∙◌, true≢false, mul-le-mul_right, mul-pos, arith, lit<}
+use Rattle.std.proofs.Common.{◌≡◌, ℕ, ◌*◌, ◌<◌, ◌≤◌, Bool, true, false, pos, sym, refl, ◌∙◌, true≢false, mul-le-mul_right, mul-pos, arith}
+use Rattle.std.proofs.Common.{lit<}
 use lib.Signed.{lt_z}
 use lib.Ieee.{Float, binary64, round, lt, le}
 use lib.Ieee.Bits.{is_true}

@@ -1,5 +1,6 @@
 -- A mean at most m has a part at most m, and a whole number that is at most a fraction is at most its floor. Assumes nothing.
-use Rattle.std.proofs.Common.{◌≡◌, ℕ, suc, ◌+◌, ◌*◌, ◌/◌, ◌<◌, ◌≤◌, Bool, true, false, cond, ◌⊎◌, ℤ, pos, negsuc, ◌+ℤ◌, ◌*ℤ◌, nat_abs, sym, refl, ◌∙◌, inl, inr, true≢false, mul-le-mul_right, div-lt_iff_lt-mul, le-div_iff_mul-le, arith, le-leb}
+use Rattle.std.proofs.Common.{◌≡◌, ℕ, suc, ◌+◌, ◌*◌, ◌/◌, ◌<◌, ◌≤◌, Bool, true, false, cond, ◌⊎◌, ℤ, pos, negsuc, ◌+ℤ◌, ◌*ℤ◌, nat_abs, sym}
+use Rattle.std.proofs.Common.{refl, ◌∙◌, inl, inr, true≢false, mul-le-mul_right, div-lt_iff_lt-mul, le-div_iff_mul-le, arith, le-leb}
 use mathlib.Core.Bool.{false≢true}
 use lib.Signed.{lt_z, le_z, shr_z}
 use Rattle.exact_depth.specs.Meeting.{mix}

@@ -109,7 +109,8 @@ hit_at_lem r vs h g read x t =
     (_, hit_told r (cross_at vs) _ x u)
 
 -- what is reached is the answer without its normal
-pub reached_as : (r : Ray) (vs : List Vec3) → ray_admitted r ≡ true → grid_admitted r ≡ true → grid_reach r vs ≡ reach_of (grid_triangle r vs)
+pub reached_as : (r : Ray) (vs : List Vec3) → ray_admitted r ≡ true → grid_admitted r ≡ true → grid_reach r vs
+    ≡ reach_of (grid_triangle r vs)
 unfolding grid_triangle reach_of
 reached_as r vs h g = go (corners_read vs) refl (grid_reach r vs) refl
   where

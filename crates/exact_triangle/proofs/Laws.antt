@@ -1,5 +1,6 @@
 -- What the code's steps read, test and compute. Assumes nothing.
-use Rattle.std.proofs.Common.{◌≡◌, ℕ, ◌+◌, ◌*◌, ◌≤◌, Bool, true, false, ◌&&◌, T, List, ℤ, pos, negsuc, ◌-ℤ◌, ◌*ℤ◌, neg_ℤ, nat_abs, sym, refl, ap, ◌∙◌, subst, true≢false, le_trans, le_refl, arith, lit≤, w64, SFits, ltb-true}
+use Rattle.std.proofs.Common.{◌≡◌, ℕ, ◌+◌, ◌*◌, ◌≤◌, Bool, true, false, ◌&&◌, T, List, ℤ, pos, negsuc, ◌-ℤ◌, ◌*ℤ◌, neg_ℤ, nat_abs, sym}
+use Rattle.std.proofs.Common.{refl, ap, ◌∙◌, subst, true≢false, le_trans, le_refl, arith, lit≤, w64, SFits, ltb-true}
 use lib.Signed.{lt_z, le_z}
 use lib.Ieee.{Float, binary64, mul, add, sub, to_signed, in_signed}
 use Rattle.wide_integers.specs.Sizes.{Sized}

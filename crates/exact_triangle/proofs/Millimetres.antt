@@ -1,5 +1,6 @@
 -- A float lies between its grid point's neighbours, and a grid point's float is exact. Assumes nothing.
-use Rattle.std.proofs.Common.{◌≡◌, ℕ, suc, ◌+◌, ◌*◌, ◌^◌, ◌<◌, ◌≤◌, Bool, true, false, not, ℤ, pos, negsuc, ◌+ℤ◌, nat_abs, sym, refl, ap, ◌∙◌, lt_of_le_of_lt, le_of_lt, mul-le-mul_right, mul_assoc, arith, lit<}
+use Rattle.std.proofs.Common.{◌≡◌, ℕ, suc, ◌+◌, ◌*◌, ◌^◌, ◌<◌, ◌≤◌, Bool, true, false, not, ℤ, pos, negsuc, ◌+ℤ◌, nat_abs, sym, refl, ap}
+use Rattle.std.proofs.Common.{◌∙◌, lt_of_le_of_lt, le_of_lt, mul-le-mul_right, mul_assoc, arith, lit<}
 use mathlib.Core.Bool.{false≢true}
 use lib.Signed.{le_z}
 use lib.Ieee.{Float, nan, inf, fin, binary64, up, down, round, le}

@@ -1,5 +1,6 @@
 -- The direction of an admitted ray, of length 1, is not read as 0. Assumes nothing.
-use Rattle.std.proofs.Common.{◌≡◌, ℕ, suc, ◌+◌, ◌*◌, ◌^◌, ◌<◌, ◌≤◌, Bool, true, false, ◌⊎◌, ℤ, negsuc, nat_abs, sym, refl, ap, ◌∙◌, subst, inl, inr, true≢false, le_trans, mul-le-mul_right, eq-zero-or-pos, mul-pos, arith, pow_pos}
+use Rattle.std.proofs.Common.{◌≡◌, ℕ, suc, ◌+◌, ◌*◌, ◌^◌, ◌<◌, ◌≤◌, Bool, true, false, ◌⊎◌, ℤ, negsuc, nat_abs, sym, refl, ap, ◌∙◌, subst}
+use Rattle.std.proofs.Common.{inl, inr, true≢false, le_trans, mul-le-mul_right, eq-zero-or-pos, mul-pos, arith, pow_pos}
 use mathlib.Core.Bool.{false≢true}
 use native.Mathlib.Nat.{pow-succ'}
 use lib.Ieee.{Float, nan, inf, fin, binary64, up, down, round, units, odd, size, climb, span, sum, add, mul, of_bits}

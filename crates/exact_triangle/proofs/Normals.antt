@@ -1,5 +1,6 @@
 -- A whole vector up to 2^59 that is not 0 has floats that are finite and not all 0: it has a normal. Assumes nothing.
-use Rattle.std.proofs.Common.{◌≡◌, ℕ, zero, suc, ◌*◌, ◌<◌, ◌≤◌, Bool, true, false, cond, not, ◌&&◌, T, eqb, ℤ, pos, negsuc, nat_abs, sym, refl, ap, ◌∙◌, subst, true≢false, zero-lt-suc, arith, lit<, eqb→eq}
+use Rattle.std.proofs.Common.{◌≡◌, ℕ, zero, suc, ◌*◌, ◌<◌, ◌≤◌, Bool, true, false, cond, not, ◌&&◌, T, eqb, ℤ, pos, negsuc, nat_abs, sym}
+use Rattle.std.proofs.Common.{refl, ap, ◌∙◌, subst, true≢false, zero-lt-suc, arith, lit<, eqb→eq}
 use mathlib.Core.Bool.{false≢true}
 use Rattle.lists.proofs.JoinedTests.{and_both, and_three, and_not_first}
 use Rattle.arithmetic.proofs.Exactness.{neg_round, of_int_is, of_int_below, round_one}

@@ -1,5 +1,6 @@
 -- A depth is the fraction of two small numbers: 2^30 n · (a - o) / n · d, with n the cross of the triangle's edges. Assumes nothing.
-use Rattle.std.proofs.Common.{◌≡◌, ℕ, zero, suc, ◌+◌, ◌*◌, true, false, ℤ, pos, negsuc, ◌+ℤ◌, ◌-ℤ◌, ◌*ℤ◌, sym, refl, ap, ◌∙◌, zero-lt-suc, arith}
+use Rattle.std.proofs.Common.{◌≡◌, ℕ, zero, suc, ◌+◌, ◌*◌, true, false, ℤ, pos, negsuc, ◌+ℤ◌, ◌-ℤ◌, ◌*ℤ◌, sym, refl, ap, ◌∙◌, zero-lt-suc}
+use Rattle.std.proofs.Common.{arith}
 use mathlib.Core.Bool.{false≢true}
 use lib.Signed.{lt_z}
 use lib.Ieee.{binary64}
@@ -102,7 +103,8 @@ lies_ratio l a b c D t h =
     gather S x y z p q r = simp ring
 
 -- ---- equal fractions have one float
-pub fraction_same : (t w t' w' : ℤ) → lt_z (pos 0) w ≡ true → lt_z (pos 0) w' ≡ true → t *ℤ w' ≡ t' *ℤ w → fraction_of t w ≡ fraction_of t' w'
+pub fraction_same : (t w t' w' : ℤ) → lt_z (pos 0) w ≡ true → lt_z (pos 0) w' ≡ true → t *ℤ w' ≡ t' *ℤ w → fraction_of t w
+    ≡ fraction_of t' w'
 fraction_same t (negsuc w) t' w' h g e = absurd (false≢true h)
 fraction_same t (pos w) t' (negsuc w') h g e = absurd (false≢true g)
 fraction_same t (pos zero) t' (pos w') h g e = absurd (false≢true h)

@@ -1,6 +1,7 @@
 -- One triangle's answer is certain in any direction: none exactly if no point of the segment lies in it, and else the first. Assumes
 -- nothing.
-use Rattle.std.proofs.Common.{◌≡◌, ℕ, ◌+◌, ◌*◌, ◌<◌, ◌≤◌, Bool, true, false, cond, ◌&&◌, leb, ℤ, pos, negsuc, ◌-ℤ◌, ◌*ℤ◌, nat_abs, sym, refl, ap, ◌∙◌, subst, true≢false, mul-le-mul_right, mul-pos, arith, lit<, leb-false, leb-true}
+use Rattle.std.proofs.Common.{◌≡◌, ℕ, ◌+◌, ◌*◌, ◌<◌, ◌≤◌, Bool, true, false, cond, ◌&&◌, leb, ℤ, pos, negsuc, ◌-ℤ◌, ◌*ℤ◌, nat_abs, sym}
+use Rattle.std.proofs.Common.{refl, ap, ◌∙◌, subst, true≢false, mul-le-mul_right, mul-pos, arith, lit<, leb-false, leb-true}
 use mathlib.Core.Bool.{false≢true}
 use lib.Signed.{le_z}
 use Rattle.exact_depth.specs.declared.projection.Projected.{Projected}

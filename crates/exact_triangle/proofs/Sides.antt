@@ -1,5 +1,6 @@
 -- On one axis: where the segment meets a triangle on the grid, the side of the triangle's own box touches the segment's. Assumes nothing.
-use Rattle.std.proofs.Common.{◌≡◌, ℕ, suc, ◌+◌, ◌*◌, ◌^◌, ◌<◌, ◌≤◌, Bool, true, false, cond, ◌⊎◌, ℤ, pos, negsuc, ◌+ℤ◌, ◌-ℤ◌, ◌*ℤ◌, nat_abs, sym, ap, ◌∙◌, inl, inr, le_trans, lt_of_le_of_lt, mul-le-mul_right, arith, lit<, lit≤}
+use Rattle.std.proofs.Common.{◌≡◌, ℕ, suc, ◌+◌, ◌*◌, ◌^◌, ◌<◌, ◌≤◌, Bool, true, false, cond, ◌⊎◌, ℤ, pos, negsuc, ◌+ℤ◌, ◌-ℤ◌, ◌*ℤ◌, nat_abs}
+use Rattle.std.proofs.Common.{sym, ap, ◌∙◌, inl, inr, le_trans, lt_of_le_of_lt, mul-le-mul_right, arith, lit<, lit≤}
 use lib.IntN.{ -ℤ-+ℤ_cancel}
 use lib.Signed.{le_z, shr_z}
 use lib.Ieee.{Float, le, is_nan}
@@ -162,19 +163,23 @@ module _ (A B C O : ℤ) (near far i j k : ℕ) (t : ℤ) (some : 0 < i + j + k)
   lowest d = lesser (floor_at O d near) (floor_at O d far)
 
   above_far : (d w : ℤ) → le_z w (floor_at O d far) ≡ true → le_z (w +ℤ pos 1) (highest d +ℤ pos 1) ≡ true
-  above_far d w h = le_z_more w (highest d) (le_z_trans w (floor_at O d far) (highest d) h (second_most (floor_at O d near) (floor_at O d far)))
+  above_far d w h = le_z_more w (highest d) (le_z_trans w (floor_at O d far) (highest d) h
+      (second_most (floor_at O d near) (floor_at O d far)))
 
   above_near : (d w : ℤ) → le_z w (floor_at O d near) ≡ true → le_z (w +ℤ pos 1) (highest d +ℤ pos 1) ≡ true
-  above_near d w h = le_z_more w (highest d) (le_z_trans w (floor_at O d near) (highest d) h (first_most (floor_at O d near) (floor_at O d far)))
+  above_near d w h = le_z_more w (highest d) (le_z_trans w (floor_at O d near) (highest d) h
+      (first_most (floor_at O d near) (floor_at O d far)))
 
   one_less : (x w : ℤ) → le_z x w ≡ true → le_z (x -ℤ pos 1 +ℤ pos 1) w ≡ true
   one_less x w h = ap (λ (z : ℤ). le_z z w) (-ℤ-+ℤ_cancel x (pos 1)) ∙ h
 
   below_far : (d w : ℤ) → le_z (floor_at O d far) w ≡ true → le_z (lowest d -ℤ pos 1 +ℤ pos 1) w ≡ true
-  below_far d w h = one_less (lowest d) w (le_z_trans (lowest d) (floor_at O d far) w (second_least (floor_at O d near) (floor_at O d far)) h)
+  below_far d w h = one_less (lowest d) w (le_z_trans (lowest d) (floor_at O d far) w (second_least (floor_at O d near) (floor_at O d far))
+      h)
 
   below_near : (d w : ℤ) → le_z (floor_at O d near) w ≡ true → le_z (lowest d -ℤ pos 1 +ℤ pos 1) w ≡ true
-  below_near d w h = one_less (lowest d) w (le_z_trans (lowest d) (floor_at O d near) w (first_least (floor_at O d near) (floor_at O d far)) h)
+  below_near d w h = one_less (lowest d) w (le_z_trans (lowest d) (floor_at O d near) w (first_least (floor_at O d near) (floor_at O d far))
+      h)
 
   -- a corner is below the higher side, and one is above the lower
   past_high : (d : ℤ) → pos parts *ℤ mix i j k (A -ℤ O) (B -ℤ O) (C -ℤ O) ≡ t *ℤ d

@@ -1,5 +1,6 @@
 -- The sign of a number, of its negative and of a quotient. Assumes nothing.
-use Rattle.std.proofs.Common.{◌≡◌, ℕ, zero, suc, ◌+◌, ◌*◌, ◌<◌, true, ℤ, pos, negsuc, ◌+ℤ◌, ◌*ℤ◌, neg_ℤ, nat_abs, sym, refl, ap, ◌∙◌, zero-lt-suc, arith, ltb-true, lt-ltb}
+use Rattle.std.proofs.Common.{◌≡◌, ℕ, zero, suc, ◌+◌, ◌*◌, ◌<◌, true, ℤ, pos, negsuc, ◌+ℤ◌, ◌*ℤ◌, neg_ℤ, nat_abs, sym, refl, ap, ◌∙◌}
+use Rattle.std.proofs.Common.{zero-lt-suc, arith, ltb-true, lt-ltb}
 use mathlib.Core.Bool.{false≢true}
 use lib.IntN.{*ℤ-zero}
 use lib.Signed.{lt_z}

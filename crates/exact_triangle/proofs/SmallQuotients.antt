@@ -1,5 +1,6 @@
 -- One division of two whole numbers that are floats exactly rounds their fraction. Assumes nothing.
-use Rattle.std.proofs.Common.{◌≡◌, ℕ, zero, suc, ◌*◌, ◌^◌, ◌<◌, ◌≤◌, Bool, true, false, cond, eqb, ℤ, pos, negsuc, ap, ◌∙◌, true≢false, le_trans, zero-lt-suc, mul-pos, arith, lit≤, ne_eqb}
+use Rattle.std.proofs.Common.{◌≡◌, ℕ, zero, suc, ◌*◌, ◌^◌, ◌<◌, ◌≤◌, Bool, true, false, cond, eqb, ℤ, pos, negsuc, ap, ◌∙◌, true≢false}
+use Rattle.std.proofs.Common.{le_trans, zero-lt-suc, mul-pos, arith, lit≤, ne_eqb}
 use mathlib.Core.Bool.{false≢true}
 use lib.Signed.{lt_z}
 use lib.Ieee.{Float, nan, inf, fin, binary64, up, down, round, div, of_int}

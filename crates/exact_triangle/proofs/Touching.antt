@@ -1,5 +1,6 @@
 -- A triangle that the segment meets on the grid has a box, of its own corners, that touches the segment's box. Assumes nothing.
-use Rattle.std.proofs.Common.{◌≡◌, ℕ, ◌+◌, ◌*◌, ◌^◌, ◌<◌, ◌≤◌, Bool, true, false, List, ℤ, pos, ◌*ℤ◌, nat_abs, sym, refl, ap, ◌∙◌, subst, mul-le-mul_right, le_of_mul-le-mul_right, arith}
+use Rattle.std.proofs.Common.{◌≡◌, ℕ, ◌+◌, ◌*◌, ◌^◌, ◌<◌, ◌≤◌, Bool, true, false, List, ℤ, pos, ◌*ℤ◌, nat_abs, sym, refl, ap, ◌∙◌, subst}
+use Rattle.std.proofs.Common.{mul-le-mul_right, le_of_mul-le-mul_right, arith}
 use mathlib.Core.Bool.{false≢true}
 use lib.Signed.{le_z}
 use lib.Ieee.{Float, nan, inf, fin, up, down, of_bits, le, lt, eq}

@@ -1,5 +1,6 @@
 -- A whole number of the grid's units in millimetres, as the code computes it. Assumes nothing.
-use Rattle.std.proofs.Common.{◌≡◌, ℕ, suc, ◌^◌, ◌≤◌, true, false, T, ℤ, pos, negsuc, nat_abs, sym, refl, ap, ◌∙◌, subst, le_trans, mul-one, lit<, lit≤, lt-ltb, le-leb}
+use Rattle.std.proofs.Common.{◌≡◌, ℕ, suc, ◌^◌, ◌≤◌, true, false, T, ℤ, pos, negsuc, nat_abs, sym, refl, ap, ◌∙◌, subst, le_trans, mul-one}
+use Rattle.std.proofs.Common.{lit<, lit≤, lt-ltb, le-leb}
 use lib.Ieee.{Float, fin, binary64, round, mul, of_int, of_bits, in_float}
 use Rattle.wide_integers.specs.Sizes.{Sized}
 use Rattle.wide_integers.proofs.Reading.{bits, plain, widen}

@@ -74,7 +74,8 @@ pub index_missing : (index : List ℕ) → length index < 1 → index_fits index
 index_missing index short = lt-leb 1 (length index) short
 
 -- ---- the number and the slice say the answer
-pub drill_read_lem : (index : List ℕ) → index_fits index ≡ true → (x : DrillAnswer) → Below Stopped x → drill_read (returned_drill x index) ≡ x
+pub drill_read_lem : (index : List ℕ) → index_fits index ≡ true → (x : DrillAnswer) → Below Stopped x → drill_read (returned_drill x index)
+    ≡ x
 unfolding drill_read returned_drill
 drill_read_lem index fits Clear small = refl
 drill_read_lem [] fits (Touches i) small = absurd (false≢true fits)

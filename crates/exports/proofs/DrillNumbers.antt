@@ -53,7 +53,8 @@ over_mesh_small : (r : Ray) (radius : Float) (m : Mesh) → Small refusal_number
 unfolding over_mesh drill_all
 over_mesh_small r radius m =
     chosen (triangles_fit m)
-    (chosen (mesh_read m) (first_small (touched_at (grid_line r) (radius_on radius) m) (range 0 (triangle_count m))) (stops out_of_range refl))
+    (chosen (mesh_read m) (first_small (touched_at (grid_line r) (radius_on radius) m) (range 0 (triangle_count m)))
+    (stops out_of_range refl))
     (stops out_of_bounds refl)
 
 pub drill_plain_small : (r : Ray) (radius : Float) (m : Mesh) → Small refusal_number (drill_plain r radius m)

@@ -81,7 +81,8 @@ module _ (hit : List Float) (index : List ℕ) where
         room_there (ray_admitted r && (grid_admitted r && lengths_admitted (length m.vertices) (length m.triangles)))
         (results_fit hit index) _ _ fits
 
-    pub plain_returned_lem : (returned : ReturnedIndexed) (answer : Indexed) → results_fit hit index ≡ true → answer ≡ ray_mesh_exact_plain r m
+    pub plain_returned_lem : (returned : ReturnedIndexed) (answer : Indexed) → results_fit hit index ≡ true → answer
+        ≡ ray_mesh_exact_plain r m
         → returned ≡ returned_indexed answer hit index → returned ≡ exact_returned r m hit index
     plain_returned_lem returned answer fits e f = f ∙ ap (λ (a : Indexed). returned_indexed a hit index) e ∙ sym (fitting fits)
 
@@ -109,7 +110,8 @@ module _ (hit : List Float) (index : List ℕ) where
         unreturned_short (ray_admitted r) (grid_admitted r) admitted (results_fit hit index) _ number short
         (e ∙ ap (λ (b : Bool). short_exact r b) s)
 
-    pub tree_returned_lem : (returned : ReturnedIndexed) (answer : Indexed) → results_fit hit index ≡ true → answer ≡ ray_mesh_exact r m pose t
+    pub tree_returned_lem : (returned : ReturnedIndexed) (answer : Indexed) → results_fit hit index ≡ true → answer
+        ≡ ray_mesh_exact r m pose t
         stack
         → returned ≡ returned_indexed answer hit index → returned ≡ tree_returned r m pose t stack hit index
     unfolding tree_returned

@@ -47,7 +47,8 @@ reach_number (Refused number) = number
 grid_reach_small : (r : Ray) (vs : List Vec3) → Small reach_number (grid_reach r vs)
 unfolding grid_reach corners_reach reach_number
 grid_reach_small r vs =
-    chosen (grid_admitted r) (chosen (corners_read vs) (deep (depth_of (grid_line r) _ _ _)) (leaf reach_number (Refused out_of_range) refl))
+    chosen (grid_admitted r) (chosen (corners_read vs) (deep (depth_of (grid_line r) _ _ _))
+    (leaf reach_number (Refused out_of_range) refl))
     (leaf reach_number (Refused out_of_range) refl)
   where
     deep : (d : Depth) → Small reach_number (reach_at d)
@@ -126,7 +127,8 @@ module _ (t : Tree) (n : ℕ) (answer : ℕ → Answer) (opens : ℕ → Summary
       chosen (ltb (word_at t.order place) n)
       (stands stack _ (note_small s (word_at t.order place) (answer (word_at t.order place)) (is_small p.below) (each _))) ends
 
-  places_small : (places : List ℕ) (w : Seeking) → Small seeking_number w → Small seeking_number (take_places t n answer opens left w places)
+  places_small : (places : List ℕ) (w : Seeking) → Small seeking_number w
+      → Small seeking_number (take_places t n answer opens left w places)
   unfolding take_places
   places_small [] w p = p
   places_small (place ∷ rest) w p = places_small rest (take_place t n answer opens left w place) (place_small w place p)

@@ -57,7 +57,8 @@ use Rattle.level_set.specs.declared.hits.Samples.{Samples}
 use Rattle.level_set.specs.declared.hits.Samples.TheVariants.{All, Refused as NoSamples}
 use Rattle.level_set.specs.Hits.{point_at, along, with_sample, hit_with, hit_along, touch_at, value_along, third, two_thirds, samples_of}
 use Rattle.level_set.specs.Hits.{samples_along}
-use Rattle.level_set.specs.Walk.{CellResult, done, on, goes_on, root_result, cell_by, with_samples, cell_cast, goes_to, with_boundary, with_cells}
+use Rattle.level_set.specs.Walk.{CellResult, done, on, goes_on, root_result, cell_by, with_samples, cell_cast, goes_to, with_boundary}
+use Rattle.level_set.specs.Walk.{with_cells}
 use Rattle.level_set.specs.Walk.{walk_step, follow, cell_limit, walk_from, with_interval, level_set_cast, ray_level_set}
 use Rattle.exports.proofs.RefusalNumbers.{Small, leaf, chosen, boxed, answer_number, refuses, misses, hits, corners_small}
 use Rattle.exports.proofs.RefusalNumbers.{indexed_number, nearest_small}

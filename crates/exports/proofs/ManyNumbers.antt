@@ -37,7 +37,8 @@ module _ (answer : Ray → Indexed) (rays : List Float) (m : Mesh) (pose : List 
       tested refusal_in (λ (number : ℕ). returned_many number p) stops (many_tests rays m pose t room p)
       (returned_many done_code (answers_of answer rays (ray_count rays) p)) refl (is_small (ltb-true 0 256 refl))
 
-  pub many_small : ((many_returned answer rays m pose t room p).number ≡ done_code → ⊥) → (many_returned answer rays m pose t room p).number <
+  pub many_small : ((many_returned answer rays m pose t room p).number ≡ done_code → ⊥) → (many_returned answer rays m pose t room p).number
+      <
       hit_code
   many_small other =
       subst (λ (n : ℕ). n < hit_code) (refusal_read (many_returned answer rays m pose t room p) other) returned_small.below

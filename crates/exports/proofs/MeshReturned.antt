@@ -21,7 +21,8 @@ module _ (area : List Float) (place : List ℕ) where
   unreturned number = record { number = number; hit = area; index = place }
 
   unreturned_short : (p q fits : Bool) (rest : Indexed) (number : ℕ) → fits ≡ false → number ≡ short_of p q
-      → unreturned number ≡ with_room (p && q) fits (returned_indexed (cond p (cond q rest (stopped bad_shape)) (stopped invalid_input)) area
+      → unreturned number ≡ with_room (p && q) fits (returned_indexed (cond p (cond q rest (stopped bad_shape)) (stopped invalid_input))
+      area
       place)
       (unreturned no_room)
   unfolding unreturned returned_indexed

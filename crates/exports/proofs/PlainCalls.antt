@@ -40,7 +40,8 @@ module _ (r : Ray) (m : Mesh) (hit : List Float) (index : List ℕ) where
   returned_by_trees returned e = (
     e,
     λ t list stack passes room fit.
-        ap (λ (a : Indexed). returned_indexed a hit index) (agrees_with_trees r m t list stack passes room) ∙ plain_returned_lem fit ∙ sym e,
+        ap (λ (a : Indexed). returned_indexed a hit index) (agrees_with_trees r m t list stack passes room) ∙ plain_returned_lem fit
+        ∙ sym e,
   )
 
   pub returned_invalid : ray_admitted r ≡ false → returned_number invalid_input hit index ≡ plain_returned r m hit index

@@ -61,7 +61,8 @@ module _ (box : Aabb) (m : Mesh) (t : Tree) (area : List ℕ) (stack : ℕ) (pla
     placed : there ≡ true
 
   done_passed : (b₁ b₂ b₃ there : Bool) (rest : Queried)
-      → (with_room (b₁ && b₂) there (listed (cond b₁ (cond b₂ (cond b₃ rest (unlisted no_room)) (unlisted bad_shape)) (unlisted invalid_input)))
+      → (with_room (b₁ && b₂) there (listed (cond b₁ (cond b₂ (cond b₃ rest (unlisted no_room)) (unlisted bad_shape))
+      (unlisted invalid_input)))
       unreturned).returned.number ≡ done_code
       → Passed b₁ b₃ there
   unfolding returned_found

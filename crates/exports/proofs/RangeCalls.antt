@@ -41,6 +41,7 @@ module _ (f : Field) (lows highs : List Float) (place : List ℕ) (returned : Re
       subst Both same (
         says ∙ ap (λ (a : Answer). answered_cell a place) is,
         λ fits.
-            subst (MeetsPromise made f lows highs) (sym (ap read_cell (says ∙ with_room_lem answer place fits) ∙ read_back made answer is fits))
+            subst (MeetsPromise made f lows highs) (sym (ap read_cell (says ∙ with_room_lem answer place fits)
+            ∙ read_back made answer is fits))
             promised,
       )

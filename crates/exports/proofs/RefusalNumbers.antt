@@ -176,7 +176,8 @@ unfolding over_walk
 over_walk_small r pose triangles (walking s l) = nearest_small _ (each_small r pose triangles) l
 over_walk_small r pose triangles broken = stops out_of_bounds refl
 
-pub mesh_small : (r : Ray) (m : Mesh) (pose : List Float) (t : Tree) (list stack : ℕ) → Small indexed_number (ray_mesh r m pose t list stack)
+pub mesh_small : (r : Ray) (m : Mesh) (pose : List Float) (t : Tree) (list stack : ℕ)
+    → Small indexed_number (ray_mesh r m pose t list stack)
 unfolding ray_mesh mesh_cast small_tests
 mesh_small r m pose t list stack =
     tested indexed_number stopped stops (mesh_tests r m pose t list stack) _ refl

@@ -36,7 +36,8 @@ use Rattle.cabinet.specs.declared.part.Found.TheVariants.{Nothing, Hit, Refused 
 use Rattle.cabinet.specs.declared.part.Progress.{Progress}
 use Rattle.cabinet.specs.Parts.{Areas as CabinetAreas, mesh_of, tree_of_part, shape_fits, room_fits}
 use Rattle.cabinet.specs.PartCast.{Costed, costing, after_look, cast_within, moved_ray, cast_moved}
-use Rattle.cabinet.specs.Cabinet.{found_next, is_refused, after_part, beginning, cast_part, cast_parts, answer_with, all_parts, cast_cabinet}
+use Rattle.cabinet.specs.Cabinet.{found_next, is_refused, after_part, beginning, cast_part, cast_parts, answer_with, all_parts}
+use Rattle.cabinet.specs.Cabinet.{cast_cabinet}
 use Rattle.cabinet.specs.Cabinet as Cabinet
 use Rattle.exports.proofs.RefusalNumbers.{Small, leaf, chosen, tested, small_tests, indexed_number, stops, over_walk_small}
 

@@ -177,7 +177,8 @@ unfolding guess
 signed_guess true n h =
     let one : (0x8000_0000_0000_0000 + n) / 0x8000_0000_0000_0000 * 0x8000_0000 ≡ 0x8000_0000 = omega (arith, h) in
     let rest : (0x8000_0000_0000_0000 + n) % 0x8000_0000_0000_0000 ≡ n = omega (arith, h) in
-    ap (λ (x : ℕ). x + guess_size ((0x8000_0000_0000_0000 + n) % 0x8000_0000_0000_0000)) one ∙ ap (λ (x : ℕ). 0x8000_0000 + guess_size x) rest
+    ap (λ (x : ℕ). x + guess_size ((0x8000_0000_0000_0000 + n) % 0x8000_0000_0000_0000)) one
+    ∙ ap (λ (x : ℕ). 0x8000_0000 + guess_size x) rest
 signed_guess false n h =
     let none : (0 + n) / 0x8000_0000_0000_0000 * 0x8000_0000 ≡ 0 = omega (arith, h) in
     let rest : (0 + n) % 0x8000_0000_0000_0000 ≡ n = omega (arith, h) in
@@ -330,14 +331,16 @@ pub back_wide : (bits : ℕ) → bits < 0x1_0000_0000_0000_0000 → T (represent
 unfolding representable
 back_wide bits h f =
     ap (to_bits binary64)
-    (of_bits-to_bits binary32 (of_bits binary64 bits) (and_r (not (is_nan (of_bits binary64 bits))) (fits binary32 (of_bits binary64 bits)) f))
+    (of_bits-to_bits binary32 (of_bits binary64 bits) (and_r (not (is_nan (of_bits binary64 bits))) (fits binary32 (of_bits binary64 bits))
+    f))
     ∙ to_bits-of_bits binary64 bits h (and_l (not (is_nan (of_bits binary64 bits))) (fits binary32 (of_bits binary64 bits)) f)
 
 -- from 4 bytes to 8 and back: every pattern but a NaN's
 pub back_short : (bits : ℕ) → bits < 0x1_0000_0000 → T (not (is_nan (of_bits binary32 bits)))
     → to_bits binary32 (of_bits binary64 (to_bits binary64 (of_bits binary32 bits))) ≡ bits
 back_short bits h n =
-    ap (to_bits binary32) (of_bits-to_bits binary64 (of_bits binary32 bits) (fits_widens (of_bits binary32 bits) (of_bits-fits binary32 bits)))
+    ap (to_bits binary32) (of_bits-to_bits binary64 (of_bits binary32 bits)
+    (fits_widens (of_bits binary32 bits) (of_bits-fits binary32 bits)))
     ∙ to_bits-of_bits binary32 bits h n
 
 -- what 4 bytes stand for is representable by 4 bytes

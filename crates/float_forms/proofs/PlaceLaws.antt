@@ -63,7 +63,8 @@ pub put_long : (l after last : List ℕ) (p n : ℕ) → after ≡ sets l p (wor
     → last ≡ sets l p (pattern_bytes Long n)
 unfolding pattern_bytes
 put_long l after last p n e f =
-    f ∙ (rw (e, ← word_length (n / 0x1_0000_0000)) (sym (sets_append l p (word_bytes (n / 0x1_0000_0000)) (word_bytes (n % 0x1_0000_0000)))))
+    f ∙ (rw (e, ← word_length (n / 0x1_0000_0000)) (sym (sets_append l p (word_bytes (n / 0x1_0000_0000))
+    (word_bytes (n % 0x1_0000_0000)))))
 
 pub put_short : (l last : List ℕ) (p n : ℕ) → last ≡ sets l p (word_bytes n) → last ≡ sets l p (pattern_bytes Short n)
 unfolding pattern_bytes

@@ -102,7 +102,8 @@ module _ (form : Form) (x : Float) (bits : ℕ) (f : fits_in form x ≡ true) wh
   unfolding representable
   number_fits_representable h = rw (is_true (not (is_nan x)) (ne_self_passes x h), f)
 
-  pub number_stands : ne x x ≡ false → pattern_for form x ≡ Bits bits → (bits ≡ to_bits (format_of form) x) × (bits < 2 * top (format_of form))
+  pub number_stands : ne x x ≡ false → pattern_for form x ≡ Bits bits → (bits ≡ to_bits (format_of form) x)
+      × (bits < 2 * top (format_of form))
   number_stands h e = representable_bits form x bits (number_fits_representable h) e
 
   pub never_without : ne x x ≡ false → pattern_for form x ≡ Unrepresentable → ⊥

@@ -93,7 +93,8 @@ numbers_bytes_lem form (suc n) l b m h =
     = number_bytes_lem form l b (omega (arith, longer, m))
     (first_of is_number (number_of form l) (numbers_of form n (drop s l)) h) in
     let there : numbers_bytes form (numbers_of form n (drop s l)) ≡ take (s * n) (drop s l)
-    = numbers_bytes_lem form n (drop s l) (drop_bytes s l b) enough (rest_of is_number (number_of form l) (numbers_of form n (drop s l)) h) in
+    = numbers_bytes_lem form n (drop s l) (drop_bytes s l b) enough
+    (rest_of is_number (number_of form l) (numbers_of form n (drop s l)) h) in
     rw (here, there, longer) (sym (take-add s (s * n) l))
 
 -- ---- u32
@@ -111,7 +112,8 @@ pub words_back : (ws : List ℕ) (rest : List ℕ) → AllWords ws → words_of 
 unfolding words_of words_bytes
 words_back [] rest none = refl
 words_back (w ∷ ws) rest (more h hs) =
-    let after : drop 4 (word_bytes w ++ (words_bytes ws ++ rest)) ≡ words_bytes ws ++ rest = drop_at (word_bytes w) (words_bytes ws ++ rest) 4
+    let after : drop 4 (word_bytes w ++ (words_bytes ws ++ rest)) ≡ words_bytes ws
+    ++ rest = drop_at (word_bytes w) (words_bytes ws ++ rest) 4
     (word_length w) in
     rw (append_assoc (word_bytes w) (words_bytes ws) rest, after, word_back w (words_bytes ws ++ rest) h, words_back ws rest hs)
 

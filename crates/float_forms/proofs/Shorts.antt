@@ -22,7 +22,8 @@ nan_number x h = sym (ne_self_is_nan x) ∙ h
 pub pattern_number : (bits : ℕ) → bits % 0x8000_0000 ≤ 0x7f80_0000 → T (not (is_nan (of_bits binary32 bits)))
 pattern_number bits h = subst (λ (b : Bool). T (not b)) (nan_bits_is binary32 bits) (number_pattern binary32 bits h)
 
-pub widens : (bits : ℕ) → bits % 0x8000_0000 ≤ 0x7f80_0000 → T (fits binary64 (of_bits binary32 bits) && not (is_nan (of_bits binary32 bits)))
+pub widens : (bits : ℕ) → bits % 0x8000_0000 ≤ 0x7f80_0000 → T
+    (fits binary64 (of_bits binary32 bits) && not (is_nan (of_bits binary32 bits)))
 widens bits h =
     and_i (fits binary64 (of_bits binary32 bits)) (not (is_nan (of_bits binary32 bits)))
     (fits_widens (of_bits binary32 bits) (of_bits-fits binary32 bits)) (pattern_number bits h)

@@ -14,7 +14,8 @@ use Rattle.arithmetic.proofs.Numbers.{finite_number}
 use Rattle.arithmetic.proofs.Order.{le_of_eq, le_transitive}
 use Rattle.arithmetic.proofs.ExtremesOrder.{minimum_finite, maximum_finite, minimum_below_second, maximum_above_second}
 use Rattle.vectors.specs.Vector.{finite_vec, min_of, max_of}
-use Rattle.geometry.specs.Box.{every_sides, valid_side, valid_box, touch_side, touches, within_side, encloses, same_side, same_box, union_of}
+use Rattle.geometry.specs.Box.{every_sides, valid_side, valid_box, touch_side, touches, within_side, encloses, same_side, same_box}
+use Rattle.geometry.specs.Box.{union_of}
 use Rattle.geometry.specs.Box.{corner, corners_box}
 use Rattle.geometry.specs.Segment.{ray_admitted, range_admitted, unit_length, segment_end, segment_box}
 use Rattle.vectors.specs.declared.vec3.Vec3.{Vec3}
@@ -133,7 +134,8 @@ union_is low high next v w b e p q = rw (p, q, e)
 
 -- ---- the boxes of finite corners
 -- the second operand lies between its minimum with one number and its maximum with another
-around_second : (x w y : Float) → is_finite x ≡ true → is_finite w ≡ true → is_finite y ≡ true → valid_side (minimum_of x y) (maximum_of w y) ≡
+around_second : (x w y : Float) → is_finite x ≡ true → is_finite w ≡ true → is_finite y ≡ true
+    → valid_side (minimum_of x y) (maximum_of w y) ≡
     true
 unfolding valid_side
 around_second x w y p q r =
@@ -156,7 +158,8 @@ around_second_valid v w u p q r =
     (around_second v.y w.y u.y (finite_y v p) (finite_y w q) (finite_y u r))
     (around_second v.z w.z u.z (finite_z v p) (finite_z w q) (finite_z u r))
 
-pub corners_box_valid : (vs : List Vec3) → finite_vec (corner vs 0) ≡ true → finite_vec (corner vs 1) ≡ true → finite_vec (corner vs 2) ≡ true
+pub corners_box_valid : (vs : List Vec3) → finite_vec (corner vs 0) ≡ true → finite_vec (corner vs 1) ≡ true → finite_vec (corner vs 2)
+    ≡ true
     → valid_box (corners_box vs) ≡ true
 unfolding corners_box
 corners_box_valid vs p q r =

@@ -160,7 +160,8 @@ place nan f n = neither refl (unfold root_of absolute sub in refl)
 place (inf true) f n = absurd (true≢false (unfold negative in n))
 place (inf false) f n = infinite_place
 place (fin true m e) f n = absurd (true≢false (unfold negative in n))
-place (fin false zero e) f n = subst (λ (k : ℤ). Place (fin false zero k) (from_one (root_of (fin false zero k)))) (sym (zero_exp false e f))
+place (fin false zero e) f n = subst (λ (k : ℤ). Place (fin false zero k) (from_one (root_of (fin false zero k))))
+    (sym (zero_exp false e f))
     zero_place
 place (fin false (suc m) e) f n = positive_place (fin false (suc m) e) (lt→ltb 0 (suc m) (zero-lt-suc m)) f (unfold is_nan in refl)
 

@@ -9,7 +9,8 @@ use Rattle.arithmetic.specs.Root.{root_of, root_round, whole_root, root_digits}
 use Rattle.arithmetic.specs.Rounding.{whole_by, floor_of, round_of}
 use Rattle.vectors.specs.Numbers.{◌/ᶠ◌, zeroᶠ, oneᶠ, halfᶠ}
 use Rattle.arithmetic.specs.Scaling.{unit, digits_of, scaled_by}
-use Rattle.vectors.specs.Vector.{finite_vec, add_of, scale_of, min_of, max_of, dot_of, length_of, normalizable, zero_vec, dot_tells, scaled_to_one}
+use Rattle.vectors.specs.Vector.{finite_vec, add_of, scale_of, min_of, max_of, dot_of, length_of, normalizable, zero_vec, dot_tells}
+use Rattle.vectors.specs.Vector.{scaled_to_one}
 use Rattle.vectors.specs.Vector.{over_length, try_normalize}
 use Rattle.geometry.specs.Box.{valid_side, valid_box}
 use Rattle.geometry.specs.Segment.{unit_length, ray_admitted}
@@ -20,7 +21,8 @@ use Rattle.distance_grid.specs.Grid.{side_admitted, sides_admitted, grid_admitte
 use Rattle.grid_steps.specs.Slab.{kept, cut, slab_from, slab, started, ray_aabb_interval}
 use Rattle.grid_steps.specs.Cells.{slack, leaves_node, whole_cell, cell_at, cell_on_axis, ray_cell_indices, node_ahead}
 use Rattle.grid_steps.specs.Cells.{boundary_distance, boundary_by, axis_boundary, next_cell_boundary}
-use Rattle.distance_grid.specs.Places.{up_to, floor_cell, top_of, clamped_to, clamped, clamped_point, cell_below, place_of, place_at, locate_axis}
+use Rattle.distance_grid.specs.Places.{up_to, floor_cell, top_of, clamped_to, clamped, clamped_point, cell_below, place_of, place_at}
+use Rattle.distance_grid.specs.Places.{locate_axis}
 use Rattle.distance_grid.specs.Places.{locate_inside, locate}
 use Rattle.distance_grid.specs.Faces.{value_at, face_at}
 use Rattle.distance_grid.specs.Steps.{checked, blend, lerp, checked_difference, over, lerp_face, value_on, slope_on}
@@ -65,15 +67,22 @@ zeros = zeroᶠ ∷ zeroᶠ ∷ zeroᶠ ∷ zeroᶠ ∷ zeroᶠ ∷ zeroᶠ ∷ 
 -- "K13 distances 2 by 2 by 2 of zero, grid origin 0, spacing 1, from (0.5,0.5,2), maximum 5: 8."
 pub zeros_have_no_gradient : ray_level_set ray₁₃ grid₁₃ zeros ≡ refused not_convergent
 unfolding of_bits div neg add sub mul lt le eq ne is_nan of_int to_unsigned is_finite absolute sign_positive clamp_to minimum_of maximum_of
-    total_order negative root_of root_round whole_root root_digits whole_by floor_of round_of finite_vec add_of scale_of min_of max_of dot_of length_of
-    normalizable zero_vec dot_tells scaled_to_one over_length try_normalize digits_of scaled_by unit valid_side valid_box unit_length ray_admitted
-    side_admitted spacing_admitted sides_admitted grid_admitted last_node last_corner grid_box kept cut slab_from slab started ray_aabb_interval up_to
+    total_order negative root_of root_round whole_root root_digits whole_by floor_of round_of finite_vec add_of scale_of min_of max_of
+    dot_of length_of
+    normalizable zero_vec dot_tells scaled_to_one over_length try_normalize digits_of scaled_by unit valid_side valid_box unit_length
+    ray_admitted
+    side_admitted spacing_admitted sides_admitted grid_admitted last_node last_corner grid_box kept cut slab_from slab started
+    ray_aabb_interval up_to
     slack floor_cell leaves_node whole_cell cell_at cell_on_axis ray_cell_indices node_ahead boundary_distance boundary_by axis_boundary
-    next_cell_boundary top_of clamped_to clamped clamped_point cell_below place_of place_at locate_axis locate_inside locate value_at face_at checked
+    next_cell_boundary top_of clamped_to clamped clamped_point cell_below place_of place_at locate_axis locate_inside locate value_at
+    face_at checked
     blend
-    lerp checked_difference over lerp_face value_on slope_on gathered sample_faces sample_cell sample cubic_by cubic_of finite_cubic evaluate
-    root_tolerance between_ends kept_point kept_points vertex turning_by turning_points extrema insert sorted points middle_of halve_at halve
-    halvings settled root_between search_on search_from search_list root_of_cubic first_cubic_root point_at along hit_with hit_along touch_at value_along
+    lerp checked_difference over lerp_face value_on slope_on gathered sample_faces sample_cell sample cubic_by cubic_of finite_cubic
+    evaluate
+    root_tolerance between_ends kept_point kept_points vertex turning_by turning_points extrema insert sorted points middle_of halve_at
+    halve
+    halvings settled root_between search_on search_from search_list root_of_cubic first_cubic_root point_at along hit_with hit_along
+    touch_at value_along
     samples_of samples_along goes_on cell_by cell_cast goes_to walk_step cell_limit walk_from level_set_cast ray_level_set
 zeros_have_no_gradient = refl
 
@@ -84,16 +93,24 @@ values₁₃ =
     ∷ of_bits binary64 0xbfe0_0000_0000_0000
     ∷ halfᶠ ∷ halfᶠ ∷ halfᶠ ∷ halfᶠ ∷ []
 
-pub plane_is_hit : ray_level_set ray₁₃ grid₁₃ values₁₃ ≡ hit record { x = zeroᶠ; y = zeroᶠ; z = oneᶠ } (of_bits binary64 0x3ff8_0000_0000_0000)
+pub plane_is_hit : ray_level_set ray₁₃ grid₁₃ values₁₃ ≡ hit record { x = zeroᶠ; y = zeroᶠ; z = oneᶠ }
+    (of_bits binary64 0x3ff8_0000_0000_0000)
 unfolding of_bits div neg add sub mul lt le eq ne is_nan of_int to_unsigned is_finite absolute sign_positive clamp_to minimum_of maximum_of
-    total_order negative root_of root_round whole_root root_digits whole_by floor_of round_of finite_vec add_of scale_of min_of max_of dot_of length_of
-    normalizable zero_vec dot_tells scaled_to_one over_length try_normalize digits_of scaled_by unit valid_side valid_box unit_length ray_admitted
-    side_admitted spacing_admitted sides_admitted grid_admitted last_node last_corner grid_box kept cut slab_from slab started ray_aabb_interval up_to
+    total_order negative root_of root_round whole_root root_digits whole_by floor_of round_of finite_vec add_of scale_of min_of max_of
+    dot_of length_of
+    normalizable zero_vec dot_tells scaled_to_one over_length try_normalize digits_of scaled_by unit valid_side valid_box unit_length
+    ray_admitted
+    side_admitted spacing_admitted sides_admitted grid_admitted last_node last_corner grid_box kept cut slab_from slab started
+    ray_aabb_interval up_to
     slack floor_cell leaves_node whole_cell cell_at cell_on_axis ray_cell_indices node_ahead boundary_distance boundary_by axis_boundary
-    next_cell_boundary top_of clamped_to clamped clamped_point cell_below place_of place_at locate_axis locate_inside locate value_at face_at checked
+    next_cell_boundary top_of clamped_to clamped clamped_point cell_below place_of place_at locate_axis locate_inside locate value_at
+    face_at checked
     blend
-    lerp checked_difference over lerp_face value_on slope_on gathered sample_faces sample_cell sample cubic_by cubic_of finite_cubic evaluate
-    root_tolerance between_ends kept_point kept_points vertex turning_by turning_points extrema insert sorted points middle_of halve_at halve
-    halvings settled root_between search_on search_from search_list root_of_cubic first_cubic_root point_at along hit_with hit_along touch_at value_along
+    lerp checked_difference over lerp_face value_on slope_on gathered sample_faces sample_cell sample cubic_by cubic_of finite_cubic
+    evaluate
+    root_tolerance between_ends kept_point kept_points vertex turning_by turning_points extrema insert sorted points middle_of halve_at
+    halve
+    halvings settled root_between search_on search_from search_list root_of_cubic first_cubic_root point_at along hit_with hit_along
+    touch_at value_along
     samples_of samples_along goes_on cell_by cell_cast goes_to walk_step cell_limit walk_from level_set_cast ray_level_set
 plane_is_hit = refl

@@ -263,7 +263,8 @@ module _ (r : Ray) (g : Grid) (values : List Float) where
   with_interval_lem (Within a b) k o = o a b
   with_interval_lem Miss k o = other_none
 
-  valid_other : Other (with_interval (ray_aabb_interval r (grid_box g)) (λ (entry exit : Float). walk_from r g values exit (cell_limit g) entry))
+  valid_other : Other (with_interval (ray_aabb_interval r (grid_box g))
+      (λ (entry exit : Float). walk_from r g values exit (cell_limit g) entry))
   valid_other = with_interval_lem (ray_aabb_interval r (grid_box g)) _ (λ entry exit. walk_other exit (cell_limit g) entry)
 
   -- "5 exactly where ray and grid are admitted and the grid's box is not valid"

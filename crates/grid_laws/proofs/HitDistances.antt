@@ -360,7 +360,8 @@ module _ (r : Ray) (range : Ranged r) where
     unfolding level_set_cast
     cast_such =
         let walked : Float → Float → Answer = λ (entry exit : Float). walk_from r g values exit (cell_limit g) entry in
-        of_cond (FromNear r) (valid_box (grid_box g)) (with_interval (ray_aabb_interval r (grid_box g)) walked) (refused out_of_bounds) (λ _.
+        of_cond (FromNear r) (valid_box (grid_box g)) (with_interval (ray_aabb_interval r (grid_box g)) walked) (refused out_of_bounds)
+        (λ _.
         with_interval_lem (ray_aabb_interval r (grid_box g)) walked (interval_spans (grid_box g))
         (λ (entry exit : Float) w e. walk_such exit (cell_limit g) entry e w))
         (λ _. of_refused (FromNear r) out_of_bounds)

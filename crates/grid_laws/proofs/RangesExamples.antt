@@ -15,8 +15,10 @@ use Rattle.geometry.specs.Segment.{unit_length, ray_admitted, segment_end, segme
 use Rattle.geometry.specs.declared.ray.Ray.{Ray}
 use Rattle.height_field.specs.declared.field.Field.{Field}
 use Rattle.geometry.specs.Spacing.{spacing_admitted}
-use Rattle.height_field.specs.Grid.{side_admitted, field_admitted, float_of, vertex_at, cell_at, cell_row, cell_column, corners_at, feature_corners}
-use Rattle.height_field.specs.Cells.{span_of, scaled_range, cell_range, run, range_cells, grid_cells, column_range, row_range, visited_cells}
+use Rattle.height_field.specs.Grid.{side_admitted, field_admitted, float_of, vertex_at, cell_at, cell_row, cell_column, corners_at}
+use Rattle.height_field.specs.Grid.{feature_corners}
+use Rattle.height_field.specs.Cells.{span_of, scaled_range, cell_range, run, range_cells, grid_cells, column_range, row_range}
+use Rattle.height_field.specs.Cells.{visited_cells}
 use Rattle.height_field.specs.Listing.{both, list_all, all_finite, cell_finite, feature_box, list_cell, grid_listing}
 use Rattle.lists.specs.Lists.{keep, every}
 use Rattle.height_field.specs.Cast.{span_finite}
@@ -66,10 +68,15 @@ pub answers_agree :
     ∷ ray_height_ranges (down (neg oneᶠ)) grid (level nan) (level nan)
     ∷ []
     ≡ possible 0 ∷ clear ∷ clear ∷ refused 9 ∷ refused 9 ∷ refused 9 ∷ clear ∷ possible 1 ∷ clear ∷ []
-unfolding span climb size odd units round neg sum add sub mul div lt eq le of_int to_unsigned is_nan of_fields of_bits is_finite absolute clamp_to
-    minimum_of maximum_of root_digits whole_root root_round root_of whole_by floor_of finite_vec add_of sub_of scale_of min_of max_of dot_of length_of
-    valid_side valid_box touch_side touches corners_box unit_length ray_admitted segment_end segment_box side_admitted spacing_admitted field_admitted
-    float_of vertex_at cell_at cell_row cell_column corners_at feature_corners span_of scaled_range cell_range run range_cells grid_cells column_range
-    row_range visited_cells both list_all keep all_finite cell_finite feature_box list_cell grid_listing span_finite ranges_admitted node_at cell_nodes
+unfolding span climb size odd units round neg sum add sub mul div lt eq le of_int to_unsigned is_nan of_fields of_bits is_finite absolute
+    clamp_to
+    minimum_of maximum_of root_digits whole_root root_round root_of whole_by floor_of finite_vec add_of sub_of scale_of min_of max_of dot_of
+    length_of
+    valid_side valid_box touch_side touches corners_box unit_length ray_admitted segment_end segment_box side_admitted spacing_admitted
+    field_admitted
+    float_of vertex_at cell_at cell_row cell_column corners_at feature_corners span_of scaled_range cell_range run range_cells grid_cells
+    column_range
+    row_range visited_cells both list_all keep all_finite cell_finite feature_box list_cell grid_listing span_finite ranges_admitted node_at
+    cell_nodes
     nodes_of node_in_order every nearest_heights answer_listed visited_answer ranges_cast ray_height_ranges
 answers_agree = refl

@@ -170,7 +170,8 @@ module _ (g : Grid) (values : List Float) (sampled : Vec3 → Sampled)
   root_unless r current end exit NoRoot = inr refl
   root_unless r current end exit RootOverflow = inr refl
 
-  with_samples_lem : (z : Samples) (k j : Float → Float → Float → Float → CellResult) → ((a b c d : Float) → SameTurn (k a b c d) (j a b c d))
+  with_samples_lem : (z : Samples) (k j : Float → Float → Float → Float → CellResult)
+      → ((a b c d : Float) → SameTurn (k a b c d) (j a b c d))
       → SameTurn (with_samples z k) (with_samples z j)
   with_samples_lem (All a b c d) k j h = h a b c d
   with_samples_lem (SamplesRefused n) k j h = inr refl

@@ -36,7 +36,8 @@ kept_holds near far t = go (lt far near) refl
 
 -- The cut by one axis, whatever the axis: a distance is held afterwards exactly if it was held before, and lies at or past the lesser and
 -- at or before the greater of the two quotients.
-pub cut_holds : (entry exit first second t : Float) → is_nan entry ≡ false → is_nan exit ≡ false → is_nan first ≡ false → is_nan second ≡ false
+pub cut_holds : (entry exit first second t : Float) → is_nan entry ≡ false → is_nan exit ≡ false → is_nan first ≡ false → is_nan second
+    ≡ false
     → holds (cut entry exit first second) t ≡ ((le entry t && le (minimum_of first second) t) && (le t exit && le t (maximum_of first
     second)))
 unfolding cut

@@ -162,7 +162,8 @@ module _ (f : Field) (heights : List Float) (row column : ℕ) (within : column 
       ∙ ap (λ (n : ℕ). corners_at f heights row n (feature % 2)) (column_of_cell f row column within)
       ∙ ap (λ (n : ℕ). corners_at f heights row column n) which
 
-  pub finite_cell : cell_finite f heights (cell_row f (cell_at f row column)) (cell_column f (cell_at f row column)) ≡ cell_finite f heights row
+  pub finite_cell : cell_finite f heights (cell_row f (cell_at f row column)) (cell_column f (cell_at f row column))
+      ≡ cell_finite f heights row
       column
   finite_cell =
       ap (λ (n : ℕ). cell_finite f heights n (cell_column f (cell_at f row column))) (row_of_cell f row column within)
@@ -171,7 +172,8 @@ module _ (f : Field) (heights : List Float) (row column : ℕ) (within : column 
   pub pass_of_cell : (ray : Ray) (box : Aabb) (best : Indexed)
       → pass_from (answer_of ray f heights) best (list_cell f heights box (cell_at f row column))
       ≡ cond (cell_finite f heights row column)
-      (going (pass_triangles ray box (corners_at f heights row column 0) (corners_at f heights row column 1) (cell_at f row column * 2) best 2))
+      (going (pass_triangles ray box (corners_at f heights row column 0) (corners_at f heights row column 1) (cell_at f row column * 2) best
+      2))
       (ended overflow)
   unfolding list_cell feature_box answer_of pass_triangle step
   pass_of_cell ray box best =
@@ -191,7 +193,8 @@ module _ (f : Field) (heights : List Float) (row column : ℕ) (within : column 
       (sym (both_triangles ray box (corners_at f heights row column 0) (corners_at f heights row column 1) (cell * 2) best))
 
   pub pass_of_finite : (ray : Ray) (box : Aabb) (best : Indexed) → cell_finite f heights row column ≡ true
-      → going (pass_triangles ray box (corners_at f heights row column 0) (corners_at f heights row column 1) (cell_at f row column * 2) best 2)
+      → going (pass_triangles ray box (corners_at f heights row column 0) (corners_at f heights row column 1) (cell_at f row column * 2)
+      best 2)
       ≡ pass_from (answer_of ray f heights) best (list_cell f heights box (cell_at f row column))
   pass_of_finite ray box best finite = rw (pass_of_cell ray box best, finite)
 

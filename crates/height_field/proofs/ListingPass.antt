@@ -87,7 +87,8 @@ module _ (list : ℕ → Listing) (f : Field) where
 
   pub rows_cons : (first last : ℕ) (columns : List ℕ) → first ≤ last
       → list_all list (grid_cells f (run first (last + 1 - first)) columns)
-      ≡ both (list_all list (map (cell_at f first) columns)) (list_all list (grid_cells f (run (first + 1) (last + 1 - (first + 1))) columns))
+      ≡ both (list_all list (map (cell_at f first) columns)) (list_all list
+      (grid_cells f (run (first + 1) (last + 1 - (first + 1))) columns))
   unfolding grid_cells
   rows_cons first last columns h =
       ap (λ (l : List ℕ). list_all list (grid_cells f l columns)) (run_cons first last h)

@@ -50,7 +50,8 @@ range_ends low high spacing count =
     (scaled_ends (clamp_to (low /ᶠ spacing) zeroᶠ (float_of (count - 1))) (clamp_to (high /ᶠ spacing) zeroᶠ (float_of (count - 1)))
     (count - 1)))
 
-pub last_within : (low high spacing : Float) (count first last : ℕ) → cell_range low high spacing count ≡ Cells first last → last ≤ count - 1
+pub last_within : (low high spacing : Float) (count first last : ℕ) → cell_range low high spacing count ≡ Cells first last → last ≤ count
+    - 1
 unfolding EndsBy
 last_within low high spacing count first last e = subst (EndsBy (count - 1)) e (range_ends low high spacing count)
 
@@ -79,7 +80,8 @@ unfolding grid_cells
 no_columns f [] = refl
 no_columns f (row ∷ rows) = no_columns f rows
 
-cells_by : (f : Field) (columns rows : CellRange) → grid_cells f (range_cells rows) (range_cells columns) ≡ cells_of f (visited_by columns rows)
+cells_by : (f : Field) (columns rows : CellRange) → grid_cells f (range_cells rows) (range_cells columns)
+    ≡ cells_of f (visited_by columns rows)
 unfolding range_cells grid_cells cells_of visited_by
 cells_by f Outside rows = no_columns f (range_cells rows)
 cells_by f (Cells left right) Outside = refl
@@ -106,7 +108,12 @@ stands_by : (f : Field) (columns rows : CellRange) → EndsBy (f.columns - 1 - 1
 unfolding Stands visited_by EndsBy Runs
 stands_by f Outside rows a b c d = tt
 stands_by f (Cells left right) Outside a b c d = tt
-stands_by f (Cells left right) (Cells first last) a b c d = record { some_rows_lem = d; few_rows_lem = c; some_columns_lem = b; few_columns_lem = a }
+stands_by f (Cells left right) (Cells first last) a b c d = record {
+  some_rows_lem = d;
+  few_rows_lem = c;
+  some_columns_lem = b;
+  few_columns_lem = a;
+}
 
 pub visited_stands : (f : Field) (box : Aabb) (first last left right : ℕ) → visited_range f box ≡ Rectangle first last left right
     → Standing f first last left right

@@ -67,7 +67,8 @@ pub record NearCorners (box : Aabb) (corners : List Vec3) : Type 0 where
 
 -- a triangle with its corners counts where its box touches
 unfoldable pub pass_triangle : Ray → Aabb → List Vec3 → ℕ → Indexed → Indexed
-pass_triangle ray box corners feature best = cond (touches (corners_box corners) box) (next_of best feature (triangle_cast ray corners)) best
+pass_triangle ray box corners feature best = cond (touches (corners_box corners) box) (next_of best feature (triangle_cast ray corners))
+    best
 
 -- a triangle's refusal
 unfoldable pub is_stopped : Indexed → Bool

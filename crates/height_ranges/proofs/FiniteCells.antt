@@ -48,7 +48,8 @@ module _ (f : Field) (spanned : Spanned f) (heights : List Float) where
       h
 
   -- a cell in the grid, whose heights are finite at its four nodes
-  pub cell_finite_lem : (cell : ℕ) → InGrid f cell → ((node : ℕ) → Among node (cell_nodes f cell) → is_finite (get_or heights node nan) ≡ true)
+  pub cell_finite_lem : (cell : ℕ) → InGrid f cell → ((node : ℕ) → Among node (cell_nodes f cell) → is_finite (get_or heights node nan)
+      ≡ true)
       → cell_finite f heights (cell_row f cell) (cell_column f cell) ≡ true
   unfolding cell_finite all_finite cell_nodes
   cell_finite_lem cell g h =

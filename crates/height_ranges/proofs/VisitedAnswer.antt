@@ -82,6 +82,7 @@ module _ (f : Field) (lows highs : List Float) (box : Aabb) where
         subst (λ (b : Aabb). every (node_in_order lows highs) (nodes_of f (visited_cells f b)) ≡ true
         → visited_answer f lows highs b ≡ first_cell (cell_touches f (nearest_heights b.min.z lows highs) b) (visited_cells f b))
         (sym same)
-        (λ k. in_order ray f lows highs t (λ node m. every_at (node_in_order lows highs) (nodes_of f (visited_cells f (segment_box ray))) node
+        (λ k. in_order ray f lows highs t (λ node m. every_at (node_in_order lows highs) (nodes_of f (visited_cells f (segment_box ray)))
+        node
         k m)) (nodes_tell ∙ h)
         ∙ ap (first_cell (cell_touches f (nearest_heights box.min.z lows highs) box)) visited_is

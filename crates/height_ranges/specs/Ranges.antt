@@ -19,7 +19,8 @@ node_at f row column = row * f.columns + column
 
 -- the four nodes of a cell
 abbrev pub nodes_at : Field → ℕ → ℕ → List ℕ
-nodes_at f row column = node_at f row column ∷ node_at f row (column + 1) ∷ node_at f (row + 1) column ∷ node_at f (row + 1) (column + 1) ∷ []
+nodes_at f row column = node_at f row column ∷ node_at f row (column + 1) ∷ node_at f (row + 1) column ∷ node_at f (row + 1) (column + 1)
+    ∷ []
 
 unfoldable pub cell_nodes : Field → ℕ → List ℕ
 cell_nodes f cell = nodes_at f (cell_row f cell) (cell_column f cell)

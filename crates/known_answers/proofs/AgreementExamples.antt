@@ -9,7 +9,8 @@ use native.Mathlib.Omega.{arith}
 use lib.Dec.{T, lit≤}
 use lib.IntN.{ℤ, pos, negsuc, nat_abs, ◌+ℤ◌, ◌*ℤ◌}
 use lib.ListN.{get_or}
-use lib.Ieee.{Float, binary64, span, climb, size, odd, units, round, neg, sum, add, sub, mul, div, lt, eq, le, ne, is_nan, of_fields, of_bits}
+use lib.Ieee.{Float, binary64, span, climb, size, odd, units, round, neg, sum, add, sub, mul, div, lt, eq, le, ne, is_nan, of_fields}
+use lib.Ieee.{of_bits}
 use lib.Ieee.{of_int, to_signed}
 use Rattle.arithmetic.specs.Basic.{is_finite, absolute}
 use Rattle.arithmetic.specs.Extremes.{minimum_of, maximum_of}
@@ -31,7 +32,8 @@ use Rattle.known_answers.proofs.QueryExamples.{o, i, ten, eleven, lower, odd_tre
 use Rattle.mesh.specs.MeshCast.{tree_fits, room_for, ray_mesh}
 use Rattle.mesh.specs.Demand3.{Candidate}
 use Rattle.known_answers.proofs.MeshExamples.{odd_passes}
-use Rattle.exact_depth.specs.FirstPoint.{kept, crossing, side_of, entering, inside, entry, along_plane, area, in_plane, coplanar, by_weights}
+use Rattle.exact_depth.specs.FirstPoint.{kept, crossing, side_of, entering, inside, entry, along_plane, area, in_plane, coplanar}
+use Rattle.exact_depth.specs.FirstPoint.{by_weights}
 use Rattle.exact_depth.specs.FirstPoint.{first_point}
 use Rattle.wide_integers.proofs.Integers.{pp}
 use Rattle.wide_integers.proofs.Polynomials.{own, own_pos, own_neg, rep_add, rep_mul, equal}
@@ -67,28 +69,36 @@ ray = record {
 
 -- ---- the exact cast: a hit at 1 of the upper one
 cast_told : ray_mesh_exact_plain ray mesh ≡ hit_at (record { x = o; y = o; z = i }) i 0
-unfolding ray_mesh_exact_plain over_triangles exact_answer triangles_fit triangle_fits every range triangle_box corner_at corners_of corners_inside
-    lengths_admitted vector_at fold_from next_of facing grid_triangle grid_normal grid_reach corners_reach corners_read grid_admitted grid_line
+unfolding ray_mesh_exact_plain over_triangles exact_answer triangles_fit triangle_fits every range triangle_box corner_at corners_of
+    corners_inside
+    lengths_admitted vector_at fold_from next_of facing grid_triangle grid_normal grid_reach corners_reach corners_read grid_admitted
+    grid_line
     nearest_to depth_of main_of first_point by_weights crossing kept coplanar in_plane area along_plane entry inside entering side_of
-    ray_admitted unit_length valid_box valid_side normalizable zero_vec dot_tells scaled_to_one over_length try_normalize digits_of scaled_by unit
-    length_of checked_dot dot_of max_element abs_of max_of min_of neg_of finite_vec component root_of root_round whole_root root_digits maximum_of
-    minimum_of absolute is_finite of_int to_signed of_bits of_fields is_nan ne le eq lt div mul sub add sum neg round units odd size climb span
+    ray_admitted unit_length valid_box valid_side normalizable zero_vec dot_tells scaled_to_one over_length try_normalize digits_of
+    scaled_by unit
+    length_of checked_dot dot_of max_element abs_of max_of min_of neg_of finite_vec component root_of root_round whole_root root_digits
+    maximum_of
+    minimum_of absolute is_finite of_int to_signed of_bits of_fields is_nan ne le eq lt div mul sub add sum neg round units odd size climb
+    span
 cast_told = refl
 
 -- ---- the one beside the column is no candidate, on the grid neither; the others are
 second_apart : touches (triangle_box vertices mesh.triangles 1) (segment_box ray) ≡ false
-unfolding touches touch_side triangle_box corner_at vector_at segment_box segment_end add_of scale_of min_of max_of component minimum_of maximum_of
+unfolding touches touch_side triangle_box corner_at vector_at segment_box segment_end add_of scale_of min_of max_of component minimum_of
+    maximum_of
     is_finite of_bits of_fields is_nan ne le eq lt mul sub add sum neg round units odd size climb span
 second_apart = refl
 
 second_off : touches (triangle_box vertices mesh.triangles 1) (certain_box (grid_line ray)) ≡ false
-unfolding touches touch_side triangle_box corner_at vector_at certain_box low_side high_side grid_line nearest_to min_of max_of component minimum_of
+unfolding touches touch_side triangle_box corner_at vector_at certain_box low_side high_side grid_line nearest_to min_of max_of component
+    minimum_of
     maximum_of is_finite of_bits of_fields is_nan ne le eq lt mul sub add sum neg round units odd size climb span
 second_off = refl
 
 near_told : touches (triangle_box vertices mesh.triangles 0) (segment_box ray)
     ∷ (touches (triangle_box vertices mesh.triangles 2) (segment_box ray) ∷ []) ≡ true ∷ (true ∷ [])
-unfolding touches touch_side triangle_box corner_at vector_at segment_box segment_end add_of scale_of min_of max_of component minimum_of maximum_of
+unfolding touches touch_side triangle_box corner_at vector_at segment_box segment_end add_of scale_of min_of max_of component minimum_of
+    maximum_of
     is_finite of_bits of_fields is_nan ne le eq lt mul sub add sum neg round units odd size climb span
 near_told = refl
 

@@ -9,7 +9,8 @@ use Rattle.arithmetic.specs.Extremes.{minimum_of, maximum_of}
 use Rattle.arithmetic.specs.Scaling.{unit, digits_of, scaled_by}
 use Rattle.arithmetic.specs.Root.{root_digits, whole_root, root_round, root_of}
 use Rattle.vectors.specs.Vector.{component, finite_vec, add_of, sub_of, neg_of, scale_of, min_of, max_of, abs_of, max_element, dot_of}
-use Rattle.vectors.specs.Vector.{checked_dot, cross_of, length_of, normalizable, zero_vec, dot_tells, scaled_to_one, over_length, try_normalize}
+use Rattle.vectors.specs.Vector.{checked_dot, cross_of, length_of, normalizable, zero_vec, dot_tells, scaled_to_one, over_length}
+use Rattle.vectors.specs.Vector.{try_normalize}
 use Rattle.geometry.specs.Box.{valid_side, valid_box, touch_side, touches}
 use Rattle.geometry.specs.Segment.{unit_length, ray_admitted, segment_end, segment_box}
 use Rattle.casts.specs.Surface.{off_segment, facing}
@@ -109,13 +110,17 @@ pub cabinets_answered :
     ∷ (hit_in 1 0 up (of_bits binary64 0x3fe8_0000_0000_0000) 6
     ∷ (refused_after 10 5 ∷ (refused_after 10 0 ∷ (hit_in 0 0 up i 6 ∷
     (refused 2 ∷ (refused 3 ∷ (refused_after 6 3 ∷ (refused_after 6 0 ∷ (refused_after 10 2 ∷ [])))))))))
-unfolding cast_cabinet all_parts cast_parts cast_part after_part found_next shape_fits room_fits ranges_inside cast_moved moved_ray cast_within
-    after_look walk_within looks look ended_look ray_mesh mesh_cast over_walk room_for tree_fits shape_admitted walk_of ended start take_node
-    at_node at_branch child_fits at_leaf take_places take_place times triangle_answer corner_at corners_inside lengths_admitted box_at vector_at
+unfolding cast_cabinet all_parts cast_parts cast_part after_part found_next shape_fits room_fits ranges_inside cast_moved moved_ray
+    cast_within
+    after_look walk_within looks look ended_look ray_mesh mesh_cast over_walk room_for tree_fits shape_admitted walk_of ended start
+    take_node
+    at_node at_branch child_fits at_leaf take_places take_place times triangle_answer corner_at corners_inside lengths_admitted box_at
+    vector_at
     sort_by insert_by range fold_from next_of triangle_of triangle_at triangle_above triangle_normal flat facing off_segment segment_box
     segment_end ray_admitted unit_length touches touch_side valid_box valid_side normalizable zero_vec dot_tells scaled_to_one over_length
     try_normalize digits_of scaled_by unit length_of cross_of checked_dot dot_of max_element
-    abs_of max_of min_of scale_of neg_of sub_of add_of finite_vec component root_of root_round whole_root root_digits maximum_of minimum_of absolute
+    abs_of max_of min_of scale_of neg_of sub_of add_of finite_vec component root_of root_round whole_root root_digits maximum_of minimum_of
+    absolute
     is_finite of_bits of_fields is_nan ne le eq lt div mul sub add sum neg round units odd size climb span
 cabinets_answered = refl
 

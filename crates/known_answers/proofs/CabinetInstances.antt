@@ -36,8 +36,10 @@ both_checked = and_checked here (nearer ∷ []) passes (and_checked nearer [] pa
 
 -- refusals 1, 2 and 3 let the call pass
 both_pass : Passes ray areas 3 4 parts
-unfolding ray_admitted unit_length length_of dot_of root_of root_round whole_root root_digits finite_vec all_parts shape_fits room_fits ranges_inside
-    shape_admitted lengths_admitted room_for tree_fits is_finite absolute of_bits of_fields is_nan ne le eq lt mul sub add sum neg round units odd
+unfolding ray_admitted unit_length length_of dot_of root_of root_round whole_root root_digits finite_vec all_parts shape_fits room_fits
+    ranges_inside
+    shape_admitted lengths_admitted room_for tree_fits is_finite absolute of_bits of_fields is_nan ne le eq lt mul sub add sum neg round
+    units odd
     size climb span
 both_pass = record { ray = refl; shapes = refl; rooms = refl }
 

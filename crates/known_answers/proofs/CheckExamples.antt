@@ -13,8 +13,10 @@ use Rattle.geometry.specs.Box.{valid_side, valid_box, within_side, encloses, sam
 use Rattle.lists.specs.Lists.{range, count, every, flat_map}
 use Rattle.tree.specs.Layout.{Tree, vector_at, box_at}
 use Rattle.tree.specs.Mesh.{Mesh, lengths_admitted, corners_inside, corner_at, triangle_box}
-use Rattle.tree_check.specs.Check.{children_of, places_of, kinds_known, children_above, leaves_inside, named_once, placed_once, ordered_once}
-use Rattle.tree_check.specs.Check.{leaves_filled, corners_known, boxes_same, boxes_valid, node_encloses, enclosed, clauses_hold, tree_passes}
+use Rattle.tree_check.specs.Check.{children_of, places_of, kinds_known, children_above, leaves_inside, named_once, placed_once}
+use Rattle.tree_check.specs.Check.{ordered_once}
+use Rattle.tree_check.specs.Check.{leaves_filled, corners_known, boxes_same, boxes_valid, node_encloses, enclosed, clauses_hold}
+use Rattle.tree_check.specs.Check.{tree_passes}
 use Rattle.tree_check.specs.Verdict.{Ruling, yes, no, refused, room_for, check_of}
 use Rattle.known_answers.proofs.WordExamples.{thrice, past, tight, edge, wide, leaf}
 use Rattle.known_answers.proofs.WordExamples.{branch, in_order, tree_of, leaf_over, foreign, faulty}
@@ -50,8 +52,11 @@ pub verdicts :
     ∷ ask torn foreign
     ∷ map (ask thrice) faulty
     ≡ yes ∷ no ∷ no ∷ refused 3 ∷ refused 3 ∷ refused 2 ∷ replicate 11 no
-unfolding check_of room_for lengths_admitted tree_passes clauses_hold kinds_known children_above leaves_inside named_once placed_once ordered_once
-    leaves_filled corners_known boxes_same boxes_valid node_encloses enclosed children_of places_of range count every flat_map vector_at box_at
-    corners_inside corner_at triangle_box valid_side valid_box within_side encloses same_side same_box min_of max_of minimum_of maximum_of is_finite
+unfolding check_of room_for lengths_admitted tree_passes clauses_hold kinds_known children_above leaves_inside named_once placed_once
+    ordered_once
+    leaves_filled corners_known boxes_same boxes_valid node_encloses enclosed children_of places_of range count every flat_map vector_at
+    box_at
+    corners_inside corner_at triangle_box valid_side valid_box within_side encloses same_side same_box min_of max_of minimum_of maximum_of
+    is_finite
     of_bits of_fields lt le eq is_nan
 verdicts = refl

@@ -5,7 +5,8 @@ use Prim.Native.Nat.{ℕ}
 use mathlib.Core.Path.{◌≡◌, refl, ap}
 use mathlib.Core.List.{List, [], ◌∷◌}
 use lib.ListN.{get_or}
-use lib.Ieee.{Float, binary64, span, climb, size, odd, units, round, neg, sum, add, sub, mul, div, lt, eq, le, ne, is_nan, of_fields, of_bits}
+use lib.Ieee.{Float, binary64, span, climb, size, odd, units, round, neg, sum, add, sub, mul, div, lt, eq, le, ne, is_nan, of_fields}
+use lib.Ieee.{of_bits}
 use lib.Ieee.{of_int, to_signed}
 use Rattle.arithmetic.specs.Basic.{is_finite, absolute}
 use Rattle.arithmetic.specs.Extremes.{minimum_of, maximum_of}
@@ -18,7 +19,8 @@ use Rattle.lists.specs.Lists.{range, every}
 use Rattle.nearest_hit.specs.Nearest.{Indexed, no_hit, next_of, fold_from}
 use Rattle.tree.specs.Layout.{vector_at}
 use Rattle.tree.specs.Mesh.{Mesh, lengths_admitted, corners_inside, corner_at, corners_of, triangle_box, triangle_fits, triangles_fit}
-use Rattle.exact_depth.specs.FirstPoint.{kept, crossing, side_of, entering, inside, entry, along_plane, area, in_plane, coplanar, by_weights}
+use Rattle.exact_depth.specs.FirstPoint.{kept, crossing, side_of, entering, inside, entry, along_plane, area, in_plane, coplanar}
+use Rattle.exact_depth.specs.FirstPoint.{by_weights}
 use Rattle.exact_depth.specs.FirstPoint.{first_point}
 use Rattle.exact_triangle.specs.Grid.{nearest_to, grid_admitted, grid_line}
 use Rattle.exact_triangle.specs.Shear.{main_of, depth_of}
@@ -102,7 +104,8 @@ abbrev bore : Mesh
 bore = record {
   vertices =
       vertex less_four less_four o (vertex four less_four o (vertex four four o (vertex less_four four o
-      (vertex less_four less_four less_twelve (vertex four less_four less_twelve (vertex four four less_twelve (vertex less_four four less_twelve
+      (vertex less_four less_four less_twelve (vertex four less_four less_twelve
+      (vertex four four less_twelve (vertex less_four four less_twelve
       [])))))));
   triangles =
       0 ∷ 1 ∷ 5 ∷ 0 ∷ 5 ∷ 4 ∷ 1 ∷ 2 ∷ 6 ∷ 1 ∷ 6 ∷ 5 ∷ 2 ∷ 3 ∷ 7 ∷ 2 ∷ 7 ∷ 6 ∷ 3 ∷ 0 ∷ 4 ∷ 3 ∷ 4 ∷ 7 ∷ 4 ∷ 5 ∷ 6 ∷ 4 ∷ 6 ∷ 7 ∷ [];
@@ -141,10 +144,13 @@ drills =
 -- the end touches the face above the diagonal; both the triangle and the line lie in the drill
 pub drills_read : drills
     ≡ Clear ∷ Touches 0 ∷ Touches 8 ∷ Touches 0 ∷ Clear ∷ Touches 1 ∷ Touches 0 ∷ Touches 0 ∷ []
-unfolding drill_read drill_plain_returned returned_drill drill_plain over_mesh drill_all first_of mesh_read touched touched_by from_axis corner_in
-    crossing_in foot_in cap_in plane_in radius_admitted radius_on ceiling triangles_fit triangle_fits every range triangle_box corner_at corners_of
+unfolding drill_read drill_plain_returned returned_drill drill_plain over_mesh drill_all first_of mesh_read touched touched_by from_axis
+    corner_in
+    crossing_in foot_in cap_in plane_in radius_admitted radius_on ceiling triangles_fit triangle_fits every range triangle_box corner_at
+    corners_of
     corners_inside lengths_admitted vector_at corners_read grid_admitted grid_line nearest_to ray_admitted unit_length valid_box valid_side
-    length_of checked_dot dot_of max_of min_of finite_vec component root_of root_round whole_root root_digits maximum_of minimum_of absolute is_finite
+    length_of checked_dot dot_of max_of min_of finite_vec component root_of root_round whole_root root_digits maximum_of minimum_of absolute
+    is_finite
     of_int to_signed of_bits of_fields is_nan ne le eq lt div mul sub add sum neg round units odd size climb span
 drills_read = refl
 
@@ -157,11 +163,14 @@ casts =
     ∷ ray_mesh_exact_plain (down_from o o five ten) on_line ∷ []
 
 pub casts_pass : casts ≡ no_hit ∷ no_hit ∷ no_hit ∷ no_hit ∷ []
-unfolding ray_mesh_exact_plain over_triangles exact_answer triangles_fit triangle_fits every range triangle_box corner_at corners_of corners_inside
+unfolding ray_mesh_exact_plain over_triangles exact_answer triangles_fit triangle_fits every range triangle_box corner_at corners_of
+    corners_inside
     lengths_admitted vector_at fold_from next_of grid_triangle grid_normal grid_reach corners_reach corners_read grid_admitted grid_line
     nearest_to depth_of main_of first_point by_weights crossing kept coplanar in_plane area along_plane entry inside entering side_of
-    ray_admitted unit_length valid_box valid_side length_of checked_dot dot_of max_of min_of finite_vec component root_of root_round whole_root
-    root_digits maximum_of minimum_of absolute is_finite of_int to_signed of_bits of_fields is_nan ne le eq lt div mul sub add sum neg round units
+    ray_admitted unit_length valid_box valid_side length_of checked_dot dot_of max_of min_of finite_vec component root_of root_round
+    whole_root
+    root_digits maximum_of minimum_of absolute is_finite of_int to_signed of_bits of_fields is_nan ne le eq lt div mul sub add sum neg round
+    units
     odd size climb span
 casts_pass = refl
 

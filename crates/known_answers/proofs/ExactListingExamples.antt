@@ -4,7 +4,8 @@ use mathlib.Core.Path.{◌≡◌, refl, ap}
 use mathlib.Core.Bool.{true}
 use mathlib.Core.List.{[], ◌∷◌, ◌++◌}
 use native.Mathlib.Omega.{arith}
-use lib.Ieee.{Float, binary64, span, climb, size, odd, units, round, neg, sum, add, sub, mul, div, lt, eq, le, ne, is_nan, of_fields, of_bits}
+use lib.Ieee.{Float, binary64, span, climb, size, odd, units, round, neg, sum, add, sub, mul, div, lt, eq, le, ne, is_nan, of_fields}
+use lib.Ieee.{of_bits}
 use lib.Ieee.{of_int, to_signed}
 use lib.ListN.{replicate}
 use Rattle.arithmetic.specs.Basic.{is_finite, absolute}
@@ -36,7 +37,8 @@ use Rattle.mesh_hits.specs.HitArea.{HitArea, hit_area, Outcome, is_hit, depth_of
 use Rattle.mesh_hits.specs.HitListing.{written, fitted, after_refusals, listing_of}
 use Rattle.mesh_hits.specs.Listing.{over_walk, mesh_listing, ray_mesh_all}
 use Rattle.mesh_hits.specs.Promise.{first_of}
-use Rattle.exact_depth.specs.FirstPoint.{kept, crossing, side_of, entering, inside, entry, along_plane, area, in_plane, coplanar, by_weights}
+use Rattle.exact_depth.specs.FirstPoint.{kept, crossing, side_of, entering, inside, entry, along_plane, area, in_plane, coplanar}
+use Rattle.exact_depth.specs.FirstPoint.{by_weights}
 use Rattle.exact_depth.specs.FirstPoint.{first_point}
 use Rattle.exact_triangle.specs.Grid.{nearest_to, grid_admitted, grid_line}
 use Rattle.exact_triangle.specs.Shear.{main_of, depth_of as depthOn}
@@ -99,10 +101,12 @@ abbrev exactly : Outcome
 exactly = ray_mesh_exact_all down square square.vertices one_leaf 2 2 marked
 
 pub diagonal_passed : rounded ≡ record { answer = count_of 0; area = marked }
-unfolding ray_mesh_all mesh_listing over_walk listing_of after_refusals fitted written numbers_of place_of is_hit placesHeld keep keyed_ahead
+unfolding ray_mesh_all mesh_listing over_walk listing_of after_refusals fitted written numbers_of place_of is_hit placesHeld keep
+    keyed_ahead
     not_farther depth_of room_for
     tree_fits shape_admitted walk_of ended start take_node at_node at_branch child_fits at_leaf take_places take_place times triangle_answer
-    corner_at corners_inside lengths_admitted box_at vector_at sort_by insert_by range fold_from next_of triangle_of triangle_at triangle_above
+    corner_at corners_inside lengths_admitted box_at vector_at sort_by insert_by range fold_from next_of triangle_of triangle_at
+    triangle_above
     triangle_normal flat facing off_segment segment_box segment_end ray_admitted unit_length touches touch_side valid_box valid_side
     normalizable zero_vec dot_tells scaled_to_one over_length try_normalize digits_of scaled_by unit length_of cross_of checked_dot dot_of
     max_element abs_of max_of min_of scale_of neg_of sub_of add_of finite_vec component root_of
@@ -112,23 +116,29 @@ diagonal_passed = refl
 
 pub diagonal_listed : exactly
     ≡ record { answer = count_of 2; area = hit_area (0 ∷ 1 ∷ 9 ∷ []) (i ∷ o ∷ o ∷ i ∷ i ∷ o ∷ o ∷ i ∷ two ∷ []) }
-unfolding ray_mesh_exact_all exact_listing over_walk line_walk opened_walk take_opened walk_box line_meets box_opens listing_of after_refusals fitted
+unfolding ray_mesh_exact_all exact_listing over_walk line_walk opened_walk take_opened walk_box line_meets box_opens listing_of
+    after_refusals fitted
     written numbers_of place_of is_hit placesHeld keep keyed_ahead not_farther depth_of room_for
     tree_fits shape_admitted ended start take_node at_node at_branch child_fits at_leaf take_places take_place times
     lengths_admitted box_at vector_at sort_by insert_by range fold_from next_of
     line_met short_segment touches touch_side certain_box low_side high_side room_met room_of
     exact_answer corner_at corners_of corners_inside facing grid_triangle grid_normal grid_reach corners_reach corners_read
-    grid_admitted grid_line nearest_to depthOn main_of first_point by_weights crossing kept coplanar in_plane area along_plane entry inside entering
-    side_of ray_admitted unit_length normalizable zero_vec dot_tells scaled_to_one over_length try_normalize digits_of scaled_by unit length_of
-    checked_dot dot_of max_element abs_of max_of min_of neg_of finite_vec component root_of root_round whole_root root_digits maximum_of minimum_of
+    grid_admitted grid_line nearest_to depthOn main_of first_point by_weights crossing kept coplanar in_plane area along_plane entry inside
+    entering
+    side_of ray_admitted unit_length normalizable zero_vec dot_tells scaled_to_one over_length try_normalize digits_of scaled_by unit
+    length_of
+    checked_dot dot_of max_element abs_of max_of min_of neg_of finite_vec component root_of root_round whole_root root_digits maximum_of
+    minimum_of
     absolute is_finite of_int to_signed of_bits of_fields is_nan ne le eq lt div mul sub add sum neg round units odd size climb span
 diagonal_listed = refl
 
 -- ---- the conditions of the promises hold of it
 passes : check_of square one_leaf 6 ≡ yes
-unfolding check_of marksFit tree_passes clauses_hold kinds_known children_above leaves_inside named_once placed_once ordered_once leaves_filled
+unfolding check_of marksFit tree_passes clauses_hold kinds_known children_above leaves_inside named_once placed_once ordered_once
+    leaves_filled
     corners_known boxes_same boxes_valid node_encloses enclosed children_of places_of count every flat_map range triangle_box corner_at
-    corners_inside lengths_admitted tree_fits box_at vector_at valid_box valid_side within_side encloses same_side same_box min_of max_of minimum_of
+    corners_inside lengths_admitted tree_fits box_at vector_at valid_box valid_side within_side encloses same_side same_box min_of max_of
+    minimum_of
     maximum_of is_finite absolute of_bits of_fields is_nan ne le eq lt
 passes = refl
 

@@ -14,8 +14,10 @@ use Rattle.geometry.specs.Box.{valid_side, valid_box, within_side, encloses, sam
 use Rattle.lists.specs.Lists.{range, count, every, flat_map}
 use Rattle.tree.specs.Layout.{vector_at, box_at, box_numbers}
 use Rattle.tree.specs.Mesh.{corners_inside, corner_at, triangle_box}
-use Rattle.tree_check.specs.Check.{children_of, places_of, kinds_known, children_above, leaves_inside, named_once, placed_once, ordered_once}
-use Rattle.tree_check.specs.Check.{leaves_filled, corners_known, boxes_same, boxes_valid, node_encloses, enclosed, clauses_hold, tree_passes}
+use Rattle.tree_check.specs.Check.{children_of, places_of, kinds_known, children_above, leaves_inside, named_once, placed_once}
+use Rattle.tree_check.specs.Check.{ordered_once}
+use Rattle.tree_check.specs.Check.{leaves_filled, corners_known, boxes_same, boxes_valid, node_encloses, enclosed, clauses_hold}
+use Rattle.tree_check.specs.Check.{tree_passes}
 use Rattle.tree_query.specs.Query.{tree_fits}
 use Rattle.tree_copy.specs.Moved.{moved_up, moved_node, moved_nodes}
 use Rattle.merge.specs.Merge.{Answer, nodes, refused, Board, Areas, Outcome, board_of, areas_of, merged_vertices, merged_triangles}
@@ -71,10 +73,13 @@ pub merges_are : merges
     ∷ record { answer = refused 5; triangles = replicate 7 9; words = replicate 12 9; order = replicate 3 9 }
     ∷ record { answer = refused 3; triangles = replicate 7 9; words = replicate 12 9; order = replicate 3 9 } ∷ []
 unfolding merge_of shapes_admitted shapes_fit areas_fit tree_fits results_fit room_in trees_pass merged_count merged_over merged_vertices
-    merged_triangles roots root_box root_words merged_node_boxes merged_words merged_triangle_boxes merged_order moved_up moved_node moved_nodes
+    merged_triangles roots root_box root_words merged_node_boxes merged_words merged_triangle_boxes merged_order moved_up moved_node
+    moved_nodes
     box_numbers union_of tree_passes clauses_hold kinds_known children_above leaves_inside named_once placed_once ordered_once leaves_filled
-    corners_known boxes_same boxes_valid node_encloses enclosed children_of places_of range count every flat_map vector_at box_at corners_inside
-    corner_at triangle_box valid_side valid_box within_side encloses same_side same_box min_of max_of minimum_of maximum_of is_finite of_bits of_fields
+    corners_known boxes_same boxes_valid node_encloses enclosed children_of places_of range count every flat_map vector_at box_at
+    corners_inside
+    corner_at triangle_box valid_side valid_box within_side encloses same_side same_box min_of max_of minimum_of maximum_of is_finite
+    of_bits of_fields
     lt le eq is_nan
 merges_are = refl
 

@@ -88,10 +88,12 @@ pub listings_answered :
           (three ∷ (minus_zero ∷ (minus_zero ∷ (lower ∷ (ten ∷ (ten ∷ (ten ∷ (ten ∷ (ten ∷ [])))))))));
     }
     ∷ (record { answer = refused 3; area = hit_area (0 ∷ []) (o ∷ (o ∷ (o ∷ (o ∷ (o ∷ []))))) } ∷ []))
-unfolding ray_mesh_all mesh_listing over_walk listing_of after_refusals fitted written numbers_of place_of is_hit placesHeld keep keyed_ahead
+unfolding ray_mesh_all mesh_listing over_walk listing_of after_refusals fitted written numbers_of place_of is_hit placesHeld keep
+    keyed_ahead
     not_farther depth_of room_for
     tree_fits shape_admitted walk_of ended start take_node at_node at_branch child_fits at_leaf take_places take_place times triangle_answer
-    corner_at corners_inside lengths_admitted box_at vector_at sort_by insert_by range fold_from next_of triangle_of triangle_at triangle_above
+    corner_at corners_inside lengths_admitted box_at vector_at sort_by insert_by range fold_from next_of triangle_of triangle_at
+    triangle_above
     triangle_normal flat facing off_segment segment_box segment_end ray_admitted unit_length touches touch_side valid_box valid_side
     normalizable zero_vec dot_tells scaled_to_one over_length try_normalize digits_of scaled_by unit length_of cross_of checked_dot dot_of
     max_element abs_of max_of min_of scale_of neg_of sub_of add_of finite_vec component root_of
@@ -108,9 +110,11 @@ pub tree_admitted : Admitted (upward o) mesh odd_tree 3 4
 unfolding room_for tree_fits shape_admitted corner_at corners_inside lengths_admitted box_at vector_at sort_by insert_by range segment_box
     segment_end ray_admitted unit_length touches touch_side valid_box valid_side normalizable zero_vec dot_tells scaled_to_one over_length
     try_normalize digits_of scaled_by unit length_of cross_of checked_dot dot_of max_element
-    abs_of max_of min_of scale_of neg_of sub_of add_of finite_vec component root_of root_round whole_root root_digits maximum_of minimum_of absolute
+    abs_of max_of min_of scale_of neg_of sub_of add_of finite_vec component root_of root_round whole_root root_digits maximum_of minimum_of
+    absolute
     is_finite of_bits of_fields is_nan ne le eq lt div mul sub add sum neg round units odd size climb span check_of marksFit tree_passes
-    clauses_hold kinds_known children_above leaves_inside named_once placed_once ordered_once leaves_filled corners_known boxes_same boxes_valid
+    clauses_hold kinds_known children_above leaves_inside named_once placed_once ordered_once leaves_filled corners_known boxes_same
+    boxes_valid
     node_encloses enclosed children_of places_of count every flat_map triangle_box within_side encloses same_side same_box
 tree_admitted = record { mesh = refl; ray = refl; end = refl; tree = record { marks = 9; says_yes = refl }; areas = refl }
 
@@ -124,7 +128,8 @@ first_found_lem = (promised (upward o) mesh vertices odd_tree 3 4 marked).first 
 
 -- two hits, as the promise counts them: with two places the answer is their count, with one it is 3
 pub hits_are_two : hit_count (upward o) mesh vertices odd_tree ≡ 2
-unfolding hits_of_walk is_hit keep walk_of ended start take_node at_node at_branch child_fits at_leaf take_places take_place times triangle_answer
+unfolding hits_of_walk is_hit keep walk_of ended start take_node at_node at_branch child_fits at_leaf take_places take_place times
+    triangle_answer
     corner_at corners_inside box_at vector_at sort_by insert_by range triangle_of triangle_at triangle_above
     triangle_normal flat facing off_segment segment_box segment_end touches touch_side
     normalizable zero_vec dot_tells scaled_to_one over_length try_normalize digits_of scaled_by unit length_of cross_of checked_dot dot_of

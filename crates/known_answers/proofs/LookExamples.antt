@@ -26,7 +26,8 @@ point = record { min = record { x = o; y = o; z = o }; max = record { x = o; y =
 
 pub past_costs_one : walk_within twice 0 point 1 ∷ (walk_within twice 0 point 2 ∷ (walk_within twice 0 point 3 ∷ [])) ≡ used_up 1 ∷
     (used_up 2 ∷ (looked 3 broken ∷ []))
-unfolding walk_within ended_look looks look start ended take_node at_node at_branch child_fits at_leaf take_places take_place box_at vector_at
+unfolding walk_within ended_look looks look start ended take_node at_node at_branch child_fits at_leaf take_places take_place box_at
+    vector_at
     sort_by insert_by range touches touch_side valid_box valid_side le lt is_nan of_bits of_fields
 past_costs_one = refl
 

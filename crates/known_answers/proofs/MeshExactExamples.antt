@@ -6,7 +6,8 @@ use mathlib.Core.Path.{◌≡◌, refl, ap}
 use mathlib.Core.List.{List, [], ◌∷◌}
 use lib.IntN.{ℤ}
 use lib.ListN.{get_or}
-use lib.Ieee.{Float, binary64, span, climb, size, odd, units, round, neg, sum, add, sub, mul, div, lt, eq, le, ne, is_nan, of_fields, of_bits}
+use lib.Ieee.{Float, binary64, span, climb, size, odd, units, round, neg, sum, add, sub, mul, div, lt, eq, le, ne, is_nan, of_fields}
+use lib.Ieee.{of_bits}
 use lib.Ieee.{of_int, to_signed}
 use Rattle.arithmetic.specs.Basic.{is_finite, absolute}
 use Rattle.arithmetic.specs.Extremes.{minimum_of, maximum_of}
@@ -27,7 +28,8 @@ use Rattle.tree.specs.Layout.{vector_at}
 use Rattle.tree.specs.Mesh.{Mesh, lengths_admitted, corners_inside, corner_at, corners_of, triangle_box, triangle_answer, candidates}
 use Rattle.tree.specs.Mesh.{triangle_fits, triangles_fit}
 use Rattle.mesh_plain.specs.PlainCast.{over_triangles as overRounded, plain_cast, ray_mesh_plain}
-use Rattle.exact_depth.specs.FirstPoint.{kept, crossing, side_of, entering, inside, entry, along_plane, area, in_plane, coplanar, by_weights}
+use Rattle.exact_depth.specs.FirstPoint.{kept, crossing, side_of, entering, inside, entry, along_plane, area, in_plane, coplanar}
+use Rattle.exact_depth.specs.FirstPoint.{by_weights}
 use Rattle.exact_depth.specs.FirstPoint.{first_point}
 use Rattle.exact_triangle.specs.Grid.{nearest_to, grid_admitted, grid_line}
 use Rattle.exact_triangle.specs.Shear.{main_of, depth_of}
@@ -186,12 +188,17 @@ pub casts_answered : casts
     ∷ (hit_at (record { x = less_thirds; y = third; z = thirds }) far 1
     ∷ (no_hit
     ∷ (hit_at inward from_axis 0 ∷ []))))))
-unfolding ray_mesh_exact_plain over_triangles exact_answer triangles_fit triangle_fits every range triangle_box corner_at corners_of corners_inside
-    lengths_admitted vector_at fold_from next_of facing grid_triangle grid_normal grid_reach corners_reach corners_read grid_admitted grid_line
+unfolding ray_mesh_exact_plain over_triangles exact_answer triangles_fit triangle_fits every range triangle_box corner_at corners_of
+    corners_inside
+    lengths_admitted vector_at fold_from next_of facing grid_triangle grid_normal grid_reach corners_reach corners_read grid_admitted
+    grid_line
     nearest_to depth_of main_of first_point by_weights crossing kept coplanar in_plane area along_plane entry inside entering side_of
-    ray_admitted unit_length valid_box valid_side normalizable zero_vec dot_tells scaled_to_one over_length try_normalize digits_of scaled_by unit
-    length_of checked_dot dot_of max_element abs_of max_of min_of neg_of finite_vec component root_of root_round whole_root root_digits maximum_of
-    minimum_of absolute is_finite of_int to_signed of_bits of_fields is_nan ne le eq lt div mul sub add sum neg round units odd size climb span
+    ray_admitted unit_length valid_box valid_side normalizable zero_vec dot_tells scaled_to_one over_length try_normalize digits_of
+    scaled_by unit
+    length_of checked_dot dot_of max_element abs_of max_of min_of neg_of finite_vec component root_of root_round whole_root root_digits
+    maximum_of
+    minimum_of absolute is_finite of_int to_signed of_bits of_fields is_nan ne le eq lt div mul sub add sum neg round units odd size climb
+    span
 casts_answered = refl
 
 -- the rounded cast passes the side, the triangle along the ray and the bore's wall
@@ -199,11 +206,15 @@ abbrev rounded_casts : List Indexed
 rounded_casts = ray_mesh_plain diagonal (slanted six) ∷ (ray_mesh_plain diagonal along ∷ (ray_mesh_plain in_bore bore_wall ∷ []))
 
 pub rounded_passes : rounded_casts ≡ no_hit ∷ (no_hit ∷ (no_hit ∷ []))
-unfolding ray_mesh_plain plain_cast overRounded triangles_fit triangle_fits every candidates keep range triangle_box corner_at corners_inside
+unfolding ray_mesh_plain plain_cast overRounded triangles_fit triangle_fits every candidates keep range triangle_box corner_at
+    corners_inside
     lengths_admitted vector_at fold_from next_of facing off_segment segment_box segment_end touches touch_side triangle_answer
-    triangle_of triangle_at triangle_above triangle_normal flat ray_admitted unit_length valid_box valid_side normalizable zero_vec dot_tells
-    scaled_to_one over_length try_normalize digits_of scaled_by unit length_of cross_of checked_dot dot_of max_element abs_of max_of min_of scale_of neg_of
-    sub_of add_of finite_vec component root_of root_round whole_root root_digits maximum_of minimum_of absolute is_finite of_int to_signed of_bits
+    triangle_of triangle_at triangle_above triangle_normal flat ray_admitted unit_length valid_box valid_side normalizable zero_vec
+    dot_tells
+    scaled_to_one over_length try_normalize digits_of scaled_by unit length_of cross_of checked_dot dot_of max_element abs_of max_of min_of
+    scale_of neg_of
+    sub_of add_of finite_vec component root_of root_round whole_root root_digits maximum_of minimum_of absolute is_finite of_int to_signed
+    of_bits
     of_fields is_nan ne le eq lt div mul sub add sum neg round units odd size climb span
 rounded_passes = refl
 

@@ -2,7 +2,8 @@
 use mathlib.Core.Path.{◌≡◌, refl}
 use mathlib.Core.Bool.{true}
 use mathlib.Core.List.{List, [], ◌∷◌}
-use lib.Ieee.{Float, binary64, span, climb, size, odd, units, round, neg, sum, add, sub, mul, div, lt, eq, le, ne, is_nan, of_fields, of_bits}
+use lib.Ieee.{Float, binary64, span, climb, size, odd, units, round, neg, sum, add, sub, mul, div, lt, eq, le, ne, is_nan, of_fields}
+use lib.Ieee.{of_bits}
 use Rattle.arithmetic.specs.Basic.{is_finite, absolute}
 use Rattle.arithmetic.specs.Extremes.{minimum_of, maximum_of}
 use Rattle.arithmetic.specs.Scaling.{unit, digits_of, scaled_by}
@@ -77,19 +78,25 @@ pub casts_answered :
     ∷ (stopped 1
     ∷ (stopped 5
     ∷ (no_hit ∷ [])))))
-unfolding ray_mesh_plain plain_cast over_triangles triangles_fit triangle_fits every candidates keep range triangle_box triangle_answer corner_at
-    corners_inside lengths_admitted vector_at fold_from next_of triangle_of triangle_at triangle_above triangle_normal flat facing off_segment
+unfolding ray_mesh_plain plain_cast over_triangles triangles_fit triangle_fits every candidates keep range triangle_box triangle_answer
+    corner_at
+    corners_inside lengths_admitted vector_at fold_from next_of triangle_of triangle_at triangle_above triangle_normal flat facing
+    off_segment
     segment_box segment_end ray_admitted unit_length touches touch_side valid_box valid_side normalizable zero_vec
     dot_tells scaled_to_one over_length try_normalize digits_of scaled_by unit length_of cross_of checked_dot dot_of
-    max_element abs_of max_of min_of scale_of neg_of sub_of add_of finite_vec component root_of root_round whole_root root_digits maximum_of minimum_of
+    max_element abs_of max_of min_of scale_of neg_of sub_of add_of finite_vec component root_of root_round whole_root root_digits maximum_of
+    minimum_of
     absolute is_finite of_bits of_fields is_nan ne le eq lt div mul sub add sum neg round units odd size climb span
 casts_answered = refl
 
 -- the tree check says yes to a tree over the three triangles, and the areas suffice
 odd_passes : check_of three_triangles odd_tree 9 ≡ yes
-unfolding check_of roomToCheck tree_passes clauses_hold kinds_known children_above leaves_inside named_once placed_once ordered_once leaves_filled
-    corners_known boxes_same boxes_valid node_encloses enclosed children_of places_of count every flat_map range corners_inside lengths_admitted
-    corner_at vector_at box_at triangle_box within_side encloses same_side same_box valid_box valid_side max_of min_of maximum_of minimum_of is_finite
+unfolding check_of roomToCheck tree_passes clauses_hold kinds_known children_above leaves_inside named_once placed_once ordered_once
+    leaves_filled
+    corners_known boxes_same boxes_valid node_encloses enclosed children_of places_of count every flat_map range corners_inside
+    lengths_admitted
+    corner_at vector_at box_at triangle_box within_side encloses same_side same_box valid_box valid_side max_of min_of maximum_of minimum_of
+    is_finite
     of_bits of_fields is_nan ne le eq lt
 odd_passes = refl
 

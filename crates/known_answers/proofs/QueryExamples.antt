@@ -89,6 +89,7 @@ pub queries_answered :
     ∷ (record { answer = refused 1; list = area }
     ∷ (record { answer = refused 2; list = area }
     ∷ (record { answer = refused 3; list = 7 ∷ (7 ∷ []) } ∷ []))))))
-unfolding query_of after_walk walk_fits tree_fits counts_admitted walk_of ended start take_node at_node at_branch child_fits at_leaf take_places
+unfolding query_of after_walk walk_fits tree_fits counts_admitted walk_of ended start take_node at_node at_branch child_fits at_leaf
+    take_places
     take_place times box_at vector_at sort_by insert_by range touches touch_side valid_box valid_side is_finite le is_nan of_bits
 queries_answered = refl

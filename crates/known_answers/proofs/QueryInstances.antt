@@ -37,8 +37,10 @@ pub query_done : returned.returned.number ≡ done_code
 query_done = complete.done column_valid areas_fit_lem (omega arith)
 
 listed : take (word_at returned.returned.count 0) returned.list ≡ 0 ∷ 2 ∷ []
-unfolding query_returned returned_found query_of after_walk walk_fits tree_fits counts_admitted walk_of ended start take_node at_node at_branch
-    child_fits at_leaf take_places take_place times box_at vector_at sort_by insert_by range touches touch_side valid_box valid_side is_finite le is_nan
+unfolding query_returned returned_found query_of after_walk walk_fits tree_fits counts_admitted walk_of ended start take_node at_node
+    at_branch
+    child_fits at_leaf take_places take_place times box_at vector_at sort_by insert_by range touches touch_side valid_box valid_side
+    is_finite le is_nan
     of_bits
 listed = refl
 

@@ -4,14 +4,16 @@ use Prim.Native.Nat.{ℕ}
 use mathlib.Core.Path.{◌≡◌, refl}
 use mathlib.Core.Bool.{true, false}
 use mathlib.Core.List.{List, [], ◌∷◌}
-use lib.Ieee.{Float, binary64, span, climb, size, odd, units, round, neg, sum, add, sub, mul, div, lt, eq, le, ne, is_nan, of_fields, of_bits}
+use lib.Ieee.{Float, binary64, span, climb, size, odd, units, round, neg, sum, add, sub, mul, div, lt, eq, le, ne, is_nan, of_fields}
+use lib.Ieee.{of_bits}
 use lib.Ieee.{of_int, to_signed}
 use lib.ListN.{drop, replicate}
 use Rattle.arithmetic.specs.Basic.{is_finite, absolute}
 use Rattle.arithmetic.specs.Extremes.{minimum_of, maximum_of}
 use Rattle.arithmetic.specs.Scaling.{unit, digits_of, scaled_by}
 use Rattle.arithmetic.specs.Root.{root_digits, whole_root, root_round, root_of}
-use Rattle.vectors.specs.Vector.{component, finite_vec, neg_of, min_of, max_of, abs_of, max_element, dot_of, checked_dot, length_of, normalizable}
+use Rattle.vectors.specs.Vector.{component, finite_vec, neg_of, min_of, max_of, abs_of, max_element, dot_of, checked_dot, length_of}
+use Rattle.vectors.specs.Vector.{normalizable}
 use Rattle.vectors.specs.Vector.{zero_vec, dot_tells, scaled_to_one, over_length, try_normalize}
 use Rattle.geometry.specs.Box.{touch_side, touches, same_side, same_box}
 use Rattle.geometry.specs.Segment.{unit_length, ray_admitted}
@@ -23,13 +25,15 @@ use Rattle.nearest_hit.specs.Summary.{keep_of, nearer, note_of, winner_of, answe
 use Rattle.lists.specs.Lists.{range, count, flat_map, every}
 use Rattle.tree.specs.Layout.{Tree, vector_at, box_at}
 use Rattle.tree.specs.Mesh.{Mesh, lengths_admitted, corners_inside, corner_at, corners_of, triangle_box}
-use Rattle.tree_check.specs.Check.{children_of, places_of, kinds_known, children_above, leaves_inside, named_once, placed_once, ordered_once}
+use Rattle.tree_check.specs.Check.{children_of, places_of, kinds_known, children_above, leaves_inside, named_once, placed_once}
+use Rattle.tree_check.specs.Check.{ordered_once}
 use Rattle.tree_check.specs.Check.{leaves_filled, corners_known, boxes_same, clauses_hold, tree_passes}
 use Rattle.tree_query.specs.Query.{tree_fits}
 use Rattle.known_answers.proofs.QueryExamples.{o, i, quarter, ten, eleven, lower, odd_tree}
 use Rattle.mesh.specs.MeshCast.{shape_admitted}
 use Rattle.known_answers.proofs.MeshExamples.{odd_passes}
-use Rattle.exact_depth.specs.FirstPoint.{kept, crossing, side_of, entering, inside, entry, along_plane, area, in_plane, coplanar, by_weights}
+use Rattle.exact_depth.specs.FirstPoint.{kept, crossing, side_of, entering, inside, entry, along_plane, area, in_plane, coplanar}
+use Rattle.exact_depth.specs.FirstPoint.{by_weights}
 use Rattle.exact_depth.specs.FirstPoint.{first_point}
 use Rattle.exact_triangle.specs.Grid.{nearest_to, grid_admitted, grid_line}
 use Rattle.exact_triangle.specs.Shear.{main_of, depth_of}
@@ -97,7 +101,8 @@ above = along o o i lower
 -- at the corner of two triangles from above and from below; past the longest side; at a quarter of a side
 abbrev hits : List Indexed
 hits =
-    cast above ∷ cast (along o o (of_bits binary64 0xc008_0000_0000_0000) i) ∷ cast (along i i i lower) ∷ cast (along quarter o i lower) ∷ []
+    cast above ∷ cast (along o o (of_bits binary64 0xc008_0000_0000_0000) i) ∷ cast (along i i i lower) ∷ cast (along quarter o i lower)
+    ∷ []
 
 pub casts_hit :
     hits
@@ -105,13 +110,18 @@ pub casts_hit :
     ∷ hit_at (record { x = minus_zero; y = minus_zero; z = lower }) two 2
     ∷ no_hit
     ∷ hit_at (record { x = o; y = o; z = i }) i 0 ∷ []
-unfolding ray_mesh_exact exact_through room_for tree_fits shape_admitted lengths_admitted first_of ended start take_node at_node at_branch at_leaf
+unfolding ray_mesh_exact exact_through room_for tree_fits shape_admitted lengths_admitted first_of ended start take_node at_node at_branch
+    at_leaf
     take_places take_place times range opens_node box_met line_met short_segment touches touch_side certain_box low_side high_side room_met
     room_of left_first taken_first nearer_first box_at vector_at answer_at winner_of note_of keep_of
-    nearer reach_of next_of exact_answer corner_at corners_of corners_inside facing grid_triangle grid_normal grid_reach corners_reach corners_read
-    grid_admitted grid_line nearest_to depth_of main_of first_point by_weights crossing kept coplanar in_plane area along_plane entry inside entering
-    side_of ray_admitted unit_length normalizable zero_vec dot_tells scaled_to_one over_length try_normalize digits_of scaled_by unit length_of
-    checked_dot dot_of max_element abs_of max_of min_of neg_of finite_vec component root_of root_round whole_root root_digits maximum_of minimum_of
+    nearer reach_of next_of exact_answer corner_at corners_of corners_inside facing grid_triangle grid_normal grid_reach corners_reach
+    corners_read
+    grid_admitted grid_line nearest_to depth_of main_of first_point by_weights crossing kept coplanar in_plane area along_plane entry inside
+    entering
+    side_of ray_admitted unit_length normalizable zero_vec dot_tells scaled_to_one over_length try_normalize digits_of scaled_by unit
+    length_of
+    checked_dot dot_of max_element abs_of max_of min_of neg_of finite_vec component root_of root_round whole_root root_digits maximum_of
+    minimum_of
     absolute is_finite of_int to_signed of_bits of_fields is_nan ne le eq lt div mul sub add sum neg round units odd size climb span
 casts_hit = refl
 
@@ -124,10 +134,12 @@ refusals =
     ∷ ray_mesh_exact above mesh vertices (with_root 7 3) 4 ∷ []
 
 pub casts_refused : refusals ≡ stopped 1 ∷ stopped 12 ∷ stopped 2 ∷ stopped 3 ∷ stopped 4 ∷ stopped 5 ∷ []
-unfolding ray_mesh_exact exact_through room_for tree_fits shape_admitted lengths_admitted first_of ended start take_node at_node times opens_node
+unfolding ray_mesh_exact exact_through room_for tree_fits shape_admitted lengths_admitted first_of ended start take_node at_node times
+    opens_node
     box_met line_met short_segment touches touch_side certain_box low_side high_side room_met room_of box_at vector_at
     grid_admitted grid_line nearest_to main_of ray_admitted unit_length length_of dot_of max_element abs_of
-    max_of min_of finite_vec component root_of root_round whole_root root_digits maximum_of minimum_of absolute is_finite of_int to_signed of_bits
+    max_of min_of finite_vec component root_of root_round whole_root root_digits maximum_of minimum_of absolute is_finite of_int to_signed
+    of_bits
     of_fields is_nan ne le eq lt div mul sub add sum neg round units odd size climb span
 casts_refused = refl
 
@@ -157,7 +169,8 @@ unboxed = record {
 }
 
 pub unboxed_fails : tree_passes mesh unboxed ≡ false
-unfolding tree_passes clauses_hold kinds_known children_above leaves_inside named_once placed_once ordered_once leaves_filled corners_known boxes_same
+unfolding tree_passes clauses_hold kinds_known children_above leaves_inside named_once placed_once ordered_once leaves_filled corners_known
+    boxes_same
     children_of places_of count every flat_map range triangle_box corner_at corners_inside box_at vector_at same_side same_box
     min_of max_of minimum_of maximum_of of_bits of_fields is_nan ne le eq lt
 unboxed_fails = refl
@@ -170,13 +183,18 @@ abbrev three_quarters : Float
 three_quarters = of_bits binary64 0x3fe8_0000_0000_0000
 
 pub raised_hit : ray_mesh_exact above mesh raised unboxed 4 ≡ hit_at (record { x = o; y = o; z = i }) three_quarters 0
-unfolding ray_mesh_exact exact_through room_for tree_fits shape_admitted lengths_admitted first_of ended start take_node at_node at_branch at_leaf
+unfolding ray_mesh_exact exact_through room_for tree_fits shape_admitted lengths_admitted first_of ended start take_node at_node at_branch
+    at_leaf
     take_places take_place times range opens_node box_met line_met short_segment touches touch_side certain_box low_side high_side room_met
     room_of left_first taken_first nearer_first box_at vector_at answer_at winner_of note_of keep_of
-    nearer reach_of next_of exact_answer corner_at corners_of corners_inside facing grid_triangle grid_normal grid_reach corners_reach corners_read
-    grid_admitted grid_line nearest_to depth_of main_of first_point by_weights crossing kept coplanar in_plane area along_plane entry inside entering
-    side_of ray_admitted unit_length normalizable zero_vec dot_tells scaled_to_one over_length try_normalize digits_of scaled_by unit length_of
-    checked_dot dot_of max_element abs_of max_of min_of neg_of finite_vec component root_of root_round whole_root root_digits maximum_of minimum_of
+    nearer reach_of next_of exact_answer corner_at corners_of corners_inside facing grid_triangle grid_normal grid_reach corners_reach
+    corners_read
+    grid_admitted grid_line nearest_to depth_of main_of first_point by_weights crossing kept coplanar in_plane area along_plane entry inside
+    entering
+    side_of ray_admitted unit_length normalizable zero_vec dot_tells scaled_to_one over_length try_normalize digits_of scaled_by unit
+    length_of
+    checked_dot dot_of max_element abs_of max_of min_of neg_of finite_vec component root_of root_round whole_root root_digits maximum_of
+    minimum_of
     absolute is_finite of_int to_signed of_bits of_fields is_nan ne le eq lt div mul sub add sum neg round units odd size climb span
 raised_hit = refl
 

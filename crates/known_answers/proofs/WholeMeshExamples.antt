@@ -128,7 +128,8 @@ odd_exact = meshes_exact ray mesh odd_tree 3 4 plan refl (record { marks = 9; sa
 
 -- ---- the first triangle is crossed in its first corner, a millimetre deep
 first_candidate : Candidate ray mesh 0
-unfolding touches touch_side triangle_box corner_at vector_at segment_box segment_end add_of scale_of min_of max_of component minimum_of maximum_of
+unfolding touches touch_side triangle_box corner_at vector_at segment_box segment_end add_of scale_of min_of max_of component minimum_of
+    maximum_of
     is_finite of_bits of_fields is_nan ne le eq lt mul sub add sum neg round units odd size climb span
 first_candidate = record { triangle = lit≤ tt; near = refl }
 

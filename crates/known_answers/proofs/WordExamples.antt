@@ -15,7 +15,8 @@ use Rattle.lists.specs.Lists.{range, count, every, flat_map}
 use Rattle.tree.specs.Layout.{Tree, vector_at, box_at}
 use Rattle.tree.specs.Mesh.{Mesh, corners_inside, corner_at, triangle_box}
 use Rattle.tree_check.specs.Check.{triangle_count, children_of, places_of, kinds_known, children_above, leaves_inside, named_once}
-use Rattle.tree_check.specs.Check.{placed_once, ordered_once, leaves_filled, corners_known, boxes_same, boxes_valid, node_encloses, enclosed}
+use Rattle.tree_check.specs.Check.{placed_once, ordered_once, leaves_filled, corners_known, boxes_same, boxes_valid, node_encloses}
+use Rattle.tree_check.specs.Check.{enclosed}
 use Rattle.tree_check.specs.Check.{clauses_hold, tree_passes}
 
 abbrev twoᶠ : Float
@@ -67,11 +68,25 @@ in_order = 0 ∷ (1 ∷ (2 ∷ []))
 -- a tree over the three triangles, in wide boxes but for the first node's
 abbrev pub tree_of : ℕ → List Float → List ℕ → List ℕ → Tree
 tree_of count first words order =
-    record { node_count = count; node_boxes = first ++ boxes; triangle_boxes = tight ++ (tight ++ tight); node_words = words; order = order }
+    record {
+      node_count = count;
+      node_boxes = first ++ boxes;
+      triangle_boxes = tight
+          ++ (tight ++ tight);
+      node_words = words;
+      order = order;
+    }
 
 -- one leaf, and triangle boxes of its own
 abbrev pub leaf_over : List Float → Tree
-leaf_over triangle_boxes = record { node_count = 1; node_boxes = wide; triangle_boxes = triangle_boxes; node_words = leaf 0 3; order = in_order }
+leaf_over triangle_boxes = record {
+  node_count = 1;
+  node_boxes = wide;
+  triangle_boxes = triangle_boxes;
+  node_words = leaf 0 3;
+  order =
+      in_order;
+}
 
 -- whether a tree passes, and the clauses that it fails, by their number in the definition's order
 pub record Outcome : Type 0 where
@@ -123,7 +138,10 @@ no_by clause = record { passes = false; fails = clause ∷ [] }
 -- the foreign tree passes; a triangle index past the vertices, and each fault, is a no by one clause alone
 pub outcomes : (outcome thrice foreign ∷ (outcome past (leaf_over (tight ++ (tight ++ edge))) ∷ map (outcome thrice) faulty))
     ≡ (record { passes = true; fails = [] } ∷ (no_by 8 ∷ map no_by (1 ∷ (2 ∷ (3 ∷ (4 ∷ (5 ∷ (6 ∷ (7 ∷ (9 ∷ (10 ∷ (11 ∷ (11 ∷ [])))))))))))))
-unfolding tree_passes clauses_hold kinds_known children_above leaves_inside named_once placed_once ordered_once leaves_filled corners_known boxes_same
-    boxes_valid node_encloses enclosed children_of places_of range count every flat_map vector_at box_at corners_inside corner_at triangle_box
-    valid_side valid_box within_side encloses same_side same_box min_of max_of minimum_of maximum_of is_finite of_bits of_fields lt le eq is_nan
+unfolding tree_passes clauses_hold kinds_known children_above leaves_inside named_once placed_once ordered_once leaves_filled corners_known
+    boxes_same
+    boxes_valid node_encloses enclosed children_of places_of range count every flat_map vector_at box_at corners_inside corner_at
+    triangle_box
+    valid_side valid_box within_side encloses same_side same_box min_of max_of minimum_of maximum_of is_finite of_bits of_fields lt le eq
+    is_nan
 outcomes = refl

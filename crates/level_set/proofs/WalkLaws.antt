@@ -36,7 +36,8 @@ module _ (r : Ray) (g : Grid) (values : List Float) (exit : Float) where
       → tells step ≡ walk_step r g values current exit → step ≡ Done cast → says cast ≡ whole
   walk_done n current step cast whole i l e f = followed n current step (Done cast) whole i l e f
 
-  pub walk_on : (n : ℕ) (current : Float) (step : Step) (next : Float) (known : Known) (whole : Answer) → walk_from r g values exit n current
+  pub walk_on : (n : ℕ) (current : Float) (step : Step) (next : Float) (known : Known) (whole : Answer)
+      → walk_from r g values exit n current
       ≡ whole → 0 < n
       → tells step ≡ walk_step r g values current exit → step ≡ On next known → walk_from r g values exit (n - 1) next ≡ whole
   walk_on n current step next known whole i l e f = followed n current step (On next known) whole i l e f

@@ -210,7 +210,8 @@ gathers f (z ∷ l) x y h k = go (λ (r : 0 < count x l). gathers f l x y r k) (
 pub flat_map_flat_map : (f g : ℕ → List ℕ) (l : List ℕ) → flat_map f (flat_map g l) ≡ flat_map (λ (x : ℕ). flat_map f (g x)) l
 unfolding flat_map
 flat_map_flat_map f g [] = refl
-flat_map_flat_map f g (x ∷ l) = flat_map_append f (g x) (flat_map g l) ∙ ap (λ (r : List ℕ). flat_map f (g x) ++ r) (flat_map_flat_map f g l)
+flat_map_flat_map f g (x ∷ l) = flat_map_append f (g x) (flat_map g l)
+    ∙ ap (λ (r : List ℕ). flat_map f (g x) ++ r) (flat_map_flat_map f g l)
 
 -- the words at a range of places
 pub flat_map_words : (words : List ℕ) (start size : ℕ) → start + size ≤ length words → flat_map (λ (p : ℕ). get_or words p 0 ∷ [])

@@ -1,6 +1,7 @@
 -- Many rays in one call: each ray's answer is the single cast's, at the ray's places of the result slices. Definitions only. Assumes
 -- nothing.
-use Rattle.std.specs.Prelude.{ℕ, zero, suc, ◌+◌, ◌*◌, ◌/◌, ◌%◌, ◌<◌, ◌≤◌, ◌≡◌, Bool, false, ◌&&◌, List, [], ◌∷◌, leb, eqb, Float, length, set}
+use Rattle.std.specs.Prelude.{ℕ, zero, suc, ◌+◌, ◌*◌, ◌/◌, ◌%◌, ◌<◌, ◌≤◌, ◌≡◌, Bool, false, ◌&&◌, List, [], ◌∷◌, leb, eqb, Float, length}
+use Rattle.std.specs.Prelude.{set}
 use Rattle.std.proofs.lemmas.List.Edits.{sets}
 use Rattle.lists.specs.Refusals.{Test, refusing, unless_refused, all_pass}
 use Rattle.geometry.specs.declared.ray.Ray.{Ray}

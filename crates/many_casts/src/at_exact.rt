@@ -28,7 +28,8 @@ fn cast_at(
     indices: &mut [u32],
 )
     requires { ((8 * index + 8 ≤ length rays.now)
-        × ((index < length codes.old) × ((4 * index + 4 ≤ length hits.old) × (index < length indices.old)))) × (Ready (mesh vertices.now triangles.now) pose.now
+        × ((index < length codes.old) × ((4 * index + 4 ≤ length hits.old) × (index < length indices.old))))
+        × (Ready (mesh vertices.now triangles.now) pose.now
         (tree_of nodes node_boxes.now triangle_boxes.now node_words.now order.now)
         (tree_fits (thirds (length triangles.now))
         (tree_of nodes node_boxes.now triangle_boxes.now node_words.now order.now)
@@ -73,7 +74,8 @@ fn cast_each(
     indices: &mut [u32],
 )
     requires { ((8 * count ≤ length rays.now)
-        × ((count ≤ length codes.old) × ((4 * count ≤ length hits.old) × (count ≤ length indices.old)))) × (Ready (mesh vertices.now triangles.now) pose.now
+        × ((count ≤ length codes.old) × ((4 * count ≤ length hits.old) × (count ≤ length indices.old))))
+        × (Ready (mesh vertices.now triangles.now) pose.now
         (tree_of nodes node_boxes.now triangle_boxes.now node_words.now order.now)
         (tree_fits (thirds (length triangles.now))
         (tree_of nodes node_boxes.now triangle_boxes.now node_words.now order.now)

@@ -1,6 +1,7 @@
 -- Many drills in one call: each drill's answer is the single call's, at the drill's places of the result slices. Definitions only. Assumes
 -- nothing.
-use Rattle.std.specs.Prelude.{ℕ, zero, suc, ◌+◌, ◌*◌, ◌/◌, ◌%◌, ◌<◌, ◌≤◌, ◌≡◌, Bool, false, ◌&&◌, List, [], ◌∷◌, leb, eqb, Float, length, set}
+use Rattle.std.specs.Prelude.{ℕ, zero, suc, ◌+◌, ◌*◌, ◌/◌, ◌%◌, ◌<◌, ◌≤◌, ◌≡◌, Bool, false, ◌&&◌, List, [], ◌∷◌, leb, eqb, Float, length}
+use Rattle.std.specs.Prelude.{set}
 use Rattle.lists.specs.Refusals.{Test, refusing, unless_refused, all_pass}
 use Rattle.geometry.specs.declared.ray.Ray.{Ray}
 use Rattle.casts.specs.Answer.{bad_shape, no_room}

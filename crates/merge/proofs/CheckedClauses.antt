@@ -13,8 +13,10 @@ use Rattle.lists.proofs.JoinedTests.{and_both, or_second}
 use Rattle.lists.specs.Lists.{range, count, every, flat_map}
 use Rattle.tree.specs.Layout.{Tree, word_at, box_at, first_at, second_at}
 use Rattle.tree.specs.Mesh.{Mesh, thirds, corners_inside, triangle_box}
-use Rattle.tree_check.specs.Check.{triangle_count, nodes, is_leaf, is_branch, children_of, places_of, kinds_known, children_above, leaves_inside}
-use Rattle.tree_check.specs.Check.{named_once, placed_once, ordered_once, leaves_filled, corners_known, boxes_same, boxes_valid, node_encloses}
+use Rattle.tree_check.specs.Check.{triangle_count, nodes, is_leaf, is_branch, children_of, places_of, kinds_known, children_above}
+use Rattle.tree_check.specs.Check.{leaves_inside}
+use Rattle.tree_check.specs.Check.{named_once, placed_once, ordered_once, leaves_filled, corners_known, boxes_same, boxes_valid}
+use Rattle.tree_check.specs.Check.{node_encloses}
 use Rattle.tree_check.specs.Check.{enclosed, clauses_hold, tree_passes}
 use Rattle.mesh.proofs.CheckedTree.{Checked, checked_or_empty}
 use Rattle.mesh.proofs.BuildClauses.{every_of_listed, every_of_range, every_below}

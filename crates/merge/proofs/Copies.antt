@@ -112,7 +112,8 @@ module _ (m m' : Mesh) (t t' : Tree) (c s : ℕ) (k : Copied t' t (triangle_coun
   all_places_moved = gather_moved (places_of m' t') (places_of m t) s c 0 t.node_count (λ i p q. places_moved i (omega arith))
 
   -- ---- what a node passes
-  module _ (h : Checked m t) (nodes-fit : t.node_count + c ≤ t'.node_count) (places_fit_lem : triangle_count m t + s ≤ triangle_count m' t') where
+  module _ (h : Checked m t) (nodes-fit : t.node_count + c ≤ t'.node_count)
+      (places_fit_lem : triangle_count m t + s ≤ triangle_count m' t') where
     child_source : (i j : ℕ) → i < t.node_count → 0 < count j (children_of m' t' (i + c)) → Source j c (children_of m t i)
     child_source i j b g = moved_source j c (children_of m t i) (subst (λ (l : List ℕ). 0 < count j l) (children_moved i b) g)
 

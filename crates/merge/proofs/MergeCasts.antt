@@ -105,7 +105,8 @@ module _ (a b : Board) (s : Sound a) (u : Sound b) where
 
 -- ---- the casts without a tree
 abbrev chosen : Bool → Bool → Bool → Indexed → Indexed
-chosen admitted finite valid y = cond admitted (cond finite (cond valid y (stopped out_of_bounds)) (stopped overflow)) (stopped invalid_input)
+chosen admitted finite valid y = cond admitted (cond finite (cond valid y (stopped out_of_bounds)) (stopped overflow))
+    (stopped invalid_input)
 
 chosen_glued : (n : ℕ) (p q v : Bool) (x x₁ x₂ : Indexed) → x ≡ glue n x₁ x₂
     → chosen p q v x ≡ glue n (chosen p q v x₁) (chosen p q v x₂)

@@ -77,7 +77,11 @@ sound a w f p =
     let h = passes_checked a.mesh a.tree p in
     let g = fits (triangles_in a) a.tree f in
     record {
-      sized = record { node_boxes_lem = omega (arith, h.few, g.node_boxes_lem); triangle_boxes_lem = g.triangle_boxes_lem; order = g.order };
+      sized = record {
+        node_boxes_lem = omega (arith, h.few, g.node_boxes_lem);
+        triangle_boxes_lem = g.triangle_boxes_lem;
+        order = g.order;
+      };
       whole = w;
       checked = h;
     }

@@ -105,7 +105,8 @@ module _ (a b : Board) where
       ap (flat_map f) (range_split 0 (roots a b) (N + M))
       ∙ flat_map_append f (range 0 (roots a b)) (range (0 + roots a b) (N + M))
       ∙ ap (λ (l : List ℕ). flat_map f (range 0 (roots a b)) ++ flat_map f l) (range_split (0 + roots a b) N M)
-      ∙ ap (λ (l : List ℕ). flat_map f (range 0 (roots a b)) ++ l) (flat_map_append f (range (0 + roots a b) N) (range (0 + roots a b + N) M))
+      ∙ ap (λ (l : List ℕ). flat_map f (range 0 (roots a b)) ++ l)
+      (flat_map_append f (range (0 + roots a b) N) (range (0 + roots a b + N) M))
       ∙ ap (λ (z : ℕ). flat_map f (range 0 (roots a b)) ++ (flat_map f (range (0 + roots a b) N) ++ flat_map f (range z M))) e
 
   pub gathered_count : (f : ℕ → List ℕ) (l m : List ℕ) (x : ℕ) → flat_map f (range (0 + roots a b) N) ≡ l

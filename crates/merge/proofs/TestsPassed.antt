@@ -190,7 +190,8 @@ module _ (a b : Board) (old : Areas) (r : Bool) (e : r ≡ one_empty a b) (verti
       b.tree.node_words b.tree.node_count)) old.node_words
       → order ≡ over (take (triangles_in a) a.tree.order ++ moved_up (triangles_in a) (take (triangles_in b) b.tree.order)) old.order
       → areas_of vertices triangles boxes around words order ≡ merged_over a b old
-  unfolding merged_over merged_vertices merged_triangles merged_node_boxes merged_triangle_boxes merged_words merged_order root_box root_words roots
+  unfolding merged_over merged_vertices merged_triangles merged_node_boxes merged_triangle_boxes merged_words merged_order root_box
+      root_words roots
   areas_left f g h k l q = rw (f, g, h, k, l, q, e)
 
 -- ---- both tests

@@ -138,7 +138,8 @@ module _ (a b : Board) (old : Areas) (p : Sized a) (q : Sized b) where
 
   both_words : Run 0 written.node_words (3 * roots a b) (first_words ++ second_words)
   both_words =
-      run_second 0 written.node_words 0 (root_words a b) (first_words ++ second_words) words_run (3 * roots a b) (omega (arith, root_words_lem))
+      run_second 0 written.node_words 0 (root_words a b) (first_words ++ second_words) words_run (3 * roots a b)
+      (omega (arith, root_words_lem))
 
   first_boxes_lem : Run nan written.node_boxes (6 * roots a b) first_boxes
   first_boxes_lem = run_first nan written.node_boxes (6 * roots a b) first_boxes second_boxes both_boxes
@@ -214,7 +215,8 @@ module _ (a b : Board) (old : Areas) (p : Sized a) (q : Sized b) where
         second = moved_second written.node_words b.tree.node_words c (triangles_in a) c n second_words_lem;
         node_box = copied_box written.node_boxes b.tree.node_boxes c n second_boxes_lem q.node_boxes_lem;
         triangle_box_lem =
-            copied_box written.triangle_boxes b.tree.triangle_boxes (triangles_in a) (triangles_in b) second_around_lem q.triangle_boxes_lem;
+            copied_box written.triangle_boxes b.tree.triangle_boxes (triangles_in a) (triangles_in b) second_around_lem
+            q.triangle_boxes_lem;
         ordered = moved_order written.order b.tree.order (triangles_in a) (triangles_in b) second_order_lem q.order;
       }
 

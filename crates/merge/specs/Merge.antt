@@ -158,6 +158,7 @@ module _ (a b : Board) where
   merge_of old marks =
       cond shapes_admitted
       (cond (areas_fit old marks)
-      (cond trees_pass record { answer = nodes merged_count; after = merged_over old } record { answer = refused out_of_bounds; after = old })
+      (cond trees_pass record { answer = nodes merged_count; after = merged_over old }
+      record { answer = refused out_of_bounds; after = old })
       record { answer = refused no_room; after = old })
       record { answer = refused bad_shape; after = old }

@@ -181,8 +181,10 @@ union_valid b c p q = valid_box_lem (union_of b c) on_axis
         let w = valid_on c q a in
         let u = (union_on b c p q a).0 in
         record {
-          low_finite_lem = rw (union_low a b c) (minimum_keeps (λ (z : Float). is_finite z ≡ true) (on a b.min) (on a c.min) v.low_finite_lem w.low_finite_lem);
-          high_finite_lem = rw (union_high a b c) (maximum_keeps (λ (z : Float). is_finite z ≡ true) (on a b.max) (on a c.max) v.high_finite_lem w.high_finite_lem);
+          low_finite_lem = rw (union_low a b c) (minimum_keeps (λ (z : Float). is_finite z ≡ true) (on a b.min) (on a c.min)
+              v.low_finite_lem w.low_finite_lem);
+          high_finite_lem = rw (union_high a b c) (maximum_keeps (λ (z : Float). is_finite z ≡ true) (on a b.max) (on a c.max)
+              v.high_finite_lem w.high_finite_lem);
           rises =
               le_transitive (on a (union_of b c).min) (on a b.min) (on a (union_of b c).max) u.0
               (le_transitive (on a b.min) (on a b.max) (on a (union_of b c).max) v.rises u.1);
@@ -271,4 +273,5 @@ module _ (boxes : List Float) where
   unfolding hull_of
   hull_within d [] some h = absurd (omega arith)
   hull_within d (t ∷ ts) some h =
-      folded_within (box_at boxes) d (box_at boxes t) ts (h t (head_listed t ts)) (λ (x : ℕ) (k : 0 < count x ts). h x (tail_listed x t ts k))
+      folded_within (box_at boxes) d (box_at boxes t) ts (h t (head_listed t ts))
+      (λ (x : ℕ) (k : 0 < count x ts). h x (tail_listed x t ts k))

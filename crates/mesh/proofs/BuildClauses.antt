@@ -15,8 +15,10 @@ use Rattle.tree.specs.Mesh.{Mesh, thirds, corners_inside, triangle_box}
 use Rattle.lists.proofs.CountLaws.{one_same, one_other, count_cons, count_range_inside, range_bounds}
 use Rattle.tree_build.specs.Shape.{shape_of, size_of, nodes_of}
 use Rattle.tree_build.proofs.Shapes.{size_of_shape_of, nodes_of_shape_of}
-use Rattle.tree_check.specs.Check.{triangle_count, nodes, is_leaf, is_branch, children_of, places_of, kinds_known, children_above, leaves_inside}
-use Rattle.tree_check.specs.Check.{named_once, placed_once, ordered_once, leaves_filled, corners_known, boxes_same, boxes_valid, node_encloses}
+use Rattle.tree_check.specs.Check.{triangle_count, nodes, is_leaf, is_branch, children_of, places_of, kinds_known, children_above}
+use Rattle.tree_check.specs.Check.{leaves_inside}
+use Rattle.tree_check.specs.Check.{named_once, placed_once, ordered_once, leaves_filled, corners_known, boxes_same, boxes_valid}
+use Rattle.tree_check.specs.Check.{node_encloses}
 use Rattle.tree_check.specs.Check.{enclosed, clauses_hold}
 use Rattle.mesh.proofs.BuildBoxes.{valid_same}
 use Rattle.mesh.proofs.BuildOrder.{shape_filled}
@@ -164,7 +166,8 @@ module _ (m : Mesh) (t : Tree) (b : Built m t) where
   built_passes =
       and_both _ _ (le-leb t.node_count (2 * n) (omega (arith, b.node_count_lem, nodes_of_shape_of n b.some)))
       (and_both _ _ (each_node (λ (i : ℕ). is_leaf m t i || is_branch m t i) kind_known)
-      (and_both _ _ (each_node (λ (i : ℕ). not (is_branch m t i) || (differ_test i && every (later_test i) (children_of m t i))) children_above_lem)
+      (and_both _ _ (each_node (λ (i : ℕ). not (is_branch m t i) || (differ_test i && every (later_test i) (children_of m t i)))
+      children_above_lem)
       (and_both _ _ (each_node (λ (i : ℕ). not (is_leaf m t i) || leb (first_at t.node_words i + second_at t.node_words i) n) leaf_inside)
       (and_both _ _
       (every_of_range (λ (i : ℕ). eqb (count i (flat_map (children_of m t) (nodes m t))) 1) 1 (t.node_count - 1)

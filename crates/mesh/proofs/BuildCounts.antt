@@ -121,7 +121,8 @@ module _ (m : Mesh) (t : Tree) where
   places_below node start (leaf n) ts w = gather_one (places_of m t) node ∙ leaf_holds m t node start n (leaf_words t node start n ts w)
   places_below node start (branch l r) ts w =
       let rest : List ℕ → List ℕ =
-      λ (p : List ℕ). p ++ (flat_map (places_of m t) (range (node + 1) (nodes_of l)) ++ flat_map (places_of m t) (range (node + 1 + nodes_of l)
+      λ (p : List ℕ). p ++ (flat_map (places_of m t) (range (node + 1) (nodes_of l))
+      ++ flat_map (places_of m t) (range (node + 1 + nodes_of l)
       (nodes_of r)))
       in
       gather_branch (places_of m t) node (nodes_of l) (nodes_of r)

@@ -56,7 +56,8 @@ module _ (t : Tree) where
         (run_first 0 t.node_words (3 * node) (1 ∷ ((node + 1) ∷ ((node + 1 + nodes_of l) ∷ [])))
         (words_of (node + 1) start l ++ words_of (node + 1 + nodes_of l) (start + size_of l) r) w.words)
 
-    words_below : Run 0 t.node_words (3 * (node + 1)) (words_of (node + 1) start l ++ words_of (node + 1 + nodes_of l) (start + size_of l) r)
+    words_below : Run 0 t.node_words (3 * (node + 1)) (words_of (node + 1) start l
+        ++ words_of (node + 1 + nodes_of l) (start + size_of l) r)
     unfolding words_of
     words_below =
         run_second 0 t.node_words (3 * node) (1 ∷ ((node + 1) ∷ ((node + 1 + nodes_of l) ∷ [])))
@@ -75,7 +76,8 @@ module _ (t : Tree) where
 
     pub written_left : Written (node + 1) start l lefts
     written_left = record {
-      words = run_first 0 t.node_words (3 * (node + 1)) (words_of (node + 1) start l) (words_of (node + 1 + nodes_of l) (start + size_of l) r)
+      words = run_first 0 t.node_words (3 * (node + 1)) (words_of (node + 1) start l)
+          (words_of (node + 1 + nodes_of l) (start + size_of l) r)
           words_below;
       boxes = run_first nan t.node_boxes (6 * (node + 1)) (boxes_below t.triangle_boxes l lefts) (boxes_below t.triangle_boxes r rights)
           boxes_below_lem;

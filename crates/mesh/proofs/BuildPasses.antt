@@ -15,7 +15,8 @@ use Rattle.lists.proofs.JoinedTests.{and_first, and_second, or_second}
 use Rattle.casts.specs.Answer.{bad_shape, no_room, out_of_bounds, overflow}
 use Rattle.lists.specs.Lists.{range, count}
 use Rattle.tree.specs.Layout.{Tree, Areas, tree_in}
-use Rattle.tree.specs.Mesh.{Mesh, thirds, lengths_admitted, corners_inside, triangle_box, each_box, triangle_count, triangle_fits, triangles_fit}
+use Rattle.tree.specs.Mesh.{Mesh, thirds, lengths_admitted, corners_inside, triangle_box, each_box, triangle_count, triangle_fits}
+use Rattle.tree.specs.Mesh.{triangles_fit}
 use Rattle.lists.proofs.CountLaws.{every_at, member_of_count, length_range, count_range_inside}
 use Rattle.tree_build.specs.Shape.{shape_of, nodes_of, words_of}
 use Rattle.tree_build.specs.Ranges.{extents_finite, order_below, boxes_below}

@@ -38,7 +38,8 @@ module _ {A : Type 0} (d : A) where
       reads =
           λ (i : ℕ) (h : i < length ys).
           let there : after + i ≡ place + (length xs + i) = omega arith in
-          ap (λ (k : ℕ). get_or area k d) there ∙ r.reads (length xs + i) (omega (arith, length-append xs ys)) ∙ get_or-append-add xs ys i d;
+          ap (λ (k : ℕ). get_or area k d) there ∙ r.reads (length xs + i) (omega (arith, length-append xs ys))
+          ∙ get_or-append-add xs ys i d;
     }
 
 -- ---- a box
@@ -80,9 +81,11 @@ unfolding each_box range
 run_boxes area box start zero r x p q = absurd (omega arith)
 run_boxes area box start (suc size) r x p q = go (run_boxes area box (suc start) size) (same_or_other x start)
   where
-    go : (Run nan area (6 * suc start) (each_box box (range (suc start) size)) → (x : ℕ) → suc start ≤ x → x < suc start + size → box_at area
+    go : (Run nan area (6 * suc start) (each_box box (range (suc start) size)) → (x : ℕ) → suc start ≤ x → x < suc start + size
+        → box_at area
         x ≡ box x) → (x ≡ start) ⊎ (x ≡ start → ⊥) → box_at area x ≡ box x
-    go rest (inl e) = rw e (run_box area start (box start) (run_first nan area (6 * start) (box_numbers (box start)) (each_box box (range (suc
+    go rest (inl e) = rw e (run_box area start (box start) (run_first nan area (6 * start) (box_numbers (box start))
+        (each_box box (range (suc
         start) size)) r))
     go rest (inr n) =
         rest (run_second nan area (6 * start) (box_numbers (box start)) (each_box box (range (suc start) size)) r (6 * suc start)

@@ -14,8 +14,10 @@ use Rattle.lists.specs.Lists.{range, count, every, flat_map}
 use Rattle.tree.specs.Layout.{Tree, word_at, box_at, first_at, second_at}
 use Rattle.tree.specs.Mesh.{Mesh, thirds, corners_inside, triangle_box}
 use Rattle.lists.proofs.CountLaws.{count_nil, every_at, member_of_count, count_range_inside}
-use Rattle.tree_check.specs.Check.{triangle_count, nodes, is_leaf, is_branch, children_of, places_of, kinds_known, children_above, leaves_inside}
-use Rattle.tree_check.specs.Check.{named_once, placed_once, ordered_once, leaves_filled, corners_known, boxes_same, boxes_valid, node_encloses}
+use Rattle.tree_check.specs.Check.{triangle_count, nodes, is_leaf, is_branch, children_of, places_of, kinds_known, children_above}
+use Rattle.tree_check.specs.Check.{leaves_inside}
+use Rattle.tree_check.specs.Check.{named_once, placed_once, ordered_once, leaves_filled, corners_known, boxes_same, boxes_valid}
+use Rattle.tree_check.specs.Check.{node_encloses}
 use Rattle.tree_check.specs.Check.{enclosed, clauses_hold, tree_passes}
 
 pub every_in_range : (p : ℕ → Bool) (start size : ℕ) → every p (range start size) ≡ true → (x : ℕ) → start ≤ x → x < start + size → p x ≡
@@ -84,7 +86,8 @@ no_places m t i e = simp e
 module _ (m : Mesh) (t : Tree) (h : clauses_hold m t ≡ true) where
   clauses : List Bool
   clauses =
-      leb t.node_count (2 * triangle_count m t) ∷ kinds_known m t ∷ children_above m t ∷ leaves_inside m t ∷ named_once m t ∷ placed_once m t ∷
+      leb t.node_count (2 * triangle_count m t) ∷ kinds_known m t ∷ children_above m t ∷ leaves_inside m t ∷ named_once m t
+      ∷ placed_once m t ∷
       ordered_once m t
       ∷ leaves_filled m t ∷ corners_known m t ∷ boxes_same m t ∷ boxes_valid m t ∷ enclosed m t ∷ []
 

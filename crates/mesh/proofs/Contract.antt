@@ -19,7 +19,8 @@ demand_met r m pose t list stack answer e own admitted =
     (demand3 r m t list stack admitted)
 
 -- the three clauses: the equation, what is kept, and the demand
-pub with_demand : (r : Ray) (m : Mesh) (pose : List Float) (t : Tree) (list stack : ℕ) (answer : Indexed) (Kept : Type 0) → answer ≡ ray_mesh
+pub with_demand : (r : Ray) (m : Mesh) (pose : List Float) (t : Tree) (list stack : ℕ) (answer : Indexed) (Kept : Type 0) → answer
+    ≡ ray_mesh
     r m pose t list stack → Kept
     → (answer ≡ ray_mesh r m pose t list stack) × (Kept × (pose ≡ m.vertices → Admitted r m t list stack → MeetsDemand r m answer))
 with_demand r m pose t list stack answer Kept e k = (e, (k, demand_met r m pose t list stack answer e))

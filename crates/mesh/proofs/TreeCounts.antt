@@ -53,7 +53,8 @@ module _ (m : Mesh) (t : Tree) (c : Checked m t) where
   pub named_within : 0 < t.node_count → Within (0 ∷ flat_map (children_of m t) (nodes m t)) (nodes m t)
   named_within some = record { at_most = λ (i : ℕ). at i (same_or_other i 0) (below_or_not i t.node_count) }
     where
-      at : (i : ℕ) → (i ≡ 0) ⊎ (i ≡ 0 → ⊥) → (i < t.node_count) ⊎ (t.node_count ≤ i) → count i (0 ∷ flat_map (children_of m t) (nodes m t)) ≤
+      at : (i : ℕ) → (i ≡ 0) ⊎ (i ≡ 0 → ⊥) → (i < t.node_count) ⊎ (t.node_count ≤ i) → count i (0 ∷ flat_map (children_of m t) (nodes m t))
+          ≤
           count i (nodes m t)
       at i (inl e) b =
           let none : count i (flat_map (children_of m t) (nodes m t)) ≡ 0 = count_zero (count i (flat_map (children_of m t) (nodes m t)))

@@ -163,7 +163,8 @@ no_candidates : (m : Mesh) (t : Tree) (box : Aabb) → triangle_count m t ≡ 0 
 unfolding candidates range keep
 no_candidates m t box e = simp e
 
-walk_of_nothing : (m : Mesh) (t : Tree) (box : Aabb) → t.node_count ≡ 0 → triangle_count m t ≡ 0 → walk_of t (triangle_count m t) box ≡ walking
+walk_of_nothing : (m : Mesh) (t : Tree) (box : Aabb) → t.node_count ≡ 0 → triangle_count m t ≡ 0 → walk_of t (triangle_count m t) box
+    ≡ walking
     [] (candidates m box)
 unfolding walk_of start ended times sort_by
 walk_of_nothing m t box e f = simp (e, no_candidates m t box f)
@@ -186,6 +187,7 @@ walk_lists_candidates m t box h = either (checked_or_empty m t h)
     go c true e = let none : t.node_count ≡ 0 = eqb-true t.node_count 0 e in walk_of_nothing m t box none (nothing_placed m t c none)
     go c false e = let some : t.node_count ≢ 0 = eqb-false t.node_count 0 e in walk_of_nodes m t box c (omega arith) e
 
-    either : Checked m t ⊎ ((t.node_count ≡ 0) × (triangle_count m t ≡ 0)) → walk_of t (triangle_count m t) box ≡ walking [] (candidates m box)
+    either : Checked m t ⊎ ((t.node_count ≡ 0) × (triangle_count m t ≡ 0)) → walk_of t (triangle_count m t) box
+        ≡ walking [] (candidates m box)
     either (inl c) = go c (eqb t.node_count 0) refl
     either (inr empty) = walk_of_nothing m t box empty.0 empty.1

@@ -31,7 +31,8 @@ module _ (m : Mesh) (t : Tree) (box : Aabb) where
     pub once : Within taken (nodes m t)
     pub listed : Within list (flat_map (triangles_of m t) taken)
     pub rooted : 0 < count 0 (taken ++ stack)
-    pub opened : (q i : ℕ) → 0 < count q taken → node_touches t box q ≡ true → 0 < count i (children_of m t q) → 0 < count i (taken ++ stack)
+    pub opened : (q i : ℕ) → 0 < count q taken → node_touches t box q ≡ true → 0 < count i (children_of m t q) → 0
+        < count i (taken ++ stack)
     pub found : (q x : ℕ) → 0 < count q taken → node_touches t box q ≡ true → 0 < count x (triangles_of m t q) → triangle_touches t box x ≡
         true → 0 < count x list
     pub only : (x : ℕ) → 0 < count x list → triangle_touches t box x ≡ true
@@ -41,7 +42,8 @@ module _ (m : Mesh) (t : Tree) (box : Aabb) where
     pub no_others : Within children (children_of m t node)
     pub no_strangers : Within triangles (triangles_of m t node)
     pub all_children : node_touches t box node ≡ true → (i : ℕ) → 0 < count i (children_of m t node) → 0 < count i children
-    pub all_triangles : node_touches t box node ≡ true → (x : ℕ) → 0 < count x (triangles_of m t node) → triangle_touches t box x ≡ true → 0 <
+    pub all_triangles : node_touches t box node ≡ true → (x : ℕ) → 0 < count x (triangles_of m t node) → triangle_touches t box x ≡ true → 0
+        <
         count x triangles
     pub touching : (x : ℕ) → 0 < count x triangles → triangle_touches t box x ≡ true
 

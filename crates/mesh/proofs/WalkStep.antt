@@ -29,8 +29,10 @@ unfolding take_place
 takes_place t n box stack list place p q true e = simp (lt-ltb (word_at t.order place) n p, lt-ltb (length list) n q, e)
 takes_place t n box stack list place p q false e = simp (lt-ltb (word_at t.order place) n p, e)
 
-pub places_listed : (t : Tree) (n : ℕ) (box : Aabb) (stack list places : List ℕ) → Within (list ++ flat_map (placed_at t) places) (range 0 n)
-    → take_places t n box (walking stack list) places ≡ walking stack (list ++ keep (triangle_touches t box) (flat_map (placed_at t) places))
+pub places_listed : (t : Tree) (n : ℕ) (box : Aabb) (stack list places : List ℕ)
+    → Within (list ++ flat_map (placed_at t) places) (range 0 n)
+    → take_places t n box (walking stack list) places ≡ walking stack
+    (list ++ keep (triangle_touches t box) (flat_map (placed_at t) places))
 unfolding take_places flat_map keep
 places_listed t n box stack list [] w = ap (walking stack) (sym (append-nil list))
 places_listed t n box stack list (place ∷ places) w = go (triangle_touches t box x) refl (λ l v. places_listed t n box stack l places v)
@@ -171,7 +173,8 @@ module _ (m : Mesh) (t : Tree) (box : Aabb) (c : Checked m t) (some : 0 < t.node
           );
         }
 
-    kept_count : (x : ℕ) (b : Bool) → triangle_touches t box x ≡ b → count x (keep (triangle_touches t box) (triangles_of m t node)) ≡ cond b
+    kept_count : (x : ℕ) (b : Bool) → triangle_touches t box x ≡ b → count x (keep (triangle_touches t box) (triangles_of m t node))
+        ≡ cond b
         (count x (triangles_of m t node)) 0
     kept_count x b e = count_keep (triangle_touches t box) x (triangles_of m t node) ∙ ap
         (λ (b : Bool). cond b (count x (triangles_of m t node)) 0) e
@@ -202,12 +205,14 @@ module _ (m : Mesh) (t : Tree) (box : Aabb) (c : Checked m t) (some : 0 < t.node
           };
     }
       where
-        fewer : (x : ℕ) (b : Bool) → triangle_touches t box x ≡ b → count x (keep (triangle_touches t box) (triangles_of m t node)) ≤ count x
+        fewer : (x : ℕ) (b : Bool) → triangle_touches t box x ≡ b → count x (keep (triangle_touches t box) (triangles_of m t node))
+            ≤ count x
             (triangles_of m t node)
         fewer x true f = omega (arith, kept_count x true f)
         fewer x false f = omega (arith, kept_count x false f)
 
-        touching : (x : ℕ) → 0 < count x (keep (triangle_touches t box) (triangles_of m t node)) → (b : Bool) → triangle_touches t box x ≡ b →
+        touching : (x : ℕ) → 0 < count x (keep (triangle_touches t box) (triangles_of m t node)) → (b : Bool) → triangle_touches t box x ≡ b
+            →
             triangle_touches t box x ≡ true
         touching x h true f = f
         touching x h false f = absurd (omega (arith, kept_count x false f))

@@ -52,7 +52,8 @@ module _ (r : Ray) (radius : Float) (m : Mesh) where
   unfolding drill_plain
   radius_invalid a b = simp (a, b)
 
-  pub ray_out : ray_admitted r ≡ true → radius_admitted radius ≡ true → grid_admitted r ≡ false → Stopped out_of_range ≡ drill_plain r radius m
+  pub ray_out : ray_admitted r ≡ true → radius_admitted radius ≡ true → grid_admitted r ≡ false → Stopped out_of_range
+      ≡ drill_plain r radius m
   unfolding drill_plain
   ray_out a b c = simp (a, b, c)
 
@@ -118,7 +119,8 @@ module _ (r : Ray) (radius : Float) (m : Mesh) where
       go true false q s u a b c d e = subst (CertainRayDrill r radius m) (radius_invalid a b) (stopped_sure invalid_input (size refl b))
       go true true false s u a b c d e =
           subst (CertainRayDrill r radius m) (ray_out a b c) (stopped_sure out_of_range (beyond refl (ray-beyond r m a c)))
-      go true true true false u a b c d e = subst (CertainRayDrill r radius m) (radius_out a b c d) (stopped_sure out_of_range (wide refl d))
+      go true true true false u a b c d e = subst (CertainRayDrill r radius m) (radius_out a b c d)
+          (stopped_sure out_of_range (wide refl d))
       go true true true true false a b c d e =
           subst (CertainRayDrill r radius m) (lengths_bad (record { ray = a; size = b; read = c; widest = d }) e)
           (stopped_sure bad_shape (lengths refl e))

@@ -70,7 +70,8 @@ module _ (r : Ray) (radius : Float) (m : Mesh) (t : Tree) (i : ℕ) where
   unfolding over_mesh
   mesh_touched = go (triangles_fit m) (mesh_read m)
     where
-      go : (a b : Bool) → cond a (cond b (drill_all (grid_line r) (radius_on radius) m) (Stopped out_of_range)) (Stopped out_of_bounds) ≡ Touches i
+      go : (a b : Bool) → cond a (cond b (drill_all (grid_line r) (radius_on radius) m) (Stopped out_of_range)) (Stopped out_of_bounds)
+          ≡ Touches i
           → found
       go false b h = absurd (false≢true (ap touches h))
       go true false h = absurd (false≢true (ap touches h))
@@ -105,4 +106,5 @@ module _ (r : Ray) (radius : Float) (m : Mesh) (t : Tree) (i : ℕ) where
       go true true true true false f k h = absurd (false≢true (ap touches h))
       go true true true true true false k h = absurd (false≢true (ap touches h))
       go true true true true true true k h =
-          touched_certain (grid_line r) (radius_on radius) (corner_on m i 0) (corner_on m i 1) (corner_on m i 2) (ray_ends r k) (tree_touched h)
+          touched_certain (grid_line r) (radius_on radius) (corner_on m i 0) (corner_on m i 1) (corner_on m i 2) (ray_ends r k)
+          (tree_touched h)

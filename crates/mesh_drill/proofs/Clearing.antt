@@ -1,6 +1,7 @@
 -- What the drill on the grid says of the triangle as drawn: no corner, no origin, no direction is read further off than half a unit.
 -- Assumes nothing.
-use Rattle.std.proofs.Common.{◌≡◌, ℕ, zero, suc, ◌+◌, ◌*◌, ◌<◌, ◌≤◌, true, ◌&&◌, ℤ, pos, ◌+ℤ◌, ◌-ℤ◌, ◌*ℤ◌, nat_abs, sym, refl, ◌∙◌, mul-le-mul_right, arith, lit<, lit≤}
+use Rattle.std.proofs.Common.{◌≡◌, ℕ, zero, suc, ◌+◌, ◌*◌, ◌<◌, ◌≤◌, true, ◌&&◌, ℤ, pos, ◌+ℤ◌, ◌-ℤ◌, ◌*ℤ◌, nat_abs, sym, refl, ◌∙◌}
+use Rattle.std.proofs.Common.{mul-le-mul_right, arith, lit<, lit≤}
 use lib.Ieee.{Float, le}
 use Rattle.lists.proofs.JoinedTests.{and_first, and_second}
 use Rattle.vectors.specs.Vector.{finite_vec, dot_of}
@@ -59,7 +60,8 @@ turned {B} x y b = bounded_as refl (Identities.read_turned x y) (bounded_negated
 abbrev finer : ℕ → Point → Point
 finer W p = record { x = pos W *ℤ p.x; y = pos W *ℤ p.y; z = pos W *ℤ p.z }
 
-module _ (r : Ray) (x : Float) (a b c : Vec3) (admitted : ray_admitted r ≡ true) (read : grid_admitted r ≡ true) (g : Drawing r x a b c) where
+module _ (r : Ray) (x : Float) (a b c : Vec3) (admitted : ray_admitted r ≡ true) (read : grid_admitted r ≡ true)
+    (g : Drawing r x a b c) where
   abbrev W : ℕ
   W = g.W
 

@@ -1,6 +1,7 @@
 -- The code's sides of the drill's box are the definition's: the floors of the ends, wider by the radius and a unit, in millimetres. Assumes
 -- nothing.
-use Rattle.std.proofs.Common.{◌≡◌, ℕ, suc, ◌+◌, ◌≤◌, Bool, true, false, cond, ℤ, pos, negsuc, ◌+ℤ◌, ◌-ℤ◌, nat_abs, sym, refl, ap, ◌∙◌, subst, le_trans, mul-one, lit<, lit≤, w64, SFits}
+use Rattle.std.proofs.Common.{◌≡◌, ℕ, suc, ◌+◌, ◌≤◌, Bool, true, false, cond, ℤ, pos, negsuc, ◌+ℤ◌, ◌-ℤ◌, nat_abs, sym, refl, ap, ◌∙◌}
+use Rattle.std.proofs.Common.{subst, le_trans, mul-one, lit<, lit≤, w64, SFits}
 use lib.Signed.{le_z}
 use lib.Ieee.{Float, fin, binary64, round, mul, of_int, of_bits}
 use lib.Ieee.Back.{round_whole}

@@ -1,5 +1,6 @@
 -- Every admitted ray and radius and finite triangle has a drawing: a grid so fine that no number of theirs is rounded. Assumes nothing.
-use Rattle.std.proofs.Common.{◌≡◌, ℕ, ◌+◌, ◌*◌, ◌<◌, true, false, not, ℤ, pos, ◌*ℤ◌, neg_ℤ, sym, refl, ap, ◌∙◌, mul_assoc, mul_comm, mul-pos, mul_left_comm, arith, lit<, ltb-false}
+use Rattle.std.proofs.Common.{◌≡◌, ℕ, ◌+◌, ◌*◌, ◌<◌, true, false, not, ℤ, pos, ◌*ℤ◌, neg_ℤ, sym, refl, ap, ◌∙◌, mul_assoc, mul_comm}
+use Rattle.std.proofs.Common.{mul-pos, mul_left_comm, arith, lit<, ltb-false}
 use mathlib.Core.Bool.{false≢true}
 use borrow.Author.Tests.{not-true}
 use lib.Ieee.{Float, nan, inf, fin, up, down, lt}

@@ -3,7 +3,8 @@
 -- and
 -- one without area. And radii as they are read. Assumes nothing.
 use Rattle.std.proofs.Common.{◌≡◌, ℕ, List, [], ◌∷◌, get_or, refl, ap}
-use lib.Ieee.{Float, binary64, span, climb, size, odd, units, round, neg, sum, add, sub, mul, div, lt, eq, le, ne, is_nan, of_fields, of_bits}
+use lib.Ieee.{Float, binary64, span, climb, size, odd, units, round, neg, sum, add, sub, mul, div, lt, eq, le, ne, is_nan, of_fields}
+use lib.Ieee.{of_bits}
 use lib.Ieee.{of_int, to_signed}
 use Rattle.arithmetic.specs.Basic.{is_finite, absolute}
 use Rattle.arithmetic.specs.Extremes.{minimum_of, maximum_of}
@@ -19,7 +20,8 @@ use Rattle.nearest_hit.specs.Nearest.{Indexed, hit_at, no_hit, next_of, fold_fro
 use Rattle.lists.specs.Lists.{range, every}
 use Rattle.tree.specs.Layout.{vector_at}
 use Rattle.tree.specs.Mesh.{Mesh, lengths_admitted, corners_inside, corner_at, corners_of, triangle_box, triangle_fits, triangles_fit}
-use Rattle.exact_depth.specs.FirstPoint.{kept, crossing, side_of, entering, inside, entry, along_plane, area, in_plane, coplanar, by_weights}
+use Rattle.exact_depth.specs.FirstPoint.{kept, crossing, side_of, entering, inside, entry, along_plane, area, in_plane, coplanar}
+use Rattle.exact_depth.specs.FirstPoint.{by_weights}
 use Rattle.exact_depth.specs.FirstPoint.{first_point}
 use Rattle.exact_triangle.specs.Grid.{nearest_to, grid_admitted, grid_line}
 use Rattle.exact_triangle.specs.Shear.{main_of, depth_of}
@@ -139,11 +141,15 @@ drills =
 
 pub drills_answered : drills
     ≡ Clear ∷ (Touches 0 ∷ (Touches 0 ∷ (Clear ∷ (Touches 0 ∷ (Touches 0 ∷ (Touches 0 ∷ []))))))
-unfolding drill_plain over_mesh drill_all first_of mesh_read touched touched_by from_axis corner_in crossing_in foot_in cap_in plane_in radius_admitted
-    radius_on ceiling triangles_fit triangle_fits every range triangle_box corner_at corners_of corners_inside lengths_admitted vector_at corners_read
-    grid_admitted grid_line nearest_to ray_admitted unit_length valid_box valid_side length_of dot_of max_of min_of finite_vec root_of root_round
+unfolding drill_plain over_mesh drill_all first_of mesh_read touched touched_by from_axis corner_in crossing_in foot_in cap_in plane_in
+    radius_admitted
+    radius_on ceiling triangles_fit triangle_fits every range triangle_box corner_at corners_of corners_inside lengths_admitted vector_at
+    corners_read
+    grid_admitted grid_line nearest_to ray_admitted unit_length valid_box valid_side length_of dot_of max_of min_of finite_vec root_of
+    root_round
     whole_root
-    root_digits maximum_of minimum_of absolute is_finite of_bits of_fields is_nan ne le eq lt div mul sub add sum neg round units odd size climb
+    root_digits maximum_of minimum_of absolute is_finite of_bits of_fields is_nan ne le eq lt div mul sub add sum neg round units odd size
+    climb
     span
 drills_answered = refl
 
@@ -159,12 +165,17 @@ pub casts_answered : casts
     ∷ (no_hit
     ∷ (hit_at (record { x = of_bits binary64 0x8000_0000_0000_0000; y = of_bits binary64 0x8000_0000_0000_0000; z = down }) twelve 0
     ∷ (no_hit ∷ (no_hit ∷ []))))
-unfolding ray_mesh_exact_plain over_triangles exact_answer triangles_fit triangle_fits every range triangle_box corner_at corners_of corners_inside
-    lengths_admitted vector_at fold_from next_of facing grid_triangle grid_normal grid_reach corners_reach corners_read grid_admitted grid_line
+unfolding ray_mesh_exact_plain over_triangles exact_answer triangles_fit triangle_fits every range triangle_box corner_at corners_of
+    corners_inside
+    lengths_admitted vector_at fold_from next_of facing grid_triangle grid_normal grid_reach corners_reach corners_read grid_admitted
+    grid_line
     nearest_to depth_of main_of first_point by_weights crossing kept coplanar in_plane area along_plane entry inside entering side_of
-    ray_admitted unit_length valid_box valid_side normalizable zero_vec dot_tells scaled_to_one over_length try_normalize digits_of scaled_by unit
-    length_of checked_dot dot_of max_element abs_of max_of min_of neg_of finite_vec component root_of root_round whole_root root_digits maximum_of
-    minimum_of absolute is_finite of_int to_signed of_bits of_fields is_nan ne le eq lt div mul sub add sum neg round units odd size climb span
+    ray_admitted unit_length valid_box valid_side normalizable zero_vec dot_tells scaled_to_one over_length try_normalize digits_of
+    scaled_by unit
+    length_of checked_dot dot_of max_element abs_of max_of min_of neg_of finite_vec component root_of root_round whole_root root_digits
+    maximum_of
+    minimum_of absolute is_finite of_int to_signed of_bits of_fields is_nan ne le eq lt div mul sub add sum neg round units odd size climb
+    span
 casts_answered = refl
 
 -- so no point of the wall lies in the drill of 7.9 mm, and one of it lies in that of 8.1 mm

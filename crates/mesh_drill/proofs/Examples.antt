@@ -62,7 +62,8 @@ unfoldable wide : Float
 wide = of_bits binary64 0x3ff3_3680_0000_0000
 
 askew_admitted : ray_admitted askew ≡ true
-unfolding askew ray_admitted finite_vec is_finite unit_length length_of dot_of root_of root_round whole_root root_digits absolute sub add sum mul neg
+unfolding askew ray_admitted finite_vec is_finite unit_length length_of dot_of root_of root_round whole_root root_digits absolute sub add
+    sum mul neg
     round units odd size climb span lt le eq of_bits of_fields
 askew_admitted = refl
 

@@ -54,7 +54,8 @@ pub wide : (A u : ℤ) → A -ℤ u +ℤ pos 2 *ℤ u ≡ A +ℤ u
 wide A u = alike (A ∷ u ∷ []) (var 0 ⊖ var 1 ⊕ num (pos 2) ⊗ var 1) (var 0 ⊕ var 1) refl
 
 -- the vector from the axis to the point, M D times it
-pub vector_moved : (M h p q v d : ℤ) → M *ℤ neg_ℤ (pos 2 *ℤ (p -ℤ q)) +ℤ h *ℤ (pos 2 *ℤ (v -ℤ d)) ≡ pos 2 *ℤ (M *ℤ (q -ℤ p) +ℤ h *ℤ (v -ℤ d))
+pub vector_moved : (M h p q v d : ℤ) → M *ℤ neg_ℤ (pos 2 *ℤ (p -ℤ q)) +ℤ h *ℤ (pos 2 *ℤ (v -ℤ d))
+    ≡ pos 2 *ℤ (M *ℤ (q -ℤ p) +ℤ h *ℤ (v -ℤ d))
 vector_moved M h p q v d =
     alike (M ∷ h ∷ p ∷ q ∷ v ∷ d ∷ []) (var 0 ⊗ opp (num (pos 2) ⊗ (var 2 ⊖ var 3)) ⊕ var 1 ⊗ (num (pos 2) ⊗ (var 4 ⊖ var 5)))
     (num (pos 2) ⊗ (var 0 ⊗ (var 3 ⊖ var 2) ⊕ var 1 ⊗ (var 4 ⊖ var 5))) refl

@@ -1,7 +1,9 @@
 -- The direction of an admitted ray, as drawn, has a square of 61/64 and more: each square and each sum, rounded, is at most the whole
 -- number
 -- of 64ths above it, which a float has exactly. Assumes nothing.
-use Rattle.std.proofs.Common.{◌≡◌, ℕ, ◌+◌, ◌*◌, ◌/◌, ◌^◌, ◌<◌, ◌≤◌, true, false, ltb, ℤ, pos, negsuc, ◌+ℤ◌, ◌-ℤ◌, ◌*ℤ◌, nat_abs, sym, refl, ap, ◌∙◌, subst, true≢false, le_trans, lt_of_le_of_lt, mul-le-mul_right, mod-lt, mul_assoc, mul-pos, div-add-mod', le_of_mul-le-mul_right, arith, lit<, lit≤, ltb-false}
+use Rattle.std.proofs.Common.{◌≡◌, ℕ, ◌+◌, ◌*◌, ◌/◌, ◌^◌, ◌<◌, ◌≤◌, true, false, ltb, ℤ, pos, negsuc, ◌+ℤ◌, ◌-ℤ◌, ◌*ℤ◌, nat_abs, sym, refl}
+use Rattle.std.proofs.Common.{ap, ◌∙◌, subst, true≢false, le_trans, lt_of_le_of_lt, mul-le-mul_right, mod-lt, mul_assoc, mul-pos}
+use Rattle.std.proofs.Common.{div-add-mod', le_of_mul-le-mul_right, arith, lit<, lit≤, ltb-false}
 use mathlib.Core.Bool.{false≢true}
 use borrow.Author.Tests.{not-true}
 use lib.Ieee.{Float, nan, inf, fin, binary64, up, down, round, add, mul, of_bits, le, lt, eq}

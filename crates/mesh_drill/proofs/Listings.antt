@@ -1,5 +1,6 @@
 -- The first answer of a list that is not clear: what is left of it gives the whole. Assumes nothing.
-use Rattle.std.proofs.Common.{◌≡◌, ℕ, zero, suc, ◌+◌, ◌<◌, ◌≤◌, Bool, true, false, cond, List, ◌∷◌, length, get_or, take, drop, sym, refl, ap, ◌∙◌, add-one, arith, drop_of_length-le, length-take-le, drop-cons, get_or-take}
+use Rattle.std.proofs.Common.{◌≡◌, ℕ, zero, suc, ◌+◌, ◌<◌, ◌≤◌, Bool, true, false, cond, List, ◌∷◌, length, get_or, take, drop, sym, refl}
+use Rattle.std.proofs.Common.{ap, ◌∙◌, add-one, arith, drop_of_length-le, length-take-le, drop-cons, get_or-take}
 use Rattle.lists.specs.Lists.{range, keep}
 use Rattle.casts.specs.Answer.{out_of_bounds, out_of_range}
 use Rattle.tree.specs.Mesh.{Mesh, thirds, corners_inside, corners_of}
@@ -50,7 +51,8 @@ module _ (answer : ℕ → DrillAnswer) (list : List ℕ) (found : ℕ) where
 
   module _ (inside : found ≤ length list) (i : ℕ) (p : Listing i) where
     module _ (h : i < found) where
-      next : or_else (answer (get_or list i 0)) (first_answer answer (drop (i + 1) (take found list))) ≡ first_answer answer (take found list)
+      next : or_else (answer (get_or list i 0)) (first_answer answer (drop (i + 1) (take found list)))
+          ≡ first_answer answer (take found list)
       unfolding first_answer
       next =
           let l : length (take found list) ≡ found = length-take-le found list inside in

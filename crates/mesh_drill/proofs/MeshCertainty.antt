@@ -1,5 +1,6 @@
 -- The drill's answer is certain of the whole mesh, and only triangles whose box touches the drill's have to be asked. Assumes nothing.
-use Rattle.std.proofs.Common.{◌≡◌, ℕ, ◌<◌, ◌≤◌, Bool, true, false, not, ◌&&◌, ◌⊎◌, List, [], ◌∷◌, ℤ, pos, negsuc, nat_abs, sym, refl, ap, ◌∙◌, inl, inr, true≢false, arith}
+use Rattle.std.proofs.Common.{◌≡◌, ℕ, ◌<◌, ◌≤◌, Bool, true, false, not, ◌&&◌, ◌⊎◌, List, [], ◌∷◌, ℤ, pos, negsuc, nat_abs, sym, refl, ap}
+use Rattle.std.proofs.Common.{◌∙◌, inl, inr, true≢false, arith}
 use mathlib.Core.Bool.{false≢true}
 use mathlib.Core.List.{Memᴰ}
 use lib.Signed.{le_z}

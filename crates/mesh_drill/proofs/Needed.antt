@@ -103,7 +103,8 @@ pub record TwoUnitsFail : Type 0 where
   pub not_on_grid : InDrill (grid_line tight) 11 (grid_point corner) (grid_point corner) (grid_point corner) → ⊥
 
 tight_admitted : ray_admitted tight ≡ true
-unfolding tight ray_admitted finite_vec is_finite unit_length length_of dot_of root_of root_round whole_root root_digits absolute sub add sum mul neg
+unfolding tight ray_admitted finite_vec is_finite unit_length length_of dot_of root_of root_round whole_root root_digits absolute sub add
+    sum mul neg
     round units odd size climb span lt le eq of_bits of_fields
 tight_admitted = refl
 

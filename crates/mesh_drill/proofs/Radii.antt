@@ -1,6 +1,8 @@
 -- A radius up to 128 mm is read upward on the grid, up to 2^22 units: the nearest unit, and one more where that is below it. Assumes
 -- nothing.
-use Rattle.std.proofs.Common.{◌≡◌, ℕ, ◌+◌, ◌-◌, ◌*◌, ◌/◌, ◌%◌, ◌^◌, ◌<◌, ◌≤◌, Bool, true, false, not, ◌&&◌, ltb, ℤ, pos, ◌+ℤ◌, sym, refl, ap, ◌∙◌, subst, lt_of_le_of_lt, mul-le-mul_right, mod-lt, lt_of_mul-lt-mul_right, div-add-mod', arith, lit<, lit≤, w64, SFits, ltb-false, ltb-true}
+use Rattle.std.proofs.Common.{◌≡◌, ℕ, ◌+◌, ◌-◌, ◌*◌, ◌/◌, ◌%◌, ◌^◌, ◌<◌, ◌≤◌, Bool, true, false, not, ◌&&◌, ltb, ℤ, pos, ◌+ℤ◌, sym, refl}
+use Rattle.std.proofs.Common.{ap, ◌∙◌, subst, lt_of_le_of_lt, mul-le-mul_right, mod-lt, lt_of_mul-lt-mul_right, div-add-mod', arith, lit<}
+use Rattle.std.proofs.Common.{lit≤, w64, SFits, ltb-false, ltb-true}
 use mathlib.Core.Bool.{false≢true}
 use lib.Ieee.{Float, nan, inf, fin, up, down, le, lt, eq, of_bits}
 use lib.Ieee.Fits.{down_pos}

@@ -20,7 +20,8 @@ use tree::mesh as triangle_mesh;
 // Whether the drill touches a triangle, whose corners are in range.
 pub fn is_touched(drill: Drill, vertices: &[f64], triangles: &[u32], index: usize) -> bool
     requires { ((3 * index + 3 ≤ length triangles.now)
-        × (corners_inside (thirds (length vertices.now)) triangles.now index ≡ true)) × ((DrillSized drill) × (corners_read (corners_of vertices.now triangles.now index) ≡ true)) }
+        × (corners_inside (thirds (length vertices.now)) triangles.now index ≡ true))
+        × ((DrillSized drill) × (corners_read (corners_of vertices.now triangles.now index) ≡ true)) }
     ensures { (l : Line) (ρ : ℕ) → Drills drill l ρ → Runs l
         → result ≡ touched_at l ρ (mesh vertices.now triangles.now) index }
 {
@@ -42,7 +43,9 @@ fn is_reached(
     index: usize,
 ) -> bool
     requires { ((3 * index + 3 ≤ length triangles.now)
-        × (corners_inside (thirds (length vertices.now)) triangles.now index ≡ true)) × ((DrillSized drill) × ((corners_read (corners_of vertices.now triangles.now index) ≡ true) × (coded ≡ true → Coded bounds vertices.now codes.now))) }
+        × (corners_inside (thirds (length vertices.now)) triangles.now index ≡ true))
+        × ((DrillSized drill) × ((corners_read (corners_of vertices.now triangles.now index) ≡ true)
+        × (coded ≡ true → Coded bounds vertices.now codes.now))) }
     ensures { (l : Line) (ρ : ℕ) → Drills drill l ρ → Runs l → bounds ≡ drill_box l ρ
         → result ≡ reached_at l ρ (mesh vertices.now triangles.now) index }
 {

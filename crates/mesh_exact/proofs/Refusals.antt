@@ -23,7 +23,8 @@ use Rattle.casts.specs.Answer.{Answer, hit, none, refused, invalid_input, bad_sh
 use Rattle.nearest_hit.specs.Nearest.{stopped, nearest_of}
 use Rattle.nearest_hit.proofs.IndexedCases.{same_number}
 use Rattle.nearest_hit.proofs.NearestLaws.{stopped_by_lowest_refusal}
-use Rattle.tree.specs.Mesh.{Mesh, thirds, lengths_admitted, corners_inside, corner_at, corners_of, triangle_box, triangle_count, triangle_fits}
+use Rattle.tree.specs.Mesh.{Mesh, thirds, lengths_admitted, corners_inside, corner_at, corners_of, triangle_box, triangle_count}
+use Rattle.tree.specs.Mesh.{triangle_fits}
 use Rattle.tree.specs.Mesh.{triangles_fit}
 use Rattle.exact_triangle.specs.Grid.{within, all_within, furthest, longest, grid_admitted}
 use Rattle.exact_triangle.specs.Reach.{corners_read}

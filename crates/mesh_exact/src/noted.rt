@@ -53,7 +53,8 @@ fn looked_at(
     index: usize,
 ) -> bool
     requires { ((3 * index + 3 ≤ length triangles.now)
-        × (corners_inside (thirds (length vertices.now)) triangles.now index ≡ true)) × (coded ≡ true → Coded bounds vertices.now codes.now) }
+        × (corners_inside (thirds (length vertices.now)) triangles.now index ≡ true))
+        × (coded ≡ true → Coded bounds vertices.now codes.now) }
     ensures { result ≡ (not within
         || touches (corners_box (corners_of vertices.now triangles.now index)) bounds) }
 {

@@ -63,7 +63,8 @@ module _ (answer : ℕ → Answer) (n : ℕ) where
         → after r indices' numbers' ≡ refused_at no_room (hit_area indices numbers)
         → Arranged answer n (fit_rows answer hits places (hit_area indices numbers)) r indices' numbers'
     fit_refused more r indices' numbers' e =
-        refusal_arranged no_room _ (refused_at no_room (hit_area indices numbers)) r indices' numbers' e (sym (simp (lt-leb hits places more)))
+        refusal_arranged no_room _ (refused_at no_room (hit_area indices numbers)) r indices' numbers' e
+        (sym (simp (lt-leb hits places more)))
         refl
 
     module _ (few : hits ≤ places) (ready : Ready answer n hits indices numbers work) (exit : List ℕ) (exitN : List Float)

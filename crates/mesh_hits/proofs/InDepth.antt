@@ -29,7 +29,8 @@ use Rattle.mesh_hits.proofs.CastAmong.{hit_is, placed, of_list, empty_if}
 
 -- ---- sorted lists and lists that do not fall
 module _ (depth : ℕ → Float) where
-  rises_at_lem : (ts : List ℕ) (j : ℕ) → Rising (ahead depth) ts → suc j < length ts → ahead depth (word_at ts j) (word_at ts (suc j)) ≡ true
+  rises_at_lem : (ts : List ℕ) (j : ℕ) → Rising (ahead depth) ts → suc j < length ts → ahead depth (word_at ts j) (word_at ts (suc j))
+      ≡ true
   rises_at_lem [] j r h = absurd (omega arith)
   rises_at_lem (x ∷ []) j r h = absurd (omega arith)
   rises_at_lem (x ∷ (y ∷ ts)) zero r h = r.0

@@ -26,7 +26,8 @@ use Rattle.mesh_plain.specs.PlainCast.{triangle_fits, triangles_fit, over_triang
 use Rattle.mesh_plain.proofs.SameBoxes.{valid_of_same}
 
 -- ---- what a yes of the check says
-chosen_shape : (shape room tree : Bool) → cond shape (cond room (cond tree yes no) (refused no_room)) (refused bad_shape) ≡ yes → shape ≡ true
+chosen_shape : (shape room tree : Bool) → cond shape (cond room (cond tree yes no) (refused no_room)) (refused bad_shape) ≡ yes → shape
+    ≡ true
 chosen_shape true room tree h = refl
 chosen_shape false room tree h = let z : ◌≡◌ {A = ℕ} 0 1 = cc in absurd (omega arith)
 

@@ -175,7 +175,8 @@ pub fn triangle_touches(
     index: usize,
 ) -> bool
     requires { ((3 * index + 3 ≤ length triangles.now)
-        × (corners_inside (thirds (length vertices.now)) triangles.now index ≡ true)) × (told ≡ true → Coded bounds vertices.now codes.now) }
+        × (corners_inside (thirds (length vertices.now)) triangles.now index ≡ true))
+        × (told ≡ true → Coded bounds vertices.now codes.now) }
     ensures { result ≡ touches (corners_box (corners_of vertices.now triangles.now index)) bounds }
 {
     if told {

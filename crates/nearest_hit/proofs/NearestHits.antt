@@ -155,7 +155,8 @@ module _ (answer : ℕ → Answer) where
         among n d e (inl k) = here_nearest x xs n d e k
         among n d e (inr k) = nearest_later x xs normal distance index (hit_such (Farther distance) x n d e k.nearer) k.first
 
-        go : (nearest_of answer xs ≡ hit_at normal distance index → FirstNearest answer xs normal distance index) → (a : Answer) → answer x ≡
+        go : (nearest_of answer xs ≡ hit_at normal distance index → FirstNearest answer xs normal distance index) → (a : Answer) → answer x
+            ≡
             a
             → FirstNearest answer (x ∷ xs) normal distance index
         go rest (hit n d) e =

@@ -72,7 +72,8 @@ module _ (answer : ℕ → Answer) (l : List ℕ) (ascending : Ascending l) wher
           go (inr (inl s)) = omega arith
           go (inr (inr a)) = omega (arith, ascending_after f.before f.index f.after parts j a)
 
-  pub hit_of_lowest_nearest : (normal : Vec3) (distance : Float) (index : ℕ) → Each (HitSuch IsNumber answer) l → nearest_of answer l ≡ hit_at
+  pub hit_of_lowest_nearest : (normal : Vec3) (distance : Float) (index : ℕ) → Each (HitSuch IsNumber answer) l → nearest_of answer l
+      ≡ hit_at
       normal distance index
       → LowestNearest answer l normal distance index
   hit_of_lowest_nearest normal distance index numbers h = record

@@ -145,5 +145,6 @@ module _ (answer : ℕ → Answer) where
           each_cons (AnswersNone answer) x xs (λ j f. ap answer f ∙ e)
           (rest (ap (λ (a : Answer). fold_from answer (next_of no_hit x a) xs) (sym e) ∙ h))
       go rest (refused k) e =
-          absurd (stopped_not_none k (sym (fold_stays_stopped k xs) ∙ ap (λ (a : Answer). fold_from answer (next_of no_hit x a) xs) (sym e) ∙
+          absurd (stopped_not_none k (sym (fold_stays_stopped k xs) ∙ ap (λ (a : Answer). fold_from answer (next_of no_hit x a) xs) (sym e)
+          ∙
           h))

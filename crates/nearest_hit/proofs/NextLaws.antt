@@ -29,7 +29,8 @@ refused_not_at number d h = let z : ◌≡◌ {A = ℕ} 0 1 = cc in omega arith
 pub same_reach : (e d : Float) → At e ≡ At d → e ≡ d
 same_reach e d h = cc
 
-pub next_farther : (best : Indexed) (index : ℕ) (x : Answer) (d : Float) → reach_of x ≡ At d → gives_way best d ≡ false → best ≡ next_of best
+pub next_farther : (best : Indexed) (index : ℕ) (x : Answer) (d : Float) → reach_of x ≡ At d → gives_way best d ≡ false → best
+    ≡ next_of best
     index x
 unfolding next_of gives_way reach_of
 next_farther best index none d h f = absurd (miss_not_at d h)

@@ -44,7 +44,8 @@ module _ (answer : ℕ → Answer) where
     unfolding keep_of
     least_moves i distance d q = simp (nearer_by_distance (found x d) (found i distance) q)
 
-    least_stays : (i : ℕ) (distance d : Float) → i ≤ up → lt d distance ≡ false → keep_of nearer (kept (found i distance)) (found x d) ≡ kept
+    least_stays : (i : ℕ) (distance d : Float) → i ≤ up → lt d distance ≡ false → keep_of nearer (kept (found i distance)) (found x d)
+        ≡ kept
         (found i distance)
     unfolding keep_of
     least_stays i distance d below q = simp (stays_nearest (found x d) (found i distance) q (le-ltb x i (omega arith)))
@@ -95,6 +96,7 @@ module _ (answer : ℕ → Answer) where
   nearest_of_ascending l r = tells_all 0 no_hit nothing l by_nobody (λ (y : ℕ) (m : Memᴰ y l). omega arith) r
 
   -- the answer depends only on which triangles there are
-  pub nearest_of_any_order : HitsAreNumbers answer → {l m : List ℕ} → Reordered l m → Rising m → nearest_noted answer l ≡ nearest_of answer m
+  pub nearest_of_any_order : HitsAreNumbers answer → {l m : List ℕ} → Reordered l m → Rising m → nearest_noted answer l
+      ≡ nearest_of answer m
   nearest_of_any_order numbers {l} {m} o r =
       ap (λ (s : Summary). answer_at answer (winner s)) (summary_order_free answer numbers o nothing) ∙ sym (nearest_of_ascending m r)

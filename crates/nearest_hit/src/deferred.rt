@@ -141,7 +141,8 @@ fn next_within(
 
 // The same of a triangle; most miss at the first of their tests. It is compiled into its one user, the loop of the cast without a tree.
 pub fn next_deferred(best: Near, index: u32, ray: Ray, corners: [Vec3; 3]) -> Near
-    ensures result_value { faced_indexed ray (says_near result) ≡ next_of (faced_indexed ray (says_near best)) index (triangle_cast ray corners) }
+    ensures result_value { faced_indexed ray (says_near result)
+        ≡ next_of (faced_indexed ray (says_near best)) index (triangle_cast ray corners) }
     ensures hit_measured { HitMeasured best → HitMeasured result }
 {
     let start = triangle::crossing(ray, corners);

@@ -1,5 +1,6 @@
 -- What `probe` does where the bytes of the reader and of the writer are known. Assumes nothing.
-use Rattle.std.proofs.Common.{◌≡◌, ℕ, ◌+◌, ◌-◌, ◌≤◌, min, Bool, true, false, List, [], ◌++◌, length, take, drop, ℤ, pos, negsuc, None, Some, IfSome, MatchResult, Ok, Err, sym, ap, subst, ◌∙◌, true≢false, arith, length-drop, length-take-le, drop_at}
+use Rattle.std.proofs.Common.{◌≡◌, ℕ, ◌+◌, ◌-◌, ◌≤◌, min, Bool, true, false, List, [], ◌++◌, length, take, drop, ℤ, pos, negsuc, None, Some}
+use Rattle.std.proofs.Common.{IfSome, MatchResult, Ok, Err, sym, ap, subst, ◌∙◌, true≢false, arith, length-drop, length-take-le, drop_at}
 use borrow.Author.Tests.{eqb-true}
 use Rattle.std.proofs.Math.Nat.{min-eq_left}
 use Rattle.std.proofs.lemmas.List.{take-append-le}

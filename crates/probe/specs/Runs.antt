@@ -1,5 +1,6 @@
 -- What `probe` does between its reads and its writes: the run, one step, and all steps. Definitions only. Assumes nothing.
-use Rattle.std.specs.Prelude.{ℕ, suc, ◌+◌, ◌-◌, ◌<◌, ◌≤◌, min, ◌≡◌, Bool, true, false, not, ◌&&◌, List, [], ◌++◌, ltb, eqb, ℤ, pos, negsuc, length, take, drop, IfSome}
+use Rattle.std.specs.Prelude.{ℕ, suc, ◌+◌, ◌-◌, ◌<◌, ◌≤◌, min, ◌≡◌, Bool, true, false, not, ◌&&◌, List, [], ◌++◌, ltb, eqb, ℤ, pos, negsuc}
+use Rattle.std.specs.Prelude.{length, take, drop, IfSome}
 use Rattle.std.specs.declared.option.Option.{Option}
 use Rattle.std.specs.Io.KnownBytes.{Consumes, Appends, IsAtEnd}
 use Rattle.records.specs.Output.{output_of}
@@ -113,7 +114,8 @@ pub record Step (run : Run) (input : List ℕ) (after : Run) (last : List ℕ) :
 abbrev pub AtEnd : Run → Option (List ℕ) → Type 0
 AtEnd run ahead = run.ended ≡ true → IsAtEnd ahead
 
--- what a step does to a reader and a writer: its bytes are the reader's next ones, and its lines, unless it failed, are what the writer took
+-- what a step does to a reader and a writer: its bytes are the reader's next ones, and its lines, unless it failed, are what the writer
+-- took
 pub record StepMoves (run : Run) (input : List ℕ) (after : Run) (last : List ℕ) (ahead left before written : Option (List ℕ)) : Type 0 where
   pub step : Step run input after last
   pub reads : Consumes ahead left step.bytes

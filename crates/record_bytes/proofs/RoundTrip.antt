@@ -140,7 +140,8 @@ module _ (form : Form) (l : List ℕ) (b : IsBytes l) (g : Formed form l) (h : T
   abbrev counts : List ℕ
   counts = counts_of form l
 
-  whole : length l ≡ counts_place form + 4 * many_counts (kind_of l) + size * many_numbers (kind_of l) counts + 4 * many_indices (kind_of l) counts
+  whole : length l ≡ counts_place form + 4 * many_counts (kind_of l) + size * many_numbers (kind_of l) counts + 4
+      * many_indices (kind_of l) counts
   unfolding body_length
   whole = omega (arith, g.filled)
 

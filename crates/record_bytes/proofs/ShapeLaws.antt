@@ -182,7 +182,8 @@ counted form l kind counts numbers indices a b c k m ea eb ec n i = record {
 }
 
 unfilled : (form : Form) (l : List ℕ)
-    → (4 + body_length form (kind_of l) (counts_of form l) ≡ length l → body_length (long_form form) (kind_of l) (counts_of form l) ≤ longest → ⊥)
+    → (4 + body_length form (kind_of l) (counts_of form l) ≡ length l → body_length (long_form form) (kind_of l) (counts_of form l)
+    ≤ longest → ⊥)
     → Malformed ≡ filling form l
 unfolding filling filled
 unfilled form l h =
@@ -222,7 +223,8 @@ module _ (form : Form) (l : List ℕ) (kind counts numbers indices : ℕ) (f : C
   unfolding body_length
   lengths other sum h e = e ∙ (rw (f.counts_are, f.indices_are, sym (cap.few h)))
 
-  pub unfilled_length : (sum : ℕ) → numbers ≤ 1024 → sum ≡ 2 + size_of form * rays_of form + 4 * counts + size_of form * numbers + 4 * indices
+  pub unfilled_length : (sum : ℕ) → numbers ≤ 1024 → sum ≡ 2 + size_of form * rays_of form + 4 * counts + size_of form * numbers + 4
+      * indices
       → (4 + sum ≡ length l → ⊥) → Malformed ≡ filling form l
   unfilled_length sum h e g = unfilled form l (λ k _. g (ap (λ (z : ℕ). 4 + z) (lengths form sum h e) ∙ k))
 

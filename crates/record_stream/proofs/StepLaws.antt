@@ -64,7 +64,8 @@ step_output number input more ended (Record end) n m e = step_record number inpu
 
 -- ---- what is left of the input
 
-pub found_is : (l : List ℕ) (k : ℕ) (r found : Found) → r ≡ next_of (take (length l - k) (drop k l)) → r ≡ found → next_of (drop k l) ≡ found
+pub found_is : (l : List ℕ) (k : ℕ) (r found : Found) → r ≡ next_of (take (length l - k) (drop k l)) → r ≡ found → next_of (drop k l)
+    ≡ found
 found_is l k r found e f = ap next_of (sym (rest_is l k)) ∙ (sym e ∙ f)
 
 pub stepped_by : (s r : Progress) (l out last : List ℕ) (found : Found) → next_of (drop s.used l) ≡ found

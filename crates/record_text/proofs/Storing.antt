@@ -24,7 +24,8 @@ pub put_keeps : {area after : List ℕ} {at next : ℕ} {text : List ℕ} → Pu
 put_keeps {area} {after} {at} {next} {text} p = rw p.stored (length-sets area at text)
 
 -- one more byte of a text
-pub put_one : (area now text : List ℕ) (at i : ℕ) → now ≡ sets area at (take i text) → i < length text → set now (at + i) (get_or text i 0) ≡
+pub put_one : (area now text : List ℕ) (at i : ℕ) → now ≡ sets area at (take i text) → i < length text → set now (at + i) (get_or text i 0)
+    ≡
     sets area at (take (i + 1) text)
 put_one area now text at i e h =
     let l : length (take i text) ≡ i = length-take-le i text (omega arith) in

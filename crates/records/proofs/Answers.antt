@@ -47,7 +47,8 @@ module _ (ray : Ray) (kind : ℕ) (counts : List ℕ) (numbers : List Float) (a 
   unfolding shape_from shape_text
   plane_answer k e = rw (k, e)
 
-  pub triangle_answer_lem : kind ≡ 2 → a ≡ ray_triangle ray (corners_by numbers) → answer_text a ≡ shape_text ray (shape_from kind counts numbers [])
+  pub triangle_answer_lem : kind ≡ 2 → a ≡ ray_triangle ray (corners_by numbers) → answer_text a
+      ≡ shape_text ray (shape_from kind counts numbers [])
   unfolding shape_from shape_text corners_by
   triangle_answer_lem k e = rw (k, e)
 

@@ -47,7 +47,8 @@ pub fresh_answer : (ray : Ray) (m : Mesh) (a : Indexed) {node_boxes nodeBoxes' t
     → ray_admitted ray ≡ true → TreeRoom (thirds (length m.triangles)) node_boxes triangle_boxes node_words order list stack
     → nodeBoxes' ≡ replicate (length node_boxes) zeroᶠ → triangleBoxes' ≡ replicate (length triangle_boxes) zeroᶠ
     → nodeWords' ≡ replicate (length node_words) 0 → order' ≡ replicate (length order) 0
-    → a ≡ through_tree ray m (length list) (length stack) (build_of m (areas nodeBoxes' triangleBoxes' nodeWords' order') (length list)) → a ≡
+    → a ≡ through_tree ray m (length list) (length stack) (build_of m (areas nodeBoxes' triangleBoxes' nodeWords' order') (length list)) → a
+    ≡
     mesh_answer ray m
 unfolding mesh_answer
 fresh_answer ray m a admitted room n t w o e =

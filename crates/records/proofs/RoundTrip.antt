@@ -15,7 +15,8 @@ use Rattle.float_forms.specs.declared.forms.Form.{Form}
 use Rattle.float_forms.specs.declared.forms.Form.TheVariants.{First, Long, Short}
 use Rattle.float_forms.specs.Forms.{rays_of, version_of, form_of, long_form}
 use Rattle.float_forms.proofs.RunLaws.{AllWords, none, more}
-use Rattle.record_bytes.specs.Records.{Said, many_counts, many_numbers, many_indices, body_length, said_of, is_kind, longest, well_formed, form_at}
+use Rattle.record_bytes.specs.Records.{Said, many_counts, many_numbers, many_indices, body_length, said_of, is_kind, longest, well_formed}
+use Rattle.record_bytes.specs.Records.{form_at}
 use Rattle.record_bytes.specs.Records.{is_record, said_fits, record_bytes}
 use Rattle.record_bytes.proofs.Parts.{formed, well_formed_lem}
 use Rattle.record_bytes.proofs.Lengths.{Measured}
@@ -38,7 +39,8 @@ unfolding form_at
 form_is form l w = ap form_of (formed form l w).versioned ∙ form_back form
 
 -- what `probe` reads of a record is what the converter reads of it
-pub parsed_is : (form : Form) (l : List ℕ) → T (well_formed form l) → parse l ≡ says (ray_by (said_of form l).ray) (shape_by (said_of form l))
+pub parsed_is : (form : Form) (l : List ℕ) → T (well_formed form l) → parse l
+    ≡ says (ray_by (said_of form l).ray) (shape_by (said_of form l))
 unfolding parse is_record
 parsed_is form l w = rw (form_is form l w, is_true (well_formed form l) w)
 
@@ -85,7 +87,8 @@ module _ (form : Form) (r : Ray) where
   measured (heights f xs) h = record { rayed = ray_count_lem form r; counted = refl; numbered = omega (arith, h.many); indexed = refl }
   measured (distances g xs) h = record { rayed = ray_count_lem form r; counted = refl; numbered = omega (arith, h.many); indexed = refl }
 
-  counts_fit_lem : (s : Shape) → ShapeFits s → body_length (long_form form) (kind_byte s) (shape_counts s) ≤ longest → AllWords (shape_counts s)
+  counts_fit_lem : (s : Shape) → ShapeFits s → body_length (long_form form) (kind_byte s) (shape_counts s) ≤ longest
+      → AllWords (shape_counts s)
   unfolding shape_counts kind_byte many_counts many_numbers many_indices
   counts_fit_lem (plane p) h short = none
   counts_fit_lem (triangle v w u) h short = none

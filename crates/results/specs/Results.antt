@@ -129,7 +129,8 @@ results_fit area place = leb 4 (length area) && leb 1 (length place)
 -- the mesh cast's answer; the lengths of its list and stack stand before the result slices
 unfoldable pub answered_mesh : Ray → Mesh → List Float → Tree → ℕ → ℕ → List Float → List ℕ → ReturnedIndexed
 answered_mesh r m pose t list stack area place =
-    with_room (ray_admitted r && shape_admitted m pose t) (results_fit area place) (returned_indexed (ray_mesh r m pose t list stack) area place)
+    with_room (ray_admitted r && shape_admitted m pose t) (results_fit area place)
+    (returned_indexed (ray_mesh r m pose t list stack) area place)
     record { number = no_room; hit = area; index = place }
 
 -- ---- build, query and tree check
@@ -173,5 +174,8 @@ pub record QueryReturned : Type 0 where
 unfoldable pub query_returned : Aabb → ℕ → Tree → List ℕ → ℕ → List ℕ → QueryReturned
 query_returned box n t before stack place =
     with_room (valid_box box && counts_admitted n t.node_count) (leb 1 (length place))
-    record { returned = returned_found (Query.query_of box n t before stack).answer place; list = (Query.query_of box n t before stack).list }
+    record {
+      returned = returned_found (Query.query_of box n t before stack).answer place;
+      list = (Query.query_of box n t before stack).list;
+    }
     record { returned = record { number = no_room; count = place }; list = before }

@@ -75,7 +75,8 @@ module _ (ray shape : List Float) (eight : length ray ≡ 8) (r : Ray) (is-ray :
     unfolding plane_of_slices
     plane_passed = passed 4 ray shape _ eight r is-ray good four ∙ simp (is-plane, is-ray)
 
-    pub returned_bad_plane : plane_admitted p ≡ false → (area : List Float) → unwritten bad_shape area ≡ answered (plane_of_slices ray shape)
+    pub returned_bad_plane : plane_admitted p ≡ false → (area : List Float) → unwritten bad_shape area
+        ≡ answered (plane_of_slices ray shape)
         area
     returned_bad_plane bad area = returned_two area ∙ ap (λ (a : Answer). answered a area) (sym (plane_passed ∙ refusal))
       where
@@ -112,7 +113,8 @@ module _ (ox oy oz dx dy dz maximum near : Float) where
   r = ray_from ox oy oz dx dy dz maximum near
 
   -- the cast at a plane in a slice is the cast at the plane of its numbers
-  pub plane_by_numbers : (x y z distance : Float) → plane_of_slices eight (x ∷ y ∷ z ∷ distance ∷ []) ≡ ray_plane (plane_of x y z distance) r
+  pub plane_by_numbers : (x y z distance : Float) → plane_of_slices eight (x ∷ y ∷ z ∷ distance ∷ [])
+      ≡ ray_plane (plane_of x y z distance) r
   unfolding plane_of_slices of_slices ray_in plane_in vector_at ray_plane
   plane_by_numbers x y z distance = asked_twice (ray_admitted r) _ _
 

@@ -46,12 +46,14 @@ module _ (triangles : List ℕ) (index l : ℕ) (inside : corners_inside (thirds
   third_fits_lem = fits (corner_index triangles index 2) l (and_second (below 1) (below 2) later)
 
 -- the box and the answer of a triangle, from the list of its corners
-pub corners_box_lem : (vertices : List Float) (triangles : List ℕ) (index : ℕ) → corners_box (corners_of vertices triangles index) ≡ triangle_box
+pub corners_box_lem : (vertices : List Float) (triangles : List ℕ) (index : ℕ) → corners_box (corners_of vertices triangles index)
+    ≡ triangle_box
     vertices triangles index
 unfolding corners_box corners_of triangle_box
 corners_box_lem vertices triangles index = refl
 
-pub corners_answer : (r : Ray) (vertices : List Float) (triangles : List ℕ) (index : ℕ) → corners_inside (thirds (length vertices)) triangles
+pub corners_answer : (r : Ray) (vertices : List Float) (triangles : List ℕ) (index : ℕ)
+    → corners_inside (thirds (length vertices)) triangles
     index ≡ true
     → triangle_cast r (corners_of vertices triangles index) ≡ triangle_answer r vertices triangles index
 unfolding corners_of triangle_answer
@@ -76,7 +78,8 @@ hit_inside r vertices triangles index distance = go (corners_inside (thirds (len
 pub hit_answer : (r : Ray) (vertices : List Float) (triangles : List ℕ) (index : ℕ) (distance : Float) → reach_of
     (triangle_answer r vertices triangles index) ≡ At distance
     → (corners : List Vec3) → corners ≡ corners_of vertices triangles index
-    → triangle_normal r (sub_of (corner corners 1) (corner corners 0)) (sub_of (corner corners 2) (corner corners 0)) distance ≡ triangle_answer
+    → triangle_normal r (sub_of (corner corners 1) (corner corners 0)) (sub_of (corner corners 2) (corner corners 0)) distance
+    ≡ triangle_answer
     r vertices triangles index
 hit_answer r vertices triangles index distance h corners e =
     let same : triangle_cast r corners ≡ triangle_answer r vertices triangles index =

@@ -214,7 +214,8 @@ module _ (m : Mesh) (a : Areas) (work : ℕ) where
     pub refusal_returned : (k : ℕ) (after : Areas) → r ≡ Refused k → after ≡ zeroed a → record { answer = refused k; after = after } ≡
         build_of m a work
     refusal_returned k after e f =
-        whole (refused k) after (built_of m a) (sym (ap says e) ∙ said) (f ∙ sym (refused_after_lem k (sym said ∙ ap says e))) ∙ built admitted
+        whole (refused k) after (built_of m a) (sym (ap says e) ∙ said) (f ∙ sym (refused_after_lem k (sym said ∙ ap says e)))
+        ∙ built admitted
         room
 
 pub zeroed_same : (a b : Areas) → length a.node_boxes ≡ length b.node_boxes → length a.triangle_boxes ≡ length b.triangle_boxes →

@@ -23,11 +23,13 @@ module _ {A : Type 0} where
   below_run (x ∷ xs) l i j d h =
       below_run xs (set l i x) (suc i) j d (omega arith) ∙ get_or-set_other l i j x d (λ e. omega arith)
 
-  in_run : (xs l : List A) (i k j : ℕ) (d : A) → j ≡ i + k → k < length xs → i + length xs ≤ length l → get_or (sets l i xs) j d ≡ get_or xs k d
+  in_run : (xs l : List A) (i k j : ℕ) (d : A) → j ≡ i + k → k < length xs → i + length xs ≤ length l → get_or (sets l i xs) j d
+      ≡ get_or xs k d
   in_run [] l i k j d e h g = absurd (omega arith)
   in_run (x ∷ xs) l i zero j d e h g =
       let here : j ≡ i = omega arith in
-      below_run xs (set l i x) (suc i) j d (omega arith) ∙ ap (λ (p : ℕ). get_or (set l i x) p d) here ∙ get_or-set_same l i x d (omega arith)
+      below_run xs (set l i x) (suc i) j d (omega arith) ∙ ap (λ (p : ℕ). get_or (set l i x) p d) here
+      ∙ get_or-set_same l i x d (omega arith)
   in_run (x ∷ xs) l i (suc k) j d e h g =
       in_run xs (set l i x) (suc i) k j d (omega arith) (omega arith) (omega (arith, length-set l i x))
 

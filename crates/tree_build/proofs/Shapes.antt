@@ -26,7 +26,8 @@ enough_levels zero (suc j) (suc n) h g = absurd (omega arith)
 enough_levels (suc k) zero zero h g = refl
 enough_levels (suc k) zero (suc n) h g = absurd (omega arith)
 enough_levels (suc k) (suc j) n h g =
-    branch_same (leb n 4) (leaf n) (shape_within k (n / 2)) (shape_within j (n / 2)) (shape_within k (n - n / 2)) (shape_within j (n - n / 2))
+    branch_same (leb n 4) (leaf n) (shape_within k (n / 2)) (shape_within j (n / 2)) (shape_within k (n - n / 2))
+    (shape_within j (n - n / 2))
     (λ e. enough_levels k j (n / 2) (omega (arith, leb-false n 4 e)) (omega (arith, leb-false n 4 e)))
     (λ e. enough_levels k j (n - n / 2) (omega (arith, leb-false n 4 e)) (omega (arith, leb-false n 4 e)))
 

@@ -27,7 +27,8 @@ pub record Alike (boxes : List Float) (shape : Shape) (ts us : List ℕ) : Type 
 -- a range whose halves give what the halves of the sorted range give, and which stays plain
 pub record Arranged (boxes : List Float) (ts ts' : List ℕ) : Type 0 where
   pub left : Alike boxes (shape_of (length ts / 2)) (left_range boxes (shape_of (length ts / 2)) ts) (take (length ts / 2) ts')
-  pub right : Alike boxes (shape_of (length ts - length ts / 2)) (right_range boxes (shape_of (length ts / 2)) ts) (drop (length ts / 2) ts')
+  pub right : Alike boxes (shape_of (length ts - length ts / 2)) (right_range boxes (shape_of (length ts / 2)) ts)
+      (drop (length ts / 2) ts')
   pub plain : plain_range boxes ts ≡ true → plain_range boxes ts' ≡ true
 
 module _ (boxes : List Float) (shape : Shape) (ts : List ℕ) (start node : ℕ) where

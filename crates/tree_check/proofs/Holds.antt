@@ -15,14 +15,17 @@ module _ (node_boxes triangle_boxes : List Float) (words order : List ℕ) (node
   module _ (outer : Aabb) (first second : ℕ) (o : outer ≡ box_at node_boxes node) (f : first ≡ first_at words node)
       (s : second ≡ second_at words node) where
     pub leaf_holds : kind_at words node ≡ 0
-        → every (place_enclosed outer triangle_boxes order) (range first (first + second - first)) ≡ node_holds node_boxes triangle_boxes words
+        → every (place_enclosed outer triangle_boxes order) (range first (first + second - first))
+        ≡ node_holds node_boxes triangle_boxes words
         order node
     unfolding node_holds
     leaf_holds k =
         let e : first + second - first ≡ second = omega arith in
-        ap (λ (c : ℕ). every (place_enclosed outer triangle_boxes order) (range first c)) e ∙ simp (eq-eqb (kind_at words node) 0 k, o, f, s)
+        ap (λ (c : ℕ). every (place_enclosed outer triangle_boxes order) (range first c)) e
+        ∙ simp (eq-eqb (kind_at words node) 0 k, o, f, s)
 
-    pub branch_holds : (kind_at words node ≡ 0 → ⊥) → children_enclosed outer node_boxes first second ≡ node_holds node_boxes triangle_boxes words
+    pub branch_holds : (kind_at words node ≡ 0 → ⊥) → children_enclosed outer node_boxes first second
+        ≡ node_holds node_boxes triangle_boxes words
         order node
     unfolding node_holds
     branch_holds k = simp (ne_eqb (kind_at words node) 0 k, o, f, s)

@@ -67,7 +67,8 @@ module _ (n count : ℕ) (words order : List ℕ) (h : words_pass n count words 
   unfolding words_pass
   words_sound = and_first (every (node_sound n count words) (range 0 count)) (named && (placed && ordered)) h
 
-  pub readable : (node_boxes triangle_boxes : List Float) (marks : List ℕ) → Long n node_boxes triangle_boxes words order marks → count ≤ 2 * n
+  pub readable : (node_boxes triangle_boxes : List Float) (marks : List ℕ) → Long n node_boxes triangle_boxes words order marks → count ≤ 2
+      * n
       → Readable n count node_boxes triangle_boxes words order
   readable node_boxes triangle_boxes marks long few =
       record {

@@ -30,7 +30,8 @@ module _ (kind n : ℕ) (words : List ℕ) (node : ℕ) where
   unfolding marked
   marked_length = go (eqb (kind_at words node) kind)
     where
-      go : (t : Bool) → length (cond t (first_at words node ∷ (second_mark kind n (first_at words node) (second_at words node) ∷ [])) []) ≤ 2
+      go : (t : Bool) → length (cond t (first_at words node ∷ (second_mark kind n (first_at words node) (second_at words node) ∷ [])) [])
+          ≤ 2
       go true = omega arith
       go false = omega arith
 

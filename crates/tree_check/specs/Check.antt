@@ -83,7 +83,8 @@ module _ (m : Mesh) (t : Tree) where
   unfoldable pub clauses_hold : Bool
   clauses_hold =
       leb t.node_count (2 * triangle_count)
-      && (kinds_known && (children_above && (leaves_inside && (named_once && (placed_once && (ordered_once && (leaves_filled && (corners_known &&
+      && (kinds_known && (children_above && (leaves_inside && (named_once
+      && (placed_once && (ordered_once && (leaves_filled && (corners_known &&
       (boxes_same && (boxes_valid && enclosed))))))))))
 
   -- "yes exactly when the node count is 0 with n = 0, or" all of these hold

@@ -32,7 +32,8 @@ node_holds node_boxes triangle_boxes words order node =
 
 -- and is valid
 unfoldable pub node_fits : List Float → List Float → List ℕ → List ℕ → ℕ → Bool
-node_fits node_boxes triangle_boxes words order node = valid_box (box_at node_boxes node) && node_holds node_boxes triangle_boxes words order node
+node_fits node_boxes triangle_boxes words order node = valid_box (box_at node_boxes node)
+    && node_holds node_boxes triangle_boxes words order node
 
 -- what is known of a tree before the boxes of its nodes are looked at: the areas' lengths, sound nodes, and a triangle at every order place
 pub record Readable (n nodes : ℕ) (node_boxes triangle_boxes : List Float) (words order : List ℕ) : Type 0 where

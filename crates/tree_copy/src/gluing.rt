@@ -18,7 +18,8 @@ pub fn glue_mesh(
     triangles: &mut [u32],
 )
     requires { ((length first_vertices.now + length second_vertices.now ≤ length vertices.old)
-        × (length first_triangles.now + length second_triangles.now ≤ length triangles.old)) × (SmallWords second_triangles.now (length second_triangles.now) (thirds (length first_vertices.now))) }
+        × (length first_triangles.now + length second_triangles.now ≤ length triangles.old))
+        × (SmallWords second_triangles.now (length second_triangles.now) (thirds (length first_vertices.now))) }
     ensures { (vertices.new ≡ over (first_vertices.now ++ second_vertices.now)
         vertices.old) × (triangles.new
         ≡ over (first_triangles.now ++ moved_up (thirds (length first_vertices.now))
@@ -57,7 +58,8 @@ pub fn glue_boxes(
 )
     requires { (((n ≤ 65536) × (m ≤ 65536)) × ((nodes ≤ 131072) × (others ≤ 131072))) × ((((6 * nodes ≤ length first_boxes.now)
         × (6 * others ≤ length second_boxes.now))
-        × ((6 * n ≤ length first_around.now) × (6 * m ≤ length second_around.now))) × (((6 * (cond empty 0 1 + (nodes + others)) ≤ length boxes.old) × (6 * n + 6 * m ≤ length around.old))
+        × ((6 * n ≤ length first_around.now) × (6 * m ≤ length second_around.now)))
+        × (((6 * (cond empty 0 1 + (nodes + others)) ≤ length boxes.old) × (6 * n + 6 * m ≤ length around.old))
         × (empty ≡ false → (1 ≤ nodes) × (1 ≤ others)))) }
     ensures { (boxes.new ≡ over (cond empty []
         (box_numbers (union_of (box_at first_boxes.now 0) (box_at second_boxes.now 0))) ++
@@ -85,7 +87,9 @@ pub fn glue_words(
 )
     requires { (((nodes ≤ 131072) × (others ≤ 131072))
         × (((3 * nodes ≤ length first_words.now) × (3 * others ≤ length second_words.now))
-        × ((n ≤ length first_order.now) × (m ≤ length second_order.now)))) × (((3 * (cond empty 0 1 + (nodes + others)) ≤ length words.old) × (n + m ≤ length order.old)) × ((SmallNodes first_words.now (cond empty 0 1) 0 nodes
+        × ((n ≤ length first_order.now) × (m ≤ length second_order.now))))
+        × (((3 * (cond empty 0 1 + (nodes + others)) ≤ length words.old) × (n + m ≤ length order.old))
+        × ((SmallNodes first_words.now (cond empty 0 1) 0 nodes
         × SmallNodes second_words.now (cond empty 0 1 + nodes) n others) × SmallWords second_order.now m n)) }
     ensures { (words.new ≡ over (cond empty [] (1 ∷ (1 ∷ ((1 + nodes) ∷ []))) ++
         (moved_nodes (cond empty 0 1) 0 first_words.now nodes ++ moved_nodes (cond empty 0 1 + nodes) n

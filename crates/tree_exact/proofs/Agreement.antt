@@ -75,7 +75,17 @@ agrees_by r m t stack p numbered room true a true e =
     let passes = yes_passes m t p.marks p.says_yes in
     let lengths = yes_lengths m t p.marks p.says_yes in
     let own = eq-eqb (length m.vertices) (length m.vertices) refl in
-    simp (a, e, shape_admitted_lem r m t passes lengths, lengths, room, own, triangles_fit_lem m t passes, casts_agree r m t passes a e numbered)
+    simp (
+      a,
+      e,
+      shape_admitted_lem r m t passes lengths,
+      lengths,
+      room,
+      own,
+      triangles_fit_lem m t passes,
+      casts_agree r m t passes a e
+          numbered,
+    )
 
 pub agrees : (r : Ray) (m : Mesh) (t : Tree) (stack : ℕ) → AsWithoutTree r m t stack (ray_mesh_exact r m m.vertices t stack)
 agrees r m t stack p numbered room = agrees_by r m t stack p numbered room (ray_admitted r) refl (grid_admitted r) refl

@@ -125,6 +125,7 @@ module _ (l : Line) (nodes : ℕ) (boxes : List Float) (left right : ℕ) where
   unfolding taken_first
   short_left h = sym (ap (λ (k : Bool). cond k true (nearer_first l nodes boxes left right)) h)
 
-  pub long_left : short_segment l ≡ false → {r : Bool} → r ≡ nearer_first l nodes boxes left right → r ≡ taken_first l nodes boxes left right
+  pub long_left : short_segment l ≡ false → {r : Bool} → r ≡ nearer_first l nodes boxes left right → r
+      ≡ taken_first l nodes boxes left right
   unfolding taken_first
   long_left h e = e ∙ sym (ap (λ (k : Bool). cond k true (nearer_first l nodes boxes left right)) h)

@@ -97,7 +97,8 @@ module _ (r : Ray) (pose : List Float) (triangles : List ℕ) (t : Tree) (result
             winner_reached t n answer (opens_node (grid_line r) t) (left_first (grid_line r) t) (says_nearest_so_far notes).refuser
             (says_nearest_so_far notes).least (known (Ended notes) e).1 index distance (sym w ∙ h)
 
-        pub through_hit : (a : Answer) → a ≡ answer index → (x : Indexed) → x ≡ next_of no_hit index a → x ≡ exact_through r pose triangles t
+        pub through_hit : (a : Answer) → a ≡ answer index → (x : Indexed) → x ≡ next_of no_hit index a → x
+            ≡ exact_through r pose triangles t
         unfolding answer_at
         through_hit a f x g = g ∙ ap (next_of no_hit index) f ∙ ap (answer_at answer) (sym h) ∙ ends
 

@@ -60,7 +60,8 @@ module _ (t : Tree) (n : ℕ) (answer : ℕ → Answer) (opens : ℕ → Summary
     unfolding onward take_places times ended
     used_up_lem node = refl
 
-    pub node_broken : (node : ℕ) → t.node_count ≤ node → stopped out_of_bounds ≡ onward t n answer opens left_first (suc k) [] (node ∷ stack) s
+    pub node_broken : (node : ℕ) → t.node_count ≤ node → stopped out_of_bounds
+        ≡ onward t n answer opens left_first (suc k) [] (node ∷ stack) s
     unfolding onward take_places times take_node
     node_broken node h = sym (simp (le-ltb node t.node_count h) (broken_stays k))
 

@@ -54,7 +54,8 @@ signed_mono false true k a d b e p q h =
     let y = pos (closest (b * k) e) in
     le_rep (own (pos (closest (a * k) d))) (own (neg_ℤ y)) (omega (arith, u, v, neg_pp y, neg_np y))
 
-pub read_mono : (k : ℕ) (x y : Float) → is_finite x ≡ true → is_finite y ≡ true → le x y ≡ true → le_z (nearest_to k x) (nearest_to k y) ≡ true
+pub read_mono : (k : ℕ) (x y : Float) → is_finite x ≡ true → is_finite y ≡ true → le x y ≡ true → le_z (nearest_to k x) (nearest_to k y)
+    ≡ true
 unfolding nearest_to is_finite
 read_mono k nan y p q h = absurd (false≢true p)
 read_mono k (inf s) y p q h = absurd (false≢true p)

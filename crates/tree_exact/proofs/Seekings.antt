@@ -119,12 +119,14 @@ module _ (m : Mesh) (t : Tree) where
 -- ---- the places of a leaf
 module _ (t : Tree) (n : ℕ) (answer : ℕ → Answer) (opens : ℕ → Summary → Bool) (left_first : ℕ → Bool) where
   places_noted : (stack : List ℕ) (s : Summary) (places : List ℕ) → Each (λ (p : ℕ). word_at t.order p < n) places
-      → take_places t n answer opens left_first (seeking stack s) places ≡ seeking stack (summary_from answer s (flat_map (placed_at t) places))
+      → take_places t n answer opens left_first (seeking stack s) places
+      ≡ seeking stack (summary_from answer s (flat_map (placed_at t) places))
   unfolding take_places take_place flat_map summary_from
   places_noted stack s [] each = refl
   places_noted stack s (p ∷ places) each =
       simp (lt-ltb (word_at t.order p) n (each p (Memᴰ.head refl)))
-      (places_noted stack (note_of s (word_at t.order p) (reach_of (answer (word_at t.order p)))) places (each_rest (λ (p : ℕ). word_at t.order p < n) p places each))
+      (places_noted stack (note_of s (word_at t.order p) (reach_of (answer (word_at t.order p)))) places
+      (each_rest (λ (p : ℕ). word_at t.order p < n) p places each))
 
 no_words : (t : Tree) (x : ℕ) → count x (flat_map (placed_at t) []) ≡ 0
 unfolding flat_map
@@ -319,7 +321,8 @@ module _ (m : Mesh) (t : Tree) (answer : ℕ → Answer) (opens : ℕ → Summar
     pub step : Step taken stack s node
     step = go (opens node s) refl (is_leaf m t node) refl (is_branch m t node) refl
       where
-        go : (o : Bool) → opens node s ≡ o → (l : Bool) → is_leaf m t node ≡ l → (b : Bool) → is_branch m t node ≡ b → Step taken stack s node
+        go : (o : Bool) → opens node s ≡ o → (l : Bool) → is_leaf m t node ≡ l → (b : Bool) → is_branch m t node ≡ b
+            → Step taken stack s node
         go false e l f b g = passed e
         go true e true f b g = opened_leaf e f
         go true e false f true g = opened_branch e f g (left_first node) refl

@@ -65,7 +65,8 @@ module _ (line : View) (hull : Aabb) (pose : List Float) (triangles order : List
       unfolding exact_through
       leaf_bad h = record {
         holds = λ r on t o k stack s.
-            place_bad t (thirds (length triangles)) (exact_answer r pose triangles) (opens_node (grid_line r) t) (left_first (grid_line r) t) k
+            place_bad t (thirds (length triangles)) (exact_answer r pose triangles) (opens_node (grid_line r) t)
+            (left_first (grid_line r) t) k
             stack (says_nearest_so_far found) place end (far.holds r on t o k stack s) more x (at t o) h;
       }
 
@@ -76,7 +77,8 @@ module _ (line : View) (hull : Aabb) (pose : List Float) (triangles order : List
         holds = λ r on t o k stack s.
             subst (λ (z : Summary). Stands r pose triangles t k (range (place + 1) (end - (place + 1))) stack z)
             (sym (e ∙ ap (note_of (says_nearest_so_far found) x) (reached r on)))
-            (place_taken t (thirds (length triangles)) (exact_answer r pose triangles) (opens_node (grid_line r) t) (left_first (grid_line r) t)
+            (place_taken t (thirds (length triangles)) (exact_answer r pose triangles) (opens_node (grid_line r) t)
+            (left_first (grid_line r) t)
             k stack (says_nearest_so_far found) place end (far.holds r on t o k stack s) more x (at t o) h);
       }
 
@@ -88,7 +90,8 @@ module _ (line : View) (hull : Aabb) (pose : List Float) (triangles order : List
     pub leaf_ends : end ≤ place → NearestSoFarLeaf line hull pose triangles order start end notes (Found found)
     leaf_ends h = record {
       holds = λ r on t o k stack s.
-          places_done t (thirds (length triangles)) (exact_answer r pose triangles) (opens_node (grid_line r) t) (left_first (grid_line r) t) k
+          places_done t (thirds (length triangles)) (exact_answer r pose triangles) (opens_node (grid_line r) t)
+          (left_first (grid_line r) t) k
           stack (says_nearest_so_far found) place end (far.holds r on t o k stack s) h;
     }
 
@@ -184,7 +187,8 @@ module _ (line : View) (hull : Aabb) (pose : List Float) (triangles : List ℕ) 
     unfolding exact_through
     opens_bad read opened e = record {
       holds = λ r on t reads k o tests.
-          node_opens t n (exact_answer r pose triangles) (opens_node (grid_line r) t) (left_first (grid_line r) t) k node (on_stack area top)
+          node_opens t n (exact_answer r pose triangles) (opens_node (grid_line r) t) (left_first (grid_line r) t) k node
+          (on_stack area top)
           (says_nearest_so_far best.notes) tests o words reads.worded BadNode (subst (Opens n words node) e opened);
       stands = tt;
     }

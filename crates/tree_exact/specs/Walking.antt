@@ -71,7 +71,8 @@ pub record NearestSoFarLeaf (line : View) (reach : Aabb) (pose : List Float) (tr
     (notes : NearestSoFar) (result : Noted) : Type 0
   where
     pub holds : (r : Ray) → Bounded r line reach → (t : Tree) → t.order ≡ order → (k : ℕ) (stack : List ℕ)
-        → Stands r pose triangles t k (range start (end - start)) stack (says_nearest_so_far notes) → NotedBy r pose triangles t k stack result
+        → Stands r pose triangles t k (range start (end - start)) stack (says_nearest_so_far notes)
+        → NotedBy r pose triangles t k stack result
 
 -- the areas of a tree that the walk reads
 pub record Reads (t : Tree) (nodes : ℕ) (boxes : List Float) (words order : List ℕ) : Type 0 where

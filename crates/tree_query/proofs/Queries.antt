@@ -74,7 +74,8 @@ module _ (box : Aabb) (n : ℕ) (t : Tree) (area : List ℕ) (stack : ℕ) where
   query_invalid h = simp h
 
   module _ (v : valid_box box ≡ true) where
-    pub query_bad : counts_admitted n t.node_count ≡ false → record { answer = refused bad_shape; list = area } ≡ query_of box n t area stack
+    pub query_bad : counts_admitted n t.node_count ≡ false → record { answer = refused bad_shape; list = area }
+        ≡ query_of box n t area stack
     unfolding query_of
     query_bad h = simp (v, h)
 

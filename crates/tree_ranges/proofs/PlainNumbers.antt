@@ -40,7 +40,8 @@ plain_number x h =
 
 pub nan_not_plain : (x : Float) → is_nan x ≡ true → plain x ≡ false
 unfolding plain
-nan_not_plain x h = ap (λ (b : Bool). fits binary64 x && (not b && not (eqb (to_bits binary64 x) minus_zero))) h ∙ and-false (fits binary64 x)
+nan_not_plain x h = ap (λ (b : Bool). fits binary64 x && (not b && not (eqb (to_bits binary64 x) minus_zero))) h
+    ∙ and-false (fits binary64 x)
 
 pub number_plain : (x : Float) → fits binary64 x ≡ true → is_nan x ≡ false → not (eqb (to_bits binary64 x) minus_zero) ≡ plain x
 unfolding plain

@@ -100,7 +100,8 @@ module _ (nodes node left right : ℕ) (stack : List ℕ) (top found : ℕ) wher
                         ap (λ (s : List ℕ). all_below nodes (left ∷ s)) p
                         ∙ every_cons (λ (x : ℕ). ltb x nodes) left (right ∷ on_stack stack top)
                         (and_second (ltb node left) (ltb left nodes) g)
-                        (every_cons (λ (x : ℕ). ltb x nodes) right (on_stack stack top) (and_second (ltb node right) (ltb right nodes) h) a);
+                        (every_cons (λ (x : ℕ). ltb x nodes) right (on_stack stack top) (and_second (ltb node right) (ltb right nodes) h)
+                        a);
                   };
             };
       }

@@ -102,7 +102,8 @@ module _ (nodes : ℕ) (boxes : List Float) (box : Aabb) (left right : ℕ) (sta
           record {
             within = w.within;
             tall = omega (arith, w.tall);
-            below = ap (λ (s : List ℕ). all_below nodes (left ∷ s)) p ∙ every_cons (λ (y : ℕ). ltb y nodes) left (right ∷ on_stack stack top)
+            below = ap (λ (s : List ℕ). all_below nodes (left ∷ s)) p
+                ∙ every_cons (λ (y : ℕ). ltb y nodes) left (right ∷ on_stack stack top)
                 (lt-ltb left nodes w.first) (one_below right w.second);
             touching = ap (λ (s : List ℕ). every touches_box (left ∷ s)) p ∙ every_cons touches_box left (right ∷ on_stack stack top) l
                 (one_touching right m);

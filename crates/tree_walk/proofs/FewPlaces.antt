@@ -94,7 +94,8 @@ pub record Behind (before list₀ : List ℕ) (found : ℕ) : Type 0 where
   pub kept : (k : ℕ) → k < 5 → get_or before k 0 ≡ word_at list₀ (found + k)
 
 five_kept : (list : List ℕ) (found k : ℕ) → k < 5
-    → get_or (word_at list found ∷ (word_at list (found + 1) ∷ (word_at list (found + 2) ∷ (word_at list (found + 3) ∷ (word_at list (found + 4)
+    → get_or (word_at list found ∷ (word_at list (found + 1) ∷ (word_at list (found + 2)
+    ∷ (word_at list (found + 3) ∷ (word_at list (found + 4)
     ∷ []))))) k 0 ≡ word_at list (found + k)
 five_kept list found zero h =
     let e : found ≡ found + 0 = omega arith in
@@ -106,7 +107,8 @@ five_kept list found (suc (suc (suc (suc zero)))) h = refl
 five_kept list found (suc (suc (suc (suc (suc k))))) h = absurd (omega arith)
 
 pub five_behind : (list : List ℕ) (found : ℕ)
-    → Behind (word_at list found ∷ (word_at list (found + 1) ∷ (word_at list (found + 2) ∷ (word_at list (found + 3) ∷ (word_at list (found + 4)
+    → Behind (word_at list found ∷ (word_at list (found + 1) ∷ (word_at list (found + 2)
+    ∷ (word_at list (found + 3) ∷ (word_at list (found + 4)
     ∷ []))))) list found
 five_behind list found = record { kept = five_kept list found }
 

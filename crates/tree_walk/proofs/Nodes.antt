@@ -110,7 +110,8 @@ module _ (n : ℕ) (box : Aabb) (t : Tree) (list : List ℕ) (found : ℕ) (stac
         exit) where
       leaf_is : (x : Filled) → r ≡ x → Placed (after_leaf n box t.order t.triangle_boxes list found first second) n t.order
           t.triangle_boxes list found x exit
-      leaf_is x q = subst (λ (y : Filled). Placed (after_leaf n box t.order t.triangle_boxes list found first second) n t.order t.triangle_boxes list found y exit) q d
+      leaf_is x q = subst (λ (y : Filled). Placed (after_leaf n box t.order t.triangle_boxes list found first second) n t.order
+          t.triangle_boxes list found y exit) q d
 
       pub leaf_broken : r ≡ Broken → NodeTaken n box t list found stack node top Stopped exit stack
       leaf_broken q = record { holds = (leaf_is Broken q).holds t (on_stack stack top) refl refl ∙ is_leaf_lem e; kept = tt }

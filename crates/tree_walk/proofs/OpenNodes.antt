@@ -103,7 +103,8 @@ module _ (n : ℕ) (box : Aabb) (t : Tree) (list : List ℕ) (found : ℕ) (stac
         exit) where
       leaf_is : (x : Filled) → r ≡ x → Placed (after_leaf n box t.order t.triangle_boxes list found first second) n t.order
           t.triangle_boxes list found x exit
-      leaf_is x q = subst (λ (y : Filled). Placed (after_leaf n box t.order t.triangle_boxes list found first second) n t.order t.triangle_boxes list found y exit) q d
+      leaf_is x q = subst (λ (y : Filled). Placed (after_leaf n box t.order t.triangle_boxes list found first second) n t.order
+          t.triangle_boxes list found y exit) q d
 
       pub open_leaf_broken : r ≡ Broken → NodeOpened n t box list found stack node top spent Stopped exit stack
       open_leaf_broken q = stops (at_leaf t n box first second standing (take found list)) exit

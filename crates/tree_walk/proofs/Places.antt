@@ -71,7 +71,8 @@ module _ (n : ℕ) (box : Aabb) (order : List ℕ) (boxes : List Float) (list : 
         grown = tt;
       }
 
-  pub place_listed : Room n order boxes list found → word_at order place < n → touches (box_at boxes (word_at order place)) box ≡ true → found
+  pub place_listed : Room n order boxes list found → word_at order place < n → touches (box_at boxes (word_at order place)) box ≡ true
+      → found
       < n
       → Placed after_place n order boxes list found (Count (found + 1)) (set list found (word_at order place))
   unfolding take_place

@@ -28,7 +28,8 @@ unfolding reach_of triangle_normal has_normal try_normalize
 reach_by_normal r a b distance = go (normalizable (cross_of a b)) _
   where
     go : (p : Bool) (normal : Vec3)
-        → reach_of (with_normal (cond p (UnitOf normal) Degenerate) no_normal (λ (n : Vec3). hit (facing n (dot_of r.direction n)) distance))
+        → reach_of (with_normal (cond p (UnitOf normal) Degenerate) no_normal
+        (λ (n : Vec3). hit (facing n (dot_of r.direction n)) distance))
         ≡ cond p (At distance) (Refused no_normal)
     go true normal = refl
     go false normal = refl
@@ -186,7 +187,8 @@ told_by_distance r first second third =
     told_value r a b (checked_dot a p) (λ (determinant : Float). cond (flat determinant a b) none (triangle_at r offset a b p determinant))
     (λ (determinant : Float). told_unless_flat r offset a b p determinant)
 
-pub settled_by_distance : (r : Ray) (a b : Vec3) (determinant distance d : Float) → reach_of (settled_answer r determinant a b distance) ≡ At
+pub settled_by_distance : (r : Ray) (a b : Vec3) (determinant distance d : Float) → reach_of (settled_answer r determinant a b distance)
+    ≡ At
     d
     → triangle_normal r a b d ≡ settled_answer r determinant a b distance
 unfolding Told

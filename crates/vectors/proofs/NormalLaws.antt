@@ -24,7 +24,8 @@ use Rattle.arithmetic.proofs.ScalingLaws.{Sized, sized, scaled_within, scaled_be
 use Rattle.arithmetic.proofs.ScalingLaws.{digits_above, size_above_zero}
 use Rattle.arithmetic.proofs.SignBit.{absolute_fits}
 use Rattle.vectors.specs.Numbers.{◌+ᶠ◌, ◌*ᶠ◌, ◌/ᶠ◌, zeroᶠ, oneᶠ, min_positive, least_square, greatest_square}
-use Rattle.vectors.specs.Vector.{finite_vec, zero_vec, normalizable, dot_tells, scaled_to_one, over_length, try_normalize, dot_of, length_of}
+use Rattle.vectors.specs.Vector.{finite_vec, zero_vec, normalizable, dot_tells, scaled_to_one, over_length, try_normalize, dot_of}
+use Rattle.vectors.specs.Vector.{length_of}
 use Rattle.vectors.specs.Vector.{tells_length, abs_of, max_element, each, vector}
 use Rattle.vectors.specs.declared.vec3.Vec3.{Vec3}
 use Rattle.vectors.specs.declared.vec3.Normalized.{Normalized}
@@ -447,7 +448,8 @@ least_normal : le min_positive least_square ≡ true
 unfolding of_bits le
 least_normal = refl
 
-pub between_tells : (x : Float) (passed : Bool) → passed ≡ tells_length x → passed ≡ true → (is_finite x ≡ true) × (lt x min_positive ≡ false)
+pub between_tells : (x : Float) (passed : Bool) → passed ≡ tells_length x → passed ≡ true → (is_finite x ≡ true)
+    × (lt x min_positive ≡ false)
 unfolding tells_length
 between_tells x passed e h =
     let above = and_first (le least_square x) (le x greatest_square) (sym e ∙ h) in

@@ -15,7 +15,8 @@ use Rattle.lists.proofs.JoinedTests.{or_first, or_second}
 use Rattle.arithmetic.specs.Basic.{is_finite}
 use Rattle.arithmetic.proofs.Order.{le_is_not_lt}
 use Rattle.vectors.specs.Numbers.{◌+ᶠ◌, ◌*ᶠ◌, ◌/ᶠ◌, zeroᶠ, oneᶠ}
-use Rattle.vectors.specs.Vector.{sub_of, cross_of, dot_of, checked_dot, finite_vec, zero_vec, normalizable, dot_tells, scaled_to_one, over_length}
+use Rattle.vectors.specs.Vector.{sub_of, cross_of, dot_of, checked_dot, finite_vec, zero_vec, normalizable, dot_tells, scaled_to_one}
+use Rattle.vectors.specs.Vector.{over_length}
 use Rattle.geometry.specs.Box.{corner}
 use Rattle.geometry.specs.Segment.{ray_admitted}
 use Rattle.vectors.specs.declared.vec3.Vec3.{Vec3}
@@ -323,7 +324,8 @@ module _ (r : Ray) (vs : List Vec3) (g : Drawing) (whole_triangle : WholeTriangl
         (normalized_where (cross_of A B) has_normal_lem)
 
     -- all tests passed
-    pub passes : np (signed_by Δ U) ≡ 0 → np (signed_by Δ W) ≡ 0 → nat_abs (signed_by Δ U) + nat_abs (signed_by Δ W) < δ → np (signed_by Δ D) ≡ 0
+    pub passes : np (signed_by Δ U) ≡ 0 → np (signed_by Δ W) ≡ 0 → nat_abs (signed_by Δ U) + nat_abs (signed_by Δ W) < δ
+        → np (signed_by Δ D) ≡ 0
         → nat_abs (signed_by Δ D) < g.maximum * δ
         → ray_triangle r vs ≡ triangle_normal r A B t
     unfolding chain

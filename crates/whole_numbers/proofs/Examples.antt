@@ -14,7 +14,8 @@ use Rattle.arithmetic.specs.Root.{root_digits, whole_root, root_round, root_of}
 use Rattle.arithmetic.specs.Scaling.{unit, digits_of, scaled_by}
 use Rattle.arithmetic.proofs.Order.{eq_of_le_le, le_reflexive}
 use Rattle.arithmetic.proofs.RoundedNumbers.{round_number}
-use Rattle.vectors.specs.Vector.{finite_vec, sub_of, neg_of, abs_of, max_element, dot_of, checked_dot, cross_of, length_of, normalizable, zero_vec}
+use Rattle.vectors.specs.Vector.{finite_vec, sub_of, neg_of, abs_of, max_element, dot_of, checked_dot, cross_of, length_of, normalizable}
+use Rattle.vectors.specs.Vector.{zero_vec}
 use Rattle.vectors.specs.Vector.{dot_tells, scaled_to_one, over_length, try_normalize}
 use Rattle.geometry.specs.Segment.{unit_length, ray_admitted}
 use Rattle.vectors.specs.declared.vec3.Vec3.{Vec3}
@@ -166,7 +167,8 @@ opposite_missed_drawing = down (at (pos 86) (pos 85) (pos 5)) 10 (at (pos 1) (po
 
 opposite_missed : ray_triangle (ray_of opposite_missed_drawing) (corners_of opposite_missed_drawing) ≡ none
 unfolding of_int span climb size odd units round neg sum add sub mul div lt eq le is_nan of_fields of_bits is_finite absolute maximum_of
-    root_digits whole_root root_round root_of unit digits_of scaled_by finite_vec sub_of neg_of abs_of max_element dot_of checked_dot cross_of length_of
+    root_digits whole_root root_round root_of unit digits_of scaled_by finite_vec sub_of neg_of abs_of max_element dot_of checked_dot
+    cross_of length_of
     normalizable zero_vec dot_tells scaled_to_one over_length try_normalize unit_length ray_admitted off_segment facing flat triangle_normal
     triangle_above triangle_at triangle_of ray_triangle
 opposite_missed = refl
@@ -177,7 +179,8 @@ opposite_hit_drawing = down (at (pos 2) (pos 2) (pos 4)) 5 (at (pos 4) (pos 0) (
 
 opposite_hit : is_hit_lem (ray_triangle (ray_of opposite_hit_drawing) (corners_of opposite_hit_drawing)) ≡ true
 unfolding of_int span climb size odd units round neg sum add sub mul div lt eq le is_nan of_fields of_bits is_finite absolute maximum_of
-    root_digits whole_root root_round root_of unit digits_of scaled_by finite_vec sub_of neg_of abs_of max_element dot_of checked_dot cross_of length_of
+    root_digits whole_root root_round root_of unit digits_of scaled_by finite_vec sub_of neg_of abs_of max_element dot_of checked_dot
+    cross_of length_of
     normalizable zero_vec dot_tells scaled_to_one over_length try_normalize unit_length ray_admitted off_segment facing flat triangle_normal
     triangle_above triangle_at triangle_of ray_triangle
 opposite_hit = refl
@@ -188,7 +191,8 @@ maximum_missed_drawing = down (at (pos 1) (pos 1) (pos 7)) 7 (at (pos 25) (pos 0
 
 maximum_missed : ray_triangle (ray_of maximum_missed_drawing) (corners_of maximum_missed_drawing) ≡ none
 unfolding of_int span climb size odd units round neg sum add sub mul div lt eq le is_nan of_fields of_bits is_finite absolute maximum_of
-    root_digits whole_root root_round root_of unit digits_of scaled_by finite_vec sub_of neg_of abs_of max_element dot_of checked_dot cross_of length_of
+    root_digits whole_root root_round root_of unit digits_of scaled_by finite_vec sub_of neg_of abs_of max_element dot_of checked_dot
+    cross_of length_of
     normalizable zero_vec dot_tells scaled_to_one over_length try_normalize unit_length ray_admitted off_segment facing flat triangle_normal
     triangle_above triangle_at triangle_of ray_triangle
 maximum_missed = refl
@@ -198,7 +202,8 @@ maximum_hit_drawing = down (at (pos 1) (pos 1) (pos 4)) 4 (at (pos 4) (pos 0) (p
 
 maximum_hit : is_hit_lem (ray_triangle (ray_of maximum_hit_drawing) (corners_of maximum_hit_drawing)) ≡ true
 unfolding of_int span climb size odd units round neg sum add sub mul div lt eq le is_nan of_fields of_bits is_finite absolute maximum_of
-    root_digits whole_root root_round root_of unit digits_of scaled_by finite_vec sub_of neg_of abs_of max_element dot_of checked_dot cross_of length_of
+    root_digits whole_root root_round root_of unit digits_of scaled_by finite_vec sub_of neg_of abs_of max_element dot_of checked_dot
+    cross_of length_of
     normalizable zero_vec dot_tells scaled_to_one over_length try_normalize unit_length ray_admitted off_segment facing flat triangle_normal
     triangle_above triangle_at triangle_of ray_triangle
 maximum_hit = refl

@@ -165,7 +165,10 @@ module _ (r : Ray) (vs : List Vec3) (g : Drawing) (whole_triangle : WholeTriangl
       (ap (λ (p : Point). nat_abs p.x + (nat_abs p.y + nat_abs p.z)) h))
 
   some_size : (Parallel g → ⊥) → 0 < nat_abs Δ
-  some_size f = elim (eq-zero-or-pos (nat_abs Δ)) [ inl z ↦ absurd (f (size_zero _ (sym (C.size_Δ r vs g whole_triangle) ∙ z))) | inr p ↦ p ]
+  some_size f = elim (eq-zero-or-pos (nat_abs Δ)) [
+    | inl z ↦ absurd (f (size_zero _ (sym (C.size_Δ r vs g whole_triangle) ∙ z)))
+    | inr p ↦ p
+  ]
 
   -- a crossing, in parts
   module _ (K : ℕ) (u v t : ℤ) (c : Crossing g K u v t) where

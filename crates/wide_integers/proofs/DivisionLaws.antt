@@ -1,5 +1,7 @@
 -- The digits of a quotient, one at a time. Assumes nothing.
-use Rattle.std.proofs.Common.{◌≡◌, ℕ, ◌+◌, ◌-◌, ◌*◌, ◌%◌, ◌^◌, ◌<◌, ◌≤◌, Bool, true, false, ltb, ◌+ℤ◌, ◌-ℤ◌, sym, refl, ap, ◌∙◌, subst, le_trans, lt_of_lt_of_le, lt_of_le_of_lt, le_of_lt, mul-le-mul_right, mul-le-mul_left, mul-one, not-le_of_lt, add-one, arith, pow_pos, pow_mono, pow-add, ltb-false, ltb-true}
+use Rattle.std.proofs.Common.{◌≡◌, ℕ, ◌+◌, ◌-◌, ◌*◌, ◌%◌, ◌^◌, ◌<◌, ◌≤◌, Bool, true, false, ltb, ◌+ℤ◌, ◌-ℤ◌, sym, refl, ap, ◌∙◌, subst}
+use Rattle.std.proofs.Common.{le_trans, lt_of_lt_of_le, lt_of_le_of_lt, le_of_lt, mul-le-mul_right, mul-le-mul_left, mul-one, not-le_of_lt}
+use Rattle.std.proofs.Common.{add-one, arith, pow_pos, pow_mono, pow-add, ltb-false, ltb-true}
 use Prim.Native.Nat.{compare, Ordering}
 use lib.Ieee.{nearest}
 use lib.Signed.{lt_z}

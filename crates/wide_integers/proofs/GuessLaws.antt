@@ -1,5 +1,7 @@
 -- A guess at a fraction's digits, checked. Assumes nothing.
-use Rattle.std.proofs.Common.{◌≡◌, ℕ, suc, ◌+◌, ◌-◌, ◌*◌, ◌/◌, ◌%◌, ◌^◌, ◌<◌, ◌≤◌, Bool, true, false, ℤ, pos, ◌+ℤ◌, ◌-ℤ◌, ◌*ℤ◌, sym, refl, ap, ◌∙◌, subst, le_trans, le_of_eq, lt_of_le_of_lt, le_of_lt, mod-lt, mod-eq_of_lt, mul_assoc, mul-le-mul_left, div-add-mod', arith, lit<, pow-add, ltb-false, ltb-true}
+use Rattle.std.proofs.Common.{◌≡◌, ℕ, suc, ◌+◌, ◌-◌, ◌*◌, ◌/◌, ◌%◌, ◌^◌, ◌<◌, ◌≤◌, Bool, true, false, ℤ, pos, ◌+ℤ◌, ◌-ℤ◌, ◌*ℤ◌, sym, refl}
+use Rattle.std.proofs.Common.{ap, ◌∙◌, subst, le_trans, le_of_eq, lt_of_le_of_lt, le_of_lt, mod-lt, mod-eq_of_lt, mul_assoc}
+use Rattle.std.proofs.Common.{mul-le-mul_left, div-add-mod', arith, lit<, pow-add, ltb-false, ltb-true}
 use lib.Signed.{lt_z}
 use lib.Pow.{pow-lt}
 use lib.Ieee.{Float, binary64, round, units}

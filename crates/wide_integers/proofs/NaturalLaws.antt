@@ -1,5 +1,6 @@
 -- Numbers that are not below 0: their sums, differences and order are those of natural numbers. Assumes nothing.
-use Rattle.std.proofs.Common.{◌≡◌, ℕ, zero, suc, ◌+◌, ◌-◌, ◌<◌, ◌≤◌, Bool, true, false, ltb, leb, ℤ, pos, negsuc, ◌+ℤ◌, ◌-ℤ◌, nat_abs, sym, refl, ap, ◌∙◌, subst, true≢false, zero-le, lt_of_le_of_lt, arith, ltb-false, ltb-true, le-ltb}
+use Rattle.std.proofs.Common.{◌≡◌, ℕ, zero, suc, ◌+◌, ◌-◌, ◌<◌, ◌≤◌, Bool, true, false, ltb, leb, ℤ, pos, negsuc, ◌+ℤ◌, ◌-ℤ◌, nat_abs, sym}
+use Rattle.std.proofs.Common.{refl, ap, ◌∙◌, subst, true≢false, zero-le, lt_of_le_of_lt, arith, ltb-false, ltb-true, le-ltb}
 use lib.Ieee.{nan, binary64, round}
 use lib.Signed.{lt_z, le_z}
 use Rattle.wide_integers.proofs.Polynomials.{Rep, own_pos, rep_sub, equal}
@@ -94,7 +95,8 @@ fraction_none (pos n) (pos (suc w)) h k = absurd (omega (arith, ltb-false 0 (suc
 fraction_none (pos n) (negsuc w) h k = refl
 fraction_none (negsuc n) w h k = refl
 
-pub fraction_is : (t w : ℤ) → lt_z t (pos 0) ≡ false → lt_z (pos 0) w ≡ true → round binary64 false (nat_abs t) (nat_abs w) ≡ fraction_of t w
+pub fraction_is : (t w : ℤ) → lt_z t (pos 0) ≡ false → lt_z (pos 0) w ≡ true → round binary64 false (nat_abs t) (nat_abs w)
+    ≡ fraction_of t w
 fraction_is (pos n) (pos zero) h k = absurd (omega (arith, ltb-true 0 0 k))
 fraction_is (pos n) (pos (suc w)) h k = refl
 fraction_is (pos n) (negsuc w) h k = absurd (true≢false (sym k))

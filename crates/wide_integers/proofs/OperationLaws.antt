@@ -1,5 +1,7 @@
 -- Sums, differences, products and comparisons, from what their steps on single words tell. Assumes nothing.
-use Rattle.std.proofs.Common.{◌≡◌, ℕ, zero, suc, ◌+◌, ◌-◌, ◌*◌, ◌/◌, ◌%◌, ◌^◌, ◌<◌, ◌≤◌, Bool, true, false, not, ltb, leb, ℤ, pos, negsuc, ◌+ℤ◌, ◌-ℤ◌, ◌*ℤ◌, nat_abs, sym, refl, ap, ◌∙◌, subst, lt_of_le_of_lt, mul-le-mul_right, mul-le-mul_left, arith, lit<, w64, SFits, ltb-false, ltb-true, le-leb}
+use Rattle.std.proofs.Common.{◌≡◌, ℕ, zero, suc, ◌+◌, ◌-◌, ◌*◌, ◌/◌, ◌%◌, ◌^◌, ◌<◌, ◌≤◌, Bool, true, false, not, ltb, leb, ℤ, pos, negsuc}
+use Rattle.std.proofs.Common.{◌+ℤ◌, ◌-ℤ◌, ◌*ℤ◌, nat_abs, sym, refl, ap, ◌∙◌, subst, lt_of_le_of_lt, mul-le-mul_right, mul-le-mul_left}
+use Rattle.std.proofs.Common.{arith, lit<, w64, SFits, ltb-false, ltb-true, le-leb}
 use native.Mathlib.Nat.{add-mul-mod_self_right}
 use lib.Signed.{lt_z, le_z, nat_abs-le}
 use borrow.Author.Tests.{lt-leb}

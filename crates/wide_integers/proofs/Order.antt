@@ -1,5 +1,6 @@
 -- The order of whole numbers, by the natural numbers that they are differences of. Assumes nothing.
-use Rattle.std.proofs.Common.{◌≡◌, ℕ, ◌+◌, ◌<◌, ◌≤◌, true, false, ℤ, pos, negsuc, refl, ap, true≢false, arith, ltb-false, ltb-true, le-ltb, lt-ltb, le-leb, leb-true}
+use Rattle.std.proofs.Common.{◌≡◌, ℕ, ◌+◌, ◌<◌, ◌≤◌, true, false, ℤ, pos, negsuc, refl, ap, true≢false, arith, ltb-false, ltb-true, le-ltb}
+use Rattle.std.proofs.Common.{lt-ltb, le-leb, leb-true}
 use mathlib.Core.Bool.{false≢true}
 use lib.Signed.{lt_z, le_z}
 use Rattle.wide_integers.proofs.Integers.{pp, np}

@@ -1,5 +1,6 @@
 -- Numbers of two digits to any base C, and of one, as sums, differences and products leave them. Assumes nothing.
-use Rattle.std.proofs.Common.{◌≡◌, ℕ, suc, ◌+◌, ◌-◌, ◌*◌, ◌<◌, ◌≤◌, Bool, true, false, ltb, sym, refl, ap, ◌∙◌, mul-le-mul_right, arith, ltb-false, ltb-true}
+use Rattle.std.proofs.Common.{◌≡◌, ℕ, suc, ◌+◌, ◌-◌, ◌*◌, ◌<◌, ◌≤◌, Bool, true, false, ltb, sym, refl, ap, ◌∙◌, mul-le-mul_right, arith}
+use Rattle.std.proofs.Common.{ltb-false, ltb-true}
 
 -- two numbers below M that differ by a multiple of M are one
 one_remainder : (X R M p q : ℕ) → X < M → R < M → X + p * M ≡ R + q * M → X ≡ R

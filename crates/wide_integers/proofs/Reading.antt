@@ -1,5 +1,6 @@
 -- A whole number of the code is what the machine reads back from its bits, while it stays below 2^63. Assumes nothing.
-use Rattle.std.proofs.Common.{◌≡◌, ℕ, ◌+◌, ◌*◌, ◌≤◌, Bool, true, false, cond, ℤ, pos, negsuc, ◌+ℤ◌, ◌-ℤ◌, ◌*ℤ◌, neg_ℤ, nat_abs, sym, ap, ◌∙◌, subst, le_trans, le_of_eq, mul-le-mul_right, mul_comm, arith, lit≤, w64, SFits, to_z, of_z}
+use Rattle.std.proofs.Common.{◌≡◌, ℕ, ◌+◌, ◌*◌, ◌≤◌, Bool, true, false, cond, ℤ, pos, negsuc, ◌+ℤ◌, ◌-ℤ◌, ◌*ℤ◌, neg_ℤ, nat_abs, sym, ap}
+use Rattle.std.proofs.Common.{◌∙◌, subst, le_trans, le_of_eq, mul-le-mul_right, mul_comm, arith, lit≤, w64, SFits, to_z, of_z}
 use lib.Signed.{mag, lt_z}
 use mir.ValLaws.{to_z-of_z}
 use Rattle.wide_integers.specs.Sizes.{Sized, Sized61}

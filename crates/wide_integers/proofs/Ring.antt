@@ -1,5 +1,6 @@
 -- Equations of polynomials over the whole numbers, by computing both sides' coefficients. Assumes nothing.
-use Rattle.std.proofs.Common.{◌≡◌, ℕ, zero, suc, Bool, true, false, cond, ◌&&◌, eqb, leb, List, [], ◌∷◌, ℤ, pos, negsuc, ◌+ℤ◌, ◌-ℤ◌, ◌*ℤ◌, neg_ℤ, nat_abs, sym, refl, ap, ◌∙◌, arith, eqb-true}
+use Rattle.std.proofs.Common.{◌≡◌, ℕ, zero, suc, Bool, true, false, cond, ◌&&◌, eqb, leb, List, [], ◌∷◌, ℤ, pos, negsuc, ◌+ℤ◌, ◌-ℤ◌, ◌*ℤ◌}
+use Rattle.std.proofs.Common.{neg_ℤ, nat_abs, sym, refl, ap, ◌∙◌, arith, eqb-true}
 use mathlib.Core.Bool.{false≢true}
 use lib.IntN.{+ℤ_idl, *ℤ-zero, zero-*ℤ}
 use Rattle.lists.proofs.JoinedTests.{and_first, and_second}

@@ -1,5 +1,6 @@
 -- Steps on single words: sums and differences with what passes 2^64, the product by halves, and a number's sign. Assumes nothing.
-use Rattle.std.proofs.Common.{◌≡◌, ℕ, ◌+◌, ◌-◌, ◌*◌, ◌/◌, ◌%◌, ◌^◌, ◌<◌, ◌≤◌, Bool, true, false, T, ltb, ℤ, pos, negsuc, ◌-ℤ◌, nat_abs, sym, refl, ap, ◌∙◌, subst, true≢false, mul-le-mul, arith, w64, Fits, SFits, ltb-false, ltb-true}
+use Rattle.std.proofs.Common.{◌≡◌, ℕ, ◌+◌, ◌-◌, ◌*◌, ◌/◌, ◌%◌, ◌^◌, ◌<◌, ◌≤◌, Bool, true, false, T, ltb, ℤ, pos, negsuc, ◌-ℤ◌, nat_abs, sym}
+use Rattle.std.proofs.Common.{refl, ap, ◌∙◌, subst, true≢false, mul-le-mul, arith, w64, Fits, SFits, ltb-false, ltb-true}
 use lib.Signed.{lt_z, non_neg}
 use mir.Val.{bool_byte}
 use mir.ValLaws.{to_z-of_z}

@@ -36,7 +36,8 @@ unfolding of_bits
 returns c =
     let start : tie.Start = search in
     let start = start in
-    ap (λ (n : ℕ). of_int binary64 (pos n)) (ap (λ (n : ℕ). (n + 1) / 2) c.before.truncating_f64_to_u64-halves.ensures ∙ nearest_is start.args.a start.requires.0 start.requires.1 (held start))
+    ap (λ (n : ℕ). of_int binary64 (pos n)) (ap (λ (n : ℕ). (n + 1) / 2) c.before.truncating_f64_to_u64-halves.ensures
+    ∙ nearest_is start.args.a start.requires.0 start.requires.1 (held start))
 
 pub nearest_spec : {M : Type 1} → statement M
 nearest_spec = tie.close (tie.spec

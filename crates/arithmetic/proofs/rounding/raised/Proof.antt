@@ -39,7 +39,8 @@ returns c =
     let start = start in
     let whole = at-truncating-f64-to-u64.truncating_f64_to_u64-whole in
     let test = subst (λ (n : ℕ). lt (of_int binary64 (pos n)) start.args.a ≡ true) whole.ensures c.before.if-whole-a.true in
-    ap (λ (n : ℕ). of_int binary64 (pos n)) (ap (λ (n : ℕ). n + 1) whole.ensures ∙ sym (raised_one start.args.a start.requires.0 start.requires.1 test))
+    ap (λ (n : ℕ). of_int binary64 (pos n)) (ap (λ (n : ℕ). n + 1) whole.ensures
+    ∙ sym (raised_one start.args.a start.requires.0 start.requires.1 test))
 
 int-to-float-result-2 : tie.Need-int_to_float-result-2
 int-to-float-result-2 c =

@@ -16,7 +16,8 @@ loop-holds c = between_at_first c.args.m c.requires.0 c.requires.1
 
 loop-again : tie.Need-loop-high-preserved-then-square_at_most invariant-loop decreases-loop
 loop-again c =
-    let (start, at-loop, in-loop) : (tie.Start invariant-loop decreases-loop) × (tie.At-loop-high invariant-loop decreases-loop) × (tie.In-loop-high invariant-loop decreases-loop) = search in
+    let (start, at-loop, in-loop) : (tie.Start invariant-loop decreases-loop) × (tie.At-loop-high invariant-loop decreases-loop)
+    × (tie.In-loop-high invariant-loop decreases-loop) = search in
     between_raised start.args.m at-loop.loop-high.low at-loop.loop-high.high
     at-loop.loop-high.invariant
     in-loop.loop-high-test.true
@@ -24,7 +25,8 @@ loop-again c =
 
 loop-again-2 : tie.Need-loop-high-preserved invariant-loop decreases-loop
 loop-again-2 c =
-    let (start, at-loop, in-loop) : (tie.Start invariant-loop decreases-loop) × (tie.At-loop-high invariant-loop decreases-loop) × (tie.In-loop-high invariant-loop decreases-loop) = search in
+    let (start, at-loop, in-loop) : (tie.Start invariant-loop decreases-loop) × (tie.At-loop-high invariant-loop decreases-loop)
+    × (tie.In-loop-high invariant-loop decreases-loop) = search in
     between_lowered start.args.m at-loop.loop-high.low at-loop.loop-high.high
     at-loop.loop-high.invariant
     in-loop.loop-high-test.true

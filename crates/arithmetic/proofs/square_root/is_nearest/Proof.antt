@@ -17,7 +17,8 @@ mul-result c =
 
 returns : tie.Need-returns
 returns c h =
-    let (start, at-wrapping-add-u64, at-wrapping-sub-u64) : tie.Start × tie.After-wrapping_add_u64-square × tie.After-wrapping_sub_u64-rest = search in
+    let (start, at-wrapping-add-u64, at-wrapping-sub-u64) : tie.Start × tie.After-wrapping_add_u64-square
+    × tie.After-wrapping_sub_u64-rest = search in
     let s = start in
     rest_nearest s.args.m s.args.q at-wrapping-add-u64.wrapping_add_u64-square.result at-wrapping-sub-u64.wrapping_sub_u64-rest.result
     c.wrapping_add_u64.result s.requires.0 s.requires.1 at-wrapping-add-u64.wrapping_add_u64-square.ensures

@@ -25,7 +25,8 @@ passed c =
     let then1 : tie.Then-off = search in
     passed_close (of_bits binary64 s.args.b) s.args.guess s.args.m c.before.wrapping_sub_u64-digits.result s.requires.4
     s.requires.0 s.requires.1 (subst T (sym s.well_formed.1.1.0.1) tt) then1.if-off.true
-    (omega (arith, c.before.wrapping_sub_u64-digits.ensures, c.if-digits-lt4503599627370496.true)) (omega (arith, c.if-digits-lt4503599627370496.true))
+    (omega (arith, c.before.wrapping_sub_u64-digits.ensures, c.if-digits-lt4503599627370496.true))
+    (omega (arith, c.if-digits-lt4503599627370496.true))
 
 is-nearest-requires : tie.Need-is_nearest-requires
 is-nearest-requires c κs = (omega arith, (passed c).close)

@@ -39,7 +39,8 @@ returns-3 c =
     tie.After-is_finite × tie.Else-not-is_finite × tie.After-segment_box-bounds × tie.After-gather_within-walked × tie.In-Count = search in
     let e = at-is-finite in
     within_nearest _ _ _ _ (end_is _ _ _ e.is_finite.ensures e.segment_end-end.ensures _
-    else1.if-not-is_finite.false) _ at-segment-box.segment_box-bounds.ensures _ _ at-gather-within.gather_within-walked.ensures.0 _ _ _ at-walked.in-Count.is c.nearest_of-cast.ensures
+    else1.if-not-is_finite.false) _ at-segment-box.segment_box-bounds.ensures _ _ at-gather-within.gather_within-walked.ensures.0 _ _ _
+    at-walked.in-Count.is c.nearest_of-cast.ensures
 
 returns-4 : tie.Need-returns-in-Broken
 returns-4 c =

@@ -30,7 +30,8 @@ returns-2 c =
 returns-3 : tie.Need-returns-then-not-stays_in-3
 unfolding ranges_inside
 returns-3 c =
-    let (at-stays-in, else1, at-stays-in2, else2) : tie.After-stays_in × tie.Else-not-stays_in × tie.After-stays_in-2 × tie.Else-not-stays_in-2 = search in
+    let (at-stays-in, else1, at-stays-in2, else2) : tie.After-stays_in × tie.Else-not-stays_in × tie.After-stays_in-2
+    × tie.Else-not-stays_in-2 = search in
     rw (
       sym at-stays-in.stays_in.ensures,
       else1.if-not-stays_in.false,
@@ -45,7 +46,8 @@ returns-4 : tie.Need-returns-then-not-stays_in-4
 unfolding ranges_inside
 returns-4 c =
     let (at-stays-in, else1, at-stays-in2, else2, at-stays-in3, else3) :
-    tie.After-stays_in × tie.Else-not-stays_in × tie.After-stays_in-2 × tie.Else-not-stays_in-2 × tie.After-stays_in-3 × tie.Else-not-stays_in-3 = search in
+    tie.After-stays_in × tie.Else-not-stays_in × tie.After-stays_in-2 × tie.Else-not-stays_in-2 × tie.After-stays_in-3
+    × tie.Else-not-stays_in-3 = search in
     rw (
       sym at-stays-in.stays_in.ensures,
       else1.if-not-stays_in.false,
@@ -62,7 +64,8 @@ returns-5 : tie.Need-returns-then-not-stays_in-5
 unfolding ranges_inside
 returns-5 c =
     let (at-stays-in, else1, at-stays-in2, else2, at-stays-in3, else3, at-stays-in4, else4) :
-    tie.After-stays_in × tie.Else-not-stays_in × tie.After-stays_in-2 × tie.Else-not-stays_in-2 × tie.After-stays_in-3 × tie.Else-not-stays_in-3 × tie.After-stays_in-4 ×
+    tie.After-stays_in × tie.Else-not-stays_in × tie.After-stays_in-2 × tie.Else-not-stays_in-2 × tie.After-stays_in-3
+    × tie.Else-not-stays_in-3 × tie.After-stays_in-4 ×
     tie.Else-not-stays_in-4 = search in
     rw (
       sym at-stays-in.stays_in.ensures,
@@ -82,7 +85,8 @@ returns-6 : tie.Need-returns
 unfolding ranges_inside
 returns-6 c =
     let (at-stays-in, else1, at-stays-in2, else2, at-stays-in3, else3, at-stays-in4, else4, at-stays-in5) :
-    tie.After-stays_in × tie.Else-not-stays_in × tie.After-stays_in-2 × tie.Else-not-stays_in-2 × tie.After-stays_in-3 × tie.Else-not-stays_in-3 × tie.After-stays_in-4 ×
+    tie.After-stays_in × tie.Else-not-stays_in × tie.After-stays_in-2 × tie.Else-not-stays_in-2 × tie.After-stays_in-3
+    × tie.Else-not-stays_in-3 × tie.After-stays_in-4 ×
     tie.Else-not-stays_in-4 × tie.After-stays_in-5 = search in
     rw (
       sym at-stays-in.stays_in.ensures,

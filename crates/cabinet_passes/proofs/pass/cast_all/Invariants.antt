@@ -8,7 +8,8 @@ use Rattle.cabinet_passes.proofs.pass.cast_all.Given as goal
 abbrev pub invariant-loop-i : goal.invariant-loop-i
 invariant-loop-i l = record {
   left :
-      step_parts (areas l.vertices l.triangles l.node_boxes l.triangle_boxes l.node_words l.order) (length l.fn.list) (length l.fn.stack) l.s
+      step_parts (areas l.vertices l.triangles l.node_boxes l.triangle_boxes l.node_words l.order) (length l.fn.list) (length l.fn.stack)
+      l.s
       (drop l.i l.parts)
       ≡ step_parts (areas l.vertices l.triangles l.node_boxes l.triangle_boxes l.node_words l.order) (length l.fn.list) (length l.fn.stack)
       l.fn.start l.parts;

@@ -59,7 +59,8 @@ write-ray-requires c κs =
 
 write-shape-requires : tie.Need-write_shape-requires
 write-shape-requires c κs =
-    let (s, n, m, h, r) : tie.Start × tie.After-numbers_place-from × tie.After-numbers_place-to × tie.After-write_head × tie.After-write_ray =
+    let (s, n, m, h, r) : tie.Start × tie.After-numbers_place-from × tie.After-numbers_place-to × tie.After-write_head
+    × tie.After-write_ray =
     search in
     let a = s.args in
     let end = m.numbers_place-to.result + size_of a.q * a.plan.numbers + 4 * a.plan.indices in
@@ -76,7 +77,8 @@ write-shape-requires c κs =
 
 returns : tie.Need-returns
 returns c =
-    let (s, n, m, h, r, w) : tie.Start × tie.After-numbers_place-from × tie.After-numbers_place-to × tie.After-write_head × tie.After-write_ray ×
+    let (s, n, m, h, r, w) : tie.Start × tie.After-numbers_place-from × tie.After-numbers_place-to × tie.After-write_head
+    × tie.After-write_ray ×
     tie.After-write_shape = search in
     let a = s.args in
     all_written a.p a.q a.source.now a.out.now a.plan (as-many-floats s) (sizes-of s) (after-head h) (after-ray r)

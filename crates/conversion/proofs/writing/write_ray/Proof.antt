@@ -28,7 +28,8 @@ after-ray w = w.put_floats.new.out
 
 returns : tie.Need-returns
 returns c =
-    let (s, n, m, k, w, v) : tie.Start × tie.After-numbers_place-from × tie.After-numbers_place-to × tie.After-ray_count × tie.After-put_floats ×
+    let (s, n, m, k, w, v) : tie.Start × tie.After-numbers_place-from × tie.After-numbers_place-to × tie.After-ray_count
+    × tie.After-put_floats ×
     tie.After-put_words = search in
     let a = s.args in
     let l = a.source.now in

@@ -27,7 +27,8 @@ returns c =
     (start.args.at + at-run-length2.run_length-2.result)
     at-put-floats.put_floats.ensures
     (at-put-words.put_words.ensures ∙ ap (λ (n : ℕ). sets at-put-floats.put_floats.new.out (start.args.at +
-    at-run-length2.run_length-2.result) (words_bytes (words_of start.args.indices (drop (start.args.place + n) start.args.source.now)))) at-run-length.run_length.ensures.0)
+    at-run-length2.run_length-2.result) (words_bytes (words_of start.args.indices (drop (start.args.place + n) start.args.source.now))))
+    at-run-length.run_length.ensures.0)
     (run_behind start.args.p start.args.q start.args.numbers start.args.at
     (start.args.at + at-run-length2.run_length-2.result) (drop start.args.place start.args.source.now)
     (ap (λ (n : ℕ). start.args.at + n) at-run-length2.run_length-2.ensures.0))

@@ -26,7 +26,8 @@ halve-requires c κs = tt
 returns : tie.Need-returns-in-Found invariant-loop decreases-loop
 returns c =
     let (start, at-loop, in-loop, at-halve) :
-    (tie.Start invariant-loop decreases-loop) × (tie.At-loop-left invariant-loop decreases-loop) × (tie.In-loop-left invariant-loop decreases-loop) × (tie.After-halve-next invariant-loop decreases-loop) =
+    (tie.Start invariant-loop decreases-loop) × (tie.At-loop-left invariant-loop decreases-loop)
+    × (tie.In-loop-left invariant-loop decreases-loop) × (tie.After-halve-next invariant-loop decreases-loop) =
     search in
     turn_found start.args.cubic start.args.tolerance _ _ _ _ at-loop.loop-left.invariant in-loop.loop-left-test.true
     (sym c.in-Found.is ∙ at-halve.halve-next.ensures)
@@ -34,7 +35,8 @@ returns c =
 loop-again : tie.Need-loop-left-preserved invariant-loop decreases-loop
 loop-again c =
     let (start, at-loop, in-loop, at-halve) :
-    (tie.Start invariant-loop decreases-loop) × (tie.At-loop-left invariant-loop decreases-loop) × (tie.In-loop-left invariant-loop decreases-loop) × (tie.After-halve-next invariant-loop decreases-loop) =
+    (tie.Start invariant-loop decreases-loop) × (tie.At-loop-left invariant-loop decreases-loop)
+    × (tie.In-loop-left invariant-loop decreases-loop) × (tie.After-halve-next invariant-loop decreases-loop) =
     search in
     turn_open start.args.cubic start.args.tolerance _ _ _ _ at-loop.loop-left.invariant in-loop.loop-left-test.true
     (sym c.in-Open.is ∙ at-halve.halve-next.ensures)

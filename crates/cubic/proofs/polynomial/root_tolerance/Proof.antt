@@ -32,7 +32,8 @@ returns : tie.Need-returns
 unfolding root_tolerance
 returns c =
     let (at-abs, at_maximum, at-abs2, at-maximum2, at-abs3, at-maximum3) :
-    tie.After-abs × tie.After-maximum-first × tie.After-abs-2 × tie.After-maximum-second × tie.After-abs-3 × tie.After-maximum-third = search in
+    tie.After-abs × tie.After-maximum-first × tie.After-abs-2 × tie.After-maximum-second × tie.After-abs-3
+    × tie.After-maximum-third = search in
     simp (
       sym at-abs.abs.ensures,
       sym at_maximum.maximum-first.ensures,

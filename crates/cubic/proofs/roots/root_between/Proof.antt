@@ -17,7 +17,12 @@ returns : tie.Need-returns-then-abs-tolerance
 unfolding root_between
 returns c =
     let (at-evaluate, at-evaluate2) : tie.After-evaluate-low_value × tie.After-evaluate-high_value = search in
-    simp (sym at-evaluate.evaluate-low_value.ensures, sym at-evaluate2.evaluate-high_value.ensures, sym c.abs.ensures, c.if-abs-tolerance.true)
+    simp (
+      sym at-evaluate.evaluate-low_value.ensures,
+      sym at-evaluate2.evaluate-high_value.ensures,
+      sym c.abs.ensures,
+      c.if-abs-tolerance.true,
+    )
 
 abs-requires-2 : tie.Need-abs-requires-2
 abs-requires-2 c κs = tt
@@ -25,7 +30,8 @@ abs-requires-2 c κs = tt
 returns-2 : tie.Need-returns-then-abs-tolerance-2
 unfolding root_between
 returns-2 c =
-    let (at-evaluate, at-evaluate2, at-abs, else1) : tie.After-evaluate-low_value × tie.After-evaluate-high_value × tie.After-abs × tie.Else-abs-tolerance = search in
+    let (at-evaluate, at-evaluate2, at-abs, else1) : tie.After-evaluate-low_value × tie.After-evaluate-high_value × tie.After-abs
+    × tie.Else-abs-tolerance = search in
     simp (
       sym at-evaluate.evaluate-low_value.ensures,
       sym at-evaluate2.evaluate-high_value.ensures,
@@ -45,7 +51,8 @@ returns-3 : tie.Need-returns-then-is_sign_positive
 unfolding root_between
 returns-3 c =
     let (at-evaluate, at-evaluate2, at-abs, else1, at-abs2, else2, at-is-sign-positive) :
-    tie.After-evaluate-low_value × tie.After-evaluate-high_value × tie.After-abs × tie.Else-abs-tolerance × tie.After-abs-2 × tie.Else-abs-tolerance-2 × tie.After-is_sign_positive =
+    tie.After-evaluate-low_value × tie.After-evaluate-high_value × tie.After-abs × tie.Else-abs-tolerance × tie.After-abs-2
+    × tie.Else-abs-tolerance-2 × tie.After-is_sign_positive =
     search in
     simp (
       sym at-evaluate.evaluate-low_value.ensures,
@@ -66,7 +73,8 @@ returns-4 : tie.Need-returns
 unfolding root_between
 returns-4 c =
     let (at-evaluate, at-evaluate2, at-abs, else1, at-abs2, else2, at-is-sign-positive, at-is-sign-positive2) :
-    tie.After-evaluate-low_value × tie.After-evaluate-high_value × tie.After-abs × tie.Else-abs-tolerance × tie.After-abs-2 × tie.Else-abs-tolerance-2 × tie.After-is_sign_positive ×
+    tie.After-evaluate-low_value × tie.After-evaluate-high_value × tie.After-abs × tie.Else-abs-tolerance × tie.After-abs-2
+    × tie.Else-abs-tolerance-2 × tie.After-is_sign_positive ×
     tie.After-is_sign_positive-2 = search in
     simp (
       sym at-evaluate.evaluate-low_value.ensures,

@@ -28,7 +28,8 @@ search-turns-requires c κs =
 returns-2 : tie.Need-returns
 unfolding root_of_cubic
 returns-2 c =
-    let (at-finite-cubic, else1, at-root-tolerance) : tie.After-finite_cubic × tie.Else-not-finite_cubic × tie.After-root_tolerance = search in
+    let (at-finite-cubic, else1, at-root-tolerance) : tie.After-finite_cubic × tie.Else-not-finite_cubic
+    × tie.After-root_tolerance = search in
     simp (
       sym at-finite-cubic.finite_cubic.ensures,
       else1.if-not-finite_cubic.false,

@@ -14,13 +14,23 @@ returns : tie.Need-returns-then-between_ends-2
 unfolding kept_points kept_point
 returns c =
     let (at-between-ends, then1) : tie.After-between_ends × tie.Then-between_ends = search in
-    simp (sym at-between-ends.between_ends.ensures, then1.if-between_ends.true, sym c.between_ends-then-between_ends.ensures, c.if-between_ends-2.true)
+    simp (
+      sym at-between-ends.between_ends.ensures,
+      then1.if-between_ends.true,
+      sym c.between_ends-then-between_ends.ensures,
+      c.if-between_ends-2.true,
+    )
 
 returns-2 : tie.Need-returns-then-between_ends
 unfolding kept_points kept_point
 returns-2 c =
     let (at-between-ends, then1) : tie.After-between_ends × tie.Then-between_ends = search in
-    simp (sym at-between-ends.between_ends.ensures, then1.if-between_ends.true, sym c.between_ends-then-between_ends.ensures, c.if-between_ends-2.false)
+    simp (
+      sym at-between-ends.between_ends.ensures,
+      then1.if-between_ends.true,
+      sym c.between_ends-then-between_ends.ensures,
+      c.if-between_ends-2.false,
+    )
 
 between-ends-requires-3 : tie.Need-between_ends-requires-2
 between-ends-requires-3 c κs = tt

@@ -43,7 +43,8 @@ returns-4 c =
 returns-5 : tie.Need-returns
 unfolding grid_admitted
 returns-5 c =
-    let (e1, e2, e3, e4) : tie.Else-not-sides_admitted × tie.Else-not-spacing_admitted × tie.Else-not-spacing_admitted-2 × tie.Else-not-spacing_admitted-3 = search in
+    let (e1, e2, e3, e4) : tie.Else-not-sides_admitted × tie.Else-not-spacing_admitted × tie.Else-not-spacing_admitted-2
+    × tie.Else-not-spacing_admitted-3 = search in
     simp (
       test_passed e1.sides_admitted.ensures e1.if-not-sides_admitted.false,
       test_passed e2.spacing_admitted.ensures e2.if-not-spacing_admitted.false,

@@ -15,7 +15,8 @@ returns c =
 returns-2 : tie.Need-returns
 unfolding place_at place_of cell_below
 returns-2 c =
-    let (f, e, d, w, l) : tie.After-is_finite × tie.Else-not-is_finite × tie.After-clamp-coordinate × tie.After-floor_cell × tie.After-up_to_last-cell = search in
+    let (f, e, d, w, l) : tie.After-is_finite × tie.Else-not-is_finite × tie.After-clamp-coordinate × tie.After-floor_cell
+    × tie.After-up_to_last-cell = search in
     simp (
       test_passed f.is_finite.ensures e.if-not-is_finite.false,
       sym d.clamp-coordinate.ensures,

@@ -31,7 +31,8 @@ cell-value-requires c κs = tt
 returns-4 : tie.Need-returns
 returns-4 c =
     let (start, at-small-face, else1, at-small-face2, else2, at-fair-spacing) :
-    tie.Start × tie.After-small_face × tie.Else-not-small_face × tie.After-small_face-2 × tie.Else-not-small_face-2 × tie.After-fair_spacing = search in
+    tie.Start × tie.After-small_face × tie.Else-not-small_face × tie.After-small_face-2 × tie.Else-not-small_face-2
+    × tie.After-fair_spacing = search in
     ap At c.cell_value.ensures
     ∙ sym
     (tested_value _ _ _ _ start.requires

@@ -31,7 +31,8 @@ from-axis-is l p at moment height low high near far e f g n m u v =
 
 returns : tie.Need-returns
 returns c =
-    let (s, a, x, h, b, u) : tie.Start × tie.After-from-at × tie.After-cross-moment × tie.After-height-height × tie.After-above-low × tie.After-under-high = search in
+    let (s, a, x, h, b, u) : tie.Start × tie.After-from-at × tie.After-cross-moment × tie.After-height-height × tie.After-above-low
+    × tie.After-under-high = search in
     let k = s.args.drill in
     let hs = h.height-height.ensures.1 in
     let back = plain (widen hs (lit≤ tt)) in (

@@ -23,7 +23,8 @@ returns-2 c =
 
 returns-3 : tie.Need-returns
 returns-3 c =
-    let (s, k, t, n, u, o) : tie.Start × tie.After-outside × tie.Else-outside × tie.After-outside-2 × tie.Else-outside-2 × tie.After-outside-3 = search in
+    let (s, k, t, n, u, o) : tie.Start × tie.After-outside × tie.Else-outside × tie.After-outside-2 × tie.Else-outside-2
+    × tie.After-outside-3 = search in
     or_miss (sym k.outside.ensures ∙ t.if-outside.false) (or_miss (sym n.outside-2.ensures ∙ u.if-outside-2.false) o.outside-3.ensures)
 
 pub far_across_spec : {M : Type 1} → statement M

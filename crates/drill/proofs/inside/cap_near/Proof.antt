@@ -20,7 +20,8 @@ returns c =
 
 returns-2 : tie.Need-returns
 returns-2 c =
-    let (s, p, t, d, l) : tie.Start × tie.After-is_positive × tie.Else-not-is_positive × tie.After-cap_distance × tie.After-cap_limit = search in
+    let (s, p, t, d, l) : tie.Start × tie.After-is_positive × tie.Else-not-is_positive × tie.After-cap_distance
+    × tie.After-cap_limit = search in
     let v = s.args in
     and_on (test_passed p.is_positive.ensures t.if-not-is_positive.false)
     (c.at_most.ensures

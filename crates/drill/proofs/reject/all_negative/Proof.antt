@@ -24,7 +24,8 @@ returns-2 c =
 
 returns-3 : tie.Need-returns
 returns-3 c =
-    let (s, n, t, m, u, k) : tie.Start × tie.After-is_negative × tie.Else-not-is_negative × tie.After-is_negative-2 × tie.Else-not-is_negative-2 × tie.After-is_negative-3 =
+    let (s, n, t, m, u, k) : tie.Start × tie.After-is_negative × tie.Else-not-is_negative × tie.After-is_negative-2
+    × tie.Else-not-is_negative-2 × tie.After-is_negative-3 =
     search in
     and_on (test_passed n.is_negative.ensures t.if-not-is_negative.false)
     (and_on (test_passed m.is_negative-2.ensures u.if-not-is_negative-2.false) k.is_negative-3.ensures)

@@ -25,7 +25,8 @@ returns-2 c =
 
 returns-3 : tie.Need-returns
 returns-3 c =
-    let (s, n, e, m, f, d) : tie.Start × tie.After-is_negative × tie.Else-is_negative × tie.After-is_negative-2 × tie.Else-is_negative-2 × tie.After-dot = search in
+    let (s, n, e, m, f, d) : tie.Start × tie.After-is_negative × tie.Else-is_negative × tie.After-is_negative-2 × tie.Else-is_negative-2
+    × tie.After-dot = search in
     let p = from_axis_of s.args.p in
     corner_is (value s.args.reach) p (negative_on p.low n.is_negative.ensures e.if-is_negative.false)
     (negative_on p.high m.is_negative-2.ensures f.if-is_negative-2.false)

@@ -88,7 +88,8 @@ low-is : (k : tie.After-pair-low) → let s : tie.Start = search in
     long_value k.pair-low.result ≡ foot_i (cornerP s) (cornerQ s) *ℤ (cornerP s).low +ℤ foot_j (cornerP s) (cornerQ s) *ℤ (cornerQ s).low
 low-is k =
     let (s, w) : tie.Start × tie.After-foot_of-weights = search in
-    k.pair-low.ensures ∙ (λ i. w.foot_of-weights.ensures.first i *ℤ (cornerP s).low +ℤ w.foot_of-weights.ensures.second i *ℤ (cornerQ s).low)
+    k.pair-low.ensures ∙ (λ i. w.foot_of-weights.ensures.first i *ℤ (cornerP s).low +ℤ w.foot_of-weights.ensures.second i *ℤ
+    (cornerQ s).low)
 
 low-test : (k : tie.After-is_negative) → let s : tie.Start = search in
     k.is_negative.result ≡ lt_z (foot_i (cornerP s) (cornerQ s) *ℤ (cornerP s).low +ℤ foot_j (cornerP s) (cornerQ s) *ℤ (cornerQ s).low)
@@ -117,11 +118,13 @@ high_is : (k : tie.After-pair-high) → let s : tie.Start = search in
     long_value k.pair-high.result ≡ foot_i (cornerP s) (cornerQ s) *ℤ (cornerP s).high +ℤ foot_j (cornerP s) (cornerQ s) *ℤ (cornerQ s).high
 high_is k =
     let (s, w) : tie.Start × tie.After-foot_of-weights = search in
-    k.pair-high.ensures ∙ (λ i. w.foot_of-weights.ensures.first i *ℤ (cornerP s).high +ℤ w.foot_of-weights.ensures.second i *ℤ (cornerQ s).high)
+    k.pair-high.ensures ∙ (λ i. w.foot_of-weights.ensures.first i *ℤ (cornerP s).high +ℤ w.foot_of-weights.ensures.second i *ℤ
+    (cornerQ s).high)
 
 returns-5 : tie.Need-returns
 returns-5 c =
-    let (s, t, u, n, v, m, w, h) : tie.Start × tie.Else-not-is_positive × tie.Else-not-is_positive-2 × tie.After-foot_near × tie.Else-not-foot_near × tie.After-is_negative × tie.Else-is_negative
+    let (s, t, u, n, v, m, w, h) : tie.Start × tie.Else-not-is_positive × tie.Else-not-is_positive-2 × tie.After-foot_near
+    × tie.Else-not-foot_near × tie.After-is_negative × tie.Else-is_negative
     × tie.After-pair-high = search in
     let p = cornerP s in
     let q = cornerQ s in

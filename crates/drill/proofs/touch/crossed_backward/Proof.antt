@@ -45,7 +45,8 @@ returns-2 c =
 
 returns-3 : tie.Need-returns
 returns-3 c =
-    let (s, t, e, u, x) : tie.Start × tie.After-is_positive × tie.Else-is_positive × tie.After-is_positive-2 × tie.Else-is_positive-2 = search in
+    let (s, t, e, u, x) : tie.Start × tie.After-is_positive × tie.Else-is_positive × tie.After-is_positive-2
+    × tie.Else-is_positive-2 = search in
     let (i, j, k, w) : tie.After-negate-i × tie.After-negate-j × tie.After-negate-k × tie.After-weights_in = search in
     let p = s.args.p in
     λ l ρ o low high.

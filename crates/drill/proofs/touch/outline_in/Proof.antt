@@ -111,14 +111,16 @@ returns-4 c =
 
 returns-5 : tie.Need-returns-then-side_in-2
 returns-5 c =
-    let (s, t, u, v, k, w, m) : tie.Start × tie.Else-corner_in × tie.Else-corner_in-2 × tie.Else-corner_in-3 × tie.After-side_in × tie.Else-side_in
+    let (s, t, u, v, k, w, m) : tie.Start × tie.Else-corner_in × tie.Else-corner_in-2 × tie.Else-corner_in-3 × tie.After-side_in
+    × tie.Else-side_in
     × tie.After-side_in-2 = search in
     λ l ρ o. outline_5 l ρ (A s) (B s) (C s) (one-off l ρ t o) (two-off l ρ u o) (three-off l ρ v o) (ab-as l ρ k o ∙ w.if-side_in.false)
     (bc-as l ρ m o ∙ c.if-side_in-2.true)
 
 returns-6 : tie.Need-returns
 returns-6 c =
-    let (s, t, u, v, k, w, m, x) : tie.Start × tie.Else-corner_in × tie.Else-corner_in-2 × tie.Else-corner_in-3 × tie.After-side_in × tie.Else-side_in × tie.After-side_in-2
+    let (s, t, u, v, k, w, m, x) : tie.Start × tie.Else-corner_in × tie.Else-corner_in-2 × tie.Else-corner_in-3 × tie.After-side_in
+    × tie.Else-side_in × tie.After-side_in-2
     × tie.Else-side_in-2 = search in
     λ l ρ o. outline_6 l ρ (A s) (B s) (C s) (one-off l ρ t o) (two-off l ρ u o) (three-off l ρ v o) (ab-as l ρ k o ∙ w.if-side_in.false)
     (bc-as l ρ m o ∙ x.if-side_in-2.false) (sym (ca-as l ρ c o))

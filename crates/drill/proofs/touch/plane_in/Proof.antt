@@ -129,7 +129,8 @@ below_as q =
 returns-2 : tie.Need-returns-then-is_negative
 unfolding plane_of
 returns-2 c =
-    let (p, t, q, u, n) : tie.After-is_positive × tie.Else-is_positive × tie.After-is_negative × tie.Then-is_negative × tie.After-crossed_backward = search in
+    let (p, t, q, u, n) : tie.After-is_positive × tie.Else-is_positive × tie.After-is_negative × tie.Then-is_negative
+    × tie.After-crossed_backward = search in
     let k = pierced p in
     λ l ρ o.
     let i = i-as k l ρ o in
@@ -137,7 +138,8 @@ returns-2 c =
     let m = k_as k l ρ o in
     let low = low-as k l ρ o in
     let high = high-as k l ρ o in
-    plane_backward (near k l ρ o) (far k l ρ o) (I p l ρ) (J p l ρ) (K p l ρ) (F p l ρ) (H p l ρ) (above_as p l ρ o ∙ t.if-is_positive.false)
+    plane_backward (near k l ρ o) (far k l ρ o) (I p l ρ) (J p l ρ) (K p l ρ) (F p l ρ) (H p l ρ)
+    (above_as p l ρ o ∙ t.if-is_positive.false)
     (below_as q l ρ o ∙ u.if-is_negative.true)
     (n.crossed_backward.ensures l ρ o low high
     ∙ (λ x. nearest_in (near k l ρ o) (far k l ρ o) (neg_ℤ (i x)) (neg_ℤ (j x)) (neg_ℤ (m x)) (neg_ℤ (low x)) (neg_ℤ (high x))))
@@ -145,7 +147,8 @@ returns-2 c =
 returns-3 : tie.Need-returns
 unfolding plane_of
 returns-3 c =
-    let (p, t, q, u, n) : tie.After-is_positive × tie.Else-is_positive × tie.After-is_negative × tie.Else-is_negative × tie.After-near_cap = search in
+    let (p, t, q, u, n) : tie.After-is_positive × tie.Else-is_positive × tie.After-is_negative × tie.Else-is_negative
+    × tie.After-near_cap = search in
     let k = pierced p in
     λ l ρ o.
     plane_level (near k l ρ o) (far k l ρ o) (I p l ρ) (J p l ρ) (K p l ρ) (F p l ρ) (H p l ρ) (above_as p l ρ o ∙ t.if-is_positive.false)

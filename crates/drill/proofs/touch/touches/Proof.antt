@@ -45,7 +45,8 @@ module _ (k : tie.After-corner_at-third) (l : Line) (ρ : ℕ) (o : Drills (begu
   C = from_axis l (from l.origin (begun k).args.c)
 
   beyond-is : {r : Bool}
-      → r ≡ beyond (bits (begun k).args.drill.side) (from_axis_of (first k).corner_at-first.result) (from_axis_of (second k).corner_at-second.result)
+      → r ≡ beyond (bits (begun k).args.drill.side) (from_axis_of (first k).corner_at-first.result)
+      (from_axis_of (second k).corner_at-second.result)
       (from_axis_of k.corner_at-third.result)
       → beyond (begun k).args.drill.side A B C ≡ r
   beyond-is e =

@@ -26,7 +26,8 @@ returns-2 c =
 
 returns-3 : tie.Need-returns
 returns-3 c =
-    let (s, n, t, m, u, k) : tie.Start × tie.After-is_negative × tie.Else-is_negative × tie.After-is_negative-2 × tie.Else-is_negative-2 × tie.After-is_negative-3 =
+    let (s, n, t, m, u, k) : tie.Start × tie.After-is_negative × tie.Else-is_negative × tie.After-is_negative-2 × tie.Else-is_negative-2
+    × tie.After-is_negative-3 =
     search in
     let v = s.args in
     and_on (negative_on (value v.i) n.is_negative.ensures t.if-is_negative.false)

@@ -122,7 +122,8 @@ test-told : (i : tie.After-inside) (x : Bool) → i.inside.result ≡ x → let 
     inside (side_of (point_of s.args.b) (point_of s.args.c)) (side_of (point_of s.args.c) (point_of s.args.a))
     (side_of (point_of s.args.a) (point_of s.args.b)) (entry_of s) ≡ x
 test-told i x t =
-    let (s, d, e, g, m) : tie.Start × tie.After-side_of-first × tie.After-side_of-second × tie.After-side_of-third × tie.After-entering-at = search in
+    let (s, d, e, g, m) : tie.Start × tie.After-side_of-first × tie.After-side_of-second × tie.After-side_of-third
+    × tie.After-entering-at = search in
     let v = s.args in
     tested (point_of v.a) (point_of v.b) (point_of v.c) v.near _ _ _ _ _ x d.side_of-first.ensures e.side_of-second.ensures
     g.side_of-third.ensures (entry-is m) i.inside.ensures t

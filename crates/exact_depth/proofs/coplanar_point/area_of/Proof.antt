@@ -59,7 +59,8 @@ total-requires c κs =
     )
 
 sum_is : (z : tie.After-determinant-third)
-    → value (first_of z).determinant-first.result +ℤ value (second-of z).determinant-second.result +ℤ value z.determinant-third.result ≡ area-as
+    → value (first_of z).determinant-first.result +ℤ value (second-of z).determinant-second.result +ℤ value z.determinant-third.result
+    ≡ area-as
     (begun z)
 unfolding area
 sum_is z =

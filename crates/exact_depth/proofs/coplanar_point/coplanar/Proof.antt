@@ -32,7 +32,8 @@ in-plane-requires c κs =
 
 in-plane-requires-2 : tie.Need-in_plane-requires
 in-plane-requires-2 c κs =
-    let (s, x, y, z, k) : tie.Start × tie.After-across_point × tie.After-across_point-2 × tie.After-across_point-3 × tie.After-in_plane-upright =
+    let (s, x, y, z, k) : tie.Start × tie.After-across_point × tie.After-across_point-2 × tie.After-across_point-3
+    × tie.After-in_plane-upright =
     search
     in (
       (

@@ -45,7 +45,8 @@ returns c =
 returns-2 : tie.Need-returns-then-is_negative
 unfolding in_plane
 returns-2 c =
-    let (s, p, e, n, d) : tie.Start × tie.After-is_positive × tie.Else-is_positive × tie.After-is_negative × tie.Then-is_negative = search in
+    let (s, p, e, n, d) : tie.Start × tie.After-is_positive × tie.Else-is_positive × tie.After-is_negative
+    × tie.Then-is_negative = search in
     let v = s.args in
     finds_as c.along-then-is_negative.ensures
     (left (one_way s) (above p false e.if-is_positive.false)
@@ -55,7 +56,8 @@ returns-2 c =
 returns-3 : tie.Need-returns
 unfolding in_plane
 returns-3 c =
-    let (s, p, e, n, d) : tie.Start × tie.After-is_positive × tie.Else-is_positive × tie.After-is_negative × tie.Else-is_negative = search in
+    let (s, p, e, n, d) : tie.Start × tie.After-is_positive × tie.Else-is_positive × tie.After-is_negative
+    × tie.Else-is_negative = search in
     record {
       is = left (one_way s) (above p false e.if-is_positive.false) (left (other_way s) (below n false d.if-is_negative.false) refl);
       narrow = s.requires.1;

@@ -133,7 +133,8 @@ returns-4 c =
 returns-5 : tie.Need-returns
 unfolding by_weights
 returns-5 c =
-    let (s, d, z, g, y, l) : tie.Start × tie.Else-is_negative × tie.After-is_zero × tie.Else-not-is_zero × tie.After-is_zero-2 × tie.Else-not-is_zero-2 = search in
+    let (s, d, z, g, y, l) : tie.Start × tie.Else-is_negative × tie.After-is_zero × tie.Else-not-is_zero × tie.After-is_zero-2
+    × tie.Else-not-is_zero-2 = search in
     let v = s.args in
     finds_as c.coplanar.ensures
     (past d

@@ -32,7 +32,8 @@ returns-2 c =
 returns-3 : tie.Need-returns-then-is_negative-3
 unfolding crossing
 returns-3 c =
-    let (n, e, m, d, o) : tie.After-is_negative × tie.Else-is_negative × tie.After-is_negative-2 × tie.Else-is_negative-2 × tie.After-is_negative-3 = search in
+    let (n, e, m, d, o) : tie.After-is_negative × tie.Else-is_negative × tie.After-is_negative-2 × tie.Else-is_negative-2
+    × tie.After-is_negative-3 = search in
     missed (simp (
       sym n.is_negative.ensures ∙ e.if-is_negative.false,
       sym m.is_negative-2.ensures ∙ d.if-is_negative-2.false,
@@ -43,7 +44,8 @@ returns-3 c =
 signs : (g : tie.Else-is_negative-3) → let s : tie.Start = search in
     (lt_z (value s.args.a) (pos 0) ≡ false) × (lt_z (value s.args.b) (pos 0) ≡ false) × (lt_z (value s.args.c) (pos 0) ≡ false)
 signs g =
-    let (n, e, m, d, o) : tie.After-is_negative × tie.Else-is_negative × tie.After-is_negative-2 × tie.Else-is_negative-2 × tie.After-is_negative-3 = search in (
+    let (n, e, m, d, o) : tie.After-is_negative × tie.Else-is_negative × tie.After-is_negative-2 × tie.Else-is_negative-2
+    × tie.After-is_negative-3 = search in (
       sym n.is_negative.ensures ∙ e.if-is_negative.false,
       sym m.is_negative-2.ensures ∙ d.if-is_negative-2.false,
       sym o.is_negative-3.ensures ∙ g.if-is_negative-3.false,

@@ -153,7 +153,8 @@ low-limbs o =
     subst (λ (z : ℤ). LimbsOf z j.limbs_of-low.result) l.low_part.ensures.0 (fifth j)
 
 middle-limbs : (o : tie.After-high_part)
-    → let (k, j, p, q, r, s) : tie.After-limbs_of-middle × tie.After-limbs_of-low × tie.After-limbs_of-p × tie.After-limbs_of-q × tie.After-limbs_of-r
+    → let (k, j, p, q, r, s) : tie.After-limbs_of-middle × tie.After-limbs_of-low × tie.After-limbs_of-p × tie.After-limbs_of-q
+    × tie.After-limbs_of-r
     × tie.After-limbs_of-s = search in
     LimbsOf (middle_part p.limbs_of-p.result q.limbs_of-q.result r.limbs_of-r.result s.limbs_of-s.result
     +ℤ j.limbs_of-low.result.high) k.limbs_of-middle.result
@@ -180,7 +181,8 @@ returns c =
 -- the high part has the sign, since what is below it is less than one unit of it
 returns-2 : tie.Need-returns
 returns-2 c =
-    let (o, k, p, q, r, s) : tie.After-high_part × tie.After-limbs_of-middle × tie.After-limbs_of-p × tie.After-limbs_of-q × tie.After-limbs_of-r
+    let (o, k, p, q, r, s) : tie.After-high_part × tie.After-limbs_of-middle × tie.After-limbs_of-p × tie.After-limbs_of-q
+    × tie.After-limbs_of-r
     × tie.After-limbs_of-s = search in
     let (x, e) : tie.Start × tie.Else-high-eq0 = search in
     let v = x.args in

@@ -30,7 +30,8 @@ reach-at-requires c κs =
 
 store-requires : tie.Need-store-hits-requires invariant-loop decreases-loop
 store-requires c κs =
-    let (s, at-loop, in-loop) : (tie.Start invariant-loop decreases-loop) × (tie.At-loop-i invariant-loop decreases-loop) × (tie.In-loop-i invariant-loop decreases-loop) = search in
+    let (s, at-loop, in-loop) : (tie.Start invariant-loop decreases-loop) × (tie.At-loop-i invariant-loop decreases-loop)
+    × (tie.In-loop-i invariant-loop decreases-loop) = search in
     let l = at-loop.loop-i in (
       omega (arith, l.invariant.few, in-loop.loop-i-test.true, s.well_formed),
       (omega (arith, l.invariant.long, s.requires.1.1.1), omega (arith, l.invariant.numbers_long, s.requires.1.1.1)),
@@ -39,7 +40,8 @@ store-requires c κs =
 loop-again : tie.Need-loop-i-preserved invariant-loop decreases-loop
 loop-again c =
     let (s, at-loop, in-loop, at-reach-at, at-note, at_store) :
-    (tie.Start invariant-loop decreases-loop) × (tie.At-loop-i invariant-loop decreases-loop) × (tie.In-loop-i invariant-loop decreases-loop)
+    (tie.Start invariant-loop decreases-loop) × (tie.At-loop-i invariant-loop decreases-loop)
+    × (tie.In-loop-i invariant-loop decreases-loop)
     × (tie.After-reach_at-reach invariant-loop decreases-loop) × (tie.After-note-notes invariant-loop decreases-loop)
     × (tie.After-store-hits invariant-loop decreases-loop) = search in
     let l = at-loop.loop-i in

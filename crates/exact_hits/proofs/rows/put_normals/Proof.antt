@@ -39,7 +39,8 @@ corners-of-requires c κs =
 
 slice-read-hit-on : tie.Need-bounds-numbers-i invariant-loop decreases-loop
 slice-read-hit-on c =
-    let (s, at-loop, in-loop) : (tie.Start invariant-loop decreases-loop) × (tie.At-loop-i invariant-loop decreases-loop) × (tie.In-loop-i invariant-loop decreases-loop) = search in
+    let (s, at-loop, in-loop) : (tie.Start invariant-loop decreases-loop) × (tie.At-loop-i invariant-loop decreases-loop)
+    × (tie.In-loop-i invariant-loop decreases-loop) = search in
     omega (
       arith,
       at-loop.loop-i.invariant.long,
@@ -59,7 +60,8 @@ put-place-requires c κs =
 loop-again : tie.Need-loop-i-preserved invariant-loop decreases-loop
 loop-again c =
     let (s, at-loop, in-loop, at-corners-of, at-hit-on, at-put-place) :
-    (tie.Start invariant-loop decreases-loop) × (tie.At-loop-i invariant-loop decreases-loop) × (tie.In-loop-i invariant-loop decreases-loop)
+    (tie.Start invariant-loop decreases-loop) × (tie.At-loop-i invariant-loop decreases-loop)
+    × (tie.In-loop-i invariant-loop decreases-loop)
     × (tie.After-corners_of-corners invariant-loop decreases-loop) × (tie.After-hit_on-hit invariant-loop decreases-loop)
     × (tie.After-put_place invariant-loop decreases-loop) = search in
     let l = at-loop.loop-i in

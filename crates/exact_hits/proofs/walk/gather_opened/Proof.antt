@@ -9,12 +9,15 @@ use Rattle.exact_hits.proofs.walk.gather_opened.Statement.{statement}
 use Rattle.exact_hits.proofs.walk.gather_opened.Tie as tie
 
 abbrev invariant-loop : tie.invariant-loop-taken
-invariant-loop line reach count nodes node_boxes_lem triangle_boxes_lem node_words_lem order list₀ stack₀ next₀ height₀ listed₀ taken₀ list stack next
+invariant-loop line reach count nodes node_boxes_lem triangle_boxes_lem node_words_lem order list₀ stack₀ next₀ height₀ listed₀ taken₀ list
+    stack next
     height listed taken =
-    OpenedSoFar line count reach (tree_of nodes node_boxes_lem triangle_boxes_lem node_words_lem order) list₀ stack₀ list stack next height listed taken
+    OpenedSoFar line count reach (tree_of nodes node_boxes_lem triangle_boxes_lem node_words_lem order) list₀ stack₀ list stack next height
+    listed taken
 
 abbrev decreases-loop : tie.decreases-loop-taken
-decreases-loop line reach count nodes node_boxes_lem triangle_boxes_lem node_words_lem order list₀ stack₀ next₀ height₀ listed₀ taken₀ list stack next
+decreases-loop line reach count nodes node_boxes_lem triangle_boxes_lem node_words_lem order list₀ stack₀ next₀ height₀ listed₀ taken₀ list
+    stack next
     height listed taken =
     nodes - taken
 

@@ -26,7 +26,8 @@ quotient_is : (e : tie.Else-t-lt0) → let s : tie.Start = search in
     div binary64 (of_int binary64 (bits s.args.t)) (of_int binary64 (bits s.args.w)) ≡ fraction_of s.args.t s.args.w
 quotient_is e =
     let s : tie.Start = search in
-    (λ i. div binary64 (of_int binary64 (plain (widen s.requires.0 (lit≤ tt)) i)) (of_int binary64 (plain (widen s.requires.1.0 (lit≤ tt)) i)))
+    (λ i. div binary64 (of_int binary64 (plain (widen s.requires.0 (lit≤ tt)) i))
+    (of_int binary64 (plain (widen s.requires.1.0 (lit≤ tt)) i)))
     ∙ small_quotient s.args.t s.args.w s.requires.0 s.requires.1.0
     (below_read {Y = pos 0} (plain (widen s.requires.0 (lit≤ tt))) refl e.if-t-lt0.false) s.requires.1.1
 

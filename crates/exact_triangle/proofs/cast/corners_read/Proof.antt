@@ -34,7 +34,8 @@ returns-2 c =
 returns-3 : tie.Need-returns
 unfolding corners_read
 returns-3 c =
-    let (s, w, e, u, d) : tie.Start × tie.After-all_within × tie.Else-not-all_within × tie.After-all_within-2 × tie.Else-not-all_within-2 = search in
+    let (s, w, e, u, d) : tie.Start × tie.After-all_within × tie.Else-not-all_within × tie.After-all_within-2
+    × tie.Else-not-all_within-2 = search in
     third_tells (one s) (two s) (three s)
     (test_passed w.all_within.ensures e.if-not-all_within.false) (test_passed u.all_within-2.ensures d.if-not-all_within-2.false)
     c.all_within-3.ensures

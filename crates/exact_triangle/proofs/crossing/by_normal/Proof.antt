@@ -66,7 +66,8 @@ below p h =
 -- n · d is above 0
 returns : tie.Need-returns-then-is_positive
 returns c =
-    let (s, u, o, p, e, m) : tie.Start × tie.After-dot-under × tie.After-dot-over × tie.After-is_positive × tie.Then-is_positive × tie.After-times = search in
+    let (s, u, o, p, e, m) : tie.Start × tie.After-dot-under × tie.After-dot-over × tie.After-is_positive × tie.Then-is_positive
+    × tie.After-times = search in
     let v = s.args in
     let n = cross_of v.a v.b v.c in
     λ l h k.
@@ -81,7 +82,8 @@ returns c =
 -- .. or below
 returns-2 : tie.Need-returns-then-is_negative
 returns-2 c =
-    let (s, u, o, p, e, m, w) : tie.Start × tie.After-dot-under × tie.After-dot-over × tie.After-is_negative × tie.Then-is_negative × tie.After-times-then-is_negative
+    let (s, u, o, p, e, m, w) : tie.Start × tie.After-dot-under × tie.After-dot-over × tie.After-is_negative × tie.Then-is_negative
+    × tie.After-times-then-is_negative
     × tie.After-negate = search in
     let v = s.args in
     let n = cross_of v.a v.b v.c in

@@ -17,7 +17,8 @@ fits-z s = search rules
 
 returns : tie.Need-returns
 returns c =
-    let (s, x, y, z) : tie.Start × tie.After-nearest_i64_to_f64 × tie.After-nearest_i64_to_f64-2 × tie.After-nearest_i64_to_f64-3 = search in
+    let (s, x, y, z) : tie.Start × tie.After-nearest_i64_to_f64 × tie.After-nearest_i64_to_f64-2
+    × tie.After-nearest_i64_to_f64-3 = search in
     c.normalize.ensures
     ∙ (λ i. try_normalize (record {
       x = (x.nearest_i64_to_f64.ensures ∙ ap (of_int binary64) (bits_back (fits-x s))) i;

@@ -21,7 +21,8 @@ returns c =
       c.first_point.ensures.narrow,
       λ l h.
           c.first_point.ensures.is
-          ∙ (λ i. first_point (x.projected_of-first.ensures.1 l h i) (y.projected_of-second.ensures.1 l h i) (z.projected_of-third.ensures.1 l h i)
+          ∙ (λ i. first_point (x.projected_of-first.ensures.1 l h i) (y.projected_of-second.ensures.1 l h i)
+          (z.projected_of-third.ensures.1 l h i)
           ((plain (widen s.requires.0.near (lit≤ tt)) ∙ h.near) i) ((plain (widen s.requires.0.far (lit≤ tt)) ∙ h.far) i)),
     )
 

@@ -36,7 +36,8 @@ returns-2 c =
 returns-3 : tie.Need-returns-then-not-within
 unfolding grid_admitted
 returns-3 c =
-    let (s, w, e, u, d, n) : tie.Start × tie.After-all_within × tie.Else-not-all_within × tie.After-all_within-2 × tie.Else-not-all_within-2 × tie.After-within = search in
+    let (s, w, e, u, d, n) : tie.Start × tie.After-all_within × tie.Else-not-all_within × tie.After-all_within-2 × tie.Else-not-all_within-2
+    × tie.After-within = search in
     third_fails (first s) (second s) (third s) (fourth s)
     (test_passed w.all_within.ensures e.if-not-all_within.false) (test_passed u.all_within-2.ensures d.if-not-all_within-2.false)
     (test_failed n.within.ensures c.if-not-within.true)
@@ -44,7 +45,8 @@ returns-3 c =
 returns-4 : tie.Need-returns
 unfolding grid_admitted
 returns-4 c =
-    let (s, w, e, u, d, n, g) : tie.Start × tie.After-all_within × tie.Else-not-all_within × tie.After-all_within-2 × tie.Else-not-all_within-2 × tie.After-within
+    let (s, w, e, u, d, n, g) : tie.Start × tie.After-all_within × tie.Else-not-all_within × tie.After-all_within-2
+    × tie.Else-not-all_within-2 × tie.After-within
     × tie.Else-not-within = search in
     four_tells (first s) (second s) (third s) (fourth s)
     (test_passed w.all_within.ensures e.if-not-all_within.false) (test_passed u.all_within-2.ensures d.if-not-all_within-2.false)

@@ -25,8 +25,7 @@ returns c =
     let whole = ends_second all list stack start.result parts _ _ half c.cast_all-end.ensures.0 in
     let answer =
     cabinet_answers ray all list stack a.limit fits parts start.result c.cast_all-end.result start.ensures whole a.hit.now a.index.now
-    a.part.now a.spent.now _ c.put_cabinet.ensures in
-    (
+    a.part.now a.spent.now _ c.put_cabinet.ensures in (
       answer,
       (
         cabinet_keeps ray all list stack a.limit fits parts start.result start.ensures _ _ _ _ c.cast_all-end.ensures.1,

@@ -22,14 +22,16 @@ returns-2 c =
 -- 12 of the ray
 returns-3 : tie.Need-returns-then-not-admitted
 returns-3 c =
-    let (s, v, e, z, f) : tie.Start × tie.After-validate × tie.Else-not-validate × tie.After-radius_admitted × tie.Else-not-radius_admitted = search in
+    let (s, v, e, z, f) : tie.Start × tie.After-validate × tie.Else-not-validate × tie.After-radius_admitted
+    × tie.Else-not-radius_admitted = search in
     short_off _ _ s.args.shape (test_passed v.validate.ensures e.if-not-validate.false)
     (test_passed z.radius_admitted.ensures f.if-not-radius_admitted.false) (test_failed c.admitted.ensures c.if-not-admitted.true)
 
 -- and of the radius
 returns-4 : tie.Need-returns-then-not-radius_read
 returns-4 c =
-    let (s, v, e, z, f) : tie.Start × tie.After-validate × tie.Else-not-validate × tie.After-radius_admitted × tie.Else-not-radius_admitted = search in
+    let (s, v, e, z, f) : tie.Start × tie.After-validate × tie.Else-not-validate × tie.After-radius_admitted
+    × tie.Else-not-radius_admitted = search in
     let (g, h) : tie.After-admitted × tie.Else-not-admitted = search in
     short_wide _ _ s.args.shape (test_passed v.validate.ensures e.if-not-validate.false)
     (test_passed z.radius_admitted.ensures f.if-not-radius_admitted.false) (test_passed g.admitted.ensures h.if-not-admitted.false)
@@ -38,7 +40,8 @@ returns-4 c =
 -- 2
 returns-5 : tie.Need-returns-then-not-shape
 returns-5 c =
-    let (s, v, e, z, f) : tie.Start × tie.After-validate × tie.Else-not-validate × tie.After-radius_admitted × tie.Else-not-radius_admitted = search in
+    let (s, v, e, z, f) : tie.Start × tie.After-validate × tie.Else-not-validate × tie.After-radius_admitted
+    × tie.Else-not-radius_admitted = search in
     let (g, h, w, k) : tie.After-admitted × tie.Else-not-admitted × tie.After-radius_read × tie.Else-not-radius_read = search in
     short_bad _ _ s.args.shape (test_passed v.validate.ensures e.if-not-validate.false)
     (test_passed z.radius_admitted.ensures f.if-not-radius_admitted.false) (test_passed g.admitted.ensures h.if-not-admitted.false)
@@ -47,7 +50,8 @@ returns-5 c =
 -- 3
 returns-6 : tie.Need-returns
 returns-6 c =
-    let (s, v, e, z, f) : tie.Start × tie.After-validate × tie.Else-not-validate × tie.After-radius_admitted × tie.Else-not-radius_admitted = search in
+    let (s, v, e, z, f) : tie.Start × tie.After-validate × tie.Else-not-validate × tie.After-radius_admitted
+    × tie.Else-not-radius_admitted = search in
     let (g, h, w, k) : tie.After-admitted × tie.Else-not-admitted × tie.After-radius_read × tie.Else-not-radius_read = search in
     short_room _ _ s.args.shape (test_passed v.validate.ensures e.if-not-validate.false)
     (test_passed z.radius_admitted.ensures f.if-not-radius_admitted.false) (test_passed g.admitted.ensures h.if-not-admitted.false)

@@ -31,7 +31,8 @@ returns-2 c =
 -- the cast's answer, told
 returns-3 : tie.Need-returns
 returns-3 c =
-    let (s, e1, e2, k, p) : tie.Start × tie.Else-hit-lt4 × tie.Else-index-lt1 × tie.After-ray_mesh_exact_plain-found × tie.After-put_indexed = search in
+    let (s, e1, e2, k, p) : tie.Start × tie.Else-hit-lt4 × tie.Else-index-lt1 × tie.After-ray_mesh_exact_plain-found
+    × tie.After-put_indexed = search in
     let a = s.args in
     let fits = results_fit_lem a.hit.now a.index.now e1.if-hit-lt4.false e2.if-index-lt1.false in
     exact_certain a.hit.now a.index.now _ (own s) _

@@ -23,14 +23,16 @@ returns-2 c =
 returns-3 : tie.Need-returns-then-not-shape
 returns-3 c =
     let (s, v, e, g, f) : tie.Start × tie.After-validate × tie.Else-not-validate × tie.After-admitted × tie.Else-not-admitted = search in
-    short_bad _ s.args.shape (test_passed v.validate.ensures e.if-not-validate.false) (test_passed g.admitted.ensures f.if-not-admitted.false)
+    short_bad _ s.args.shape (test_passed v.validate.ensures e.if-not-validate.false)
+    (test_passed g.admitted.ensures f.if-not-admitted.false)
     c.if-not-shape.true
 
 -- 3
 returns-4 : tie.Need-returns
 returns-4 c =
     let (s, v, e, g, f) : tie.Start × tie.After-validate × tie.Else-not-validate × tie.After-admitted × tie.Else-not-admitted = search in
-    short_room _ s.args.shape (test_passed v.validate.ensures e.if-not-validate.false) (test_passed g.admitted.ensures f.if-not-admitted.false)
+    short_room _ s.args.shape (test_passed v.validate.ensures e.if-not-validate.false)
+    (test_passed g.admitted.ensures f.if-not-admitted.false)
     c.if-not-shape.false
 
 pub short_exact_spec : {M : Type 1} → statement M

@@ -33,16 +33,19 @@ returns-2 c =
 -- 3, the hit
 returns-3 : tie.Need-returns-then-hit-lt4
 returns-3 c =
-    let (f, e, t, g) : tie.After-ray_from-ray × tie.Else-not-validate × tie.After-lengths_admitted × tie.Else-not-lengths_admitted = search in
+    let (f, e, t, g) : tie.After-ray_from-ray × tie.Else-not-validate × tie.After-lengths_admitted
+    × tie.Else-not-lengths_admitted = search in
     let shape = test_passed t.lengths_admitted.ensures g.if-not-lengths_admitted.false in
     returned_for _ _ f.ray_from-ray.ensures _ _ _ _ (returned_short_hit _ _ _ _ (ray-passes e) shape c.if-hit-lt4.true)
 
 -- 3, the index
 returns-4 : tie.Need-returns-then-index-lt1
 returns-4 c =
-    let (f, e, t, g, k) : tie.After-ray_from-ray × tie.Else-not-validate × tie.After-lengths_admitted × tie.Else-not-lengths_admitted × tie.Else-hit-lt4 = search in
+    let (f, e, t, g, k) : tie.After-ray_from-ray × tie.Else-not-validate × tie.After-lengths_admitted × tie.Else-not-lengths_admitted
+    × tie.Else-hit-lt4 = search in
     let shape = test_passed t.lengths_admitted.ensures g.if-not-lengths_admitted.false in
-    returned_for _ _ f.ray_from-ray.ensures _ _ _ _ (returned_short_index _ _ _ _ (ray-passes e) shape k.if-hit-lt4.false c.if-index-lt1.true)
+    returned_for _ _ f.ray_from-ray.ensures _ _ _ _ (returned_short_index _ _ _ _ (ray-passes e) shape k.if-hit-lt4.false
+    c.if-index-lt1.true)
 
 plain-cast-requires : tie.Need-plain_cast-found-requires
 plain-cast-requires c κs =
@@ -53,12 +56,14 @@ plain-cast-requires c κs =
 returns-5 : tie.Need-returns
 returns-5 c =
     let (f, e, t, g, k, l, p, q) :
-    tie.After-ray_from-ray × tie.Else-not-validate × tie.After-lengths_admitted × tie.Else-not-lengths_admitted × tie.Else-hit-lt4 × tie.Else-index-lt1 × tie.After-plain_cast-found ×
+    tie.After-ray_from-ray × tie.Else-not-validate × tie.After-lengths_admitted × tie.Else-not-lengths_admitted × tie.Else-hit-lt4
+    × tie.Else-index-lt1 × tie.After-plain_cast-found ×
     tie.After-put_indexed
     = search in
     let shape = test_passed t.lengths_admitted.ensures g.if-not-lengths_admitted.false in
     returned_for _ _ f.ray_from-ray.ensures _ _ _ _
-    (returned_passed _ _ _ _ (ray-passes e) shape k.if-hit-lt4.false l.if-index-lt1.false _ _ q.put_indexed.ensures p.plain_cast-found.ensures)
+    (returned_passed _ _ _ _ (ray-passes e) shape k.if-hit-lt4.false l.if-index-lt1.false _ _ q.put_indexed.ensures
+    p.plain_cast-found.ensures)
 
 pub probe_ray_mesh_plain_spec : {M : Type 1} → statement M
 probe_ray_mesh_plain_spec =

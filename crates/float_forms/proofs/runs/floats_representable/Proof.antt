@@ -33,7 +33,8 @@ number-at-requires c κs =
 returns : tie.Need-returns-then-not-is_representable invariant-loop decreases-loop
 returns c =
     let (start, at-loop, in-loop, at-number-at) :
-    (tie.Start invariant-loop decreases-loop) × (tie.At-loop-left invariant-loop decreases-loop) × (tie.In-loop-left invariant-loop decreases-loop) × (tie.After-number_at invariant-loop decreases-loop)
+    (tie.Start invariant-loop decreases-loop) × (tie.At-loop-left invariant-loop decreases-loop)
+    × (tie.In-loop-left invariant-loop decreases-loop) × (tie.After-number_at invariant-loop decreases-loop)
     = search in
     scan_unrepresentable start.args.p start.args.q start.args.source.now
     (every (representable start.args.q) (numbers_of start.args.p start.args.count (drop start.args.place start.args.source.now)))
@@ -43,7 +44,8 @@ returns c =
 add-from : tie.Need-overflow_add-from invariant-loop decreases-loop
 add-from c =
     let (start, at-size-of, at-loop, in-loop) :
-    (tie.Start invariant-loop decreases-loop) × (tie.After-size_of-size invariant-loop decreases-loop) × (tie.At-loop-left invariant-loop decreases-loop) × (tie.In-loop-left invariant-loop decreases-loop) =
+    (tie.Start invariant-loop decreases-loop) × (tie.After-size_of-size invariant-loop decreases-loop)
+    × (tie.At-loop-left invariant-loop decreases-loop) × (tie.In-loop-left invariant-loop decreases-loop) =
     search in
     omega (
       arith,
@@ -55,11 +57,13 @@ add-from c =
 loop-again : tie.Need-loop-left-preserved invariant-loop decreases-loop
 loop-again c =
     let (start, at-size-of, at-loop, in-loop, at-number-at) :
-    (tie.Start invariant-loop decreases-loop) × (tie.After-size_of-size invariant-loop decreases-loop) × (tie.At-loop-left invariant-loop decreases-loop) × (tie.In-loop-left invariant-loop decreases-loop) ×
+    (tie.Start invariant-loop decreases-loop) × (tie.After-size_of-size invariant-loop decreases-loop)
+    × (tie.At-loop-left invariant-loop decreases-loop) × (tie.In-loop-left invariant-loop decreases-loop) ×
     (tie.After-number_at invariant-loop decreases-loop) = search in
     rw at-size-of.size_of-size.ensures
     (scan_next start.args.p start.args.q start.args.source.now
-    (every (representable start.args.q) (numbers_of start.args.p start.args.count (drop start.args.place start.args.source.now))) at-loop.loop-left.from at-loop.loop-left.left in-loop.loop-left-test.true at-loop.loop-left.invariant
+    (every (representable start.args.q) (numbers_of start.args.p start.args.count (drop start.args.place start.args.source.now)))
+    at-loop.loop-left.from at-loop.loop-left.left in-loop.loop-left-test.true at-loop.loop-left.invariant
     (sym (c.is_representable.ensures ∙ ap (representable start.args.q) at-number-at.number_at.ensures) ∙ c.if-not-is_representable.false))
 
 returns-2 : tie.Need-returns invariant-loop decreases-loop

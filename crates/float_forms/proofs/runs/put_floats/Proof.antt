@@ -64,7 +64,8 @@ bits-for-requires c κs =
 put-pattern-requires : tie.Need-put_pattern-requires invariant-loop decreases-loop
 put-pattern-requires c κs =
     let (s, l, t, f) : Start × At-loop × In-loop × Found = search in (
-      next_inside (size_of s.args.q) l.loop-left.to l.loop-left.left (length l.loop-left.out) t.loop-left-test.true l.loop-left.invariant.room,
+      next_inside (size_of s.args.q) l.loop-left.to l.loop-left.left (length l.loop-left.out) t.loop-left-test.true
+          l.loop-left.invariant.room,
       f.bits_for-bits.ensures.1,
     )
 
@@ -85,13 +86,15 @@ add-to c =
 -- one float more
 loop-again : tie.Need-loop-left-preserved invariant-loop decreases-loop
 loop-again c =
-    let (s, z, y) : Start × tie.After-size_of-size invariant-loop decreases-loop × tie.After-size_of-step invariant-loop decreases-loop = search in
+    let (s, z, y) : Start × tie.After-size_of-size invariant-loop decreases-loop
+    × tie.After-size_of-step invariant-loop decreases-loop = search in
     let (l, t, r, f, w) : At-loop × In-loop × Read × Found × tie.After-put_pattern invariant-loop decreases-loop = search in
     let a = s.args in
     let bits = f.bits_for-bits.ensures.0 ∙ ap (to_bits (format_of a.q)) r.number_at.ensures in
     rw (z.size_of-size.ensures, y.size_of-step.ensures)
     (write_next a.p a.q a.source.now (whole s) (length a.out.now) l.loop-left.out w.put_pattern.new.out
-    l.loop-left.from l.loop-left.to l.loop-left.left f.bits_for-bits.result t.loop-left-test.true l.loop-left.invariant bits w.put_pattern.ensures)
+    l.loop-left.from l.loop-left.to l.loop-left.left f.bits_for-bits.result t.loop-left-test.true l.loop-left.invariant bits
+    w.put_pattern.ensures)
 
 same_length : tie.Need-shape_of-out invariant-loop decreases-loop
 same_length c = let l : At-loop = search in l.loop-left.invariant.kept

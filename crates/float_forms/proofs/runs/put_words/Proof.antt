@@ -23,7 +23,8 @@ loop-holds c =
 loop-again : tie.Need-loop-left-preserved invariant-loop decreases-loop
 loop-again c =
     let (start, at-loop, in-loop, at-word-at, at-put-word) :
-    (tie.Start invariant-loop decreases-loop) × (tie.At-loop-left invariant-loop decreases-loop) × (tie.In-loop-left invariant-loop decreases-loop) × (tie.After-word_at invariant-loop decreases-loop) ×
+    (tie.Start invariant-loop decreases-loop) × (tie.At-loop-left invariant-loop decreases-loop)
+    × (tie.In-loop-left invariant-loop decreases-loop) × (tie.After-word_at invariant-loop decreases-loop) ×
     (tie.After-put_word invariant-loop decreases-loop) = search in
     copy_next start.args.source.now
     (sets start.args.out.now start.args.at

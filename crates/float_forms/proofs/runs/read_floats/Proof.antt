@@ -61,7 +61,8 @@ add-from c =
 -- one float more
 loop-again : tie.Need-loop-i-preserved invariant-loop decreases-loop
 loop-again c =
-    let (s, z, l, t, r) : Start × tie.After-size_of-size invariant-loop decreases-loop × At-loop × In-loop × tie.After-number_at invariant-loop decreases-loop = search in
+    let (s, z, l, t, r) : Start × tie.After-size_of-size invariant-loop decreases-loop × At-loop × In-loop
+    × tie.After-number_at invariant-loop decreases-loop = search in
     let f = s.args.form in
     rw z.size_of-size.ensures
     (read_next (number_of f) (size_of f) (numbers_of f) (numbers_run f) s.args.source.now _ _ _ _ _ _ l.loop-i.invariant _

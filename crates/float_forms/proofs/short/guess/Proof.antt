@@ -17,14 +17,19 @@ returns-2 c = (simp (ne_eqb _ _ c.if-size-eq9218868437227405312.false, le-leb _ 
 returns-3 : tie.Need-returns-then-exponent-lt874
 unfolding guess guess_size
 returns-3 c =
-    let (e1, e2) : tie.Else-size-eq9218868437227405312 × tie.Else-exponent-ge897 = search in
-    (simp (ne_eqb _ _ e1.if-size-eq9218868437227405312.false, lt-leb _ _ e2.if-exponent-ge897.false, lt-ltb _ _ c.if-exponent-lt874.true) (omega arith), omega arith)
+    let (e1, e2) : tie.Else-size-eq9218868437227405312 × tie.Else-exponent-ge897 = search in (
+      simp (ne_eqb _ _ e1.if-size-eq9218868437227405312.false, lt-leb _ _ e2.if-exponent-ge897.false, lt-ltb _ _ c.if-exponent-lt874.true)
+          (omega arith),
+      omega arith,
+    )
 
 returns-4 : tie.Need-returns
 unfolding guess guess_size
 returns-4 c =
-    let (e1, e2) : tie.Else-size-eq9218868437227405312 × tie.Else-exponent-ge897 = search in
-    (simp (ne_eqb _ _ e1.if-size-eq9218868437227405312.false, lt-leb _ _ e2.if-exponent-ge897.false, le-ltb _ _ c.if-exponent-lt874.false), omega arith)
+    let (e1, e2) : tie.Else-size-eq9218868437227405312 × tie.Else-exponent-ge897 = search in (
+      simp (ne_eqb _ _ e1.if-size-eq9218868437227405312.false, lt-leb _ _ e2.if-exponent-ge897.false, le-ltb _ _ c.if-exponent-lt874.false),
+      omega arith,
+    )
 
 pub guess_spec : {M : Type 1} → statement M
 guess_spec =

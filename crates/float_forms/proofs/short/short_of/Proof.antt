@@ -21,7 +21,8 @@ float-to-bits-bits c = ne_self_passes c.args.x c.if-x.false
 returns-2 : tie.Need-returns-then-pattern-gt2139095040
 returns-2 c =
     let (a, e) : tie.Start × tie.Else-x = search in
-    nan_guess a.args.x e.if-x.false (subst (λ (z : ℕ). 0x7f80_0000 < z % 0x8000_0000) c.guess-pattern.ensures.0 c.if-pattern-gt2139095040.true)
+    nan_guess a.args.x e.if-x.false (subst (λ (z : ℕ). 0x7f80_0000 < z % 0x8000_0000) c.guess-pattern.ensures.0
+    c.if-pattern-gt2139095040.true)
 
 float-from-bits-back : tie.Need-float_from_bits-back
 float-from-bits-back c = number_pattern binary32 c.guess-pattern.result c.if-pattern-gt2139095040.false
@@ -41,12 +42,14 @@ returns-3 : tie.Need-returns-then-back-bits
 returns-3 c =
     let (a, g) : tie.Start × tie.After-guess-pattern = search in
     let x = a.args.x in
-    other_guess x (subst (λ (z : ℕ). to_bits binary64 (of_bits binary32 z) ≡ to_bits binary64 x → ⊥) g.guess-pattern.ensures.0 c.if-back-bits.true)
+    other_guess x (subst (λ (z : ℕ). to_bits binary64 (of_bits binary32 z) ≡ to_bits binary64 x → ⊥) g.guess-pattern.ensures.0
+    c.if-back-bits.true)
 
 returns-4 : tie.Need-returns
 returns-4 c =
     let (a, g, e) : tie.Start × tie.After-guess-pattern × tie.Else-pattern-gt2139095040 = search in
-    right_guess a.args.x g.guess-pattern.result (subst T (sym a.well_formed.0.1) tt) g.guess-pattern.ensures.1 e.if-pattern-gt2139095040.false c.if-back-bits.false
+    right_guess a.args.x g.guess-pattern.result (subst T (sym a.well_formed.0.1) tt) g.guess-pattern.ensures.1
+    e.if-pattern-gt2139095040.false c.if-back-bits.false
 
 pub short_of_spec : {M : Type 1} → statement M
 short_of_spec =

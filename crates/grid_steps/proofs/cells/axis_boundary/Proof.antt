@@ -43,7 +43,8 @@ returns-4 : tie.Need-returns-then-distance-slack
 unfolding axis_boundary boundary_by
 returns-4 c =
     let (at_next, else1, at-boundary-distance, at-is-finite, else2, at-slack) :
-    tie.In-At × tie.Else-direction × tie.After-boundary_distance-distance × tie.After-is_finite × tie.Else-not-is_finite × tie.After-slack = search in
+    tie.In-At × tie.Else-direction × tie.After-boundary_distance-distance × tie.After-is_finite × tie.Else-not-is_finite
+    × tie.After-slack = search in
     simp (
       at_next.in-At.is,
       else1.if-direction.false,

@@ -33,7 +33,8 @@ sub-result c =
 returns : tie.Need-returns-then-nearest
 unfolding whole_cell leaves_node
 returns c =
-    let (then1, at-round, at-abs, at-slack, then2) : tie.Then-direction × tie.After-round-nearest × tie.After-abs × tie.After-slack × tie.Then-abs-slack = search in
+    let (then1, at-round, at-abs, at-slack, then2) : tie.Then-direction × tie.After-round-nearest × tie.After-abs × tie.After-slack
+    × tie.Then-abs-slack = search in
     simp (
       then1.if-direction.true,
       sym at-round.round-nearest.ensures,
@@ -50,7 +51,8 @@ floor-cell-requires c κs = tt
 returns-2 : tie.Need-returns-then-abs-slack
 unfolding whole_cell leaves_node
 returns-2 c =
-    let (then1, at-round, at-abs, at-slack, then2) : tie.Then-direction × tie.After-round-nearest × tie.After-abs × tie.After-slack × tie.Then-abs-slack = search in
+    let (then1, at-round, at-abs, at-slack, then2) : tie.Then-direction × tie.After-round-nearest × tie.After-abs × tie.After-slack
+    × tie.Then-abs-slack = search in
     simp (
       then1.if-direction.true,
       sym at-round.round-nearest.ensures,

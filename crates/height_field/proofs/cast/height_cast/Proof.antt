@@ -36,7 +36,8 @@ returns-3 : tie.Need-returns
 unfolding grid_pass
 returns-3 c =
     let (s, end, else1, at-segment-box, at-span-finite, else2) :
-    tie.Start × tie.After-is_finite × tie.Else-not-is_finite × tie.After-segment_box-bounds × tie.After-span_finite × tie.Else-not-span_finite = search in
+    tie.Start × tie.After-is_finite × tie.Else-not-is_finite × tie.After-segment_box-bounds × tie.After-span_finite
+    × tie.Else-not-span_finite = search in
     let a = s.args in
     let finite = sym end.is_finite.ensures ∙ else1.if-not-is_finite.false in
     let listing = grid_listing a.field a.heights.now at-segment-box.segment_box-bounds.result in

@@ -35,7 +35,8 @@ returns-3 : tie.Need-returns
 unfolding scaled_range
 returns-3 c =
     let (s, at-is-finite, else1, at-is-finite2, else2, at-to-u64, at-one-before, at-to-u642) :
-    tie.Start × tie.After-is_finite × tie.Else-not-is_finite × tie.After-is_finite-2 × tie.Else-not-is_finite-2 × tie.After-to_u64 × tie.After-one_before-first ×
+    tie.Start × tie.After-is_finite × tie.Else-not-is_finite × tie.After-is_finite-2 × tie.Else-not-is_finite-2 × tie.After-to_u64
+    × tie.After-one_before-first ×
     tie.After-to_u64-2 = search in
     simp (
       sym at-is-finite.is_finite.ensures,

@@ -41,7 +41,8 @@ returns-4 : tie.Need-returns-then-not-spacing_admitted-2
 unfolding field_admitted
 returns-4 c =
     let (at-side-admitted, else1, at-side-admitted2, else2, at-spacing-admitted, else3) :
-    tie.After-side_admitted × tie.Else-not-side_admitted × tie.After-side_admitted-2 × tie.Else-not-side_admitted-2 × tie.After-spacing_admitted × tie.Else-not-spacing_admitted = search in
+    tie.After-side_admitted × tie.Else-not-side_admitted × tie.After-side_admitted-2 × tie.Else-not-side_admitted-2
+    × tie.After-spacing_admitted × tie.Else-not-spacing_admitted = search in
     simp (
       sym at-side-admitted.side_admitted.ensures,
       else1.if-not-side_admitted.false,
@@ -68,7 +69,8 @@ returns-5 : tie.Need-returns
 unfolding field_admitted
 returns-5 c =
     let (at-side-admitted, else1, at-side-admitted2, else2, at-spacing-admitted, else3, at-spacing-admitted2) :
-    tie.After-side_admitted × tie.Else-not-side_admitted × tie.After-side_admitted-2 × tie.Else-not-side_admitted-2 × tie.After-spacing_admitted × tie.Else-not-spacing_admitted ×
+    tie.After-side_admitted × tie.Else-not-side_admitted × tie.After-side_admitted-2 × tie.Else-not-side_admitted-2
+    × tie.After-spacing_admitted × tie.Else-not-spacing_admitted ×
     tie.After-spacing_admitted-2 = search in
     simp (
       sym at-side-admitted.side_admitted.ensures,

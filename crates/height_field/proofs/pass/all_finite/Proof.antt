@@ -28,7 +28,8 @@ returns-3 c =
 returns-4 : tie.Need-returns-then-not-is_finite-3
 unfolding all_finite
 returns-4 c =
-    let (at-is-finite, else2, at-is-finite2, else3) : tie.After-is_finite × tie.Else-not-is_finite × tie.After-is_finite-2 × tie.Else-not-is_finite-2 = search in
+    let (at-is-finite, else2, at-is-finite2, else3) : tie.After-is_finite × tie.Else-not-is_finite × tie.After-is_finite-2
+    × tie.Else-not-is_finite-2 = search in
     simp (
       sym at-is-finite.is_finite.ensures,
       else2.if-not-is_finite.false,

@@ -8,7 +8,8 @@ use Rattle.height_field.proofs.pass.cell_finite.Tie as tie
 returns : tie.Need-returns
 unfolding cell_finite
 returns c =
-    let (v, v2, v3, v4) : tie.After-field_vertex-v00 × tie.After-field_vertex-v10 × tie.After-field_vertex-v01 × tie.After-field_vertex-v11 = search in
+    let (v, v2, v3, v4) : tie.After-field_vertex-v00 × tie.After-field_vertex-v10 × tie.After-field_vertex-v01
+    × tie.After-field_vertex-v11 = search in
     simp (
       sym v.field_vertex-v00.ensures,
       sym v2.field_vertex-v10.ensures,

@@ -43,7 +43,8 @@ cell-finite-requires c κs =
 returns : tie.Need-returns-then-not-cell_finite invariant-loop decreases-loop
 returns c =
     let (s, turn, k) :
-    (tie.Start invariant-loop decreases-loop) × (tie.In-loop-column invariant-loop decreases-loop) × (tie.After-cell_finite invariant-loop decreases-loop) = search in
+    (tie.Start invariant-loop decreases-loop) × (tie.In-loop-column invariant-loop decreases-loop)
+    × (tie.After-cell_finite invariant-loop decreases-loop) = search in
     let a = s.args in
     let at = turn.loop-column in
     let inside : at.column + 1 < a.field.columns = omega (arith, s.requires, turn.loop-column-test.true) in
@@ -61,7 +62,8 @@ cell-touches-requires c κs =
 
 pass-cell-requires : tie.Need-pass_cell-best-requires invariant-loop decreases-loop
 pass-cell-requires c κs =
-    let (s, k, else1, t) : (tie.Start invariant-loop decreases-loop) × (tie.After-cell_finite invariant-loop decreases-loop) × (tie.Else-not-cell_finite invariant-loop decreases-loop) ×
+    let (s, k, else1, t) : (tie.Start invariant-loop decreases-loop) × (tie.After-cell_finite invariant-loop decreases-loop)
+    × (tie.Else-not-cell_finite invariant-loop decreases-loop) ×
     (tie.After-cell_touches invariant-loop decreases-loop) = search in
     let finite = sym k.cell_finite.ensures ∙ else1.if-not-cell_finite.false in
     (s.requires.0, (omega (arith, s.requires), (omega (arith, s.requires), (finite, sym t.cell_touches.ensures ∙ c.if-cell_touches.true))))
@@ -75,7 +77,8 @@ add-column c =
 loop-again : tie.Need-loop-column-preserved invariant-loop decreases-loop
 loop-again c =
     let (s, turn, k, else1, t) :
-    (tie.Start invariant-loop decreases-loop) × (tie.In-loop-column invariant-loop decreases-loop) × (tie.After-cell_finite invariant-loop decreases-loop) × (tie.Else-not-cell_finite invariant-loop decreases-loop) ×
+    (tie.Start invariant-loop decreases-loop) × (tie.In-loop-column invariant-loop decreases-loop)
+    × (tie.After-cell_finite invariant-loop decreases-loop) × (tie.Else-not-cell_finite invariant-loop decreases-loop) ×
     (tie.After-cell_touches invariant-loop decreases-loop) = search in
     let a = s.args in
     let at = turn.loop-column in

@@ -35,7 +35,8 @@ pass-row-requires c κs =
 returns : tie.Need-returns-in_default invariant-loop decreases-loop
 returns c =
     let (s, turn, at-pass-row) :
-    (tie.Start invariant-loop decreases-loop) × (tie.In-loop-row invariant-loop decreases-loop) × (tie.After-pass_row-cells invariant-loop decreases-loop) = search in
+    (tie.Start invariant-loop decreases-loop) × (tie.In-loop-row invariant-loop decreases-loop)
+    × (tie.After-pass_row-cells invariant-loop decreases-loop) = search in
     let a = s.args in
     let at = turn.loop-row in
     sym (pass_ends (answer_of a.ray a.field a.heights.now) (says_indexed at.best) _ _ _
@@ -53,7 +54,8 @@ add_row c =
 loop-again : tie.Need-loop-row-preserved invariant-loop decreases-loop
 loop-again c =
     let (s, turn, at-pass-row) :
-    (tie.Start invariant-loop decreases-loop) × (tie.In-loop-row invariant-loop decreases-loop) × (tie.After-pass_row-cells invariant-loop decreases-loop) = search in
+    (tie.Start invariant-loop decreases-loop) × (tie.In-loop-row invariant-loop decreases-loop)
+    × (tie.After-pass_row-cells invariant-loop decreases-loop) = search in
     let a = s.args in
     let at = turn.loop-row in
     sym (pass_goes (answer_of a.ray a.field a.heights.now) (says_indexed at.best) _ _ _

@@ -25,7 +25,8 @@ returns-2 c =
 returns-3 : tie.Need-returns
 unfolding column_range row_range
 returns-3 c =
-    let (s, k, a, l, m) : tie.Start × tie.After-cell_range-across × tie.In-Cells × tie.After-cell_range-along × tie.In-Cells-along = search in
+    let (s, k, a, l, m) : tie.Start × tie.After-cell_range-across × tie.In-Cells × tie.After-cell_range-along
+    × tie.In-Cells-along = search in
     sym (within s.args.field s.args.bounds _ _ _ _ (sym k.cell_range-across.ensures ∙ a.in-Cells.is)
     (sym l.cell_range-along.ensures ∙ m.in-Cells-along.is))
 

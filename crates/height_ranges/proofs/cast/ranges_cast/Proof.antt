@@ -42,7 +42,8 @@ returns-2 c =
 
 visited-answer-requires : tie.Need-visited_answer-requires
 visited-answer-requires c κs =
-    let (start, at-is-finite, else1, at-segment-box) : tie.Start × tie.After-is_finite × tie.Else-not-is_finite × tie.After-segment_box-bounds = search in
+    let (start, at-is-finite, else1, at-segment-box) : tie.Start × tie.After-is_finite × tie.Else-not-is_finite
+    × tie.After-segment_box-bounds = search in
     let at = at-is-finite in
     let s = start in
     let a = s.args in

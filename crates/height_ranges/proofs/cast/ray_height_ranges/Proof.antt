@@ -58,7 +58,8 @@ ranges-cast-requires c κs =
 returns-3 : tie.Need-returns
 unfolding ray_height_ranges start
 returns-3 c =
-    let (s, k, v, e, r) : tie.Start × tie.After-shared_slice_known-2-1 × tie.After-validate × tie.Else-not-validate × tie.After-ranges_admitted = search in
+    let (s, k, v, e, r) : tie.Start × tie.After-shared_slice_known-2-1 × tie.After-validate × tie.Else-not-validate
+    × tie.After-ranges_admitted = search in
     let a = s.args in
     with_promise a.ray a.field a.lows.now a.highs.now (typed k) _
     (simp (

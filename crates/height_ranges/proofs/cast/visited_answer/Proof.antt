@@ -68,7 +68,8 @@ first-in-rows-requires c κs =
 -- the first cell that touches
 returns-3 : tie.Need-returns
 returns-3 c =
-    let (s, v, k, o, e) : tie.Start × tie.After-visited_cells-cells × tie.In-Cells × tie.After-rows_in_order × tie.Else-not-rows_in_order = search in
+    let (s, v, k, o, e) : tie.Start × tie.After-visited_cells-cells × tie.In-Cells × tie.After-rows_in_order
+    × tie.Else-not-rows_in_order = search in
     c.first_in_rows.ensures
     ∙ sym (ordered_first s.args.field s.args.lows.now s.args.highs.now s.args.bounds _ _ _ _
     (sym v.visited_cells-cells.ensures ∙ k.in-Cells.is) (lows-size s).some_columns s.args.ray s.requires.1 s.requires.0

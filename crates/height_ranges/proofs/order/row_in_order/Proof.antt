@@ -55,7 +55,8 @@ node-in-order-requires c κs =
 returns : tie.Need-returns-then-not-node_in_order invariant-loop decreases-loop
 unfolding node_at
 returns c =
-    let (start, at-loop, in-loop) : (tie.Start invariant-loop decreases-loop) × (tie.At-loop-column invariant-loop decreases-loop) × (tie.In-loop-column invariant-loop decreases-loop) = search in
+    let (start, at-loop, in-loop) : (tie.Start invariant-loop decreases-loop) × (tie.At-loop-column invariant-loop decreases-loop)
+    × (tie.In-loop-column invariant-loop decreases-loop) = search in
     let s = start in
     let a = s.args in
     let at = at-loop.loop-column in
@@ -67,7 +68,8 @@ returns c =
 loop-again : tie.Need-loop-column-preserved invariant-loop decreases-loop
 unfolding node_at
 loop-again c =
-    let (start, at-loop, in-loop) : (tie.Start invariant-loop decreases-loop) × (tie.At-loop-column invariant-loop decreases-loop) × (tie.In-loop-column invariant-loop decreases-loop) = search in
+    let (start, at-loop, in-loop) : (tie.Start invariant-loop decreases-loop) × (tie.At-loop-column invariant-loop decreases-loop)
+    × (tie.In-loop-column invariant-loop decreases-loop) = search in
     let s = start in
     let a = s.args in
     let at = at-loop.loop-column in

@@ -32,7 +32,8 @@ row-in-order-requires c κs =
 
 returns : tie.Need-returns-then-not-row_in_order invariant-loop decreases-loop
 returns c =
-    let (start, at-loop, in-loop) : (tie.Start invariant-loop decreases-loop) × (tie.At-loop-row invariant-loop decreases-loop) × (tie.In-loop-row invariant-loop decreases-loop) = search in
+    let (start, at-loop, in-loop) : (tie.Start invariant-loop decreases-loop) × (tie.At-loop-row invariant-loop decreases-loop)
+    × (tie.In-loop-row invariant-loop decreases-loop) = search in
     let s = start in
     let a = s.args in
     let at = at-loop.loop-row in
@@ -42,7 +43,8 @@ returns c =
 
 loop-again : tie.Need-loop-row-preserved invariant-loop decreases-loop
 loop-again c =
-    let (start, at-loop, in-loop) : (tie.Start invariant-loop decreases-loop) × (tie.At-loop-row invariant-loop decreases-loop) × (tie.In-loop-row invariant-loop decreases-loop) = search in
+    let (start, at-loop, in-loop) : (tie.Start invariant-loop decreases-loop) × (tie.At-loop-row invariant-loop decreases-loop)
+    × (tie.In-loop-row invariant-loop decreases-loop) = search in
     let s = start in
     let a = s.args in
     let at = at-loop.loop-row in

@@ -26,7 +26,8 @@ decreases-loop bounds field lows highs row first last column₀ column = last + 
 
 -- a turn of the loop
 abbrev Places : Type 0
-Places = (tie.Start invariant-loop decreases-loop) × (tie.At-loop-column invariant-loop decreases-loop) × (tie.In-loop-column invariant-loop decreases-loop)
+Places = (tie.Start invariant-loop decreases-loop) × (tie.At-loop-column invariant-loop decreases-loop)
+    × (tie.In-loop-column invariant-loop decreases-loop)
 
 loop-holds : tie.Need-loop-column-init invariant-loop decreases-loop
 loop-holds c = refl

@@ -25,7 +25,8 @@ decreases-loop bounds field lows highs first last left right row₀ row = last +
 -- where a row was looked at
 abbrev Places : Type 0
 Places =
-    (tie.Start invariant-loop decreases-loop) × (tie.At-loop-row invariant-loop decreases-loop) × (tie.In-loop-row invariant-loop decreases-loop)
+    (tie.Start invariant-loop decreases-loop) × (tie.At-loop-row invariant-loop decreases-loop)
+    × (tie.In-loop-row invariant-loop decreases-loop)
     × (tie.After-first_in_row-found invariant-loop decreases-loop)
 
 loop-holds : tie.Need-loop-row-init invariant-loop decreases-loop

@@ -27,7 +27,8 @@ along-requires c κs = tt
 returns : tie.Need-returns-in-Refused invariant-loop decreases-loop
 returns c =
     let (start, at-loop, in-loop, at-fraction, at-along, at-value-known) :
-    (tie.Start invariant-loop decreases-loop) × (tie.At-loop-taken invariant-loop decreases-loop) × (tie.In-loop-taken invariant-loop decreases-loop) × (tie.After-fraction invariant-loop decreases-loop) ×
+    (tie.Start invariant-loop decreases-loop) × (tie.At-loop-taken invariant-loop decreases-loop)
+    × (tie.In-loop-taken invariant-loop decreases-loop) × (tie.After-fraction invariant-loop decreases-loop) ×
     (tie.After-along-distance invariant-loop decreases-loop) × (tie.After-value_known-found invariant-loop decreases-loop) = search in
     let args = start.args in
     rest_refused (sample_at args.ray args.grid args.values.now args.current args.end) _ _ _ _ _ _
@@ -39,7 +40,8 @@ returns c =
 loop-again : tie.Need-loop-taken-preserved invariant-loop decreases-loop
 loop-again c =
     let (start, at-loop, in-loop, at-fraction, at-along, at-value-known) :
-    (tie.Start invariant-loop decreases-loop) × (tie.At-loop-taken invariant-loop decreases-loop) × (tie.In-loop-taken invariant-loop decreases-loop) × (tie.After-fraction invariant-loop decreases-loop) ×
+    (tie.Start invariant-loop decreases-loop) × (tie.At-loop-taken invariant-loop decreases-loop)
+    × (tie.In-loop-taken invariant-loop decreases-loop) × (tie.After-fraction invariant-loop decreases-loop) ×
     (tie.After-along-distance invariant-loop decreases-loop) × (tie.After-value_known-found invariant-loop decreases-loop) = search in
     let args = start.args in
     rest_taken (sample_at args.ray args.grid args.values.now args.current args.end) _ _ _ _ _ _ in-loop.loop-taken-test.true

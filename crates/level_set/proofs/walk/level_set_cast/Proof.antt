@@ -39,7 +39,8 @@ returns-3 : tie.Need-returns
 unfolding level_set_cast
 returns-3 c =
     let (at-local-bounds, at-is-valid, else1, at-ray-aabb-interval, at-within) :
-    tie.After-local_bounds-bounds × tie.After-is_valid × tie.Else-not-is_valid × tie.After-ray_aabb_interval-within × tie.In-Within = search in
+    tie.After-local_bounds-bounds × tie.After-is_valid × tie.Else-not-is_valid × tie.After-ray_aabb_interval-within
+    × tie.In-Within = search in
     simp (
       sym at-local-bounds.local_bounds-bounds.ensures,
       sym at-is-valid.is_valid.ensures,

@@ -12,7 +12,8 @@ use Rattle.level_set.proofs.walk.walk_from.Tie as tie
 
 abbrev invariant-loop : tie.invariant-loop-left
 invariant-loop ray grid values entry exit current₀ known₀ left₀ current known left =
-    (walk_from ray grid values exit left current ≡ walk_from ray grid values exit (cell_limit grid) entry) × Remembered ray grid values known
+    (walk_from ray grid values exit left current ≡ walk_from ray grid values exit (cell_limit grid) entry)
+    × Remembered ray grid values known
 
 abbrev decreases-loop : tie.decreases-loop-left
 decreases-loop ray grid values entry exit current₀ known₀ left₀ current known left = left
@@ -28,7 +29,8 @@ walk-step-requires c κs =
 returns : tie.Need-returns-in-Done invariant-loop decreases-loop
 returns c =
     let (start, at-loop, in-loop, at-walk-step) :
-    (tie.Start invariant-loop decreases-loop) × (tie.At-loop-left invariant-loop decreases-loop) × (tie.In-loop-left invariant-loop decreases-loop) ×
+    (tie.Start invariant-loop decreases-loop) × (tie.At-loop-left invariant-loop decreases-loop)
+    × (tie.In-loop-left invariant-loop decreases-loop) ×
     (tie.After-walk_step-step invariant-loop decreases-loop) = search in
     walk_done start.args.ray start.args.grid start.args.values.now start.args.exit _ _ _ _ _ at-loop.loop-left.invariant.0
     in-loop.loop-left-test.true at-walk-step.walk_step-step.ensures.0 c.in-Done.is
@@ -36,7 +38,8 @@ returns c =
 loop-again : tie.Need-loop-left-preserved invariant-loop decreases-loop
 loop-again c =
     let (start, at-loop, in-loop, at-walk-step) :
-    (tie.Start invariant-loop decreases-loop) × (tie.At-loop-left invariant-loop decreases-loop) × (tie.In-loop-left invariant-loop decreases-loop) ×
+    (tie.Start invariant-loop decreases-loop) × (tie.At-loop-left invariant-loop decreases-loop)
+    × (tie.In-loop-left invariant-loop decreases-loop) ×
     (tie.After-walk_step-step invariant-loop decreases-loop) = search in (
       walk_on start.args.ray start.args.grid start.args.values.now start.args.exit _ _ _ _ _ _ at-loop.loop-left.invariant.0
           in-loop.loop-left-test.true at-walk-step.walk_step-step.ensures.0 c.in-On.is,

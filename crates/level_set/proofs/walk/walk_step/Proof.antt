@@ -15,7 +15,8 @@ point-at-requires c κs = tt
 returns-2 : tie.Need-returns-in_default
 unfolding walk_step
 returns-2 c =
-    let (else1, at-point-at, at-ray-cell-indices) : tie.Else-current-exit × tie.After-point_at-point × tie.After-ray_cell_indices-cell = search in (
+    let (else1, at-point-at, at-ray-cell-indices) : tie.Else-current-exit × tie.After-point_at-point
+    × tie.After-ray_cell_indices-cell = search in (
       simp (
         else1.if-current-exit.false,
         sym at-point-at.point_at-point.ensures,
@@ -32,7 +33,8 @@ returns-3 : tie.Need-returns-in_default-reached
 unfolding walk_step
 returns-3 c =
     let (else1, at-point-at, at-ray-cell-indices, at-cell, at-next-cell-boundary) :
-    tie.Else-current-exit × tie.After-point_at-point × tie.After-ray_cell_indices-cell × tie.In-At × tie.After-next_cell_boundary-reached = search in (
+    tie.Else-current-exit × tie.After-point_at-point × tie.After-ray_cell_indices-cell × tie.In-At
+    × tie.After-next_cell_boundary-reached = search in (
       simp (
         else1.if-current-exit.false,
         sym at-point-at.point_at-point.ensures,
@@ -48,7 +50,8 @@ returns-4 : tie.Need-returns
 unfolding walk_step
 returns-4 c =
     let (else1, at-point-at, at-ray-cell-indices, at-cell, at-next-cell-boundary, at-reached) :
-    tie.Else-current-exit × tie.After-point_at-point × tie.After-ray_cell_indices-cell × tie.In-At × tie.After-next_cell_boundary-reached × tie.In-At-reached =
+    tie.Else-current-exit × tie.After-point_at-point × tie.After-ray_cell_indices-cell × tie.In-At × tie.After-next_cell_boundary-reached
+    × tie.In-At-reached =
     search in (
       simp (
         else1.if-current-exit.false,

@@ -50,7 +50,8 @@ returns-2 c =
 returns-3 : tie.Need-returns-then-found-eq0
 unfolding start
 returns-3 c =
-    let (s, e, b, g, k) : tie.Start × tie.Else-not-is_finite × tie.After-segment_box-bounds × tie.After-gather-walked × tie.In-Count = search in
+    let (s, e, b, g, k) : tie.Start × tie.Else-not-is_finite × tie.After-segment_box-bounds × tie.After-gather-walked
+    × tie.In-Count = search in
     cast_empty _ _ _ _ s.requires.0 (finite e) _ b.segment_box-bounds.ensures _ _ g.gather-walked.ensures.0 _ k.in-Count.is
     c.if-found-eq0.true
 

@@ -13,13 +13,16 @@ use Rattle.many_casts.proofs.at_exact.cast_each.Statement.{statement}
 use Rattle.many_casts.proofs.at_exact.cast_each.Tie as tie
 
 abbrev invariant-loop : tie.invariant-loop-i
-invariant-loop count rays vertices triangles pose nodes node_boxes_lem triangle_boxes_lem node_words_lem order stack₀ codes₀ hits₀ indices₀ i₀ stack
+invariant-loop count rays vertices triangles pose nodes node_boxes_lem triangle_boxes_lem node_words_lem order stack₀ codes₀ hits₀ indices₀
+    i₀ stack
     codes hits indices i =
-    Answered (exact_answer (mesh vertices triangles) pose (tree_of nodes node_boxes_lem triangle_boxes_lem node_words_lem order) (length stack₀))
+    Answered (exact_answer (mesh vertices triangles) pose (tree_of nodes node_boxes_lem triangle_boxes_lem node_words_lem order)
+    (length stack₀))
     rays count i (places codes₀ hits₀ indices₀) (places codes hits indices) stack₀ stack stack₀ stack
 
 abbrev decreases-loop : tie.decreases-loop-i
-decreases-loop count rays vertices triangles pose nodes node_boxes_lem triangle_boxes_lem node_words_lem order stack₀ codes₀ hits₀ indices₀ i₀ stack
+decreases-loop count rays vertices triangles pose nodes node_boxes_lem triangle_boxes_lem node_words_lem order stack₀ codes₀ hits₀ indices₀
+    i₀ stack
     codes hits indices i =
     count - i
 

@@ -48,7 +48,8 @@ returns-4 c =
 returns-5 : tie.Need-returns-then-pose-vertices
 unfolding shape_admitted room_for places_fit
 returns-5 c =
-    let (a, b, d, f, t) : tie.Else-rays-ne0 × tie.Else-not-shape_admitted × tie.Else-not-room_fits × tie.Else-not-places_fit × tie.Then-pose-vertices = search in
+    let (a, b, d, f, t) : tie.Else-rays-ne0 × tie.Else-not-shape_admitted × tie.Else-not-room_fits × tie.Else-not-places_fit
+    × tie.Then-pose-vertices = search in
     many_posed _ _ _ _ _ _ _ _ refl a.if-rays-ne0.false (test_passed b.shape_admitted.ensures b.if-not-shape_admitted.false)
     (test_passed d.room_fits.ensures d.if-not-room_fits.false) (test_passed f.places_fit.ensures f.if-not-places_fit.false)
     t.if-pose-vertices.true
@@ -68,7 +69,8 @@ cast-each-requires c κs =
 returns-6 : tie.Need-returns
 unfolding shape_admitted room_for places_fit
 returns-6 c =
-    let (a, b, d, f, g, k) : tie.Else-rays-ne0 × tie.Else-not-shape_admitted × tie.Else-not-room_fits × tie.Else-not-places_fit × tie.Else-pose-vertices × tie.After-cast_each = search in
+    let (a, b, d, f, g, k) : tie.Else-rays-ne0 × tie.Else-not-shape_admitted × tie.Else-not-room_fits × tie.Else-not-places_fit
+    × tie.Else-pose-vertices × tie.After-cast_each = search in
     many_done _ _ _ _ _ _ _ _ a.if-rays-ne0.false (test_passed b.shape_admitted.ensures b.if-not-shape_admitted.false)
     (test_passed d.room_fits.ensures d.if-not-room_fits.false) (test_passed f.places_fit.ensures f.if-not-places_fit.false)
     g.if-pose-vertices.false _ k.cast_each.ensures

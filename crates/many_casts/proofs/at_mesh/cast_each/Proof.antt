@@ -13,14 +13,17 @@ use Rattle.many_casts.proofs.at_mesh.cast_each.Statement.{statement}
 use Rattle.many_casts.proofs.at_mesh.cast_each.Tie as tie
 
 abbrev invariant-loop : tie.invariant-loop-i
-invariant-loop count rays vertices triangles pose nodes node_boxes_lem triangle_boxes_lem node_words_lem order list₀ stack₀ codes₀ hits₀ indices₀
+invariant-loop count rays vertices triangles pose nodes node_boxes_lem triangle_boxes_lem node_words_lem order list₀ stack₀ codes₀ hits₀
+    indices₀
     i₀ list stack
     codes hits indices i =
-    Answered (mesh_answer (mesh vertices triangles) pose (tree_of nodes node_boxes_lem triangle_boxes_lem node_words_lem order) (length list₀)
+    Answered (mesh_answer (mesh vertices triangles) pose (tree_of nodes node_boxes_lem triangle_boxes_lem node_words_lem order)
+    (length list₀)
     (length stack₀)) rays count i (places codes₀ hits₀ indices₀) (places codes hits indices) list₀ list stack₀ stack
 
 abbrev decreases-loop : tie.decreases-loop-i
-decreases-loop count rays vertices triangles pose nodes node_boxes_lem triangle_boxes_lem node_words_lem order list₀ stack₀ codes₀ hits₀ indices₀ i₀ list stack
+decreases-loop count rays vertices triangles pose nodes node_boxes_lem triangle_boxes_lem node_words_lem order list₀ stack₀ codes₀ hits₀
+    indices₀ i₀ list stack
     codes hits indices i =
     count - i
 

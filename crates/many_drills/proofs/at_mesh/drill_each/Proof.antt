@@ -13,13 +13,15 @@ use Rattle.many_drills.proofs.at_mesh.drill_each.Statement.{statement}
 use Rattle.many_drills.proofs.at_mesh.drill_each.Tie as tie
 
 abbrev invariant-loop : tie.invariant-loop-i
-invariant-loop count drills vertices triangles nodes node_boxes_lem triangle_boxes_lem node_words_lem order list₀ stack₀ codes₀ indices₀ i₀ list stack
+invariant-loop count drills vertices triangles nodes node_boxes_lem triangle_boxes_lem node_words_lem order list₀ stack₀ codes₀ indices₀ i₀
+    list stack
     codes indices i =
     Answered (tree_answer (mesh vertices triangles) (tree_of nodes node_boxes_lem triangle_boxes_lem node_words_lem order) (length list₀)
     (length stack₀)) drills count i (places codes₀ indices₀) (places codes indices) list₀ list stack₀ stack
 
 abbrev decreases-loop : tie.decreases-loop-i
-decreases-loop count drills vertices triangles nodes node_boxes_lem triangle_boxes_lem node_words_lem order list₀ stack₀ codes₀ indices₀ i₀ list stack
+decreases-loop count drills vertices triangles nodes node_boxes_lem triangle_boxes_lem node_words_lem order list₀ stack₀ codes₀ indices₀ i₀
+    list stack
     codes indices i =
     count - i
 

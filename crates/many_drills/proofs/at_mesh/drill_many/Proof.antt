@@ -52,7 +52,8 @@ drill-each-requires c κs =
 returns-5 : tie.Need-returns
 unfolding shape_admitted places_fit
 returns-5 c =
-    let (a, b, d, f, k) : tie.Else-drills-ne0 × tie.Else-not-shape_admitted × tie.Else-not-walk_fits × tie.Else-not-places_fit × tie.After-drill_each = search in
+    let (a, b, d, f, k) : tie.Else-drills-ne0 × tie.Else-not-shape_admitted × tie.Else-not-walk_fits × tie.Else-not-places_fit
+    × tie.After-drill_each = search in
     many_done _ _ _ _ _ _ _ a.if-drills-ne0.false (test_passed b.shape_admitted.ensures b.if-not-shape_admitted.false)
     (test_passed d.walk_fits.ensures d.if-not-walk_fits.false) (test_passed f.places_fit.ensures f.if-not-places_fit.false)
     _ k.drill_each.ensures

@@ -89,7 +89,8 @@ results-fit-requires c κs =
 
 returns-3 : tie.Need-returns
 returns-3 c =
-    let (start, at-tree-fits, else1, at-tree-fits2) : tie.Start × tie.After-tree_fits × tie.Else-not-tree_fits × tie.After-tree_fits-2 = search in
+    let (start, at-tree-fits, else1, at-tree-fits2) : tie.Start × tie.After-tree_fits × tie.Else-not-tree_fits
+    × tie.After-tree_fits-2 = search in
     let a = first-board start in
     let b = second-board start in
     let old = areas-before start in

@@ -73,7 +73,8 @@ returns-5 c =
 returns-6 : tie.Need-returns-then-order-n
 unfolding room_in
 returns-6 c =
-    let (start, else1, else2, else3, else4) : tie.Start × tie.Else-vertices-v × tie.Else-triangles-t × tie.Else-node_boxes-n × tie.Else-triangle_boxes-n = search in
+    let (start, else1, else2, else3, else4) : tie.Start × tie.Else-vertices-v × tie.Else-triangles-t × tie.Else-node_boxes-n
+    × tie.Else-triangle_boxes-n = search in
     rw (
       le-leb start.args.v
           (length start.args.vertices.now)
@@ -96,7 +97,8 @@ returns-6 c =
 returns-7 : tie.Need-returns
 unfolding room_in
 returns-7 c =
-    let (start, else1, else2, else3, else4) : tie.Start × tie.Else-vertices-v × tie.Else-triangles-t × tie.Else-node_boxes-n × tie.Else-triangle_boxes-n = search in
+    let (start, else1, else2, else3, else4) : tie.Start × tie.Else-vertices-v × tie.Else-triangles-t × tie.Else-node_boxes-n
+    × tie.Else-triangle_boxes-n = search in
     rw (
       le-leb start.args.v
           (length start.args.vertices.now)

@@ -42,13 +42,15 @@ returns-3 c =
     (leb (start.args.v + start.args.w) 196608)
     (leb (start.args.t + start.args.u) 196608)
     (test_passed at-divided.divided.ensures else1.if-not-divided.false)
-    (test_passed at-divided2.divided-2.ensures else2.if-not-divided-2.false) (test_failed c.total_admitted.ensures c.if-not-total_admitted.true)
+    (test_passed at-divided2.divided-2.ensures else2.if-not-divided-2.false)
+    (test_failed c.total_admitted.ensures c.if-not-total_admitted.true)
 
 returns-4 : tie.Need-returns
 unfolding shapes_fit
 returns-4 c =
     let (start, at-divided, else1, at-divided2, else2, at-total-admitted) :
-    tie.Start × tie.After-divided × tie.Else-not-divided × tie.After-divided-2 × tie.Else-not-divided-2 × tie.After-total_admitted = search in
+    tie.Start × tie.After-divided × tie.Else-not-divided × tie.After-divided-2 × tie.Else-not-divided-2
+    × tie.After-total_admitted = search in
     c.total_admitted-2.ensures
     ∙ fourth_told (eqb (start.args.v % 3) 0 && eqb
     (start.args.t % 3) 0)

@@ -34,7 +34,8 @@ corners-of-requires c κs =
 
 returns-3 : tie.Need-returns-in-NearestHit
 returns-3 c =
-    let (s, n, w, h, k) : tie.Start × tie.After-note_all-notes × tie.After-winner-winner × tie.In-NearestHit × tie.After-corners_of-corners = search in
+    let (s, n, w, h, k) : tie.Start × tie.After-note_all-notes × tie.After-winner-winner × tie.In-NearestHit
+    × tie.After-corners_of-corners = search in
     let reached = winner_reached _ (answers_are_numbers _ _ _) _ _ n.note_all-notes.ensures _ w.winner-winner.ensures _ _
     h.in-NearestHit.is _ s.requires.1 in
     hit_wins _ (answers_are_numbers _ _ _) _ _ n.note_all-notes.ensures _ w.winner-winner.ensures _ _ h.in-NearestHit.is

@@ -9,7 +9,8 @@ use Rattle.mesh.proofs.candidates.note_all.Statement.{statement}
 use Rattle.mesh.proofs.candidates.note_all.Tie as tie
 
 abbrev invariant-loop : tie.invariant-loop-i
-invariant-loop ray pose triangles list found notes₀ i₀ notes i = Folding (triangle_answer ray pose triangles) list found (says_nearest_so_far notes) i
+invariant-loop ray pose triangles list found notes₀ i₀ notes i = Folding (triangle_answer ray pose triangles) list found
+    (says_nearest_so_far notes) i
 
 abbrev decreases-loop : tie.decreases-loop-i
 decreases-loop ray pose triangles list found notes₀ i₀ notes i = found - i

@@ -19,20 +19,23 @@ in-millimetres-requires c κs = widen (sized_bits c.coordinate-nearest.ensures.1
 add-result : tie.Need-overflow_add-result
 add-result c =
     let (s, a, k) : tie.Start × tie.After-abs-size × tie.After-coordinate-nearest = search in
-    raised_fits s.args.radius s.requires (k.coordinate-nearest.ensures.0 ∙ ap (nearest_to units) a.abs-size.ensures) k.coordinate-nearest.ensures.1
+    raised_fits s.args.radius s.requires (k.coordinate-nearest.ensures.0 ∙ ap (nearest_to units) a.abs-size.ensures)
+    k.coordinate-nearest.ensures.1
 
 -- the nearest unit is below the radius
 returns : tie.Need-returns-then-in_millimetres-size
 returns c =
     let (s, a, k, m) : tie.Start × tie.After-abs-size × tie.After-coordinate-nearest × tie.After-in_millimetres = search in
-    raised s.args.radius s.requires (k.coordinate-nearest.ensures.0 ∙ ap (nearest_to units) a.abs-size.ensures) k.coordinate-nearest.ensures.1
+    raised s.args.radius s.requires (k.coordinate-nearest.ensures.0 ∙ ap (nearest_to units) a.abs-size.ensures)
+    k.coordinate-nearest.ensures.1
     m.in_millimetres.ensures a.abs-size.ensures c.if-in_millimetres-size.true
 
 -- it is not
 returns-2 : tie.Need-returns
 returns-2 c =
     let (s, a, k, m) : tie.Start × tie.After-abs-size × tie.After-coordinate-nearest × tie.After-in_millimetres = search in
-    not_raised s.args.radius s.requires (k.coordinate-nearest.ensures.0 ∙ ap (nearest_to units) a.abs-size.ensures) k.coordinate-nearest.ensures.1
+    not_raised s.args.radius s.requires (k.coordinate-nearest.ensures.0 ∙ ap (nearest_to units) a.abs-size.ensures)
+    k.coordinate-nearest.ensures.1
     m.in_millimetres.ensures a.abs-size.ensures c.if-in_millimetres-size.false
 
 pub radius_of_spec : {M : Type 1} → statement M

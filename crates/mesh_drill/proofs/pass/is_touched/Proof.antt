@@ -21,7 +21,8 @@ grid-point-requires-3 c κs = let k : tie.After-corners_of-corners = search in t
 
 returns : tie.Need-returns
 returns c =
-    let (s, k, a, b, d) : tie.Start × tie.After-corners_of-corners × tie.After-grid_point-a × tie.After-grid_point-b × tie.After-grid_point-c = search
+    let (s, k, a, b, d) : tie.Start × tie.After-corners_of-corners × tie.After-grid_point-a × tie.After-grid_point-b
+    × tie.After-grid_point-c = search
     in
     λ l ρ h g.
     same_decision l ρ _ _ _ g _ (c.touches.ensures l ρ h g.moves g.ends)

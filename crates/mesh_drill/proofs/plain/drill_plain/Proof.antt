@@ -22,21 +22,25 @@ returns-3 : tie.Need-returns-then-not-admitted
 returns-3 c =
     let (v, e, k, f) : tie.After-validate × tie.Else-not-validate × tie.After-radius_admitted × tie.Else-not-radius_admitted = search in
     answer_certain _ _ _ _
-    (ray_out _ _ _ (test_passed v.validate.ensures e.if-not-validate.false) (test_passed k.radius_admitted.ensures f.if-not-radius_admitted.false)
+    (ray_out _ _ _ (test_passed v.validate.ensures e.if-not-validate.false)
+    (test_passed k.radius_admitted.ensures f.if-not-radius_admitted.false)
     (test_failed c.admitted.ensures c.if-not-admitted.true))
 
 returns-4 : tie.Need-returns-then-not-radius_read
 returns-4 c =
-    let (v, e, k, f, a, g) : tie.After-validate × tie.Else-not-validate × tie.After-radius_admitted × tie.Else-not-radius_admitted × tie.After-admitted × tie.Else-not-admitted =
+    let (v, e, k, f, a, g) : tie.After-validate × tie.Else-not-validate × tie.After-radius_admitted × tie.Else-not-radius_admitted
+    × tie.After-admitted × tie.Else-not-admitted =
     search in
     answer_certain _ _ _ _
-    (radius_out _ _ _ (test_passed v.validate.ensures e.if-not-validate.false) (test_passed k.radius_admitted.ensures f.if-not-radius_admitted.false)
+    (radius_out _ _ _ (test_passed v.validate.ensures e.if-not-validate.false)
+    (test_passed k.radius_admitted.ensures f.if-not-radius_admitted.false)
     (test_passed a.admitted.ensures g.if-not-admitted.false) (test_failed c.radius_read.ensures c.if-not-radius_read.true))
 
 -- the ray and the radius are let pass
 passed : (h : tie.Else-not-radius_read) → let s : tie.Start = search in DrillAdmitted s.args.ray s.args.radius
 passed h =
-    let (v, e, k, f, a, g) : tie.After-validate × tie.Else-not-validate × tie.After-radius_admitted × tie.Else-not-radius_admitted × tie.After-admitted × tie.Else-not-admitted =
+    let (v, e, k, f, a, g) : tie.After-validate × tie.Else-not-validate × tie.After-radius_admitted × tie.Else-not-radius_admitted
+    × tie.After-admitted × tie.Else-not-admitted =
     search in
     let b : tie.After-radius_read = search in
     record {

@@ -29,7 +29,8 @@ returns c h = absurd (false≢true h)
 -- one more vertex
 loop-again : tie.Need-loop-i-preserved invariant-loop decreases-loop
 loop-again c =
-    let (l, v, w) : tie.At-loop-i invariant-loop decreases-loop × tie.After-vector_at invariant-loop decreases-loop × tie.After-all_within invariant-loop decreases-loop = search in
+    let (l, v, w) : tie.At-loop-i invariant-loop decreases-loop × tie.After-vector_at invariant-loop decreases-loop
+    × tie.After-all_within invariant-loop decreases-loop = search in
     passed_goes _ _ l.loop-i.invariant _ v.vector_at.ensures (test_passed w.all_within.ensures c.if-not-all_within.false)
 
 -- all of them

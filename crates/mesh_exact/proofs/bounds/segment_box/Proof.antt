@@ -48,7 +48,8 @@ far-is f = plain (widen f.units_of-far.ensures.1 (lit≤ tt)) ∙ f.units_of-far
 returns : tie.Need-returns
 unfolding certain_box grid_line
 returns c =
-    let (s, o, d, n, f, l) : tie.Start × tie.After-grid_point-o × tie.After-direction_of-d × tie.After-units_of-near × tie.After-units_of-far
+    let (s, o, d, n, f, l) : tie.Start × tie.After-grid_point-o × tie.After-direction_of-d × tie.After-units_of-near
+    × tie.After-units_of-far
     × tie.After-low_corner = search in
     let N = nat_abs (nearest_to units s.args.ray.near) in
     let F = nat_abs (nearest_to units s.args.ray.max_distance) in

@@ -25,7 +25,8 @@ returns c =
 
 winner-of-requires : tie.Need-winner_of-winner-requires
 winner-of-requires c κs =
-    let (s, a, b, e, k) : tie.Start × tie.After-all_within-within × tie.After-boxes_hold × tie.Else-not-boxes_hold × tie.After-put_codes-coded = search in (
+    let (s, a, b, e, k) : tie.Start × tie.After-all_within-within × tie.After-boxes_hold × tie.Else-not-boxes_hold
+    × tie.After-put_codes-coded = search in (
       s.requires.0,
       (
         s.requires.1.casts.shown.view_sized,

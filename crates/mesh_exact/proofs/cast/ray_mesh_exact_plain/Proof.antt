@@ -47,7 +47,8 @@ exact-cast-requires c κs =
 -- past all refusals of the ray and the lengths
 returns-4 : tie.Need-returns
 returns-4 c =
-    let (v, e, k, t, f) : tie.After-validate × tie.Else-not-validate × tie.In-On × tie.After-lengths_admitted × tie.Else-not-lengths_admitted = search in
+    let (v, e, k, t, f) : tie.After-validate × tie.Else-not-validate × tie.In-On × tie.After-lengths_admitted
+    × tie.Else-not-lengths_admitted = search in
     answer_certain _ _ _
     (exact_passed _ _ (test_passed v.validate.ensures e.if-not-validate.false) (shown k).admitted
     (test_passed t.lengths_admitted.ensures f.if-not-lengths_admitted.false) _ c.exact_cast.ensures)

@@ -22,7 +22,8 @@ use Rattle.mesh_exact.proofs.noted.winner_of.Tie as tie
 abbrev invariant-loop : tie.invariant-loop-i
 invariant-loop line bounds vertices triangles within coded codes limit count notes₀ i₀ notes i =
     Fitting (mesh vertices triangles) i
-    × ((r : Ray) → Bounded r line bounds → Noting (mesh vertices triangles) (exact_answer r vertices triangles) (says_nearest_so_far notes) i)
+    × ((r : Ray) → Bounded r line bounds → Noting (mesh vertices triangles) (exact_answer r vertices triangles) (says_nearest_so_far notes)
+    i)
 
 abbrev decreases-loop : tie.decreases-loop-i
 decreases-loop line bounds vertices triangles within coded codes limit count notes₀ i₀ notes i = thirds (length triangles) - i

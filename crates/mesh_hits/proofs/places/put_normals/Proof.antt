@@ -36,7 +36,8 @@ corners-of-requires c κs =
 
 slice-read-hit-at : tie.Need-bounds-numbers-i invariant-loop decreases-loop
 slice-read-hit-at c =
-    let (s, at-loop, in-loop) : (tie.Start invariant-loop decreases-loop) × (tie.At-loop-i invariant-loop decreases-loop) × (tie.In-loop-i invariant-loop decreases-loop) = search in
+    let (s, at-loop, in-loop) : (tie.Start invariant-loop decreases-loop) × (tie.At-loop-i invariant-loop decreases-loop)
+    × (tie.In-loop-i invariant-loop decreases-loop) = search in
     omega (
       arith,
       at-loop.loop-i.invariant.long,
@@ -56,7 +57,8 @@ put-place-requires c κs =
 loop-again : tie.Need-loop-i-preserved invariant-loop decreases-loop
 loop-again c =
     let (s, at-loop, in-loop, at-corners-of, at-hit-at, at-put-place) :
-    (tie.Start invariant-loop decreases-loop) × (tie.At-loop-i invariant-loop decreases-loop) × (tie.In-loop-i invariant-loop decreases-loop)
+    (tie.Start invariant-loop decreases-loop) × (tie.At-loop-i invariant-loop decreases-loop)
+    × (tie.In-loop-i invariant-loop decreases-loop)
     × (tie.After-corners_of-corners invariant-loop decreases-loop) × (tie.After-hit_at-hit invariant-loop decreases-loop)
     × (tie.After-put_place invariant-loop decreases-loop) = search in
     let l = at-loop.loop-i in

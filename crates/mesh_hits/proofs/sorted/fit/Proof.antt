@@ -53,7 +53,8 @@ returns-2 : tie.Need-returns
 returns-2 c =
     let (s, e, o) : tie.Start × tie.Else-hits-places × tie.After-sort = search in
     λ answer n ready.
-    fit_sorted answer n _ _ _ _ _ e.if-hits-places.false (ready e.if-hits-places.false) _ _ o.sort.ensures o.sort.auto.indices o.sort.auto.numbers
+    fit_sorted answer n _ _ _ _ _ e.if-hits-places.false (ready e.if-hits-places.false) _ _ o.sort.ensures o.sort.auto.indices
+    o.sort.auto.numbers
 
 pub fit_spec : {M : Type 1} → statement M
 fit_spec =

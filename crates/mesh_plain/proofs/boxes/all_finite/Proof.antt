@@ -24,7 +24,8 @@ vector-at-requires c κs = omega (arith, c.loop-i-test.true)
 -- one more vertex
 loop-again : tie.Need-loop-i-preserved invariant-loop decreases-loop
 loop-again c =
-    let (l, t, v) : tie.At-loop-i invariant-loop decreases-loop × tie.In-loop-i invariant-loop decreases-loop × tie.After-vector_at invariant-loop decreases-loop = search in
+    let (l, t, v) : tie.At-loop-i invariant-loop decreases-loop × tie.In-loop-i invariant-loop decreases-loop
+    × tie.After-vector_at invariant-loop decreases-loop = search in
     summed_goes _ _ _ l.loop-i.invariant t.loop-i-test.true _ v.vector_at.ensures _ c.add-sum.ensures
 
 returns : tie.Need-returns invariant-loop decreases-loop

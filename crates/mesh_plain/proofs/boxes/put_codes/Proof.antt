@@ -27,9 +27,11 @@ vector-at-requires c κs = omega (arith, c.loop-i-test.true)
 
 loop-again : tie.Need-loop-i-preserved invariant-loop decreases-loop
 loop-again c =
-    let (l, t, v) : tie.At-loop-i invariant-loop decreases-loop × tie.In-loop-i invariant-loop decreases-loop × tie.After-vector_at invariant-loop decreases-loop = search in
+    let (l, t, v) : tie.At-loop-i invariant-loop decreases-loop × tie.In-loop-i invariant-loop decreases-loop
+    × tie.After-vector_at invariant-loop decreases-loop = search in
     let e : tie.Else-limit-codes invariant-loop decreases-loop = search in
-    coding_goes _ _ _ _ _ l.loop-i.invariant t.loop-i-test.true (omega (arith, t.loop-i-test.true, e.if-limit-codes.false, l.loop-i.invariant.long)) _
+    coding_goes _ _ _ _ _ l.loop-i.invariant t.loop-i-test.true
+    (omega (arith, t.loop-i-test.true, e.if-limit-codes.false, l.loop-i.invariant.long)) _
     v.vector_at.ensures _ c.code_of.ensures
 
 same_length : tie.Need-shape_of-codes invariant-loop decreases-loop

@@ -82,7 +82,8 @@ loop-again c =
     let near = b.triangle_touches.ensures ∙ corners_near (own s) l.loop-i.i s.args.ray s.args.bounds in
     ⊎_elim
     (λ w. (
-      passing_near _ _ (own s) _ _ l.loop-i.invariant.0 t.loop-i-test.true fit (sym near ∙ w.if-triangle_touches.true) (says_near c.if-triangle_touches.best)
+      passing_near _ _ (own s) _ _ l.loop-i.invariant.0 t.loop-i-test.true fit (sym near ∙ w.if-triangle_touches.true)
+          (says_near c.if-triangle_touches.best)
           (ap (λ x. faced_indexed s.args.ray (says_near x)) w.best-is ∙ w.next_deferred-best.ensures.0
           ∙ ap (next_of _ _) (corners_cast (own s) l.loop-i.i inside _ w.corners_of-corners.ensures s.args.ray s.args.bounds)),
       subst HitMeasured (sym w.best-is) (w.next_deferred-best.ensures.1 l.loop-i.invariant.1),

@@ -26,7 +26,8 @@ over-triangles-requires c κs =
 -- past the test of the end
 returns-2 : tie.Need-returns
 returns-2 c =
-    let (s, k, t, e, b) : tie.Start × tie.After-segment_end-end × tie.After-is_finite × tie.Else-not-is_finite × tie.After-segment_box-bounds = search in
+    let (s, k, t, e, b) : tie.Start × tie.After-segment_end-end × tie.After-is_finite × tie.Else-not-is_finite
+    × tie.After-segment_box-bounds = search in
     let finite = end_is _ _ _ t.is_finite.ensures k.segment_end-end.ensures _ e.if-not-is_finite.false in
     plain_over _ _ s.requires.0 finite _ b.segment_box-bounds.ensures _ c.over_triangles.ensures
 

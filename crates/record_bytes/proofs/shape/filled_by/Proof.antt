@@ -48,15 +48,19 @@ returns-3 c =
 returns-4 : tie.Need-returns-then-body_length-gt-LONGEST
 unfolding start counts numbers
 returns-4 c =
-    let (k, e, f, b) : tie.After-many_indices-indices × tie.Else-numbers-gt1024 × tie.After-long_form-long × tie.After-body_length-2 = search in
-    unfilled_long _ _ _ _ _ _ (is-counted k) _ _ f.long_form-long.ensures e.if-numbers-gt1024.false b.body_length-2.ensures.0 c.if-body_length-gt-LONGEST.true
+    let (k, e, f, b) : tie.After-many_indices-indices × tie.Else-numbers-gt1024 × tie.After-long_form-long
+    × tie.After-body_length-2 = search in
+    unfilled_long _ _ _ _ _ _ (is-counted k) _ _ f.long_form-long.ensures e.if-numbers-gt1024.false b.body_length-2.ensures.0
+    c.if-body_length-gt-LONGEST.true
 
 returns-5 : tie.Need-returns
 unfolding start counts numbers
 returns-5 c =
-    let (k, e, b, g) : tie.After-many_indices-indices × tie.Else-numbers-gt1024 × tie.After-body_length × tie.Else-body_length-length = search in
+    let (k, e, b, g) : tie.After-many_indices-indices × tie.Else-numbers-gt1024 × tie.After-body_length
+    × tie.Else-body_length-length = search in
     let (f, d) : tie.After-long_form-long × tie.After-body_length-2 = search in
-    fills _ _ _ _ _ _ (is-counted k) _ _ _ f.long_form-long.ensures e.if-numbers-gt1024.false b.body_length.ensures.0 g.if-body_length-length.false
+    fills _ _ _ _ _ _ (is-counted k) _ _ _ f.long_form-long.ensures e.if-numbers-gt1024.false b.body_length.ensures.0
+    g.if-body_length-length.false
     d.body_length-2.ensures.0 c.if-body_length-gt-LONGEST.false
 
 pub filled_by_spec : {M : Type 1} → statement M

@@ -31,7 +31,8 @@ returns-5 c =
     let (start, at-word-at, else2, at-version-of, else3) :
     tie.Start × tie.After-word_at × tie.Else-word_at-length × tie.After-version_of × tie.Else-source-version_of = search in
     framed_kind start.args.form start.args.source.now at-word-at.word_at.result at-version-of.version_of.result
-    at-word-at.word_at.ensures.0 else2.if-word_at-length.false at-version-of.version_of.ensures else3.if-source-version_of.false c.if-kind-lt1.false
+    at-word-at.word_at.ensures.0 else2.if-word_at-length.false at-version-of.version_of.ensures else3.if-source-version_of.false
+    c.if-kind-lt1.false
 
 pub is_framed_spec : {M : Type 1} → statement M
 is_framed_spec =

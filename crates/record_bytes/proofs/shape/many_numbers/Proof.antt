@@ -27,7 +27,8 @@ returns-4 c =
 
 returns-5 : tie.Need-returns
 returns-5 c =
-    let (start, else1, else2, else3, else4) : tie.Start × tie.Else-kind-eq1 × tie.Else-kind-eq2 × tie.Else-kind-eq3 × tie.Else-kind-eq4 = search in
+    let (start, else1, else2, else3, else4) : tie.Start × tie.Else-kind-eq1 × tie.Else-kind-eq2 × tie.Else-kind-eq3
+    × tie.Else-kind-eq4 = search in
     numbers_five start.args.kind start.args.a start.args.b start.args.c c.product-2.result
     c.capped-2.result else1.if-kind-eq1.false else2.if-kind-eq2.false else3.if-kind-eq3.false else4.if-kind-eq4.false c.product-2.ensures.0
     c.capped-2.ensures

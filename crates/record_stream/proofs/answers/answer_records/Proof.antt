@@ -54,8 +54,15 @@ step-requires : tie.Need-step-s-requires invariant-loop decreases-loop
 step-requires c κs =
     let (s, l, g, t) : Start × Loop × Asked × Then = search in
     let k = goes l.loop-work.s s.args.ended s.args.input.now (length l.loop-work.output) l.loop-work.invariant.within
-    (sym g.goes_on.ensures ∙ t.loop-work-test.true) in
-    ((l.loop-work.invariant.within, k.roomy), omega (arith, l.loop-work.invariant.counted k.untold, l.loop-work.invariant.within, s.requires))
+    (sym g.goes_on.ensures ∙ t.loop-work-test.true) in (
+      (l.loop-work.invariant.within, k.roomy),
+      omega (
+        arith,
+        l.loop-work.invariant.counted k.untold,
+        l.loop-work.invariant.within,
+        s.requires,
+      ),
+    )
 
 loop-less : tie.Need-loop-work-smaller invariant-loop decreases-loop
 loop-less c =

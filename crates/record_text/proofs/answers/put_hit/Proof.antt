@@ -61,7 +61,8 @@ returns : tie.Need-returns
 returns c =
     let (at-put-text, at-put-float, at-put-float2, at-put-float3, at-put-float4) :
     tie.After-put_text-word × tie.After-put_float-x × tie.After-put_float-y × tie.After-put_float-z × tie.After-put_float = search in
-    put_four _ _ at-put-text.put_text-word.ensures at-put-float.put_float-x.ensures at-put-float2.put_float-y.ensures at-put-float3.put_float-z.ensures at-put-float4.put_float.ensures
+    put_four _ _ at-put-text.put_text-word.ensures at-put-float.put_float-x.ensures at-put-float2.put_float-y.ensures
+    at-put-float3.put_float-z.ensures at-put-float4.put_float.ensures
 
 pub put_hit_spec : {M : Type 1} → statement M
 put_hit_spec =

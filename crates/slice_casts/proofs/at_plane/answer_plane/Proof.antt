@@ -42,7 +42,8 @@ returns-4 c =
     (test_failed a.is_admitted.ensures c.if-not-is_admitted.true) s.args.hit.now
 
 -- and else the cast; what led there is searched for from the last test on
-abbrev tested : tie.Else-not-is_admitted → tie.Start × tie.Else-ray-ne8 × tie.After-ray_in-start × tie.After-validate × tie.Else-not-validate
+abbrev tested : tie.Else-not-is_admitted → tie.Start × tie.Else-ray-ne8 × tie.After-ray_in-start × tie.After-validate
+    × tie.Else-not-validate
 tested c = search
 
 abbrev shaped : tie.Else-not-is_admitted → tie.Else-plane-ne4 × tie.After-plane_in-shape × tie.After-is_admitted
@@ -51,7 +52,8 @@ shaped c = search
 returns-5 : tie.Need-returns
 returns-5 c =
     let (four, k, w) : tie.Else-not-is_admitted × tie.After-plane_cast × tie.After-put_answer = search in
-    let (s, one, r, v, two) : tie.Start × tie.Else-ray-ne8 × tie.After-ray_in-start × tie.After-validate × tie.Else-not-validate = tested four in
+    let (s, one, r, v, two) : tie.Start × tie.Else-ray-ne8 × tie.After-ray_in-start × tie.After-validate
+    × tie.Else-not-validate = tested four in
     let (three, p, a) : tie.Else-plane-ne4 × tie.After-plane_in-shape × tie.After-is_admitted = shaped four in
     w.put_answer.ensures
     ∙ ap (λ (answer : Answer). answered answer s.args.hit.now)

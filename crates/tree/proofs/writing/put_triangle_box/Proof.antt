@@ -55,13 +55,15 @@ returns-3 : tie.Need-returns
 unfolding triangle_fits
 returns-3 c =
     let (start, at-corners-inside, else1, at-triangle-box, at-is-valid, else2, at-put-box) :
-    tie.Start × tie.After-corners_inside × tie.Else-not-corners_inside × tie.After-triangle_box-bounds × tie.After-is_valid × tie.Else-not-is_valid × tie.After-put_box =
+    tie.Start × tie.After-corners_inside × tie.Else-not-corners_inside × tie.After-triangle_box-bounds × tie.After-is_valid
+    × tie.Else-not-is_valid × tie.After-put_box =
     search in
     let a = start.args in (
       sym (and_both (corners_inside (length a.vertices.now / 3) a.triangles.now a.index)
           (valid_box (triangle_box a.vertices.now a.triangles.now a.index))
           (sym at-corners-inside.corners_inside.ensures ∙ else1.if-not-corners_inside.false)
-          (ap valid_box (sym at-triangle-box.triangle_box-bounds.ensures) ∙ sym at-is-valid.is_valid.ensures ∙ else2.if-not-is_valid.false)),
+          (ap valid_box (sym at-triangle-box.triangle_box-bounds.ensures) ∙ sym at-is-valid.is_valid.ensures
+          ∙ else2.if-not-is_valid.false)),
       λ _. at-put-box.put_box.ensures ∙ ap (λ (z : Aabb). sets a.area.now (6 * a.index) (box_numbers z))
           at-triangle-box.triangle_box-bounds.ensures,
     )

@@ -42,14 +42,16 @@ put-triangle-box-requires c κs =
 
 same_length : tie.Need-shape_of-area-then-not-put_triangle_box invariant-loop decreases-loop
 same_length c =
-    let (at-loop, at-put-triangle-box) : (tie.At-loop-i invariant-loop decreases-loop) × (tie.After-put_triangle_box invariant-loop decreases-loop) = search in
+    let (at-loop, at-put-triangle-box) : (tie.At-loop-i invariant-loop decreases-loop)
+    × (tie.After-put_triangle_box invariant-loop decreases-loop) = search in
     at-put-triangle-box.put_triangle_box.auto.area ∙ at-loop.loop-i.invariant.1.1.0
 
 returns : tie.Need-returns-then-not-put_triangle_box invariant-loop decreases-loop
 unfolding triangles_fit
 returns c =
     let (start, at-loop, in-loop, at-put-triangle-box) :
-    (tie.Start invariant-loop decreases-loop) × (tie.At-loop-i invariant-loop decreases-loop) × (tie.In-loop-i invariant-loop decreases-loop) ×
+    (tie.Start invariant-loop decreases-loop) × (tie.At-loop-i invariant-loop decreases-loop)
+    × (tie.In-loop-i invariant-loop decreases-loop) ×
     (tie.After-put_triangle_box invariant-loop decreases-loop) = search in
     let a = start.args in
     let l = at-loop.loop-i in
@@ -64,7 +66,8 @@ returns c =
 loop-again : tie.Need-loop-i-preserved invariant-loop decreases-loop
 loop-again c =
     let (start, at-loop, in-loop, at-put-triangle-box) :
-    (tie.Start invariant-loop decreases-loop) × (tie.At-loop-i invariant-loop decreases-loop) × (tie.In-loop-i invariant-loop decreases-loop) ×
+    (tie.Start invariant-loop decreases-loop) × (tie.At-loop-i invariant-loop decreases-loop)
+    × (tie.In-loop-i invariant-loop decreases-loop) ×
     (tie.After-put_triangle_box invariant-loop decreases-loop) = search in
     let a = start.args in
     let l = at-loop.loop-i in

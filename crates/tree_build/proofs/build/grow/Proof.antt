@@ -63,7 +63,8 @@ same_length c =
 returns-2 : tie.Need-returns-then-not-put_triangle_boxes
 returns-2 c =
     let (s, some, b) : tie.Start × tie.Else-count-eq0 × tie.After-put_triangle_boxes = search in (
-      unfit_refused (given s) (lent s) some.if-count-eq0.false (test_failed b.put_triangle_boxes.ensures.0 c.if-not-put_triangle_boxes.true),
+      unfit_refused (given s) (lent s) some.if-count-eq0.false
+          (test_failed b.put_triangle_boxes.ensures.0 c.if-not-put_triangle_boxes.true),
       λ k e. let z : ◌≡◌ {A = ℕ} 0 1 = cc in absurd (omega arith),
     )
 
@@ -152,7 +153,8 @@ same-length-6 c =
 returns-3 : tie.Need-returns
 returns-3 c =
     let (s, some, b, fits, k, w) :
-    tie.Start × tie.Else-count-eq0 × tie.After-put_triangle_boxes × tie.Else-not-put_triangle_boxes × tie.After-number × tie.After-build_node = search in
+    tie.Start × tie.Else-count-eq0 × tie.After-put_triangle_boxes × tie.Else-not-put_triangle_boxes × tie.After-number
+    × tie.After-build_node = search in
     let n = count s in
     let boxes = b.put_triangle_boxes in
     let fit = fits.if-not-put_triangle_boxes.false in

@@ -17,7 +17,13 @@ places-enclosed-requires c κs =
     let (start, at-word-at, at-word-at2) : tie.Start × tie.After-word_at-first × tie.After-word_at-second = search in
     let leaf = leaf_here _ _ _ _ _ _ _ start.requires.1 start.requires.0 (sym c.word_at.ensures ∙ c.if-word_at-eq0.true) in (
       omega (arith, leaf, at-word-at.word_at-first.ensures, at-word-at2.word_at-second.ensures, start.requires.1.order_long),
-      λ p h. start.requires.1.triangles_there p (omega (arith, h, leaf, at-word-at.word_at-first.ensures, at-word-at2.word_at-second.ensures)),
+      λ p h. start.requires.1.triangles_there p (omega (
+        arith,
+        h,
+        leaf,
+        at-word-at.word_at-first.ensures,
+        at-word-at2.word_at-second.ensures,
+      )),
     )
 
 returns : tie.Need-returns-then-word_at-eq0

@@ -10,7 +10,8 @@ use Rattle.tree_check.proofs.boxes.nodes_fit.Statement.{statement}
 use Rattle.tree_check.proofs.boxes.nodes_fit.Tie as tie
 
 abbrev invariant-loop : tie.invariant-loop-node
-invariant-loop n nodes node_boxes_lem triangle_boxes_lem words order node₀ node = every (node_fits node_boxes_lem triangle_boxes_lem words order)
+invariant-loop n nodes node_boxes_lem triangle_boxes_lem words order node₀ node = every
+    (node_fits node_boxes_lem triangle_boxes_lem words order)
     (range node (nodes - node)) ≡ every (node_fits node_boxes_lem triangle_boxes_lem words order) (range 0 nodes)
 
 abbrev decreases-loop : tie.decreases-loop-node

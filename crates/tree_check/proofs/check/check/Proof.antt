@@ -29,7 +29,8 @@ returns-2 c =
 
 tree-passes-requires : tie.Need-tree_passes-requires
 tree-passes-requires c κs =
-    let (at-lengths-admitted, else1, at-room-for) : tie.After-lengths_admitted × tie.Else-not-lengths_admitted × tie.After-room_for = search in
+    let (at-lengths-admitted, else1, at-room-for) : tie.After-lengths_admitted × tie.Else-not-lengths_admitted
+    × tie.After-room_for = search in
     room_is_long _ _ _ _ _ _ (few_triangles _ _ (sym at-lengths-admitted.lengths_admitted.ensures ∙ else1.if-not-lengths_admitted.false))
     (sym at-room-for.room_for.ensures ∙ c.if-not-room_for.false)
 
@@ -42,7 +43,8 @@ returns-3 : tie.Need-returns-then-tree_passes
 unfolding check_of
 returns-3 c =
     let (at-lengths-admitted, else1, at-room-for, else2, at-tree-passes) :
-    tie.After-lengths_admitted × tie.Else-not-lengths_admitted × tie.After-room_for × tie.Else-not-room_for × tie.After-tree_passes = search in (
+    tie.After-lengths_admitted × tie.Else-not-lengths_admitted × tie.After-room_for × tie.Else-not-room_for
+    × tie.After-tree_passes = search in (
       simp (
         sym at-lengths-admitted.lengths_admitted.ensures,
         else1.if-not-lengths_admitted.false,
@@ -64,7 +66,8 @@ returns-4 : tie.Need-returns
 unfolding check_of
 returns-4 c =
     let (at-lengths-admitted, else1, at-room-for, else2, at-tree-passes) :
-    tie.After-lengths_admitted × tie.Else-not-lengths_admitted × tie.After-room_for × tie.Else-not-room_for × tie.After-tree_passes = search in (
+    tie.After-lengths_admitted × tie.Else-not-lengths_admitted × tie.After-room_for × tie.Else-not-room_for
+    × tie.After-tree_passes = search in (
       simp (
         sym at-lengths-admitted.lengths_admitted.ensures,
         else1.if-not-lengths_admitted.false,

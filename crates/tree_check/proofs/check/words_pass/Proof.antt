@@ -38,7 +38,8 @@ returns-2 c =
 
 placed-once-requires : tie.Need-placed_once-requires
 placed-once-requires c κs =
-    let (start, at-nodes-sound, else1, at-named-once) : tie.Start × tie.After-nodes_sound × tie.Else-not-nodes_sound × tie.After-named_once = search in (
+    let (start, at-nodes-sound, else1, at-named-once) : tie.Start × tie.After-nodes_sound × tie.Else-not-nodes_sound
+    × tie.After-named_once = search in (
       (start.requires.1.1.0, (start.requires.0, (start.requires.1.0, omega (arith, start.requires, at-named-once.named_once.auto.marks)))),
       sym
           at-nodes-sound.nodes_sound.ensures ∙ else1.if-not-nodes_sound.false,
@@ -89,7 +90,8 @@ returns-4 : tie.Need-returns
 unfolding words_pass
 returns-4 c =
     let (at-nodes-sound, else1, at-named-once, else2, at-placed-once, else3, at-ordered-once) :
-    tie.After-nodes_sound × tie.Else-not-nodes_sound × tie.After-named_once × tie.Else-not-named_once × tie.After-placed_once × tie.Else-not-placed_once × tie.After-ordered_once =
+    tie.After-nodes_sound × tie.Else-not-nodes_sound × tie.After-named_once × tie.Else-not-named_once × tie.After-placed_once
+    × tie.Else-not-placed_once × tie.After-ordered_once =
     search in
     simp (
       sym at-nodes-sound.nodes_sound.ensures,

@@ -11,7 +11,8 @@ use Rattle.tree_check.proofs.marks.all_once.Statement.{statement}
 use Rattle.tree_check.proofs.marks.all_once.Tie as tie
 
 abbrev invariant-loop : tie.invariant-loop-x
-invariant-loop marks start end x₀ x = (start ≤ x) × (every (marked_once marks) (range x (end - x)) ≡ every (marked_once marks) (range start (end -
+invariant-loop marks start end x₀ x = (start ≤ x) × (every (marked_once marks) (range x (end - x))
+    ≡ every (marked_once marks) (range start (end -
     start)))
 
 abbrev decreases-loop : tie.decreases-loop-x

@@ -22,13 +22,25 @@ returns-4 : tie.Need-returns-then-right-node
 unfolding branch_sound
 returns-4 c =
     let (else1, else2) : tie.Else-left-right × tie.Else-left-node = search in
-    simp (ne_eqb _ _ else1.if-left-right.false, lt-ltb _ _ else2.if-left-node.false, lt-ltb _ _ c.if-left-nodes.false, le-ltb _ _ c.if-right-node.true)
+    simp (
+      ne_eqb _ _ else1.if-left-right.false,
+      lt-ltb _ _ else2.if-left-node.false,
+      lt-ltb _ _ c.if-left-nodes.false,
+      le-ltb _ _
+          c.if-right-node.true,
+    )
 
 returns-5 : tie.Need-returns
 unfolding branch_sound
 returns-5 c =
     let (else1, else2) : tie.Else-left-right × tie.Else-left-node = search in
-    simp (ne_eqb _ _ else1.if-left-right.false, lt-ltb _ _ else2.if-left-node.false, lt-ltb _ _ c.if-left-nodes.false, lt-ltb _ _ c.if-right-node.false)
+    simp (
+      ne_eqb _ _ else1.if-left-right.false,
+      lt-ltb _ _ else2.if-left-node.false,
+      lt-ltb _ _ c.if-left-nodes.false,
+      lt-ltb _ _
+          c.if-right-node.false,
+    )
 
 pub branch_sound_spec : {M : Type 1} → statement M
 branch_sound_spec = tie.close (tie.spec

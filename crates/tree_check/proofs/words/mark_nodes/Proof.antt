@@ -29,7 +29,8 @@ loop-holds c =
 mark-node-requires : tie.Need-mark_node-requires invariant-loop decreases-loop
 mark-node-requires c κs =
     let (start, at_clear, at-loop) :
-    (tie.Start invariant-loop decreases-loop) × (tie.After-clear invariant-loop decreases-loop) × (tie.At-loop-node invariant-loop decreases-loop) = search in (
+    (tie.Start invariant-loop decreases-loop) × (tie.After-clear invariant-loop decreases-loop)
+    × (tie.At-loop-node invariant-loop decreases-loop) = search in (
       (omega (arith, start.requires), (omega (arith, start.requires), omega (arith, start.requires, at_clear.clear.auto.marks))),
       (
         start.requires.1 _ c.loop-node-test.true,
@@ -46,11 +47,13 @@ mark-node-requires c κs =
 loop-again : tie.Need-loop-node-preserved invariant-loop decreases-loop
 loop-again c =
     let (at-loop, in-loop, at-mark-node) :
-    (tie.At-loop-node invariant-loop decreases-loop) × (tie.In-loop-node invariant-loop decreases-loop) × (tie.After-mark_node invariant-loop decreases-loop) = search in (
+    (tie.At-loop-node invariant-loop decreases-loop) × (tie.In-loop-node invariant-loop decreases-loop)
+    × (tie.After-mark_node invariant-loop decreases-loop) = search in (
       omega arith,
       (
         at-mark-node.mark_node.auto.marks ∙ at-loop.loop-node.invariant.1.0,
-        λ x h. tally_more _ x _ _ _ _ _ in-loop.loop-node-test.true (at-mark-node.mark_node.ensures x) (at-loop.loop-node.invariant.1.1 x h),
+        λ x h. tally_more _ x _ _ _ _ _ in-loop.loop-node-test.true (at-mark-node.mark_node.ensures x)
+            (at-loop.loop-node.invariant.1.1 x h),
       ),
     )
 

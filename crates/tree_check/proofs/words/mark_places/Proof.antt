@@ -11,7 +11,8 @@ use Rattle.tree_check.proofs.words.mark_places.Statement.{statement}
 use Rattle.tree_check.proofs.words.mark_places.Tie as tie
 
 abbrev invariant-loop : tie.invariant-loop-p
-invariant-loop n order marks₀ p₀ marks p = (p ≤ n) × ((length marks ≡ length marks₀) × ((x : ℕ) → x < n → get_or marks x 0 + count x (slice p n
+invariant-loop n order marks₀ p₀ marks p = (p ≤ n) × ((length marks ≡ length marks₀)
+    × ((x : ℕ) → x < n → get_or marks x 0 + count x (slice p n
     order) ≡ count x (take n order)))
 
 abbrev decreases-loop : tie.decreases-loop-p
@@ -28,7 +29,8 @@ loop-holds c =
 mark-place-requires : tie.Need-mark_place-requires invariant-loop decreases-loop
 mark-place-requires c κs =
     let (start, at_clear, at-loop) :
-    (tie.Start invariant-loop decreases-loop) × (tie.After-clear invariant-loop decreases-loop) × (tie.At-loop-p invariant-loop decreases-loop) = search in (
+    (tie.Start invariant-loop decreases-loop) × (tie.After-clear invariant-loop decreases-loop)
+    × (tie.At-loop-p invariant-loop decreases-loop) = search in (
       (omega (arith, start.requires), omega (arith, start.requires, at_clear.clear.auto.marks)),
       λ x h. omega
           (arith, start.requires, at-loop.loop-p.invariant.1.1 x h, order_few start.args.order.now start.args.n x start.requires.0),
@@ -37,12 +39,14 @@ mark-place-requires c κs =
 loop-again : tie.Need-loop-p-preserved invariant-loop decreases-loop
 loop-again c =
     let (start, at-loop, in-loop, at-mark-place) :
-    (tie.Start invariant-loop decreases-loop) × (tie.At-loop-p invariant-loop decreases-loop) × (tie.In-loop-p invariant-loop decreases-loop) ×
+    (tie.Start invariant-loop decreases-loop) × (tie.At-loop-p invariant-loop decreases-loop)
+    × (tie.In-loop-p invariant-loop decreases-loop) ×
     (tie.After-mark_place invariant-loop decreases-loop) = search in (
       omega arith,
       (
         at-mark-place.mark_place.auto.marks ∙ at-loop.loop-p.invariant.1.0,
-        λ x h. order_more _ _ x _ _ _ _ in-loop.loop-p-test.true start.requires.0 (at-mark-place.mark_place.ensures x h) (at-loop.loop-p.invariant.1.1 x h),
+        λ x h. order_more _ _ x _ _ _ _ in-loop.loop-p-test.true start.requires.0 (at-mark-place.mark_place.ensures x h)
+            (at-loop.loop-p.invariant.1.1 x h),
       ),
     )
 

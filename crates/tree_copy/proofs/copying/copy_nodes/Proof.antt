@@ -32,7 +32,8 @@ copy-node-requires c κs =
 loop-again : tie.Need-loop-i-preserved invariant-loop decreases-loop
 loop-again c =
     let (start, at-loop, at-copy-node) :
-    (tie.Start invariant-loop decreases-loop) × (tie.At-loop-i invariant-loop decreases-loop) × (tie.After-copy_node invariant-loop decreases-loop) = search in
+    (tie.Start invariant-loop decreases-loop) × (tie.At-loop-i invariant-loop decreases-loop)
+    × (tie.After-copy_node invariant-loop decreases-loop) = search in
     let l = at-loop.loop-i in
     let a = start.args in
     let n = at-copy-node.copy_node in (

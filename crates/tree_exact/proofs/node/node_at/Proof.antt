@@ -58,7 +58,8 @@ returns-7 c =
     let (s, a, b, d) : tie.Start × tie.After-word_at-kind × tie.After-word_at-first × tie.After-word_at-second = search in
     let v = s.args in
     opens_branch v.count v.words.now v.node (omega (arith, a.word_at-kind.ensures)) (omega (arith, b.word_at-first.ensures))
-    b.word_at-first.result d.word_at-second.result b.word_at-first.ensures d.word_at-second.ensures (omega (arith, d.word_at-second.ensures))
+    b.word_at-first.result d.word_at-second.result b.word_at-first.ensures d.word_at-second.ensures
+    (omega (arith, d.word_at-second.ensures))
 
 pub node_at_spec : {M : Type 1} → statement M
 node_at_spec =

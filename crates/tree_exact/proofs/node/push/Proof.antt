@@ -26,7 +26,8 @@ returns c =
     let node = v.node in
     let rest = on_stack v.stack.now v.top in
     two_pushed v.stack.now v.top (second_at words node) (first_at words node) s.requires.1
-    ∙ sym (ap (λ (b : Bool). cond b (first_at words node ∷ (second_at words node ∷ rest)) (second_at words node ∷ (first_at words node ∷ rest)))
+    ∙ sym (ap (λ (b : Bool). cond b (first_at words node ∷ (second_at words node ∷ rest))
+    (second_at words node ∷ (first_at words node ∷ rest)))
     e.if-left_first.true)
 
 -- the right one on top
@@ -38,7 +39,8 @@ returns-2 c =
     let node = v.node in
     let rest = on_stack v.stack.now v.top in
     two_pushed v.stack.now v.top (first_at words node) (second_at words node) s.requires.1
-    ∙ sym (ap (λ (b : Bool). cond b (first_at words node ∷ (second_at words node ∷ rest)) (second_at words node ∷ (first_at words node ∷ rest)))
+    ∙ sym (ap (λ (b : Bool). cond b (first_at words node ∷ (second_at words node ∷ rest))
+    (second_at words node ∷ (first_at words node ∷ rest)))
     e.if-left_first.false)
 
 pub push_spec : {M : Type 1} → statement M

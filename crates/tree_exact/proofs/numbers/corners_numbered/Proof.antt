@@ -29,18 +29,22 @@ corners-of-requires c κs =
 returns-2 : tie.Need-returns-then-not-numbers_in
 unfolding corners_of
 returns-2 c =
-    let (s, k, e, v, a) : tie.Start × tie.After-corners_inside × tie.Else-not-corners_inside × tie.After-corners_of-corners × tie.After-numbers_in = search in
+    let (s, k, e, v, a) : tie.Start × tie.After-corners_inside × tie.Else-not-corners_inside × tie.After-corners_of-corners
+    × tie.After-numbers_in = search in
     first_fails (own s) s.args.index (test_passed k.corners_inside.ensures e.if-not-corners_inside.false)
-    (sym (ap (λ (vs : List Vec3). numbers_in (corner vs 0)) v.corners_of-corners.ensures) ∙ test_failed a.numbers_in.ensures c.if-not-numbers_in.true)
+    (sym (ap (λ (vs : List Vec3). numbers_in (corner vs 0)) v.corners_of-corners.ensures)
+    ∙ test_failed a.numbers_in.ensures c.if-not-numbers_in.true)
 
 -- the second has none
 returns-3 : tie.Need-returns-then-not-numbers_in-2
 unfolding corners_of
 returns-3 c =
-    let (s, k, e, v, a) : tie.Start × tie.After-corners_inside × tie.Else-not-corners_inside × tie.After-corners_of-corners × tie.After-numbers_in = search in
+    let (s, k, e, v, a) : tie.Start × tie.After-corners_inside × tie.Else-not-corners_inside × tie.After-corners_of-corners
+    × tie.After-numbers_in = search in
     let (f, b) : tie.Else-not-numbers_in × tie.After-numbers_in-2 = search in
     second_fails (own s) s.args.index (test_passed k.corners_inside.ensures e.if-not-corners_inside.false)
-    (sym (ap (λ (vs : List Vec3). numbers_in (corner vs 0)) v.corners_of-corners.ensures) ∙ test_passed a.numbers_in.ensures f.if-not-numbers_in.false)
+    (sym (ap (λ (vs : List Vec3). numbers_in (corner vs 0)) v.corners_of-corners.ensures)
+    ∙ test_passed a.numbers_in.ensures f.if-not-numbers_in.false)
     (sym (ap (λ (vs : List Vec3). numbers_in (corner vs 1)) v.corners_of-corners.ensures)
     ∙ test_failed b.numbers_in-2.ensures c.if-not-numbers_in-2.true)
 
@@ -48,11 +52,14 @@ returns-3 c =
 returns-4 : tie.Need-returns
 unfolding corners_of
 returns-4 c =
-    let (s, k, e, v, a) : tie.Start × tie.After-corners_inside × tie.Else-not-corners_inside × tie.After-corners_of-corners × tie.After-numbers_in = search in
+    let (s, k, e, v, a) : tie.Start × tie.After-corners_inside × tie.Else-not-corners_inside × tie.After-corners_of-corners
+    × tie.After-numbers_in = search in
     let (f, b, g) : tie.Else-not-numbers_in × tie.After-numbers_in-2 × tie.Else-not-numbers_in-2 = search in
     third_tells (own s) s.args.index (test_passed k.corners_inside.ensures e.if-not-corners_inside.false)
-    (sym (ap (λ (vs : List Vec3). numbers_in (corner vs 0)) v.corners_of-corners.ensures) ∙ test_passed a.numbers_in.ensures f.if-not-numbers_in.false)
-    (sym (ap (λ (vs : List Vec3). numbers_in (corner vs 1)) v.corners_of-corners.ensures) ∙ test_passed b.numbers_in-2.ensures g.if-not-numbers_in-2.false)
+    (sym (ap (λ (vs : List Vec3). numbers_in (corner vs 0)) v.corners_of-corners.ensures)
+    ∙ test_passed a.numbers_in.ensures f.if-not-numbers_in.false)
+    (sym (ap (λ (vs : List Vec3). numbers_in (corner vs 1)) v.corners_of-corners.ensures)
+    ∙ test_passed b.numbers_in-2.ensures g.if-not-numbers_in-2.false)
     c.numbers_in-3.result
     (c.numbers_in-3.ensures ∙ ap (λ (vs : List Vec3). numbers_in (corner vs 2)) v.corners_of-corners.ensures)
 

@@ -28,7 +28,8 @@ returns-3 c =
     let (s, a, b) : tie.Start × tie.After-box_at × tie.After-box_at-2 = search in
     let v = s.args in
     let (e, f) : tie.Else-left-nodes × tie.Else-right-nodes = search in
-    λ l sees. both_there l v.nodes v.node_boxes.now v.left v.right (omega (arith, e.if-left-nodes.false)) (omega (arith, f.if-right-nodes.false))
+    λ l sees. both_there l v.nodes v.node_boxes.now v.left v.right (omega (arith, e.if-left-nodes.false))
+    (omega (arith, f.if-right-nodes.false))
     (c.comes_first.ensures l sees) a.box_at.ensures b.box_at-2.ensures
 
 pub nearer_first_spec : {M : Type 1} → statement M

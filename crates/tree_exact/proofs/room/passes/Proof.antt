@@ -70,7 +70,8 @@ returns-2 c =
 
 returns-3 : tie.Need-returns
 returns-3 c =
-    let (s, k, e, l, f) : tie.Start × tie.After-side_met × tie.Else-not-side_met × tie.After-side_met-2 × tie.Else-not-side_met-2 = search in
+    let (s, k, e, l, f) : tie.Start × tie.After-side_met × tie.Else-not-side_met × tie.After-side_met-2
+    × tie.Else-not-side_met-2 = search in
     last_decides (across s k.side_met.result k.side_met.ensures) e.if-not-side_met.false
     (up s l.side_met-2.result l.side_met-2.ensures) f.if-not-side_met-2.false (depth s c.depth_met.result c.depth_met.ensures)
 

@@ -42,7 +42,8 @@ best-of-requires c κs = let s : Start = search in s.requires.0
 
 loop-holds : tie.Need-loop-left-init invariant-loop decreases-loop
 loop-holds c =
-    let (s, e, z, b) : Start × tie.Else-nodes-eq0 invariant-loop decreases-loop × tie.After-empty-2 invariant-loop decreases-loop × tie.After-best_of-best invariant-loop decreases-loop = search in
+    let (s, e, z, b) : Start × tie.Else-nodes-eq0 invariant-loop decreases-loop × tie.After-empty-2 invariant-loop decreases-loop
+    × tie.After-best_of-best invariant-loop decreases-loop = search in
     let v = s.args in
     walk_begins v.line v.reach v.pose.now v.triangles.now v.nodes v.node_boxes.now v.node_words.now v.order.now
     v.stack.now s.requires.1.1 (omega (arith, e.if-nodes-eq0.false)) _ _ b.best_of-best.ensures.0 z.empty-2.ensures b.best_of-best.ensures.1
@@ -122,7 +123,8 @@ same-length-4 c =
 -- all were taken, and one is left
 returns-5 : tie.Need-returns invariant-loop decreases-loop
 returns-5 c =
-    let (s, l, o, e) : Start × At × tie.After-loop-left invariant-loop decreases-loop × tie.Else-top-eq0-2 invariant-loop decreases-loop = search in
+    let (s, l, o, e) : Start × At × tie.After-loop-left invariant-loop decreases-loop
+    × tie.Else-top-eq0-2 invariant-loop decreases-loop = search in
     let v = s.args in
     walk_used_up v.line v.reach v.pose.now v.triangles.now v.nodes v.node_boxes.now v.node_words.now
     v.order.now _ _ _ _ _ l.loop-left.invariant (omega (arith, o.loop-left-test.false)) (omega (arith, e.if-top-eq0-2.false))

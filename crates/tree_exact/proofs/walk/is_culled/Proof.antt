@@ -22,7 +22,8 @@ corners-of-requires c κs =
 
 returns-2 : tie.Need-returns
 returns-2 c =
-    let (s, k, e, o, a) : tie.Start × tie.After-corners_inside × tie.Else-not-corners_inside × tie.After-corners_of × tie.After-lies_apart = search in
+    let (s, k, e, o, a) : tie.Start × tie.After-corners_inside × tie.Else-not-corners_inside × tie.After-corners_of
+    × tie.After-lies_apart = search in
     let v = s.args in
     λ y. record {
       missed = λ ray line on.

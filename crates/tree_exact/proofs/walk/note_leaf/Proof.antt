@@ -59,7 +59,8 @@ is-culled-requires c κs = omega arith
 -- one that is culled
 loop-again : tie.Need-loop-place-preserved-then-is_culled invariant-loop decreases-loop
 loop-again c =
-    let (s, l, i, e, t) : Start × At × Within × tie.Else-index-count invariant-loop decreases-loop × tie.Then-is_culled invariant-loop decreases-loop = search in
+    let (s, l, i, e, t) : Start × At × Within × tie.Else-index-count invariant-loop decreases-loop
+    × tie.Then-is_culled invariant-loop decreases-loop = search in
     let o : tie.After-is_culled invariant-loop decreases-loop = search in
     leaf_culls _ _ _ _ _ _ _ _ _ _ l.loop-place.invariant i.loop-place-test.true _ refl (omega (arith, e.if-index-count.false))
     (o.is_culled.ensures t.if-is_culled.true)

@@ -55,7 +55,8 @@ add-t28 c =
 -- a branch
 returns-3 : tie.Need-returns-in-Branch
 returns-3 c =
-    let (s, a, k, f, p) : tie.Start × tie.After-node_at-opened × tie.In-Branch × tie.After-taken_first-left_first × tie.After-push = search in
+    let (s, a, k, f, p) : tie.Start × tie.After-node_at-opened × tie.In-Branch × tie.After-taken_first-left_first
+    × tie.After-push = search in
     let v = s.args in
     opens_branch v.line v.reach v.pose.now v.triangles.now v.nodes v.node_boxes.now v.node_words.now
     v.order.now v.stack.now v.node v.top v.best _ a.node_at-opened.ensures _ _ k.in-Branch.is _

@@ -22,7 +22,8 @@ box-met-requires c κs = let s : tie.Start = search in s.requires.0.0
 -- one that is passed over
 returns-2 : tie.Need-returns-then-not-box_met
 returns-2 c =
-    let (s, w, e, b, m, f) : tie.Start × tie.After-word_at-node × tie.Else-node-nodes × tie.After-box_at × tie.After-box_met × tie.Then-not-box_met = search in
+    let (s, w, e, b, m, f) : tie.Start × tie.After-word_at-node × tie.Else-node-nodes × tie.After-box_at × tie.After-box_met
+    × tie.Then-not-box_met = search in
     let v = s.args in
     let limited = s.requires.0.1 in
     takes_past v.line v.reach v.pose.now v.triangles.now v.nodes v.node_boxes.now v.node_words.now v.order.now
@@ -39,7 +40,8 @@ open-node-requires c κs =
 -- one that is opened
 returns-3 : tie.Need-returns
 returns-3 c =
-    let (s, w, e, b, m, f) : tie.Start × tie.After-word_at-node × tie.Else-node-nodes × tie.After-box_at × tie.After-box_met × tie.Else-not-box_met = search in
+    let (s, w, e, b, m, f) : tie.Start × tie.After-word_at-node × tie.Else-node-nodes × tie.After-box_at × tie.After-box_met
+    × tie.Else-not-box_met = search in
     let o : tie.After-open_node = search in
     let v = s.args in
     let limited = s.requires.0.1 in

@@ -30,7 +30,8 @@ module _ (p : ℕ → Bool) (ts : List ℕ) (i : ℕ) where
   every-end h = rw (drop_of_length-le ts {i = i} h)
 
 abbrev invariant-loop : tie.invariant-loop-i
-invariant-loop boxes order i₀ i = (every (λ (t : ℕ). plain_box (box_at boxes t)) (drop i order) ≡ plain_range boxes order) × (i ≤ length order)
+invariant-loop boxes order i₀ i = (every (λ (t : ℕ). plain_box (box_at boxes t)) (drop i order) ≡ plain_range boxes order)
+    × (i ≤ length order)
 
 abbrev decreases-loop : tie.decreases-loop-i
 decreases-loop boxes order i₀ i = length order - i
@@ -42,7 +43,8 @@ loop-holds c = (refl, omega arith)
 -- one box that is not plain
 returns : tie.Need-returns-then-not-box_is_plain invariant-loop decreases-loop
 returns c =
-    let (s, l, t) : (tie.Start invariant-loop decreases-loop) × (tie.At-loop-i invariant-loop decreases-loop) × (tie.In-loop-i invariant-loop decreases-loop) = search in
+    let (s, l, t) : (tie.Start invariant-loop decreases-loop) × (tie.At-loop-i invariant-loop decreases-loop)
+    × (tie.In-loop-i invariant-loop decreases-loop) = search in
     let (b, p) : (tie.After-box_of invariant-loop decreases-loop) × (tie.After-box_is_plain invariant-loop decreases-loop) = search in
     let a = s.args in
     sym
@@ -53,8 +55,10 @@ returns c =
 -- the next box is plain
 loop-again : tie.Need-loop-i-preserved invariant-loop decreases-loop
 loop-again c =
-    let (s, l, t) : (tie.Start invariant-loop decreases-loop) × (tie.At-loop-i invariant-loop decreases-loop) × (tie.In-loop-i invariant-loop decreases-loop) = search in
-    let (b, p, e) : (tie.After-box_of invariant-loop decreases-loop) × (tie.After-box_is_plain invariant-loop decreases-loop) × (tie.Else-not-box_is_plain invariant-loop decreases-loop) = search in
+    let (s, l, t) : (tie.Start invariant-loop decreases-loop) × (tie.At-loop-i invariant-loop decreases-loop)
+    × (tie.In-loop-i invariant-loop decreases-loop) = search in
+    let (b, p, e) : (tie.After-box_of invariant-loop decreases-loop) × (tie.After-box_is_plain invariant-loop decreases-loop)
+    × (tie.Else-not-box_is_plain invariant-loop decreases-loop) = search in
     let a = s.args in (
       every-next (λ (t : ℕ). plain_box (box_at a.boxes.now t)) a.order.now l.loop-i.i t.loop-i-test.true
           (ap plain_box (sym b.box_of.ensures) ∙ test_passed p.box_is_plain.ensures e.if-not-box_is_plain.false)

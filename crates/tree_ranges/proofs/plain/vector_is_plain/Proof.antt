@@ -20,7 +20,8 @@ returns-2 c =
 returns-3 : tie.Need-returns
 unfolding plain_vec
 returns-3 c =
-    let (s, a, x, b, y) : tie.Start × tie.After-is_plain × tie.Else-not-is_plain × tie.After-is_plain-2 × tie.Else-not-is_plain-2 = search in
+    let (s, a, x, b, y) : tie.Start × tie.After-is_plain × tie.Else-not-is_plain × tie.After-is_plain-2
+    × tie.Else-not-is_plain-2 = search in
     c.is_plain-3.ensures
     ∙ last_decides (plain s.args.v.x) (plain s.args.v.y) (plain s.args.v.z)
     (test_passed a.is_plain.ensures x.if-not-is_plain.false) (test_passed b.is_plain-2.ensures y.if-not-is_plain-2.false)

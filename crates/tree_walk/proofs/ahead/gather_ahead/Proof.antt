@@ -13,12 +13,15 @@ use Rattle.tree_walk.proofs.ahead.gather_ahead.Statement.{statement}
 use Rattle.tree_walk.proofs.ahead.gather_ahead.Tie as tie
 
 abbrev invariant-loop : tie.invariant-loop-counted
-invariant-loop bounds count nodes node_boxes_lem triangle_boxes_lem node_words_lem order list₀ stack₀ next₀ height₀ among₀ counted₀ list stack next height
+invariant-loop bounds count nodes node_boxes_lem triangle_boxes_lem node_words_lem order list₀ stack₀ next₀ height₀ among₀ counted₀ list
+    stack next height
     among counted =
-    Goes (tree_of nodes node_boxes_lem triangle_boxes_lem node_words_lem order) count bounds list₀ stack₀ list stack next height among counted
+    Goes (tree_of nodes node_boxes_lem triangle_boxes_lem node_words_lem order) count bounds list₀ stack₀ list stack next height among
+    counted
 
 abbrev decreases-loop : tie.decreases-loop-counted
-decreases-loop bounds count nodes node_boxes_lem triangle_boxes_lem node_words_lem order list₀ stack₀ next₀ height₀ among₀ counted₀ list stack next height
+decreases-loop bounds count nodes node_boxes_lem triangle_boxes_lem node_words_lem order list₀ stack₀ next₀ height₀ among₀ counted₀ list
+    stack next height
     among counted =
     due nodes counted height
 

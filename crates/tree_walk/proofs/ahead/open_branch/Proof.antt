@@ -38,7 +38,8 @@ returns-3 c =
 
 open-children-requires : tie.Need-open_children-requires
 open-children-requires c κs =
-    let (s, f, g, e, e', e'') : tie.Start × tie.After-child_fits × tie.After-child_fits-2 × tie.Else-not-child_fits × tie.Else-not-child_fits-2 × tie.Else-nodes-spent-lt2 = search in (
+    let (s, f, g, e, e', e'') : tie.Start × tie.After-child_fits × tie.After-child_fits-2 × tie.Else-not-child_fits
+    × tie.Else-not-child_fits-2 × tie.Else-nodes-spent-lt2 = search in (
       s.requires.1.0,
       (
         s.requires.1.1.0,
@@ -51,7 +52,8 @@ open-children-requires c κs =
 returns-4 : tie.Need-returns
 returns-4 c =
     let (f, g, e, e', e'', o) :
-    tie.After-child_fits × tie.After-child_fits-2 × tie.Else-not-child_fits × tie.Else-not-child_fits-2 × tie.Else-nodes-spent-lt2 × tie.After-open_children = search in
+    tie.After-child_fits × tie.After-child_fits-2 × tie.Else-not-child_fits × tie.Else-not-child_fits-2 × tie.Else-nodes-spent-lt2
+    × tie.After-open_children = search in
     children_tested _ _ _ _ _ _ _ _ _ _ (sym f.child_fits.ensures ∙ e.if-not-child_fits.false)
     (sym g.child_fits-2.ensures ∙ e'.if-not-child_fits-2.false) e''.if-nodes-spent-lt2.false _ _ o.open_children.ensures
 

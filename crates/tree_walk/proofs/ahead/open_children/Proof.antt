@@ -36,7 +36,8 @@ returns-3 c =
 returns-4 : tie.Need-returns
 returns-4 c =
     let (s, b, t, b', t', l, k) :
-    tie.Start × tie.After-box_at × tie.After-touches-second × tie.After-box_at-2 × tie.After-touches × tie.Else-touches × tie.Else-second-2 = search in
+    tie.Start × tie.After-box_at × tie.After-touches-second × tie.After-box_at-2 × tie.After-touches × tie.Else-touches
+    × tie.Else-second-2 = search in
     none_touches _ _ _ _ _ _ _ _ _ s.requires.1.1 (touch_is _ _ _ _ t'.touches.ensures b'.box_at-2.ensures _ l.if-touches.false)
     (touch_is _ _ _ _ t.touches-second.ensures b.box_at.ensures _ k.if-second-2.false) _ c.next_open.ensures
 

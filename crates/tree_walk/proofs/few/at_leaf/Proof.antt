@@ -30,7 +30,8 @@ take-few-requires c κs =
 -- the few of them
 returns-2 : tie.Need-returns-then-found-count
 returns-2 c =
-    let (at-word-at, at-word-at2, else1, at-take-few) : tie.After-word_at-start × tie.After-word_at-size × tie.Else-start-size × tie.After-take_few = search in
+    let (at-word-at, at-word-at2, else1, at-take-few) : tie.After-word_at-start × tie.After-word_at-size × tie.Else-start-size
+    × tie.After-take_few = search in
     leaf_taken _ _ _ _ _ _ _ _ _ _ at-word-at.word_at-start.ensures at-word-at2.word_at-size.ensures else1.if-start-size.false _ _
     at-take-few.take_few.ensures
 

@@ -27,13 +27,15 @@ returns-3 : tie.Need-returns-then-found-count
 returns-3 c =
     let (start, else1, at-box-at, at-touches) : tie.Start × tie.Else-index-count × tie.After-box_at × tie.After-touches = search in
     place_full _ _ _ _ _ _ _ start.requires.1 else1.if-index-count.false
-    (sym (at-touches.touches.ensures ∙ ap (λ (b : Aabb). touches b start.args.bounds) at-box-at.box_at.ensures) ∙ c.if-not-touches.false) c.if-found-count.true
+    (sym (at-touches.touches.ensures ∙ ap (λ (b : Aabb). touches b start.args.bounds) at-box-at.box_at.ensures) ∙ c.if-not-touches.false)
+    c.if-found-count.true
 
 returns-4 : tie.Need-returns
 returns-4 c =
     let (start, else1, at-box-at, at-touches) : tie.Start × tie.Else-index-count × tie.After-box_at × tie.After-touches = search in
     place_listed _ _ _ _ _ _ _ start.requires.1 else1.if-index-count.false
-    (sym (at-touches.touches.ensures ∙ ap (λ (b : Aabb). touches b start.args.bounds) at-box-at.box_at.ensures) ∙ c.if-not-touches.false) c.if-found-count.false
+    (sym (at-touches.touches.ensures ∙ ap (λ (b : Aabb). touches b start.args.bounds) at-box-at.box_at.ensures) ∙ c.if-not-touches.false)
+    c.if-found-count.false
 
 pub take_place_spec : {M : Type 1} → statement M
 take_place_spec =

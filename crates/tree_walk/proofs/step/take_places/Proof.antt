@@ -26,21 +26,26 @@ take-place-requires c κs =
 
 same_length : tie.Need-shape_of-list-in_default invariant-loop decreases-loop
 same_length c =
-    let (at-loop, at-take-place) : (tie.At-loop-place invariant-loop decreases-loop) × (tie.After-take_place-taken invariant-loop decreases-loop) = search in
+    let (at-loop, at-take-place) : (tie.At-loop-place invariant-loop decreases-loop)
+    × (tie.After-take_place-taken invariant-loop decreases-loop) = search in
     at-take-place.take_place-taken.auto.list ∙ at-loop.loop-place.invariant.long
 
 returns : tie.Need-returns-in_default invariant-loop decreases-loop
 returns c =
     let (at-loop, in-loop, at-take-place) :
-    (tie.At-loop-place invariant-loop decreases-loop) × (tie.In-loop-place invariant-loop decreases-loop) × (tie.After-take_place-taken invariant-loop decreases-loop) = search in
-    placing_breaks _ _ _ _ _ _ _ _ _ _ _ at-loop.loop-place.invariant in-loop.loop-place-test.true _ _ at-take-place.take_place-taken.ensures
+    (tie.At-loop-place invariant-loop decreases-loop) × (tie.In-loop-place invariant-loop decreases-loop)
+    × (tie.After-take_place-taken invariant-loop decreases-loop) = search in
+    placing_breaks _ _ _ _ _ _ _ _ _ _ _ at-loop.loop-place.invariant in-loop.loop-place-test.true _ _
+    at-take-place.take_place-taken.ensures
     c.in_default.is
 
 loop-again : tie.Need-loop-place-preserved invariant-loop decreases-loop
 loop-again c =
     let (at-loop, in-loop, at-take-place) :
-    (tie.At-loop-place invariant-loop decreases-loop) × (tie.In-loop-place invariant-loop decreases-loop) × (tie.After-take_place-taken invariant-loop decreases-loop) = search in
-    placing_goes _ _ _ _ _ _ _ _ _ _ _ at-loop.loop-place.invariant in-loop.loop-place-test.true _ _ _ at-take-place.take_place-taken.ensures
+    (tie.At-loop-place invariant-loop decreases-loop) × (tie.In-loop-place invariant-loop decreases-loop)
+    × (tie.After-take_place-taken invariant-loop decreases-loop) = search in
+    placing_goes _ _ _ _ _ _ _ _ _ _ _ at-loop.loop-place.invariant in-loop.loop-place-test.true _ _ _
+    at-take-place.take_place-taken.ensures
     c.in-Count.is at-take-place.take_place-taken.auto.list
 
 same-length-2 : tie.Need-shape_of-list invariant-loop decreases-loop

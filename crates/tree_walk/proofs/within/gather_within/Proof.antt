@@ -10,13 +10,16 @@ use Rattle.tree_walk.proofs.within.gather_within.Statement.{statement}
 use Rattle.tree_walk.proofs.within.gather_within.Tie as tie
 
 abbrev invariant-loop : tie.invariant-loop-taken
-invariant-loop bounds count nodes node_boxes_lem triangle_boxes_lem node_words_lem order list₀ stack₀ limit allowed next₀ height₀ listed₀ taken₀ list
+invariant-loop bounds count nodes node_boxes_lem triangle_boxes_lem node_words_lem order list₀ stack₀ limit allowed next₀ height₀ listed₀
+    taken₀ list
     stack next height listed taken =
-    Gathers (tree_of nodes node_boxes_lem triangle_boxes_lem node_words_lem order) count bounds limit allowed list₀ stack₀ list stack next height
+    Gathers (tree_of nodes node_boxes_lem triangle_boxes_lem node_words_lem order) count bounds limit allowed list₀ stack₀ list stack next
+    height
     listed taken
 
 abbrev decreases-loop : tie.decreases-loop-taken
-decreases-loop bounds count nodes node_boxes_lem triangle_boxes_lem node_words_lem order list₀ stack₀ limit allowed next₀ height₀ listed₀ taken₀ list stack
+decreases-loop bounds count nodes node_boxes_lem triangle_boxes_lem node_words_lem order list₀ stack₀ limit allowed next₀ height₀ listed₀
+    taken₀ list stack
     next height listed taken =
     allowed - taken
 
@@ -88,7 +91,8 @@ same-length-4 c =
 returns-3 : tie.Need-returns-in-Stopped invariant-loop decreases-loop
 returns-3 c =
     let (a, l, i, n) : Opened × At × Within × Taken = search in (
-      gathers_stopped _ _ _ _ _ _ _ _ _ _ _ _ _ l.loop-taken.invariant (allowed_is _ _ _ a.allowed_of-allowed.ensures) i.loop-taken-test.true
+      gathers_stopped _ _ _ _ _ _ _ _ _ _ _ _ _ l.loop-taken.invariant (allowed_is _ _ _ a.allowed_of-allowed.ensures)
+          i.loop-taken-test.true
           _ _ _ n.take_node-step.ensures c.in-Stopped.is,
       tt,
     )

@@ -8,7 +8,8 @@ use Rattle.triangle_cast.proofs.triangle.crossing.Tie as tie
 returns : tie.Need-returns-in_default
 unfolding triangle_of
 returns c =
-    let (at-sub, at-sub2, at-cross, at-checked-dot) : tie.After-sub-a × tie.After-sub-b × tie.After-cross-p × tie.After-checked_dot-along = search in
+    let (at-sub, at-sub2, at-cross, at-checked-dot) : tie.After-sub-a × tie.After-sub-b × tie.After-cross-p
+    × tie.After-checked_dot-along = search in
     simp (
       sym at-sub.sub-a.ensures,
       sym at-sub2.sub-b.ensures,

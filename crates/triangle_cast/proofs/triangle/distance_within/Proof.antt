@@ -23,7 +23,8 @@ returns-2 c =
 returns-3 : tie.Need-returns-then-off_segment
 unfolding distance_within
 returns-3 c =
-    let (q, v, e1, e2, d, o) : tie.After-cross-q × tie.After-dot × tie.Else-v × tie.Else-u-v × tie.After-dot-2 × tie.After-off_segment = search in
+    let (q, v, e1, e2, d, o) : tie.After-cross-q × tie.After-dot × tie.Else-v × tie.Else-u-v × tie.After-dot-2
+    × tie.After-off_segment = search in
     simp (
       sym q.cross-q.ensures,
       sym v.dot.ensures,
@@ -38,7 +39,8 @@ returns-3 c =
 returns-4 : tie.Need-returns
 unfolding distance_within
 returns-4 c =
-    let (q, v, e1, e2, d, o) : tie.After-cross-q × tie.After-dot × tie.Else-v × tie.Else-u-v × tie.After-dot-2 × tie.After-off_segment = search in
+    let (q, v, e1, e2, d, o) : tie.After-cross-q × tie.After-dot × tie.Else-v × tie.Else-u-v × tie.After-dot-2
+    × tie.After-off_segment = search in
     simp (
       sym q.cross-q.ensures,
       sym v.dot.ensures,

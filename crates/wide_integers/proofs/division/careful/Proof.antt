@@ -139,7 +139,8 @@ assembled-requires-2 c κs =
 
 returns-2 : tie.Need-returns
 returns-2 c =
-    let (s, u, r, t, d) : tie.Start × tie.After-doubled-up-2 × tie.After-difference-room × tie.After-difference-rest-2 × tie.After-digits-2 = search in
+    let (s, u, r, t, d) : tie.Start × tie.After-doubled-up-2 × tie.After-difference-room × tie.After-difference-rest-2
+    × tie.After-digits-2 = search in
     c.assembled-2.ensures
     ∙ sym (under_rounds u.doubled-up-2.result s.requires.1.counts s.requires.1.positive (grows u) r.difference-room.result
     r.difference-room.ensures t.difference-rest-2.result t.difference-rest-2.ensures d.digits-2.result d.digits-2.ensures)

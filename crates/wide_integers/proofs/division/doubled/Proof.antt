@@ -25,13 +25,17 @@ difference-requires c κs =
 
 returns : tie.Need-returns-then-below invariant-loop decreases-loop
 returns c =
-    let (a, d, b) : (tie.At-loop-limit invariant-loop decreases-loop) × (tie.After-difference-room invariant-loop decreases-loop) × (tie.After-below invariant-loop decreases-loop) = search in
-    grown_last a.loop-limit.invariant.0 a.loop-limit.invariant.1 d.difference-room.result d.difference-room.ensures b.below.ensures c.if-below.true
+    let (a, d, b) : (tie.At-loop-limit invariant-loop decreases-loop) × (tie.After-difference-room invariant-loop decreases-loop)
+    × (tie.After-below invariant-loop decreases-loop) = search in
+    grown_last a.loop-limit.invariant.0 a.loop-limit.invariant.1 d.difference-room.result d.difference-room.ensures b.below.ensures
+    c.if-below.true
 
 sum-requires : tie.Need-sum-whole-requires invariant-loop decreases-loop
 sum-requires c κs =
-    let (a, d, b) : (tie.At-loop-limit invariant-loop decreases-loop) × (tie.After-difference-room invariant-loop decreases-loop) × (tie.After-below invariant-loop decreases-loop) = search in
-    twice_held a.loop-limit.invariant.0 a.loop-limit.invariant.1 d.difference-room.result d.difference-room.ensures b.below.ensures c.if-below.false
+    let (a, d, b) : (tie.At-loop-limit invariant-loop decreases-loop) × (tie.After-difference-room invariant-loop decreases-loop)
+    × (tie.After-below invariant-loop decreases-loop) = search in
+    twice_held a.loop-limit.invariant.0 a.loop-limit.invariant.1 d.difference-room.result d.difference-room.ensures b.below.ensures
+    c.if-below.false
 
 add-power : tie.Need-overflow_add-power invariant-loop decreases-loop
 add-power c =
@@ -42,14 +46,16 @@ add-power c =
 
 loop-less : tie.Need-loop-limit-smaller invariant-loop decreases-loop
 loop-less c =
-    let (a, d, b, e) : (tie.At-loop-limit invariant-loop decreases-loop) × (tie.After-difference-room invariant-loop decreases-loop) × (tie.After-below invariant-loop decreases-loop)
+    let (a, d, b, e) : (tie.At-loop-limit invariant-loop decreases-loop) × (tie.After-difference-room invariant-loop decreases-loop)
+    × (tie.After-below invariant-loop decreases-loop)
     × (tie.Else-below invariant-loop decreases-loop) = search in
     growing_less a.loop-limit.invariant.0 a.loop-limit.invariant.1 d.difference-room.result d.difference-room.ensures b.below.ensures
     c.sum-whole.result e.if-below.false c.sum-whole.ensures
 
 loop-again : tie.Need-loop-limit-preserved invariant-loop decreases-loop
 loop-again c =
-    let (a, d, b, e) : (tie.At-loop-limit invariant-loop decreases-loop) × (tie.After-difference-room invariant-loop decreases-loop) × (tie.After-below invariant-loop decreases-loop)
+    let (a, d, b, e) : (tie.At-loop-limit invariant-loop decreases-loop) × (tie.After-difference-room invariant-loop decreases-loop)
+    × (tie.After-below invariant-loop decreases-loop)
     × (tie.Else-below invariant-loop decreases-loop) = search in (
       a.loop-limit.invariant.0,
       growing_again a.loop-limit.invariant.0 a.loop-limit.invariant.1 d.difference-room.result d.difference-room.ensures b.below.ensures

@@ -14,13 +14,15 @@ returns c =
 
 returns-2 : tie.Need-returns-then-below-2
 returns-2 c =
-    let (s, d, b, e, g, t) : tie.Start × tie.After-difference-room × tie.After-below × tie.Else-below × tie.After-below-2 × tie.Then-below-2 = search in
+    let (s, d, b, e, g, t) : tie.Start × tie.After-difference-room × tie.After-below × tie.Else-below × tie.After-below-2
+    × tie.Then-below-2 = search in
     rounded_up s.args.at s.requires.less d.difference-room.result d.difference-room.ensures b.below.ensures e.if-below.false
     g.below-2.ensures t.if-below-2.true
 
 returns-3 : tie.Need-returns
 returns-3 c =
-    let (s, d, b, e, g, t) : tie.Start × tie.After-difference-room × tie.After-below × tie.Else-below × tie.After-below-2 × tie.Else-below-2 = search in
+    let (s, d, b, e, g, t) : tie.Start × tie.After-difference-room × tie.After-below × tie.Else-below × tie.After-below-2
+    × tie.Else-below-2 = search in
     rounded_even s.args.at s.requires.less d.difference-room.result d.difference-room.ensures b.below.ensures e.if-below.false
     g.below-2.ensures t.if-below-2.false
 

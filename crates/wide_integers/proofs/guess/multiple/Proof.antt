@@ -31,7 +31,8 @@ times-requires c κs =
 
 returns-3 : tie.Need-returns
 returns-3 c =
-    let (s, k, e, f) : tie.Start × tie.After-struct_known-1 × tie.Else-a-gt9223372036854775808 × tie.Else-m-gt9223372036854775807 = search in
+    let (s, k, e, f) : tie.Start × tie.After-struct_known-1 × tie.Else-a-gt9223372036854775808
+    × tie.Else-m-gt9223372036854775807 = search in
     multiple_holds s.requires e.if-a-gt9223372036854775808.false (middle-word k) (low_word k) s.args.m c.times.result (small f)
     (c.times.ensures ∙ ap (λ (z : ℤ). value s.args.a *ℤ z) (to_z_pos w64 s.args.m (small f)))
 

@@ -38,7 +38,8 @@ asked : (t : tie.Then-is_positive-2)
     → round binary64 false (magnitude (begun t).args.t) (magnitude (begun t).args.w)
     ≡ fraction_of (value (begun t).args.t) (value (begun t).args.w)
 asked t =
-    let (s, n, e, p, u) : tie.Start × tie.After-is_negative × tie.Else-is_negative × tie.After-is_positive × tie.Then-is_positive = search in
+    let (s, n, e, p, u) : tie.Start × tie.After-is_negative × tie.Else-is_negative × tie.After-is_positive
+    × tie.Then-is_positive = search in
     fraction_is (value s.args.t) (value s.args.w) (sym n.is_negative.ensures ∙ e.if-is_negative.false)
     (sym p.is_positive.ensures ∙ u.if-is_positive.true)
 

@@ -91,8 +91,13 @@ returns-5 c =
 seek-whole-requires : tie.Need-seek_whole-requires
 seek-whole-requires c κs =
     let (s, b, e) : tie.Start × tie.After-near_bits-bits × tie.Else-field-gt1083 = search in
-    let f = b.near_bits-bits.result / 4503599627370496 in
-    ((s.requires.0.counts, s.requires.1), (digits-few b.near_bits-bits.result, (few f e.if-field-gt1083.false, high f e.if-field-gt1083.false)))
+    let f = b.near_bits-bits.result / 4503599627370496 in (
+      (s.requires.0.counts, s.requires.1),
+      (
+        digits-few b.near_bits-bits.result,
+        (few f e.if-field-gt1083.false, high f e.if-field-gt1083.false),
+      ),
+    )
   where
     few : (f : ℕ) → f ≤ 1083 → f - 1075 ≤ 8
     few f h = omega (arith, h)

@@ -72,19 +72,23 @@ add-word c = let k : tie.In-Is-last = search in record { fits = plain _ _ (first
 
 assembled-requires : tie.Need-assembled-requires
 assembled-requires c κs =
-    let (s, o, p, r, k, e, f) : tie.Start × tie.In-Is × tie.After-two_to-power × tie.In-Is-raised × tie.In-Is-last × tie.Else-word-lt4503599627370496
+    let (s, o, p, r, k, e, f) : tie.Start × tie.In-Is × tie.After-two_to-power × tie.In-Is-raised × tie.In-Is-last
+    × tie.Else-word-lt4503599627370496
     × tie.Else-word-gt9007199254740991 = search in (
       ready_guess (magnitude s.args.t) (magnitude s.args.d) s.args.first p.two_to-power.result s.args.g k.in-Is-last.q
-          p.two_to-power.ensures s.requires.0.1 (over o) (raised r) (last k) e.if-word-lt4503599627370496.false f.if-word-gt9007199254740991.false,
+          p.two_to-power.ensures s.requires.0.1 (over o) (raised r) (last k) e.if-word-lt4503599627370496.false
+          f.if-word-gt9007199254740991.false,
       s.requires.1.1.1,
     )
 
 returns-6 : tie.Need-returns
 returns-6 c =
-    let (s, o, p, r, k, e, f) : tie.Start × tie.In-Is × tie.After-two_to-power × tie.In-Is-raised × tie.In-Is-last × tie.Else-word-lt4503599627370496
+    let (s, o, p, r, k, e, f) : tie.Start × tie.In-Is × tie.After-two_to-power × tie.In-Is-raised × tie.In-Is-last
+    × tie.Else-word-lt4503599627370496
     × tie.Else-word-gt9007199254740991 = search in
     found_guess (magnitude s.args.t) (magnitude s.args.d) s.args.first p.two_to-power.result s.args.g k.in-Is-last.q
-    p.two_to-power.ensures s.requires.0.1 (over o) (raised r) (last k) e.if-word-lt4503599627370496.false f.if-word-gt9007199254740991.false s.args.k c.assembled.result
+    p.two_to-power.ensures s.requires.0.1 (over o) (raised r) (last k) e.if-word-lt4503599627370496.false f.if-word-gt9007199254740991.false
+    s.args.k c.assembled.result
     c.assembled.ensures
 
 pub seek_spec : {M : Type 1} → statement M

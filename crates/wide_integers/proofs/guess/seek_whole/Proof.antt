@@ -114,7 +114,8 @@ assembled-requires c κs =
     let p = power-of (over-of k) in
     let s = begun p in (
       ready_whole (magnitude s.args.t) (magnitude s.args.w) s.args.first p.two_to-power.result k.in-Is-last.q
-          (power-positive p) (over (over-of k)) (last k) (lower l) (upper u) c.sum.result c.sum.ensures (least-of l).if-word-lt4503599627370496.false
+          (power-positive p) (over (over-of k)) (last k) (lower l) (upper u) c.sum.result c.sum.ensures
+          (least-of l).if-word-lt4503599627370496.false
           (most-of l).if-word-gt9007199254740991.false,
       s.requires.1.1.1,
     )
@@ -127,7 +128,8 @@ returns-7 c =
     let p = power-of (over-of k) in
     let s = begun p in
     found_whole (magnitude s.args.t) (magnitude s.args.w) s.args.first p.two_to-power.result k.in-Is-last.q
-    (power-positive p) (over (over-of k)) (last k) (lower l) (upper u) v.sum.result v.sum.ensures (least-of l).if-word-lt4503599627370496.false
+    (power-positive p) (over (over-of k)) (last k) (lower l) (upper u) v.sum.result v.sum.ensures
+    (least-of l).if-word-lt4503599627370496.false
     (most-of l).if-word-gt9007199254740991.false s.args.j s.args.k c.assembled.result p.two_to-power.ensures c.assembled.ensures
 
 pub seek_whole_spec : {M : Type 1} → statement M

@@ -27,13 +27,16 @@ difference-requires c κs =
     settled_asks s.requires.1 (left k) e.if-guess-gt9007199254740992.false b.below.ensures c.if-below.false
 
 add-t11 : tie.Need-overflow_add-result
-add-t11 c = let e : tie.Else-guess-gt9007199254740992 = search in let l = e.if-guess-gt9007199254740992.false in record { fits = omega (arith, l) }
+add-t11 c = let e : tie.Else-guess-gt9007199254740992 = search in let l = e.if-guess-gt9007199254740992.false in
+    record { fits = omega (arith, l) }
 
 returns-4 : tie.Need-returns-then-below-2
 returns-4 c =
-    let (s, e, k, b, f, d, g) : tie.Start × tie.Else-guess-gt9007199254740992 × tie.In-Is × tie.After-below × tie.Else-below × tie.After-difference-less
+    let (s, e, k, b, f, d, g) : tie.Start × tie.Else-guess-gt9007199254740992 × tie.In-Is × tie.After-below × tie.Else-below
+    × tie.After-difference-less
     × tie.After-below-2 = search in
-    settled_second s.requires.1 (left k) e.if-guess-gt9007199254740992.false b.below.ensures f.if-below.false d.difference-less.result d.difference-less.ensures
+    settled_second s.requires.1 (left k) e.if-guess-gt9007199254740992.false b.below.ensures f.if-below.false d.difference-less.result
+    d.difference-less.ensures
     g.below-2.ensures c.if-below-2.true
 
 pub settle_spec : {M : Type 1} → statement M

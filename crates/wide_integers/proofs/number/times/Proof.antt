@@ -45,11 +45,13 @@ mul-wrapping-sub-u64-2 c =
 
 returns : tie.Need-returns
 returns c =
-    let (s, y, k, lo, up, o, t, w, f, g) : tie.Start × tie.After-split_sign-y × tie.After-struct_known-1 × tie.After-times-lower × tie.After-times-upper
+    let (s, y, k, lo, up, o, t, w, f, g) : tie.Start × tie.After-split_sign-y × tie.After-struct_known-1 × tie.After-times-lower
+    × tie.After-times-upper
     × tie.After-add_carry-once × tie.After-subtract-twice × tie.After-wrapping_add_u64-over × tie.After-wrapping_sub_u64-first
     × tie.After-wrapping_sub_u64-second = search in
     times_told s.args.a (middle-word k) (low_word k) s.requires y.split_sign-y.result lo.times-lower.result up.times-upper.result
-    o.add_carry-once.result t.subtract-twice.result w.wrapping_add_u64-over.result f.wrapping_sub_u64-first.result g.wrapping_sub_u64-second.result
+    o.add_carry-once.result t.subtract-twice.result w.wrapping_add_u64-over.result f.wrapping_sub_u64-first.result
+    g.wrapping_sub_u64-second.result
     c.wrapping_sub_u64.result y.split_sign-y.ensures (plain_fits s.ranges.k) (omega arith) lo.times-lower.ensures
     up.times-upper.ensures
     o.add_carry-once.ensures t.subtract-twice.ensures w.wrapping_add_u64-over.ensures f.wrapping_sub_u64-first.ensures

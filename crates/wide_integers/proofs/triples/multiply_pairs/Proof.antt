@@ -7,7 +7,8 @@ use Rattle.wide_integers.proofs.triples.multiply_pairs.Tie as tie
 
 returns : tie.Need-returns
 returns c =
-    let (s, p, q, r, u) : tie.Start × tie.After-times_add-first × tie.After-times_add-second × tie.After-times_add-third × tie.After-times_add-fourth = search in
+    let (s, p, q, r, u) : tie.Start × tie.After-times_add-first × tie.After-times_add-second × tie.After-times_add-third
+    × tie.After-times_add-fourth = search in
     let v = s.args in
     let x = p.times_add-first.result in
     let y = q.times_add-second.result in

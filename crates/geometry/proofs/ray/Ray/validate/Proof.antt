@@ -27,7 +27,8 @@ returns-2 c =
 -- and else the range decides
 returns-3 : tie.Need-returns
 returns-3 c =
-    let (s, f, one, l, two) : tie.Start × tie.After-all_finite × tie.Else-not-all_finite × tie.After-close_to_unit_length × tie.Else-not-close_to_unit_length = search in
+    let (s, f, one, l, two) : tie.Start × tie.After-all_finite × tie.Else-not-all_finite × tie.After-close_to_unit_length
+    × tie.Else-not-close_to_unit_length = search in
     simp (
       admitted_is s.args.self,
       sym f.all_finite.ensures,

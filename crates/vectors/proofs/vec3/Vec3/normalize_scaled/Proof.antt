@@ -17,7 +17,8 @@ scaled-to-one-requires c κs =
 
 returns-2 : tie.Need-returns
 returns-2 c =
-    let (s, n, e, w, u) : tie.Start × tie.After-is_normalizable × tie.Else-not-is_normalizable × tie.After-scaled_to_one-scaled × tie.After-over_length = search in
+    let (s, n, e, w, u) : tie.Start × tie.After-is_normalizable × tie.Else-not-is_normalizable × tie.After-scaled_to_one-scaled
+    × tie.After-over_length = search in
     scaling_told s.args.self w.scaled_to_one-scaled.result u.over_length.result
     (test_passed n.is_normalizable.ensures e.if-not-is_normalizable.false) w.scaled_to_one-scaled.ensures u.over_length.ensures
 
