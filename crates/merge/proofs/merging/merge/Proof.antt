@@ -12,13 +12,13 @@ use Rattle.merge.proofs.merging.merge.Tie as tie
 abbrev first-board : tie.Start → Board
 first-board s =
     let p = s.args in
-    board_of p.first-vertices.now p.first-triangles.now p.nodes p.first_boxes.now p.first_around.now
+    board_of p.first_vertices.now p.first_triangles.now p.nodes p.first_boxes.now p.first_around.now
     p.first_words.now p.first_order.now
 
 abbrev second-board : tie.Start → Board
 second-board s =
     let p = s.args in
-    board_of p.second-vertices.now p.second-triangles.now p.others p.second_boxes.now p.second_around.now
+    board_of p.second_vertices.now p.second_triangles.now p.others p.second_boxes.now p.second_around.now
     p.second_words.now p.second_order.now
 
 -- the result areas as they were
