@@ -61,54 +61,54 @@ cast_part_spec =
     (search rules)  -- ranges_inside-requires
     (search rules)  -- refuse_with-requires
     returns-2
-    (λ c. let (s, e) : Past = search in omega (arith, (inside_is _ _ _ _ _ _ _ (passed e)).vertices, s.well_formed))  --
-    overflow_add-last_vertex
-    (λ c. let (s, e) : Past = search in omega (arith, (inside_is _ _ _ _ _ _ _ (passed e)).triangles, s.well_formed))  --
-    overflow_add-last_triangle
-    (λ c. let (s, e) : Past = search in omega (arith, (inside_is _ _ _ _ _ _ _ (passed e)).node_boxes, s.well_formed))  --
-    overflow_add-last_node
-    (λ c. let (s, e) : Past = search in omega (arith, (inside_is _ _ _ _ _ _ _ (passed e)).triangle_boxes, s.well_formed))  --
-    overflow_add-last_box
-    (λ c. let (s, e) : Past = search in omega (arith, (inside_is _ _ _ _ _ _ _ (passed e)).node_words, s.well_formed))  --
-    overflow_add-last_word
-    (λ c. let (s, e) : Past = search in omega (arith, (inside_is _ _ _ _ _ _ _ (passed e)).order, s.well_formed))  --
-    overflow_add-last_place
-    (λ c. let (s, e) : Past = search in omega (arith, (inside_is _ _ _ _ _ _ _ (passed e)).vertices, s.well_formed))  --
-    offset_bounds-vertices-first_vertex
+    -- overflow_add-last_vertex
+    (λ c. let (s, e) : Past = search in omega (arith, (inside_is _ _ _ _ _ _ _ (passed e)).vertices, s.well_formed))
+    -- overflow_add-last_triangle
+    (λ c. let (s, e) : Past = search in omega (arith, (inside_is _ _ _ _ _ _ _ (passed e)).triangles, s.well_formed))
+    -- overflow_add-last_node
+    (λ c. let (s, e) : Past = search in omega (arith, (inside_is _ _ _ _ _ _ _ (passed e)).node_boxes, s.well_formed))
+    -- overflow_add-last_box
+    (λ c. let (s, e) : Past = search in omega (arith, (inside_is _ _ _ _ _ _ _ (passed e)).triangle_boxes, s.well_formed))
+    -- overflow_add-last_word
+    (λ c. let (s, e) : Past = search in omega (arith, (inside_is _ _ _ _ _ _ _ (passed e)).node_words, s.well_formed))
+    -- overflow_add-last_place
+    (λ c. let (s, e) : Past = search in omega (arith, (inside_is _ _ _ _ _ _ _ (passed e)).order, s.well_formed))
+    -- offset_bounds-vertices-first_vertex
+    (λ c. let (s, e) : Past = search in omega (arith, (inside_is _ _ _ _ _ _ _ (passed e)).vertices, s.well_formed))
     (search rules)  -- slice_bounds-own_step-count
     (search rules)  -- slice_bounds-own_step-start
-    (λ c. let e : tie.Else-not-ranges_inside = search in search (rules, (inside_is _ _ _ _ _ _ _ (passed e)).vertices))  --
-    slice_bounds-own_step-end
-    (λ c. let (s, e) : Past = search in omega (arith, (inside_is _ _ _ _ _ _ _ (passed e)).triangles, s.well_formed))  --
-    offset_bounds-triangles-first_triangle
+    -- slice_bounds-own_step-end
+    (λ c. let e : tie.Else-not-ranges_inside = search in search (rules, (inside_is _ _ _ _ _ _ _ (passed e)).vertices))
+    -- offset_bounds-triangles-first_triangle
+    (λ c. let (s, e) : Past = search in omega (arith, (inside_is _ _ _ _ _ _ _ (passed e)).triangles, s.well_formed))
     (search rules)  -- slice_bounds-own_step-count-2
     (search rules)  -- slice_bounds-own_step-start-2
-    (λ c. let e : tie.Else-not-ranges_inside = search in search (rules, (inside_is _ _ _ _ _ _ _ (passed e)).triangles))  --
-    slice_bounds-own_step-end-2
-    (λ c. let (s, e) : Past = search in omega (arith, (inside_is _ _ _ _ _ _ _ (passed e)).node_boxes, s.well_formed))  --
-    offset_bounds-node_boxes-first_node
+    -- slice_bounds-own_step-end-2
+    (λ c. let e : tie.Else-not-ranges_inside = search in search (rules, (inside_is _ _ _ _ _ _ _ (passed e)).triangles))
+    -- offset_bounds-node_boxes-first_node
+    (λ c. let (s, e) : Past = search in omega (arith, (inside_is _ _ _ _ _ _ _ (passed e)).node_boxes, s.well_formed))
     (search rules)  -- slice_bounds-own_step-count-3
     (search rules)  -- slice_bounds-own_step-start-3
-    (λ c. let e : tie.Else-not-ranges_inside = search in search (rules, (inside_is _ _ _ _ _ _ _ (passed e)).node_boxes))  --
-    slice_bounds-own_step-end-3
-    (λ c. let (s, e) : Past = search in omega (arith, (inside_is _ _ _ _ _ _ _ (passed e)).triangle_boxes, s.well_formed))  --
-    offset_bounds-triangle_boxes-first_box
+    -- slice_bounds-own_step-end-3
+    (λ c. let e : tie.Else-not-ranges_inside = search in search (rules, (inside_is _ _ _ _ _ _ _ (passed e)).node_boxes))
+    -- offset_bounds-triangle_boxes-first_box
+    (λ c. let (s, e) : Past = search in omega (arith, (inside_is _ _ _ _ _ _ _ (passed e)).triangle_boxes, s.well_formed))
     (search rules)  -- slice_bounds-own_step-count-4
     (search rules)  -- slice_bounds-own_step-start-4
-    (λ c. let e : tie.Else-not-ranges_inside = search in search (rules, (inside_is _ _ _ _ _ _ _ (passed e)).triangle_boxes))  --
-    slice_bounds-own_step-end-4
-    (λ c. let (s, e) : Past = search in omega (arith, (inside_is _ _ _ _ _ _ _ (passed e)).node_words, s.well_formed))  --
-    offset_bounds-node_words-first_word
+    -- slice_bounds-own_step-end-4
+    (λ c. let e : tie.Else-not-ranges_inside = search in search (rules, (inside_is _ _ _ _ _ _ _ (passed e)).triangle_boxes))
+    -- offset_bounds-node_words-first_word
+    (λ c. let (s, e) : Past = search in omega (arith, (inside_is _ _ _ _ _ _ _ (passed e)).node_words, s.well_formed))
     (search rules)  -- slice_bounds-own_step-count-5
     (search rules)  -- slice_bounds-own_step-start-5
-    (λ c. let e : tie.Else-not-ranges_inside = search in search (rules, (inside_is _ _ _ _ _ _ _ (passed e)).node_words))  --
-    slice_bounds-own_step-end-5
-    (λ c. let (s, e) : Past = search in omega (arith, (inside_is _ _ _ _ _ _ _ (passed e)).order, s.well_formed))  --
-    offset_bounds-order-first_place
+    -- slice_bounds-own_step-end-5
+    (λ c. let e : tie.Else-not-ranges_inside = search in search (rules, (inside_is _ _ _ _ _ _ _ (passed e)).node_words))
+    -- offset_bounds-order-first_place
+    (λ c. let (s, e) : Past = search in omega (arith, (inside_is _ _ _ _ _ _ _ (passed e)).order, s.well_formed))
     (search rules)  -- slice_bounds-own_step-count-6
     (search rules)  -- slice_bounds-own_step-start-6
-    (λ c. let e : tie.Else-not-ranges_inside = search in search (rules, (inside_is _ _ _ _ _ _ _ (passed e)).order))  --
-    slice_bounds-own_step-end-6
+    -- slice_bounds-own_step-end-6
+    (λ c. let e : tie.Else-not-ranges_inside = search in search (rules, (inside_is _ _ _ _ _ _ _ (passed e)).order))
     (search rules)  -- own_step-requires
     (λ c. search rules)  -- shape_of-list
     (λ c. search rules)  -- shape_of-stack
