@@ -4,12 +4,18 @@ use mathlib.Core.Path.{◌≡◌, refl, sym, ap, subst, ◌∙◌}
 use mathlib.Core.List.{List}
 use native.Mathlib.Omega.{arith}
 use borrow.Author.Tests.{le-leb, lt-leb, ne_eqb}
+use lib.Ieee.{Float}
 use lib.ListN.{length}
 use lib.Seq.{get_or-set_same}
 use Rattle.tree_query.specs.Query.{Listing, count, refused}
+use Rattle.geometry.specs.declared.ray.Ray.{Ray}
+use Rattle.tree.specs.Layout.{Tree}
+use Rattle.tree.specs.Mesh.{Mesh}
+use Rattle.mesh.specs.MeshCast.{shape_admitted}
 use Rattle.mesh_hits.specs.HitArea.{HitArea, Outcome}
+use Rattle.mesh_hits.specs.Listing.{ray_mesh_all}
 use Rattle.results.specs.Results.{Counted, hit_code, done_code, returned_found}
-use Rattle.exports.specs.AllHits.{listing_returned, found_returned}
+use Rattle.exports.specs.AllHits.{all_returned, listing_returned, found_returned, without_place}
 
 module _ (whole : Outcome) (short : ℕ) (area : HitArea) (place : List ℕ) where
   pub short_returned : (number : ℕ) → length place < 1 → number ≡ short

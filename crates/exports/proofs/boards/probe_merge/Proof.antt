@@ -11,14 +11,14 @@ use Rattle.exports.proofs.boards.probe_merge.Tie as tie
 abbrev one : tie.Start → Board
 one s =
     let p = s.args in
-    board_of p.first-vertices.now p.first-triangles.now p.first_nodes p.first-node-boxes.now
-    p.first-triangle-boxes.now p.first-node-words.now p.first_order.now
+    board_of p.first_vertices.now p.first_triangles.now p.first_nodes p.first_node_boxes.now
+    p.first_triangle_boxes.now p.first_node_words.now p.first_order.now
 
 abbrev other : tie.Start → Board
 other s =
     let p = s.args in
-    board_of p.second-vertices.now p.second-triangles.now p.second_nodes p.second-node-boxes.now
-    p.second-triangle-boxes.now p.second-node-words.now p.second_order.now
+    board_of p.second_vertices.now p.second_triangles.now p.second_nodes p.second_node_boxes.now
+    p.second_triangle_boxes.now p.second_node_words.now p.second_order.now
 
 abbrev old : tie.Start → Areas
 old s =
@@ -72,9 +72,13 @@ returns-3 c =
     let s = start_of e in
     let place = s.args.nodes.now in
     let returned =
-    returned_merged_lem (one s) (other s) (old s) _ place (shapes e) f.if-nodes-lt1.false _ _ _ m.merge.ensures.0 p.put_merged.ensures in (
+    returned_merged_lem (one s) (other s) (old s) _ place (shapes e) f.if-nodes-lt1.false _ _ _ m.merge-merged.ensures.0
+    p.put_merged.ensures in (
       returned.0,
-      (λ failed. m.merge.ensures.1 (marks_kept (one s) (other s) (old s) _ place (shapes e) failed f.if-nodes-lt1.false), returned.1),
+      (
+        λ failed. m.merge-merged.ensures.1 (marks_kept (one s) (other s) (old s) _ place (shapes e) failed f.if-nodes-lt1.false),
+        returned.1,
+      ),
     )
 
 pub probe_merge_spec : {M : Type 1} → statement M

@@ -10,8 +10,8 @@ returns : tie.Need-returns
 returns c =
     let (s, f) : tie.Start × tie.After-results_fit-fits = search in
     let a = s.args in
-    let ray = ray_from a.origin-x a.origin-y a.origin-z a.direction_x a.direction_y a.direction_z a.max-distance
-    a.near-distance in
+    let ray = ray_from a.origin_x a.origin_y a.origin_z a.direction_x a.direction_y a.direction_z a.max_distance
+    a.near_distance in
     c.begin.ensures ∙ ap (begun ray a.limit) f.results_fit-fits.ensures
 
 pub begin_spec : {M : Type 1} → statement M

@@ -36,7 +36,7 @@ put-hit-requires : tie.Need-put_hit-requires
 put-hit-requires c κs =
     let (f, e) : tie.After-results_fit-fits × tie.Else-not-fits-2 = search in
     let p = places_there _ _ _ _ (test_passed f.results_fit-fits.ensures e.if-not-fits-2.false) in
-    omega (arith, p.hit-1)
+    omega (arith, p.hit)
 
 slice-write-index : tie.Need-bounds-index-0
 slice-write-index c =

@@ -1,5 +1,5 @@
 -- `exports::listings::probe_ray_mesh_all` meets its contract, the listing's promises included. Assumes nothing.
-use mathlib.Core.Path.{refl}
+use mathlib.Core.Path.{refl, ◌∙◌}
 use native.Mathlib.Omega.{arith}
 use borrow.Author.Tests.{le-leb}
 use Rattle.mesh.specs.MeshCast.{shape_admitted}
