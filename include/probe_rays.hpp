@@ -89,7 +89,7 @@ inline std::string told(Refusal refusal)
 {
     const char *words = "a refusal that this header does not know";
     switch (refusal) {
-    case Refusal::invalid_input: words = "invalid input: the ray, the radius or the query box is not valid"; break;
+    case Refusal::invalid_input: words = "invalid input: the ray or the query box is not valid"; break;
     case Refusal::bad_shape: words = "bad shape: a count, a length or a parameter is outside the limits, or a record is malformed"; break;
     case Refusal::no_room: words = "no room: a buffer is too short"; break;
     case Refusal::wrong_pose: words = "wrong pose: the pose does not have as many vertices as the mesh"; break;

@@ -128,7 +128,38 @@ class Refusals(Case):
             self.assertNotIn("does not know", str(Refused(number)))
 
 
+class Near(Case):
+    """Document 02's M-106: a surface at just the near distance is hit, a nearer one is passed over."""
+
+    def test_all_shapes(self):
+        plain, mesh = PlainMesh(T, [(0, 1, 2)]), layers(1)
+        field = HeightField([0.0] * 4, 2, 2, (1, 1))
+        casts = [
+            lambda ray: ray_plane(ray, UP, 0), lambda ray: ray_triangle(ray, *T), plain.cast, mesh.cast, field.cast,
+            lambda ray: (mesh.cast_all(ray) or [None])[0],
+        ]
+        for cast in casts:
+            self.hits(cast(down(0.25, 0.25, 2, 5, near=2)), 2)
+            self.assertIsNone(cast(down(0.25, 0.25, 2, 5, near=2.5)))
+        # the surface z = 0.5: each value is the node's height less 0.5
+        grid = LevelSet([-0.5] * 4 + [0.5] * 4, (2, 2, 2), (0, 0, 0), (1, 1, 1))
+        self.assertAlmostEqual(grid.cast(down(0.5, 0.5, 2, 5, near=1.25)).distance, 1.5, places=12)
+        self.assertIsNone(grid.cast(down(0.5, 0.5, 2, 5, near=1.75)))
+
+
 class Trees(Case):
+    def test_one_from_elsewhere(self):
+        mesh = layers(5)
+        self.assertTrue(probe_rays.tree_check(mesh.vertices, mesh.triangles, mesh.tree))
+        again = Mesh.with_tree(mesh.vertices, mesh.triangles, mesh.tree)
+        self.assertEqual(again.tree.nodes, 3)
+        boxes = array("d", mesh.tree.node_boxes)
+        boxes[3] = 0.5  # the root's maximum x
+        wrong = mesh.tree._replace(node_boxes=boxes)
+        self.assertFalse(probe_rays.tree_check(mesh.vertices, mesh.triangles, wrong))
+        with self.assertRaises(probe_rays.TreeDoesNotFit):
+            Mesh.with_tree(mesh.vertices, mesh.triangles, wrong)
+
     def test_a_mesh_cannot_be_changed(self):
         mesh = layers(1)
         for view in (mesh.vertices, mesh.triangles, *mesh.tree[1:]):
@@ -137,6 +168,10 @@ class Trees(Case):
         mesh = Mesh(given, [(0, 1, 2)])
         given[0] = 1e9
         self.assertEqual(mesh.vertices.tolist()[0], [0, 0, 0])
+
+    def test_query(self):
+        # a box about a board's bottom: the two triangles of each side but the top
+        self.assertEqual(Mesh(*box((0, 0, 0), (60, 40, 18))).query((-1, -1, -1), (61, 41, 0.5)), [0, 1, 4, 5, 6, 7, 8, 9, 10, 11])
 
 
 class Boards(Case):
@@ -217,6 +252,18 @@ class Boards(Case):
             normal = "(%g, %g, %g)" % tuple(part + 0.0 for part in hit.normal) if hit else ""
             lines.append(start + (f"{names[hit.part]} at {hit.distance:g}, normal {normal}" if hit else "none"))
         self.assertEqual(lines, (EXAMPLES / "cabinet.expected").read_text().splitlines())
+
+
+class Ranges(Case):
+    def test_veneer(self):
+        # veneer of 18 to 19 mm: a probe that ends 18.5 over the ground may meet it, one that ends at 20 is clear
+        veneer = HeightRanges([18.0] * 6, [19.0] * 6, 2, 3, (100, 100))
+        self.assertEqual(veneer.cast(down(150, 50, 30, 11.5)), probe_rays.Possible(1))
+        self.assertEqual(veneer.cast(down(50, 50, 30, 11.5)), probe_rays.Possible(0))
+        self.assertTrue(veneer.cast(down(50, 50, 30, 11.5)), "cell 0 is no no")
+        self.assertIsNone(veneer.cast(down(150, 50, 30, 10)))
+        swapped = HeightRanges([19.0] * 6, [18.0] * 6, 2, 3, (100, 100))
+        self.refuses(9, lambda: swapped.cast(down(150, 50, 30, 10)))
 
 
 def exact(mesh, numbers):
@@ -473,7 +520,7 @@ class Stl(Case):
 
     def expected(self, file):
         # the files have the words of every refusal 1; the module says which test the ray fails
-        return (EXAMPLES / file).read_text().replace("the ray, the radius or the query box is not valid", "the maximum is below 0")
+        return (EXAMPLES / file).read_text().replace("the ray or the query box is not valid", "the maximum is below 0")
 
     def told(self, mesh, rays, cast):
         lines = [f"{len(mesh.triangles)} triangles, {len(mesh.vertices)} vertices, {mesh.tree.nodes} nodes"]
@@ -576,6 +623,33 @@ class Faults(Case):
 
 
 class Facts(Case):
+    """A tetrahedron has six edges, each of two triangles; without one triangle its three edges are open."""
+
+    TETRAHEDRON = [(0, 2, 1), (0, 1, 3), (1, 2, 3), (2, 0, 3)]
+
+    def moved(self, by):
+        return [tuple(index + by for index in triangle) for triangle in self.TETRAHEDRON]
+
+    def test_bounds(self):
+        self.assertEqual(probe_rays.bounds([(1, -2, 5), (0.5, 7, 5)]), ((0.5, -2.0, 5.0), (1.0, 7.0, 5.0)))
+        self.assertEqual(probe_rays.bounds([(math.nan, 0, 0), (3, 1, 2)]), ((3.0, 0.0, 0.0), (3.0, 1.0, 2.0)))
+        self.assertIsNone(probe_rays.bounds([]))
+
+    def test_open_edges(self):
+        self.assertEqual(probe_rays.open_edges(self.TETRAHEDRON), 0)
+        self.assertEqual(probe_rays.open_edges(self.TETRAHEDRON[1:]), 3)
+        # a square of two triangles: its four sides, and the diagonal too where one of the two is the other way round
+        self.assertEqual(probe_rays.open_edges([(0, 1, 2), (0, 2, 3)]), 4)
+        self.assertEqual(probe_rays.open_edges([(0, 1, 2), (0, 3, 2)]), 5)
+        self.assertEqual(probe_rays.open_edges([]), 0)
+
+    def test_shells(self):
+        self.assertEqual(probe_rays.shells(self.TETRAHEDRON), 1)
+        self.assertEqual(probe_rays.shells(self.TETRAHEDRON + self.moved(4)), 2)
+        # a vertex in common connects nothing
+        self.assertEqual(probe_rays.shells(self.TETRAHEDRON + self.moved(3)), 2)
+        self.assertEqual(probe_rays.shells([]), 0)
+
     def test_panel(self):
         vertices, triangles = probe_rays.read_stl(EXAMPLES / "panel.stl")
         self.assertEqual((probe_rays.open_edges(triangles), probe_rays.shells(triangles)), (0, 1))
@@ -624,6 +698,11 @@ class Large(Case):
         for hit in (large.cast(down(1246, 1316, 6, 10)), large.cast_rounded(down(1246, 1316, 6, 10))):
             self.assertEqual((hit.distance, hit.triangle), (6.0, 65_999))
         self.refuses(2, lambda: Mesh(vertices, array("I", range(3 * 66_000))))
+
+    def test_refusals(self):
+        self.refuses(5, lambda: LargeMesh(T, []))
+        self.refuses(5, lambda: LargeMesh(T, [(0, 1, 3)]))
+        self.refuses(1, lambda: LargeMesh(T, [(0, 1, 2)]).cast(Ray((0, 0, 1), (0, 0, 0), 2)))
 
 
 class Exact(Case):
@@ -748,6 +827,18 @@ class Exact(Case):
             ray = Ray.toward(origin, [a - b for a, b in zip(toward, origin)], 100)
             met = ray.at(board.cast_exact(ray).distance)
             self.assertLess(min(min(abs(part), abs(part - size)) for part, size in zip(met, (6, 5, 4))), 1e-4)
+
+
+class Records(Case):
+    def test_both_ways(self):
+        # a plane's record: the length, the version, the kind, and twelve floats, which struct writes in both sizes
+        numbers = (0, 0, 2, 0, 0, -1, 5, 0, 0, 0, 1, 0)
+        two, three = struct.pack(">IBB12d", 98, 2, 1, *numbers), struct.pack(">IBB12f", 50, 3, 1, *numbers)
+        self.assertEqual((probe_rays.record_to_short(two), probe_rays.record_to_long(three)), (three, two))
+        self.refuses(2, lambda: probe_rays.record_to_short(three))
+        self.refuses(2, lambda: probe_rays.record_to_long(b""))
+        self.refuses(11, lambda: probe_rays.record_to_short(struct.pack(">IBB12d", 98, 2, 1, 0.1, *numbers[1:])))
+        self.refuses(11, lambda: probe_rays.record_to_long(struct.pack(">IBB12f", 50, 3, 1, math.nan, *numbers[1:])))
 
 
 class DrillTests(Case):

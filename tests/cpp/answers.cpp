@@ -134,6 +134,26 @@ void marked()
     CHECK(refuses(ray_plane(Ray{{0, 0, 2}, {0, 0, -2}, 5}, ground), 1));
 }
 
+/* Document 02's M-106: a surface at just the near distance is hit, a nearer one is passed over. */
+void near_distances()
+{
+    const Ray ray = from(0.25, 0.25, 2, 5);
+    const HeightField field{2, 2, {1, 1}, std::vector<double>(4, 0.0)};
+    const LevelSet grid{{2, 2, 2}, {0, 0, 0}, {1, 1, 1}, {-0.5, -0.5, -0.5, -0.5, 0.5, 0.5, 0.5, 0.5}};
+    const PlainMesh plain(T, {{0, 1, 2}});
+    Mesh mesh = layers(1).value();
+    CHECK(hits_at(ray_plane(ray.with_near(2), ground), 2) && ray_plane(ray.with_near(2.5), ground).is_none());
+    CHECK(hits_at(ray_triangle(ray.with_near(2), T[0], T[1], T[2]), 2));
+    CHECK(ray_triangle(ray.with_near(2.5), T[0], T[1], T[2]).is_none());
+    CHECK(hits_at(ray_height_field(ray.with_near(2), field), 2) && ray_height_field(ray.with_near(2.5), field).is_none());
+    CHECK(std::fabs(ray_level_set(ray.with_near(1.25), grid).hit().distance - 1.5) < 1e-12);
+    CHECK(ray_level_set(ray.with_near(1.75), grid).is_none());
+    CHECK(hits_at(plain.cast(ray.with_near(2)), 2) && plain.cast(ray.with_near(2.5)).is_none());
+    CHECK(hits_at(mesh.cast(ray.with_near(2)), 2) && mesh.cast(ray.with_near(2.5)).is_none());
+    CHECK(mesh.cast_all(ray.with_near(2)).value().size() == 1 && mesh.cast_all(ray.with_near(2.5)).value().empty());
+    CHECK(refuses(mesh.cast(ray.with_near(5.5)), 1));
+}
+
 /* Document 01's table of refusals, each number by what it says. */
 void refusals()
 {
@@ -164,6 +184,34 @@ void refusals()
     CHECK(told(Refusal::no_normal) == "refused 7, no normal: the surface that is hit has no unit normal");
     CHECK(told(static_cast<Refusal>(200)) == "refused 200, a refusal that this header does not know");
     CHECK(std::string(Refused(Refusal::overflow).what()).find("refused 6, ") == 0);
+}
+
+/* What asks for a thing that is not there. */
+void not_there()
+{
+    const Cast<Hit> none = ray_plane(from(0, 0, 2, 1), ground), hit = ray_plane(from(0, 0, 2, 5), ground);
+    CHECK(none.kind() == Kind::none && !none.is_refused() && !none.hit_or_none() && hit.hit_or_none());
+    CHECK(throws<NotThere>([&] { static_cast<void>(none.hit()); }));
+    CHECK(throws<NotThere>([&] { static_cast<void>(none.refusal()); }));
+    CHECK(throws<NotThere>([&] { static_cast<void>(layers(1).refusal()); }));
+    const auto which = [](const Cast<Hit> &cast) {
+        return cast.match([](const Hit &) { return 'h'; }, [] { return 'n'; }, [](Refusal) { return 'r'; });
+    };
+    CHECK(which(none) == 'n' && which(hit) == 'h' && which(ray_plane(from(0, 0, 2, -1), ground)) == 'r');
+}
+
+/* A tree from elsewhere is taken if it passes the check. */
+void trees()
+{
+    const Mesh mesh = layers(5).value();
+    CHECK(tree_check(mesh.shape(), mesh.tree()).value());
+    CHECK(Mesh::with_tree(mesh.shape(), mesh.tree()).value().tree().nodes == 3);
+    Tree small = mesh.tree();
+    small.node_boxes[3] = 0.5; // the root's maximum x
+    CHECK(!tree_check(mesh.shape(), small).value());
+    const Result<Mesh, TreeFault> taken = Mesh::with_tree(mesh.shape(), small);
+    CHECK(taken.is_refused() && !taken.refusal().refusal);
+    CHECK(throws<TreeDoesNotFit>([&] { static_cast<void>(taken.value()); }));
 }
 
 /* A box from one corner to another, two triangles a side. */
@@ -237,6 +285,68 @@ void boards()
     for (std::thread &thread : threads)
         thread.join();
     CHECK(right == std::vector<char>(4, 1));
+}
+
+/* Veneer of 18 to 19 mm: a probe that ends 18.5 over the ground may meet it, one that ends at 20 is clear. */
+void ranges()
+{
+    const HeightRanges veneer{2, 3, {100, 100}, std::vector<double>(6, 18.0), std::vector<double>(6, 19.0)};
+    const HeightRanges swapped{2, 3, {100, 100}, veneer.highs, veneer.lows};
+    const Clearance possible = ray_height_ranges(from(150, 50, 30, 11.5), veneer);
+    CHECK(!possible.is_clear() && possible.possible() && possible.possible()->number == 1);
+    CHECK(ray_height_ranges(from(150, 50, 30, 10), veneer).is_clear());
+    const Clearance refused = ray_height_ranges(from(150, 50, 30, 10), swapped);
+    CHECK(refused.is_refused() && refused.refusal() == Refusal::bad_range);
+    CHECK(throws_refusal(Refusal::bad_range, [&] { static_cast<void>(refused.is_clear()); }));
+    CHECK(throws_refusal(Refusal::bad_range, [&] { static_cast<void>(refused.possible()); }));
+    CHECK(possible.match([] { return -1; }, [](Cell cell) { return int(cell.number); }, [](Refusal) { return -2; }) == 1);
+}
+
+/* A square of two triangles, one leaf, placed twice, 10 apart. */
+void cabinets()
+{
+    const Mesh square = Mesh::build({{0, 0, 0}, {1, 0, 0}, {1, 1, 0}, {0, 1, 0}}, {{0, 1, 2}, {0, 2, 3}}).value();
+    Cabinet cabinet;
+    CHECK(cabinet.cast(from(0.25, 0.5, 12, 20)).answer.is_none());
+    CHECK(cabinet.push(square, {0, 0, 0}) == 0 && cabinet.place_again(0, {0, 0, 10}) == 1);
+    CHECK(cabinet.size() == 2 && cabinet.nodes() == 2);
+    const CabinetCast cast = cabinet.cast(from(0.25, 0.5, 12, 20));
+    CHECK(hits_at(cast.answer, 2) && cast.answer.hit().part == 1 && cast.answer.hit().triangle == 1 && cast.spent == 2);
+    const CabinetCast passed = cabinet.cast(from(0.25, 0.5, 12, 20).with_near(3), 2);
+    CHECK(hits_at(passed.answer, 12) && passed.answer.hit().part == 0);
+    const CabinetCast limited = cabinet.cast(from(0.25, 0.5, 12, 20), 1);
+    CHECK(refuses(limited.answer, 10) && limited.spent == 1);
+    CHECK(throws<std::out_of_range>([&] { cabinet.place_again(2, {0, 0, 0}); }));
+}
+
+/* A plane's record of version 2: two bytes and twelve floats, eight bytes each with the highest first; in version 3 four. The
+ * bits of 1, 2, 5 and -1 as a double and as a float are IEEE 754's. */
+void records()
+{
+    using Bytes = std::vector<std::uint8_t>;
+    // origin (0,0,2), direction (0,0,-1), maximum 5, near 0, normal (0,0,1), distance 0, by their two highest bytes
+    const std::vector<std::array<std::uint8_t, 2>> doubles{{0, 0},       {0, 0},       {0x40, 0}, {0, 0}, {0, 0}, {0xbf, 0xf0},
+                                                           {0x40, 0x14}, {0, 0},       {0, 0},    {0, 0}, {0x3f, 0xf0}, {0, 0}};
+    const std::vector<std::array<std::uint8_t, 2>> floats{{0, 0},       {0, 0},       {0x40, 0}, {0, 0}, {0, 0}, {0xbf, 0x80},
+                                                          {0x40, 0xa0}, {0, 0},       {0, 0},    {0, 0}, {0x3f, 0x80}, {0, 0}};
+    const auto record = [](std::uint8_t version, std::size_t size, const std::vector<std::array<std::uint8_t, 2>> &numbers) {
+        Bytes bytes{0, 0, 0, static_cast<std::uint8_t>(2 + size * numbers.size()), version, 1};
+        for (const auto &two : numbers) {
+            bytes.insert(bytes.end(), two.begin(), two.end());
+            bytes.insert(bytes.end(), size - 2, 0);
+        }
+        return bytes;
+    };
+    const Bytes two = record(2, 8, doubles), three = record(3, 4, floats);
+    CHECK(two.size() == 102 && three.size() == 54);
+    CHECK(record_to_short(two).value() == three && record_to_long(three).value() == two);
+    CHECK(refuses(record_to_short(three), 2) && refuses(record_to_long(two), 2) && refuses(record_to_short(Bytes()), 2));
+    Bytes fine = two;
+    fine[6 + 7] = 1; // the least double above 0 is no float
+    CHECK(refuses(record_to_short(fine), 11));
+    Bytes nan = three;
+    nan[6] = 0x7f, nan[7] = 0xc0;
+    CHECK(refuses(record_to_long(nan), 11));
 }
 
 /* A point on whole millimetres, and what the first depth in a closed triangle asks of such: all in whole numbers. */
@@ -626,10 +736,20 @@ void faults()
 
 int main()
 {
+    CHECK(version() == PROBE_VERSION);
+    const Ray aslant = Ray::toward({0, 0, 0}, {0, 3, 4}, 10);
+    CHECK(is(aslant.direction, 0, 0.6, 0.8) && is(aslant.at(5), 0, 3, 4) && aslant.near_distance == 0);
+    CHECK(refuses(ray_plane(Ray::toward({0, 0, 1}, {0, 0, 0}, 10), ground), 1));
     CHECK(throws<std::out_of_range>([] { Cabinet().place_again(0, {0, 0, 0}); }));
     marked();
+    near_distances();
     refusals();
+    not_there();
+    trees();
     boards();
+    ranges();
+    cabinets();
+    records();
     exactly();
     many_rays();
     drilling();

@@ -263,7 +263,7 @@ fn rays_from_words_a_file_and_standard_input() {
     // the files have the crate's words on refusal 1; the tool says which test the ray fails
     let told = |name: &str| {
         read(name).replace(
-            "the ray, the radius or the query box is not valid",
+            "the ray or the query box is not valid",
             "the maximum is below 0",
         )
     };

@@ -8,7 +8,7 @@ from ._library import HIT, NONE, REFUSALS
 from .faults import fault_of
 
 _WORDS = {
-    "INVALID_INPUT": "invalid input: the ray, the radius or the query box is not valid",
+    "INVALID_INPUT": "invalid input: the ray or the query box is not valid",
     "BAD_SHAPE": "bad shape: a count, a length or a parameter is outside the limits, or a record is malformed",
     "NO_ROOM": "no room: a buffer is too short",
     "WRONG_POSE": "wrong pose: the pose does not have as many vertices as the mesh",

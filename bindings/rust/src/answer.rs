@@ -175,7 +175,7 @@ impl Refusal {
 impl fmt::Display for Refusal {
     fn fmt(&self, out: &mut fmt::Formatter<'_>) -> fmt::Result {
         let words = match self {
-            Refusal::InvalidInput => "invalid input: the ray, the radius or the query box is not valid",
+            Refusal::InvalidInput => "invalid input: the ray or the query box is not valid",
             Refusal::BadShape => "bad shape: a count, a length or a parameter is outside the limits, or a record is malformed",
             Refusal::NoRoom => "no room: a buffer is too short",
             Refusal::WrongPose => "wrong pose: the pose does not have as many vertices as the mesh",
