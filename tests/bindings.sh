@@ -127,22 +127,40 @@ done
 awk '/^```text/ { inside = 1; next } /^```/ { inside = 0 } inside' docs/STEP.md | tail -n +2 | diff - examples/board.bores
 echo "the commands of docs/TOOL.md print what it says, and docs/STEP.md has the board's list"
 
-# from STEP to a list of bores, where gmsh draws and probe-step reads: the list by the drawing's measures, and 216 bores
+# from STEP to a list of bores, where gmsh is: the list by the drawing's measures, and the setting for a board of 216 bores
 step=0
-if command -v gmsh > /dev/null && command -v probe-step > /dev/null; then
+if command -v gmsh > /dev/null; then
   export PROBE_PART=$CARGO_TARGET_DIR/release/probe-part
   examples/board.sh "$work/board" > "$work/said"
   tail -n +2 "$work/board/board.bores" | diff - examples/board.bores
+  # without probe-step a STEP file is not taken, and it is said how gmsh makes an STL file of it
+  PATH=$work/nowhere "$PROBE_PART" bores "$work/board/board.step" > "$work/printed" 2>&1 && { echo "error: a STEP file was taken" >&2; exit 1; }
+  grep -q 'board.step: this is a STEP file' "$work/printed"
   gmsh examples/board.geo -setnumber pegs 216 -0 -o "$work/pegs.step" > "$log" 2>&1
-  "$PROBE_PART" cast "$work/pegs.step" > "$work/counts"
+  setting=$(grep -o 'Mesh.StlLinearDeflection.*0.35' "$work/printed")
+  gmsh "$work/pegs.step" -0 -setnumber $setting -format stl -bin -o "$work/pegs.stl" > "$log" 2>&1
+  "$PROBE_PART" cast "$work/pegs.stl" > "$work/counts"
   triangles=$(cut -d' ' -f1 "$work/counts")
   [ "$triangles" -le 65536 ] || { echo "error: the board of 216 bores has $triangles triangles" >&2; exit 1; }
-  "$PROBE_PART" bores "$work/pegs.step" --csv | awk -F, 'NR > 1 && /,top,bore,circle,5.000,5.000,/ && $13 == "12.000"' > "$work/pegs"
+  "$PROBE_PART" bores "$work/pegs.stl" --csv | awk -F, 'NR > 1 && /,top,bore,circle,5.000,5.000,/ && $13 == "12.000"' > "$work/pegs"
   [ "$(wc -l < "$work/pegs")" = 216 ] || { echo "error: $(wc -l < "$work/pegs") of 216 bores were found" >&2; exit 1; }
-  step=3
+  step=4
   echo "from STEP: the board's list is the drawing's, and a board of 216 bores has $triangles triangles"
-else
-  echo "SKIPPED: from a STEP file to a list of bores, since gmsh or OpenCASCADE is not installed (apt-get install gmsh
+  # the same of the STEP files themselves
+  if command -v probe-step > /dev/null; then
+    tail -n +2 "$work/board/drawn.bores" | diff - examples/board.bores
+    "$PROBE_PART" cast "$work/pegs.step" > "$work/counts"
+    triangles=$(cut -d' ' -f1 "$work/counts")
+    [ "$triangles" -le 65536 ] || { echo "error: the board of 216 bores has $triangles triangles" >&2; exit 1; }
+    "$PROBE_PART" bores "$work/pegs.step" --csv | awk -F, 'NR > 1 && /,top,bore,circle,5.000,5.000,/ && $13 == "12.000"' > "$work/pegs"
+    [ "$(wc -l < "$work/pegs")" = 216 ] || { echo "error: $(wc -l < "$work/pegs") of 216 bores were found" >&2; exit 1; }
+    step=$((step + 3))
+    echo "read by probe-step: the same list, and $triangles triangles"
+  else
+    echo "SKIPPED: the same lists by probe-step, since OpenCASCADE is not installed (apt-get install
   libocct-data-exchange-dev libocct-ocaf-dev libocct-modeling-algorithms-dev)"
+  fi
+else
+  echo "SKIPPED: from a STEP file to a list of bores, since gmsh is not installed (apt-get install gmsh)"
 fi
 echo "bindings: $((4 + rust + files + program + 5 + step)) tests passed"

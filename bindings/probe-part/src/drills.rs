@@ -16,7 +16,7 @@ pub const SLACK: f64 = 0.01;
 /// The widest radius that the call admits.
 pub const WIDEST: f64 = 128.0;
 
-/// Less behind a blind bore is doubtful, if nothing else is asked.
+/// Less behind a blind bore is doubtful to the program, if nothing else is asked.
 pub const WEB: f64 = 1.0;
 
 /// So far the next surface behind a blind bore is looked for, or as far as is asked.

@@ -9,9 +9,12 @@ pub struct Kind {
     pub advice: &'static str,
 }
 
-const STEP_ADVICE: &str = "name it as a file: probe-part reads it with probe-step (docs/STEP.md)";
+/// How gmsh makes an STL file of a STEP file.
+pub(crate) const STEP_ADVICE: &str = "convert it to STL with gmsh (docs/STEP.md):
+  gmsh FILE -0 -setnumber Mesh.StlLinearDeflection 0.05 -setnumber Mesh.StlAngularDeflection 0.35 -format stl -bin -o part.stl";
 const CAD_ADVICE: &str = "open it in your CAD program and export it as STEP or STL";
-const MESH_ADVICE: &str = "convert it to STL with a mesh program such as MeshLab or Blender";
+const MESH_ADVICE: &str =
+    "convert it to STL with a mesh program such as MeshLab or Blender, or with gmsh if it reads it";
 const UNPACK: &str = "unpack it first";
 const PRINT_ADVICE: &str = "export it as STL from a slicer or a mesh program";
 const NO_SHAPE: &str = "it contains no solid: export the part itself as STEP or STL";
@@ -24,14 +27,18 @@ const BY_START: &[(&[u8], &str, &str)] = &[
     (b"OFF", "an OFF file", MESH_ADVICE),
     (b"COFF", "an OFF file", MESH_ADVICE),
     (b"glTF", "a glTF file (GLB)", MESH_ADVICE),
-    (b"$MeshFormat", "a gmsh mesh (MSH)", MESH_ADVICE),
+    (
+        b"$MeshFormat",
+        "a gmsh mesh (MSH)",
+        "gmsh FILE -0 -format stl -o part.stl",
+    ),
     (b"#VRML", "a VRML file", MESH_ADVICE),
     (
         b"DBRep_DrawableShape",
         "an OpenCASCADE BREP file",
-        CAD_ADVICE,
+        STEP_ADVICE,
     ),
-    (b"CASCADE Topology", "an OpenCASCADE BREP file", CAD_ADVICE),
+    (b"CASCADE Topology", "an OpenCASCADE BREP file", STEP_ADVICE),
     (
         b"\x1f\x8b",
         "compressed with gzip",
@@ -154,7 +161,7 @@ fn text_kind(head: &str) -> Option<Kind> {
     if head.lines().next().is_some_and(iges) {
         return Some(Kind {
             name: "an IGES file",
-            advice: CAD_ADVICE,
+            advice: STEP_ADVICE,
         });
     }
     let obj = lines()

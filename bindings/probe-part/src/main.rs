@@ -31,11 +31,10 @@ use std::process::ExitCode;
 const HELP: &str = "\
 probe-part probes a part in an STL file, binary or ASCII, in millimetres, or the parts of a STEP file, in its own unit.
 
-  probe-part cast FILE [--all] [--rounded] [--rays FILE] [X Y Z  DX DY DZ  MAX]...
+  probe-part cast FILE [--all | --rounded] [--rays FILE] [X Y Z  DX DY DZ  MAX]...
       Prints what rays hit. A ray is its origin, its direction (of any length) and its maximum distance. --rays reads rays
       from a file, one per line (- is standard input; # begins a comment). The casts are exact, on a grid of 2^-15 mm,
-      within 8,192 mm of the file's zero, or of the part's middle if it lies far away. --all prints every depth along a
-      ray; --rounded casts by the rounded casts instead.
+      within 8,192 mm. --all prints every depth along a ray, --rounded the first hit by the rounded casts.
   probe-part drill FILE  X Y Z  DX DY DZ  DEPTH DIAMETER...
       Prints whether a drill is clear of the part, or which triangle it touches first, how deep and where. The drill is
       flat-ended; its place is the middle of its start, its direction has any length. Clear is certain.
@@ -140,7 +139,7 @@ fn run(words: &[String]) -> Result<u8, String> {
         )?,
         other => {
             return Err(format!(
-                "unknown command {other:?}: use cast, drill, bores, check, batch or depth (see probe-part --help)"
+                "unknown command {other:?}: use cast, bores, batch or depth, or drill or check (see probe-part --help)"
             ));
         }
     };
@@ -308,8 +307,11 @@ fn counts(shape: &Shape) -> String {
 
 /// `probe-part cast`.
 fn cast(call: &Call, out: &mut Output) -> Result<u8, String> {
+    if call.has("--all") && call.has("--rounded") {
+        return Err("--all and --rounded cannot be used together".into());
+    }
     let given = from_words(&call.rest)?;
-    let shape = Shape::load(&call.file)?;
+    let shape = Shape::load(&call.file)?.as_it_lies()?;
     out.print(&counts(&shape))?;
     let mut casting = Casting {
         shape: &shape,

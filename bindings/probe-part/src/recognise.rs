@@ -6,7 +6,7 @@ use crate::corner::moved_by;
 use crate::crossed::join_crossed;
 use crate::drawing::as_drawn;
 use crate::drilled::add_bores;
-use crate::drills::{drill_rows, thin_webs, WEB};
+use crate::drills::{drill_rows, thin_webs};
 use crate::features::Features;
 use crate::frames::own_frame;
 use crate::geometry::{add, box_of, length, scale, subtract, Sheet, Vector};
@@ -31,7 +31,7 @@ pub struct Options {
     pub as_drawn: bool,
     /// Whether several shells are expected.
     pub several: bool,
-    /// Less behind a blind bore is a doubt, in millimetres.
+    /// Less behind a blind bore is a doubt, in millimetres; of 0, which is the default, nothing is.
     pub web: f64,
 }
 
@@ -41,7 +41,7 @@ impl Default for Options {
             unit: Unit::Millimetre,
             as_drawn: false,
             several: false,
-            web: WEB,
+            web: 0.0,
         }
     }
 }

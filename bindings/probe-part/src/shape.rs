@@ -164,6 +164,16 @@ impl Shape {
         self.shift.as_ref().map(|shift| shift.by)
     }
 
+    /// The same part, cast at where it lies: what lies beyond the casts' reach is then refused.
+    pub fn as_it_lies(mut self) -> Result<Shape, String> {
+        if let Some(shift) = self.shift.take() {
+            let triangles = self.mesh.triangles().to_vec();
+            let mesh = LargeMesh::in_pieces(shift.vertices, triangles, MAX_COUNT);
+            self.mesh = mesh.map_err(|why| why.to_string())?;
+        }
+        Ok(self)
+    }
+
     /// The vertices where the part is cast at.
     pub(crate) fn near_vertices(&self) -> &[[f64; 3]] {
         self.mesh.vertices()

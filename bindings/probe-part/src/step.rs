@@ -1,6 +1,7 @@
 //! STEP files, read by `probe-step` with OpenCASCADE: every solid with its name, its triangles in place, and the surface that
 //! each triangle belongs to. docs/STEP.md has the format.
 use crate::geometry::Vector;
+use crate::kinds::STEP_ADVICE;
 use std::fs::File;
 use std::io::{ErrorKind, Read};
 use std::path::{Path, PathBuf};
@@ -156,14 +157,18 @@ pub fn read(file: &Path) -> Result<Assembly, String> {
         .output()
         .map_err(|why| match why.kind() {
             ErrorKind::NotFound => format!(
-                "this is a STEP file: it is read by {PROGRAM}, which is not installed; tools/install builds it where OpenCASCADE is (apt-get install {PACKAGES})"
+                "this is a STEP file: it is read by {PROGRAM}, which is not installed; tools/install builds it where OpenCASCADE is (apt-get install {PACKAGES}); or {}",
+                STEP_ADVICE.replace(":\n ", ":")
             ),
             _ => format!("{PROGRAM}: {why}"),
         })?;
     if !ran.status.success() {
         let said = String::from_utf8_lossy(&ran.stderr);
         let line = said.lines().last().unwrap_or("it ended without a word");
-        return Err(line.trim_start_matches("probe-step: ").to_string());
+        let line = line.trim_start_matches("probe-step: ");
+        return Err(format!(
+            "{line}; gmsh may make an STL file of it (docs/STEP.md)"
+        ));
     }
     let text = String::from_utf8_lossy(&ran.stdout);
     parse(&text).ok_or_else(|| format!("{PROGRAM} wrote something else than docs/STEP.md says"))

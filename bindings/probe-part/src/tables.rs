@@ -290,9 +290,9 @@ fn frame_words(frame: &Frame) -> String {
 
 fn rows_table(part: &Part, listing: &Listing) -> String {
     let heads = [
-        "no", "face", "kind", "outline", "size", "entry", "depth", "web", "x", "y", "z", "",
+        "no", "face", "kind", "outline", "size", "entry", "depth", "x", "y", "z", "",
     ];
-    let mut rows: Vec<[String; 12]> = vec![heads.map(String::from)];
+    let mut rows: Vec<[String; 11]> = vec![heads.map(String::from)];
     let origin = listing.origin(part);
     for (place, row) in part.rows.iter().enumerate() {
         if !listing.has(part, row) {
@@ -308,7 +308,6 @@ fn rows_table(part: &Part, listing: &Listing) -> String {
             size_words(&row.outline),
             fixed(row.entry_depth, 2),
             depth_words(row),
-            row.web.map_or_else(String::new, |web| fixed(web, 2)),
             x,
             y,
             z,
@@ -318,7 +317,7 @@ fn rows_table(part: &Part, listing: &Listing) -> String {
     if rows.len() == 1 {
         return "no bores or pockets\n".into();
     }
-    let widths: [usize; 12] =
+    let widths: [usize; 11] =
         std::array::from_fn(|column| rows.iter().map(|row| row[column].len()).max().unwrap_or(0));
     let mut text = String::new();
     for row in &rows {
@@ -326,7 +325,7 @@ fn rows_table(part: &Part, listing: &Listing) -> String {
             .iter()
             .enumerate()
             .map(|(column, cell)| match column {
-                0 | 4..=10 => format!("{cell:>width$}", width = widths[column]),
+                0 | 4..=9 => format!("{cell:>width$}", width = widths[column]),
                 _ => format!("{cell:<width$}", width = widths[column]),
             })
             .collect();

@@ -196,6 +196,7 @@ fn a_step_file_that_is_none() {
     let (status, out, _) = folder.batch(&[]);
     assert_eq!(status, 2);
     assert!(out.contains("! part.step: cannot be read, "), "{out}");
+    assert!(out.contains("gmsh"), "{out}");
     assert!(out.contains("OpenCASCADE"), "{out}");
     assert!(out.contains("part.stl: complete, "), "{out}");
 }

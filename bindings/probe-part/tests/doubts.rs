@@ -251,7 +251,7 @@ fn units() {
         assert_eq!(status, 0, "{out}");
         assert!(out.starts_with("600.00 x 400.00 x 18.00 mm"), "{out}");
         assert!(
-            out.contains("bore  circle   8.00   0.00  10.00  8.00  100.00  100.00  18.00"),
+            out.contains("bore  circle   8.00   0.00  10.00  100.00  100.00  18.00"),
             "{out}"
         );
     }
@@ -273,7 +273,7 @@ fn frames() {
         "{out}"
     );
     assert!(
-        out.contains("top   bore  circle   8.00   0.00  10.00  8.00  100.00  50.00  18.00"),
+        out.contains("top   bore  circle   8.00   0.00  10.00  100.00  50.00  18.00"),
         "{out}"
     );
     let (status, out, _) = run("drawn", &standing, &["--as-drawn"]);
@@ -283,7 +283,7 @@ fn frames() {
         "{out}"
     );
     assert!(
-        out.contains("right  bore  circle   8.00   0.00  10.00  8.00  18.00  100.00  50.00"),
+        out.contains("right  bore  circle   8.00   0.00  10.00  18.00  100.00  50.00"),
         "{out}"
     );
 }

@@ -5,7 +5,7 @@ mod board;
 use board::{binary, board as made, drilled, moved, single, Cut, Point, Side, DRILLED};
 use probe_part::boring_list;
 use probe_part::check::check;
-use probe_part::drills::Drill;
+use probe_part::drills::{Drill, WEB};
 use probe_part::model::{Check, Doubt, Kind, Outline, Part, Report, Row};
 use probe_part::recognise::{recognise, Options};
 use probe_part::shape::Shape;
@@ -19,7 +19,11 @@ const PANEL: &str = concat!(env!("CARGO_MANIFEST_DIR"), "/../../examples/panel.s
 const BOARD: Point = [300.0, 200.0, 18.0];
 
 fn report(facets: &[Corners]) -> Report {
-    recognise(&Shape::of(&single(facets)).unwrap(), &Options::default()).unwrap()
+    let options = Options {
+        web: WEB,
+        ..Options::default()
+    };
+    recognise(&Shape::of(&single(facets)).unwrap(), &options).unwrap()
 }
 
 /// The exit status and what is printed.

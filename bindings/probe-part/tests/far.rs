@@ -82,7 +82,7 @@ fn the_list_says_that_the_part_was_shifted() {
     assert_eq!(status, 0, "{said}");
     let first = "for the casts shifted by (-10300, 19800, -509) mm, since it lies beyond 8,000 mm; positions are the file's\n";
     assert!(said.starts_with(first), "{said}");
-    let row = "bore circle 8.00 0.00 10.00 8.00 10100.00 -19950.00 518.00";
+    let row = "bore circle 8.00 0.00 10.00 10100.00 -19950.00 518.00";
     let words: Vec<&str> = said.split_whitespace().collect();
     assert!(words.join(" ").contains(row), "{said}");
     let pictures = fs::read_dir(&out).unwrap().filter(|entry| {
@@ -103,15 +103,14 @@ fn the_list_says_that_the_part_was_shifted() {
     let at_floor =
         lines[1].contains(" at 10.000 mm, near (101") && lines[1].ends_with(", 508.000)");
     assert!(at_floor, "{said}");
-    // down into the bore of 8, 10 deep, from 10 mm above the face
+    // a cast is at where the part lies: it is refused, exact or of every depth
     let ray = ["10100", "-19950", "528", "0", "0", "-1", "100"];
-    let words: Vec<&str> = ["cast", name].into_iter().chain(ray).collect();
-    let (status, said) = run(&words);
-    assert_eq!(status, 0, "{said}");
-    assert!(
-        said.contains("hit at 20.000 mm, point (10100.000, -19950.000, 508.000)"),
-        "{said}"
-    );
+    for switches in [[].as_slice(), &["--all"]] {
+        let words: Vec<&str> = [["cast", name].as_slice(), &ray, switches].concat();
+        let (status, said) = run(&words);
+        assert_eq!(status, 1, "{said}");
+        assert!(said.contains("\nray 1: refused 12, out of range"), "{said}");
+    }
     // a part near zero is left where it is
     fs::write(&file, binary(&made(BOARD, &cuts()))).unwrap();
     let (status, said) = run(&["bores", name]);

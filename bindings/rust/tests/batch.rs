@@ -70,6 +70,10 @@ fn each_answer_in_its_place() {
                 assert_eq!(listed, one.into_result());
             }
         }
+        for (listed, one) in mesh.cast_all_many(&rays).into_iter().zip(all) {
+            let listed = listed.map(|hits| hits.first().copied());
+            assert_eq!(listed, one.into_result());
+        }
     }
 }
 

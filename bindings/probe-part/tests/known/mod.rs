@@ -316,13 +316,9 @@ pub fn explains(facets: &[Corners], part: &Part, seed: u64) {
     assert!(asked > 200, "{asked} places, {empty} of them empty");
 }
 
-/// The report of facets as a file would have them. Bores of chance leave half a millimetre or more behind them.
+/// The report of facets as a file would have them.
 pub fn report(facets: &[Corners]) -> Report {
-    let options = Options {
-        web: 0.4,
-        ..Options::default()
-    };
-    recognise(&Shape::of(&single(facets)).unwrap(), &options).unwrap()
+    recognise(&Shape::of(&single(facets)).unwrap(), &Options::default()).unwrap()
 }
 
 /// A certain report of one part, whose rows are those that are known.
