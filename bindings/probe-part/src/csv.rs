@@ -1,6 +1,6 @@
 //! The list of a part's rows for programs: commas.
 use crate::geometry::Vector;
-use crate::model::{Cone, End, Outline, Part, Report, Row};
+use crate::model::{End, Outline, Part, Report, Row};
 use crate::tables::{
     doubt_words, kind_word, left_over_words, notes, outline_word, part_name, Listing,
 };
@@ -8,8 +8,7 @@ use crate::words::fixed;
 
 /// The columns of the list for programs.
 pub const COLUMNS: &str = "part,number,feature,face,kind,outline,width,height,radius,angle,sides,entry_depth,depth,tip_depth,\
-    end,x,y,z,axis_x,axis_y,axis_z,within,open,confirmed,note,size_x,size_y,size_z,thickness,\
-    cone_angle,entry_diameter,end_diameter,tip_angle,web";
+    end,x,y,z,axis_x,axis_y,axis_z,within,open,confirmed,note,size_x,size_y,size_z,thickness";
 
 /// The report for programs: commas, a head line, numbers with three places; a line `left over` for surface that is not
 /// understood, and a line `doubt` for each doubt.
@@ -122,16 +121,6 @@ fn row_cells(name: &str, place: usize, part: &Part, row: &Row, origin: Vector) -
     let size = part.size();
     cells.extend(size.map(number));
     cells.push(number(size.into_iter().fold(f64::INFINITY, f64::min)));
-    let cone = row.cone_measures();
-    let of_cone = |measure: fn(Cone) -> f64| cone.map_or_else(none, |cone| number(measure(cone)));
-    cells.push(of_cone(|cone| cone.angle));
-    cells.push(of_cone(|cone| cone.entry_diameter));
-    cells.push(of_cone(|cone| cone.end_diameter));
-    cells.push(match row.end {
-        End::Tip { angle, .. } => number(angle),
-        _ => none(),
-    });
-    cells.push(row.web.map_or_else(none, number));
     cells
 }
 

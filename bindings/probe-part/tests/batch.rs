@@ -374,7 +374,7 @@ fn names_that_are_alike() {
         assert_eq!(part, name);
         let list = folder.read(&format!("{part}.csv"));
         assert!(
-            list.contains(&format!(",{long:.3},200.000,18.000,18.000,")),
+            list.contains(&format!(",{long:.3},200.000,18.000,18.000\n")),
             "{list}"
         );
         taken.push(part.to_lowercase());

@@ -48,51 +48,9 @@ fn sunk() -> (Vec<Corners>, f64) {
     (made(BOARD, &cuts), narrow)
 }
 
-/// The columns of some names, of the row at an x.
-fn columns(csv: &str, x: &str, names: &[&str]) -> Vec<String> {
-    let mut lines = csv.lines();
-    let heads: Vec<&str> = lines.next().unwrap().split(',').collect();
-    let place = |name: &str| heads.iter().position(|head| *head == name).unwrap();
-    // notes have commas, in quotes
-    let cells = |line: &str| {
-        let mut quoted = false;
-        let is_border = move |letter: char| {
-            quoted ^= letter == '"';
-            letter == ',' && !quoted
-        };
-        line.split(is_border).map(String::from).collect::<Vec<_>>()
-    };
-    let row = lines
-        .map(cells)
-        .find(|cells| cells[place("x")] == x && cells[place("within")].is_empty())
-        .unwrap();
-    names.iter().map(|name| row[place(name)].clone()).collect()
-}
-
 #[test]
-fn cones_are_numbers_in_csv_and_json() {
+fn cones_are_numbers_in_json() {
     let (facets, narrow) = sunk();
-    let csv = listed(&facets, &["--csv"]);
-    let names = [
-        "kind",
-        "cone_angle",
-        "entry_diameter",
-        "end_diameter",
-        "tip_angle",
-    ];
-    let end = format!("{narrow:.3}");
-    assert_eq!(
-        columns(&csv, "100.000", &names),
-        ["countersink", "45.670", "12.000", end.as_str(), ""]
-    );
-    assert_eq!(
-        columns(&csv, "200.000", &names),
-        ["countersink", "90.000", "10.000", "5.000", ""]
-    );
-    assert_eq!(
-        columns(&csv, "300.000", &names),
-        ["bore", "", "", "", "118.000"]
-    );
     let json = listed(&facets, &["--json"]);
     let of = |key: &str| -> f64 {
         let place = json.find("\"cone\": {").unwrap();
