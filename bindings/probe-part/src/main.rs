@@ -48,14 +48,14 @@ probe-part probes a part in an STL file, binary or ASCII, in millimetres, or the
       --as-drawn      keeps the file's frame
       --from-corner   measures x, y, z from the minimum corner of the part
       --shells        an STL file holds several parts
-      --web MM        less than this behind a blind bore, over its whole diameter, is doubtful (default 1)
+      --web MM        less than this behind a blind bore, over its whole diameter, is doubtful (default 0: none is)
       --csv, --json   prints the list as CSV or JSON
       --out DIR       writes the list as txt, csv and json to DIR, and each face as a drawing (DXF R12) and a picture (SVG)
   probe-part check LIST.csv FILE [--unit UNIT] [--as-drawn] [--from-corner] [--web MM]
       Checks a boring list against the part, by drills: each row's drill is clear, wall and floor are where the row says,
       and every bore of the part is in a row. The list has the columns of `bores --csv`, or x, y, z, axis, diameter and
       depth (axis: -z, +x and so on, the face that is drilled, or three numbers; depth: empty for through); - is
-      standard input.
+      standard input. Less than `--web MM` (default 1) behind a blind bore does not fit.
   probe-part batch FOLDER --out DIR [--unit UNIT] [--as-drawn] [--from-corner] [--shells] [--web MM] [--threads N]
       Does the same for every .stl, .step and .stp file of a folder (STEP in its own unit). It also writes
       summary.csv, and index.html, a page that shows each part's faces beside its list and marks in red what needs a look.
@@ -176,20 +176,20 @@ struct Call {
 }
 
 impl Call {
-    /// What is asked of the recognition.
-    fn options(&self) -> Result<Options, String> {
+    /// What is asked of the recognition, and how much is to be left behind a blind bore where the call does not say.
+    fn options(&self, web: f64) -> Result<Options, String> {
         Ok(Options {
             unit: self.unit()?,
             as_drawn: self.has("--as-drawn"),
             several: self.has("--shells"),
-            web: self.web()?,
+            web: self.web(web)?,
         })
     }
 
     /// How much is to be left behind a blind bore.
-    fn web(&self) -> Result<f64, String> {
+    fn web(&self, unasked: f64) -> Result<f64, String> {
         let Some(word) = self.value("--web") else {
-            return Ok(WEB);
+            return Ok(unasked);
         };
         match word.parse::<f64>() {
             Ok(web) if web.is_finite() && web >= 0.0 => Ok(web),
@@ -411,7 +411,7 @@ fn check_list(call: &Call, out: &mut Output) -> Result<u8, String> {
     };
     let text = text.map_err(|why| format!("{}: {why}", call.file))?;
     let list = boring_list::read(&text).map_err(|why| format!("{}: {why}", call.file))?;
-    let options = call.options()?;
+    let options = call.options(WEB)?;
     let drawing = Drawing::load(file, options.unit)?;
     let report = match drawing.recognise(&options) {
         Ok(report) if call.has("--from-corner") => from_corner(&report),
@@ -461,7 +461,7 @@ fn bores(call: &Call, out: &mut Output) -> Result<u8, String> {
     if call.has("--csv") && call.has("--json") {
         return Err("--csv and --json cannot be used together".into());
     }
-    let options = call.options()?;
+    let options = call.options(0.0)?;
     let listing = Listing {
         faces: call
             .faces()?
@@ -547,7 +547,7 @@ fn batch(call: &Call, out: &mut Output) -> Result<u8, String> {
     let entries = run_batch(&Job {
         folder: call.file.clone().into(),
         out: folder.into(),
-        options: call.options()?,
+        options: call.options(0.0)?,
         from_corner: call.has("--from-corner"),
         threads,
     })?;

@@ -211,7 +211,8 @@ fn a_thin_web_is_a_doubt() {
     assert!((least - 0.5).abs() < 1e-3);
     let folder = Folder::new("thin");
     let file = folder.file("thin.stl", &binary(&facets));
-    let (status, text) = said(&["bores", &file]);
+    assert_eq!(said(&["bores", &file]).0, 0);
+    let (status, text) = said(&["bores", &file, "--web", "1"]);
     assert_eq!(status, 3);
     assert!(
         text.contains("! 1 rows leave little behind their floor, 0.50 mm at the least"),
