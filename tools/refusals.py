@@ -19,6 +19,7 @@ MISFITS = [
     (r"has no field `", "the proof asks a place for what stands no longer there"),
     (r"is not in scope", "a name that is not in scope"),
     (r"has no `[^`]*`", "a name that its module has no longer"),
+    (r"^`[^`]+`: record `", "a field that a place or a record has no longer"),
     (r"was not admitted", "it rests on a proof that does not fit"),
     (r"expected a type, but ", "a goal that asks for more than before"),
     (
@@ -79,6 +80,7 @@ SAMPLES = [
     (None, FACT + "note: src/lib.rt:37:15: it is not proved that the sum fits its type (at a range `..=n`, `n + 1`) (`overflow_add-sum`); the facts k"),
     (None, "refused, as it must be"),
     ("place", FACT + "./proofs/a/Proof.antt:10:34: error: `returns`: record `mini.Lts.Start` has no field `first-less`"),
+    ("cut off", FACT + "./proofs/a/Proof.antt:38:55: error: `float-from-bits-result`: record `Rattle.a.proofs.f.Lts.Else-bits-gt9218868437764276223` ("),
     ("scope", FACT + "./proofs/a/Proof.antt:16:42: error: `a_spec`: `rules` is not in scope"),
     ("named", FACT + "./proofs/a/Proof.antt:12:13: error: `returns-2`: `goal.returns-2`: module `a.Goals` has no `returns-2` that can be named from here"),
     ("rests", FACT + "./proofs/a/Proof.antt:20:1: error: `a_spec`: `returns` was not admitted"),

@@ -2,10 +2,9 @@
 // end, to the first malformed record, or to a read or a write that fails.
 //
 // It is proved over any reader and any writer. `Finished` of `all_steps` says that the lines of a run are the output for what its reads
-// gave,
-// or its front, and `write_lines` requires the lines that an answer made. `PutsOut` of `all_steps` says that the writer took the output for
-// all that the reader had, where their bytes are known and nothing failed. No contract can say that standard input and standard output are
-// such a reader and such a writer, which of their calls failed, or that `main` makes one run: tests/pipes.sh runs that.
+// gave, or its front, and `write_lines` requires the lines that an answer made. `PutsOut` of `all_steps` says that the writer took the
+// output for all that the reader had, where their bytes are known and nothing failed. No contract can say that standard input and standard
+// output are such a reader and such a writer, which of their calls failed, or that `main` makes one run: tests/pipes.sh runs that.
 
 #![tactic(auto)]
 
