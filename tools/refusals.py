@@ -26,6 +26,8 @@ MISFITS = [
         r"expected type `[\w.'-]*\b(Need-|Goals\.|goal\.)[\w'-]*`, but this has type `[\w.'-]*\b(Need-|Goals\.|goal\.)",
         "the goals are others, or in another order",
     ),
+    (r"expected type `[\w.'-]*\b(Need-|Goals\.|goal\.)[^ ]*( [^`]*(`[\w.'-]*)?)?$", "the goals may be others: the rest is cut off"),
+    (r"^`[^`]+`: `[^`]*(` [a-z ]*)?$", "a name may be gone: the rest is cut off"),
     (r"no proof of `[\w.'-]*\b(Start|After-[\w-]*|Then\d*|Else\d*|In-loop[\w-]*|InvT-[\w-]*|MeasureT-[\w-]*)\b", "a place that the code has no longer"),
     (r"(too many|too few|missing) argument", "another number of arguments"),
     (r"expected a function, but ", "more goals are answered than there are"),
@@ -35,7 +37,7 @@ MISFITS = [
 # Edits that are kept although the rule above reports them, each with the reason.
 KNOWN = {}
 
-# What rt says of an edit that it refuses: nothing more where a goal is open and no place is named, or the first error.
+# What rt says of an edit that it refuses, and the first error behind it.
 REFUSED = re.compile(r"refused, as it must be(?: \((?P<only>only [^:]*?)[,:].*?\))?(?:: (?P<error>.+))?$")
 
 
@@ -47,9 +49,8 @@ def misfit(said):
     if found["only"]:
         return f"rt says: {found['only']}"
     error = found["error"]
-    # an open goal of which rt names no place
     if error is None:
-        return None
+        return "no error is told"
     # a fact that is told at its place in the code
     if error.startswith("note: "):
         return None if re.match(r"note: (\./)?src/\S+:\d+:\d+: it is not proved that ", error) else "a note that tells no fact"
@@ -78,9 +79,11 @@ SAMPLES = [
     (None, FACT + "./proofs/a/Proof.antt:9:5: error: `loop-again`: `omega`: no contradiction found"),
     (None, FACT + "note: src/lib.rt:27:9: it is not proved that what the function ensures holds when it returns (`returns-then-y-x-clause-one`); the f"),
     (None, FACT + "note: src/lib.rt:37:15: it is not proved that the sum fits its type (at a range `..=n`, `n + 1`) (`overflow_add-sum`); the facts k"),
-    (None, "refused, as it must be"),
     ("place", FACT + "./proofs/a/Proof.antt:10:34: error: `returns`: record `mini.Lts.Start` has no field `first-less`"),
     ("cut off", FACT + "./proofs/a/Proof.antt:38:55: error: `float-from-bits-result`: record `Rattle.a.proofs.f.Lts.Else-bits-gt9218868437764276223` ("),
+    ("cut off", FACT + "./proofs/cabinets/probe_ray_cabinet/Answers.antt:16:34: error: `returns-then-last`: expected type `Rattle.exports.proofs.cabinets.Goals.returns`, but this has"),
+    ("cut off", FACT + "./proofs/cabinets/probe_ray_cabinet/Answers.antt:16:34: error: `returns`: expected type `Rattle.exports.proofs.cabinets.probe_ray_cabinet.Goals.ret"),
+    ("cut off", FACT + "./proofs/cabinets/probe_ray_cabinet/Answers.antt:16:34: error: `returns-then-last`: `a-name-that-is-as-long-as-some-lemmas-are-and-longer` is not in"),
     ("scope", FACT + "./proofs/a/Proof.antt:16:42: error: `a_spec`: `rules` is not in scope"),
     ("named", FACT + "./proofs/a/Proof.antt:12:13: error: `returns-2`: `goal.returns-2`: module `a.Goals` has no `returns-2` that can be named from here"),
     ("rests", FACT + "./proofs/a/Proof.antt:20:1: error: `a_spec`: `returns` was not admitted"),
@@ -102,6 +105,7 @@ SAMPLES = [
         "refused, as it must be (only by a limit of the prover, which gave no verdict, so this says less of the contract: choose a change that it"
         " refuses sooner): src/lib.rt:3:1: error: `returns`: antt ran out of the steps that the check of one declaration may take",
     ),
+    ("untold", "refused, as it must be"),
     ("bad", "BAD EDIT: it did not reach the prover; the first lines of what it said:"),
     ("not tried", "NOT TRIED: its check was killed, most likely for memory, so nothing is known of it: run this again"),
     ("proved", "NOT REFUSED: the crate is still proved with this edit (one that means the same as before cannot be refused: remove it)"),

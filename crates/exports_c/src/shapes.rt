@@ -49,8 +49,8 @@ pub extern "C" fn probe_ray_plane(
     )
 }
 
-// The cast at a triangle of corners a, b and c. On whole millimetres `exact-on-whole-numbers` (whole_numbers/proofs/WholeTriangles.antt)
-// says of `rayTriangle`, with which the contract is an equation, where it hits, where it does not, and at which distance.
+// The cast at a triangle of corners a, b and c. On whole millimetres `exact_on_whole_numbers` (whole_numbers/proofs/WholeTriangles.antt)
+// says of `ray_triangle`, with which the contract is an equation, where it hits, where it does not, and at which distance.
 #[unsafe(no_mangle)]
 pub extern "C" fn probe_ray_triangle(
     origin_x: f64,

@@ -15,7 +15,7 @@ every test (x ∷ xs) = test x && every test xs
 abbrev pub is_number : Float → Bool
 is_number x = not (is_nan x)
 
--- a float of the form's format, of which NaN is one; f64 has every f32 (`long-fits`, record_bytes/proofs/Tests.antt)
+-- a float of the form's format, of which NaN is one; f64 has every f32 (`long_fits`, record_bytes/proofs/Tests.antt)
 abbrev pub fits_in : Form → Float → Bool
 fits_in form x = fits (format_of form) x
 

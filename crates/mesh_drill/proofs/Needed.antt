@@ -92,7 +92,7 @@ drawing = record {
   third_is = record { x = refl; y = refl; z = refl };
 }
 
--- all that `in-drill-on-grid` asks, with 2 units for 4, and not what it says
+-- all that `in_drill_on_grid` asks, with 2 units for 4, and not what it says
 pub record TwoUnitsFail : Type 0 where
   pub admitted : ray_admitted tight ≡ true
   pub read : grid_admitted tight ≡ true

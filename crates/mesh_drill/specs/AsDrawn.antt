@@ -51,7 +51,7 @@ pub record WithinAsDrawn (W : ℕ) (d : Point) (lo hi : ℤ) (R D : ℕ) (X : Po
   pub close : int_le (square X *ℤ square d -ℤ dot X d *ℤ dot X d) (pos (R * R) *ℤ square d *ℤ (pos D *ℤ pos D)) ≡ true
 
 -- The same by the foot itself, the axis' point at t / T units of the grid: the vector from it to X / D, here D T 2^30 times it, is at right
--- angles to the axis and at most R long. (`foot-within`: such a point is within.)
+-- angles to the axis and at most R long. (`foot_within`: such a point is within.)
 abbrev pub to_point : Point → ℕ → Point → ℤ → ℕ → Point
 to_point d D X t T = record {
   x = pos T *ℤ pos parts *ℤ X.x -ℤ t *ℤ pos D *ℤ d.x;

@@ -24,7 +24,7 @@ radius_on nan = 0
 radius_on (inf s) = 0
 radius_on (fin s m e) = ceiling (m * up e * units) (down e)
 
--- n units are not below x = a / d, and less than a unit above it: 2^15 a ≤ n d < 2^15 a + d (`radius-up`: so is the radius in units)
+-- n units are not below x = a / d, and less than a unit above it: 2^15 a ≤ n d < 2^15 a + d (`radius_up`: so is the radius in units)
 abbrev pub ReadUp : Float → ℕ → Type 0
 ReadUp nan n = ⊥
 ReadUp (inf s) n = ⊥

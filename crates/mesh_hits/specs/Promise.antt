@@ -39,7 +39,7 @@ pub record IsListed (k : ℕ) (area : HitArea) (normal : Vec3) (distance : Float
   pub stands : StandsAt area place normal distance index
 
 pub record FitsCast (cast : Indexed) (k : ℕ) (area : HitArea) : Type 0 where
-  -- "an empty listing exactly where that cast answers none": only there; `empty-if` below is that it is one there
+  -- "an empty listing exactly where that cast answers none": only there; `empty_if` below is that it is one there
   pub empty_only_if : k ≡ 0 → cast ≡ no_hit
   -- "the mesh cast's among them"
   pub among : (normal : Vec3) (distance : Float) (i : ℕ) → cast ≡ hit_at normal distance i → IsListed k area normal distance i

@@ -9,7 +9,7 @@ use Rattle.record_bytes.specs.declared.stream.Found.{Found}
 use Rattle.record_bytes.specs.declared.stream.Found.TheVariants.{Record, Cut, End}
 use Rattle.record_stream.specs.declared.answers.Progress.{Progress}
 
--- the whole output for a stream whose first record has that number; document 01's `outputOf` is the one from 1
+-- the whole output for a stream whose first record has that number; document 01's `output_of` is the one from 1
 unfoldable pub output_from : ℕ → List ℕ → List ℕ
 output_from number bytes = lines_from (length bytes) number bytes (next_of bytes)
 

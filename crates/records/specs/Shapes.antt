@@ -126,7 +126,7 @@ said_for form r s = record {
   indices = shape_indices s;
 }
 
--- ---- what can be encoded; each float is of the form's format besides (`saidFits`)
+-- ---- what can be encoded; each float is of the form's format besides (`said_fits`)
 
 -- "version 1 means near 0"
 abbrev pub NearFits : Form → Ray → Type 0
